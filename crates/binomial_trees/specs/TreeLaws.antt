@@ -1,5 +1,6 @@
 -- The laws of the binomial tree.
-use Rattle.std.specs.Prelude.{◌≡◌, ◌<◌, ℕ, zero, suc, ◌+◌, ◌-◌, ◌%◌, List, [], ◌∷◌, ◌++◌, length, take, drop, fold, map, ◌⊎◌}
+use Rattle.std.specs.Prelude.{◌≡◌, ◌<◌, ℕ, zero, suc, ◌+◌, ◌-◌, ◌%◌, List, [], ◌∷◌, ◌++◌, length, take, drop, fold, map}
+use Rattle.std.specs.Prelude.{◌⊎◌}
 use Rattle.std.specs.List.{AllByRecursion}
 use Rattle.binomial_trees.specs.Trees.{children, parent, subtree, subtrees, rotate, rotate_back}
 
@@ -13,7 +14,8 @@ abbrev pub IsOneOf : ℕ → List ℕ → Type 0
 IsOneOf v [] = ⊥
 IsOneOf v (w ∷ ws) = (v ≡ w) ⊎ IsOneOf v ws
 
--- The children of v partition what stands below it, in their order: what belongs to v itself, and then to the subtree of each child
+-- The children of v partition what stands below it, in their order: what belongs to v itself, and then to the subtree
+-- of each child
 abbrev pub ChildrenPartition : (A : Type 0) → Type 0
 ChildrenPartition A =
     (xs : List A) (v : ℕ) → v < length xs →
@@ -56,7 +58,8 @@ AreFilled (xs ∷ xss) = (0 < length xs) × AreFilled xss
 -- The left fold by an associative operation, piece by piece
 abbrev pub FoldsGoByPieces : (A : Type 0) → Type 0
 FoldsGoByPieces A =
-    (f : A → A → A) (empty : A) (pieces : List (List A)) → ((a b c : A) → f (f a b) c ≡ f a (f b c)) → AreFilled pieces →
+    (f : A → A → A) (empty : A) (pieces : List (List A)) → ((a b c : A) → f (f a b) c ≡ f a (f b c)) →
+    AreFilled pieces →
     left_fold f empty (joined pieces) ≡ left_fold f empty (map (left_fold f empty) pieces)
 
 -- So that of a subtree: what belongs to the position, then the folds of its children's subtrees, in order of position

@@ -1,8 +1,10 @@
--- The binomial tree over the positions from 0 on that are below n. The parent of a position above 0 is that position with its
--- lowest binary digit 1 made 0, so position 0 is the top.
-use Rattle.std.specs.Prelude.{ℕ, zero, suc, ◌+◌, ◌-◌, ◌%◌, ◌==◌, ◌&&◌, Bool, List, [], ◌∷◌, nat_lt, if◌then◌else◌, take, drop}
+-- The binomial tree over the positions from 0 on that are below n. The parent of a position above 0 is that position
+-- with its lowest binary digit 1 made 0, so position 0 is the top.
+use Rattle.std.specs.Prelude.{ℕ, zero, suc, ◌+◌, ◌-◌, ◌%◌, ◌==◌, ◌&&◌, Bool, List, [], ◌∷◌, nat_lt, if◌then◌else◌, take}
+use Rattle.std.specs.Prelude.{drop}
 
--- whether a position has a child at this distance: the double of the distance, a power of two, divides it, and the child is below n
+-- whether a position has a child at this distance: the double of the distance, a power of two, divides it, and the
+-- child is below n
 abbrev pub has_child : (n v distance : ℕ) → Bool
 has_child n v d = (v % (d + d) == 0) && nat_lt (v + d) n
 

@@ -1,4 +1,5 @@
-//! Binomial trees over positions: the parent of a position above 0 is that position with its lowest binary digit 1 made 0.
+//! Binomial trees over positions: the parent of a position above 0 is that position with its lowest binary digit 1 made
+//! 0.
 //!
 //! `specs/` says what parents, children and subtrees are (`Trees`), and their laws (`TreeLaws`).
 #![tactic(auto)]

@@ -50,7 +50,8 @@ pub fn parent(position: u32) -> u32
     position - distance
 }
 
-/// The position of the member at a place, in a tree over so many members whose top is another one: (place - top) modulo the size.
+/// The position of the member at a place, in a tree over so many members whose top is another one: (place - top) modulo
+/// the size.
 pub fn rotate(top: u32, size: u32, place: u32) -> u32
     requires size { size ≤ 65536 }
     requires top { top < size }

@@ -18,8 +18,8 @@ enum Fate {
     Held,
 }
 
-/// A row: the first and the last place, the least and the greatest value, and what becomes of the message. Of the rows that hold, the
-/// first one counts.
+/// A row: the first and the last place, the least and the greatest value, and what becomes of the message. Of the rows
+/// that hold, the first one counts.
 type Row = (usize, usize, u8, u8, Fate);
 
 /// The rules of docs/FORMAT.md, byte by byte.
@@ -98,7 +98,8 @@ fn bit(distance: u8) -> u64 {
     1u64.wrapping_shl(u32::from(distance))
 }
 
-/// What is told of the message that comes behind the one of this number, which is held: where that is the next one, it follows.
+/// What is told of the message that comes behind the one of this number, which is held: where that is the next one, it
+/// follows.
 fn behind(number: u8) -> Told {
     if number == 1 {
         taken(0, 2, 0)

@@ -1,5 +1,5 @@
-//! Each sample, cut to each shorter length: below 32 bytes there is no whole header (21), and from there on the length that the header
-//! states isn't that of the body (25).
+//! Each sample, cut to each shorter length: below 32 bytes there is no whole header (21), and from there on the length
+//! that the header states isn't that of the body (25).
 
 use crate::samples::{ACKNOWLEDGEMENT, MESSAGE, RESET};
 use crate::steps::{Told, told_of_both};

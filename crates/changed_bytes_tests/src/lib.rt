@@ -1,5 +1,5 @@
-//! Datagrams that were cut, or of which one byte is another one, as they come to a rank: each is taken or refused by the rules of
-//! docs/FORMAT.md, and what is refused changes nothing that can be seen.
+//! Datagrams that were cut, or of which one byte is another one, as they come to a rank: each is taken or refused by
+//! the rules of docs/FORMAT.md, and what is refused changes nothing that can be seen.
 #![tactic(auto)]
 
 #[cfg(test)]

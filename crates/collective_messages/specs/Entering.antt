@@ -2,7 +2,8 @@
 use Rattle.std.specs.Prelude.{ℕ, length, Bool, true, false, Option, Some, None, pos}
 use Rattle.collective_messages.specs.Ways.{is_same_record}
 use Rattle.collective_messages.specs.declared.entry.Entry.{Entry}
-use Rattle.collective_messages.specs.declared.entry.Entry.TheVariants.{Barrier, Bcast, Gather, Scatter, Reduce, Allreduce, Dup, Split}
+use Rattle.collective_messages.specs.declared.entry.Entry.TheVariants.{Barrier, Bcast, Gather, Scatter, Reduce}
+use Rattle.collective_messages.specs.declared.entry.Entry.TheVariants.{Allreduce, Dup, Split}
 use Rattle.datatypes.specs.Contents.{Contents}
 use Rattle.payload.specs.declared.payload.Choice.{Choice}
 use Rattle.payload.specs.declared.record.Elements.{Elements}

@@ -1,11 +1,13 @@
 -- What a message of a collective tells its receiver.
-use Rattle.std.specs.Prelude.{ℕ, Bool, true, false, ◌==◌, ◌&&◌, ◌||◌, not, List, Option, Some, None, position, slice_get, filter, if◌then◌else◌}
+use Rattle.std.specs.Prelude.{ℕ, Bool, true, false, ◌==◌, ◌&&◌, ◌||◌, not, List, Option, Some, None, position}
+use Rattle.std.specs.Prelude.{slice_get, filter, if◌then◌else◌}
 use Rattle.std.specs.List.{list_any, list_all}
 use Rattle.collective_messages.specs.Entering.{agrees, no_choice}
 use Rattle.collective_messages.specs.declared.entry.Entry.{Entry}
 use Rattle.collective_messages.specs.declared.note.Note.{Note}
 use Rattle.collective_messages.specs.declared.note.NoteContent.{NoteContent}
-use Rattle.collective_messages.specs.declared.note.NoteContent.TheVariants.{RecordsDiffer, Nothing, Elements, Context, NullCommunicator, NewGroup}
+use Rattle.collective_messages.specs.declared.note.NoteContent.TheVariants.{RecordsDiffer, Nothing, Elements, Context}
+use Rattle.collective_messages.specs.declared.note.NoteContent.TheVariants.{NullCommunicator, NewGroup}
 use Rattle.collective_messages.specs.declared.note.NoteContent.TheVariants as said
 use Rattle.payload.specs.declared.payload.Choice.{Choice}
 use Rattle.payload.specs.declared.payload.Direction.{Direction}

@@ -1,7 +1,8 @@
 -- The numbers of refusals.
 use Rattle.std.specs.Prelude.{ℕ}
 use Rattle.collective_messages.specs.declared.refusal.CollectiveRefusal.{CollectiveRefusal}
-use Rattle.collective_messages.specs.declared.refusal.CollectiveRefusal.TheVariants.{NoCommunicator, Blocked, Limit, OutOfMemory, BadFrame}
+use Rattle.collective_messages.specs.declared.refusal.CollectiveRefusal.TheVariants.{NoCommunicator, Blocked, Limit}
+use Rattle.collective_messages.specs.declared.refusal.CollectiveRefusal.TheVariants.{OutOfMemory, BadFrame}
 
 -- the number that a call answers
 abbrev pub number_of_refusal : CollectiveRefusal → ℕ

@@ -1,7 +1,9 @@
--- What a rank is in a collective: whose word it waits for, whom it tells that it and those below it have entered, whether it leaves
--- without being told, and whom it tells a result. Barrier, broadcast and reduction go over binomial trees, all else over a star, whose
--- middle is the root, or member 0 where there is none (own). Ranks are those of `world`.
-use Rattle.std.specs.Prelude.{ℕ, Bool, true, ◌==◌, ◌&&◌, ◌||◌, not, List, [], ◌∷◌, ◌++◌, length, map, Option, Some, None, position, slice_get, nat_lt, if◌then◌else◌}
+-- What a rank is in a collective: whose word it waits for, whom it tells that it and those below it have entered,
+-- whether it leaves without being told, and whom it tells a result. Barrier, broadcast and reduction go over binomial
+-- trees, all else over a star, whose middle is the root, or member 0 where there is none (own). Ranks are those of
+-- `world`.
+use Rattle.std.specs.Prelude.{ℕ, Bool, true, ◌==◌, ◌&&◌, ◌||◌, not, List, [], ◌∷◌, ◌++◌, length, map, Option, Some}
+use Rattle.std.specs.Prelude.{None, position, slice_get, nat_lt, if◌then◌else◌}
 use Rattle.std.specs.Option.{option_to_list}
 use Rattle.collective_messages.specs.Members.{is_at}
 use Rattle.binomial_trees.specs.Trees.{children, parent, rotate, rotate_back}
@@ -9,8 +11,8 @@ use Rattle.payload.specs.declared.record.Record.{Record}
 use Rattle.payload.specs.declared.record.Record.TheVariants as records
 use Rattle.vocabulary.specs.declared.endpoint.Endpoint.{Endpoint}
 
--- what a rank is: whether it decides; whom it tells its word; whose word it waits for, in the order of the communicator, its own rank
--- among them; whom it tells a result
+-- what a rank is: whether it decides; whom it tells its word; whose word it waits for, in the order of the
+-- communicator, its own rank among them; whom it tells a result
 pub record RoleState : Type 0 where
   pub decides : Bool
   pub above : Option ℕ
@@ -40,7 +42,8 @@ above_place ranks (Some i) = if i == 0 then None else slice_get ranks (parent i)
 abbrev pub onward_place : (top : ℕ) → (ranks : List ℕ) → Option ℕ → List ℕ
 onward_place top ranks None = []
 onward_place top ranks (Some i) =
-    if nat_lt top (length ranks) then ranks_at ranks (map (rotate_back top (length ranks)) (children (length ranks) (rotate top (length ranks) i)))
+    if nat_lt top (length ranks) then
+    ranks_at ranks (map (rotate_back top (length ranks)) (children (length ranks) (rotate top (length ranks) i)))
     else []
 
 -- all, or the rank alone
@@ -54,18 +57,47 @@ all_or_none all ranks = if all then ranks else []
 -- the middle of a star that tells all what it made, or one around it
 abbrev pub both_role : (middle : Bool) → Endpoint → (ranks : List ℕ) → RoleState
 both_role middle own ranks =
-    record { decides = middle; above = slice_get ranks 0; feeders = all_or_own middle own ranks; onward = all_or_none middle ranks }
+    record {
+      decides = middle;
+      above = slice_get ranks 0;
+      feeders = all_or_own middle own ranks;
+      onward =
+          all_or_none middle ranks;
+    }
 
 -- what a rank is in a collective with this record, by its place
 abbrev pub role_at : Option ℕ → Endpoint → (incarnation : ℕ) → (ranks : List ℕ) → Record → RoleState
 role_at i own inc ranks records.Barrier =
-    record { decides = is_at own inc ranks 0; above = above_place ranks i; feeders = own.rank ∷ below_place ranks i; onward = below_place ranks i }
+    record {
+      decides = is_at own inc ranks 0;
+      above = above_place ranks i;
+      feeders = own.rank ∷ below_place ranks i;
+      onward = below_place ranks i;
+    }
 role_at i own inc ranks (records.Bcast r) =
-    record { decides = is_at own inc ranks r.root; above = None; feeders = own.rank ∷ []; onward = onward_place r.root ranks i }
+    record {
+      decides = is_at own inc ranks r.root;
+      above = None;
+      feeders = own.rank ∷ [];
+      onward =
+          onward_place r.root ranks i;
+    }
 role_at i own inc ranks (records.Gather r) =
-    record { decides = true; above = slice_get ranks r.root; feeders = all_or_own (is_at own inc ranks r.root) own ranks; onward = [] }
+    record {
+      decides = true;
+      above = slice_get ranks r.root;
+      feeders =
+          all_or_own (is_at own inc ranks r.root) own ranks;
+      onward = [];
+    }
 role_at i own inc ranks (records.Scatter r) =
-    record { decides = is_at own inc ranks r.root; above = None; feeders = own.rank ∷ []; onward = all_or_none (is_at own inc ranks r.root) ranks }
+    record {
+      decides = is_at own inc ranks r.root;
+      above = None;
+      feeders = own.rank ∷ [];
+      onward =
+          all_or_none (is_at own inc ranks r.root) ranks;
+    }
 role_at i own inc ranks (records.Reduce o r) =
     record {
       decides = is_at own inc ranks 0 || not (is_at own inc ranks r.root);

@@ -1,5 +1,6 @@
 -- How many collectives a rank has entered in each context.
-use Rattle.std.specs.Prelude.{ℕ, ◌+◌, ◌==◌, Bool, List, [], ◌∷◌, ◌++◌, Option, Some, None, position, slice_get, slice_set}
+use Rattle.std.specs.Prelude.{ℕ, ◌+◌, ◌==◌, Bool, List, [], ◌∷◌, ◌++◌, Option, Some, None, position, slice_get}
+use Rattle.std.specs.Prelude.{slice_set}
 use Rattle.collective_messages.specs.declared.tally.Tally.{Tally}
 
 -- whether a tally is of a context
@@ -27,4 +28,5 @@ put_tally tallies (Some i) t = slice_set tallies i t
 
 -- one more collective was entered in a context
 abbrev pub raised : List Tally → (context : ℕ) → List Tally
-raised tallies c = put_tally tallies (position (is_in c) tallies) (record { context = c; entered = count_in tallies c + 1 })
+raised tallies c =
+    put_tally tallies (position (is_in c) tallies) (record { context = c; entered = count_in tallies c + 1 })

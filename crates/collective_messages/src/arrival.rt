@@ -2,14 +2,15 @@
 
 ghost use Rattle.std.specs.Prelude.{◌≡◌, ◌*◌, length, IfOk};
 ghost use Rattle.collective_messages.specs.Arrivals.{ArrivalGives, SaidGives, ranks_in};
-ghost use Rattle.payload.specs.Spelling.{AreElements, ElementsText, GroupText, PartFits, elements_of, part_text, payload_text};
+ghost use Rattle.payload.specs.Spelling.{AreElements, ElementsText, GroupText, PartFits, elements_of, part_text};
+ghost use Rattle.payload.specs.Spelling.{payload_text};
 
 use crate::address::Address;
 use crate::note::{Note, NoteContent};
 use crate::refusal::CollectiveRefusal;
 use datatypes::Buffer;
 use groups::Group;
-use payload::{Direction, NewGroup, PayloadContent, Payload, Record};
+use payload::{Direction, NewGroup, Payload, PayloadContent, Record};
 use std::alloc::{AllocError, Global};
 
 /// The ranks of a group that came, in order.
@@ -59,7 +60,10 @@ fn said_of_elements(
         return Err(CollectiveRefusal::BadFrame);
     };
     match Vec::from_slice(alloc, bytes) {
-        Ok(bytes) => Ok(Some(NoteContent::Elements(way, Buffer::from_bytes(elements.basic, bytes)))),
+        Ok(bytes) => Ok(Some(NoteContent::Elements(
+            way,
+            Buffer::from_bytes(elements.basic, bytes),
+        ))),
         Err(_) => Err(CollectiveRefusal::OutOfMemory),
     }
 }
@@ -72,7 +76,12 @@ fn said_of(alloc: Global, payload: Payload<'_>) -> Result<Option<NoteContent>, C
     match payload.part {
         PayloadContent::RecordsDiffer => Ok(Some(NoteContent::RecordsDiffer)),
         PayloadContent::Nothing(way) => Ok(Some(NoteContent::Nothing(way))),
-        PayloadContent::Elements(way, bytes) => said_of_elements(alloc, payload.entered, way, bytes),
+        PayloadContent::Elements(way, bytes) => said_of_elements(
+            alloc,
+            payload.entered,
+            way,
+            bytes,
+        ),
         PayloadContent::Context(context) => Ok(Some(NoteContent::Context(context))),
         PayloadContent::Choice(choice) => Ok(Some(NoteContent::Choice(choice))),
         PayloadContent::NullCommunicator => Ok(Some(NoteContent::NullCommunicator)),
@@ -82,8 +91,9 @@ fn said_of(alloc: Global, payload: Payload<'_>) -> Result<Option<NoteContent>, C
 
 /// What is kept of a message of the collective with this number on the communicator with this context.
 ///
-/// `CollectiveRefusal::BadFrame` (30) comes where what it carries doesn't fit its record, `CollectiveRefusal::OutOfMemory` (14) where elements or
-/// a group can't be copied. Nothing is kept of a message whose group names a rank twice: no member sends one.
+/// `CollectiveRefusal::BadFrame` (30) comes where what it carries doesn't fit its record,
+/// `CollectiveRefusal::OutOfMemory` (14) where elements or a group can't be copied. Nothing is kept of a message whose
+/// group names a rank twice: no member sends one.
 pub fn note_of(
     alloc: Global,
     address: Address,

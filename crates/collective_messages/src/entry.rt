@@ -10,8 +10,8 @@ use datatypes::Buffer;
 use payload::{Choice, Operation, Record, Rooted};
 use std::alloc::{AllocError, Global};
 
-/// A collective that a rank enters, and with what: the root's rank in the communicator, the operation, and the elements that the
-/// rank hands in. In a scatter it says of which type and how many elements each member's block is.
+/// A collective that a rank enters, and with what: the root's rank in the communicator, the operation, and the elements
+/// that the rank hands in. In a scatter it says of which type and how many elements each member's block is.
 #[derive(Drop)]
 pub enum Entry {
     /// MPI_Barrier (MPI 3.1, 5.3).
@@ -39,7 +39,8 @@ pub struct Inside {
     pub place: usize,
     /// The number of the communicator's context.
     pub context: u64,
-    /// The incarnation of the communicator's members: 0, or the rank's own in what came from its communicator with itself alone.
+    /// The incarnation of the communicator's members: 0, or the rank's own in what came from its communicator with
+    /// itself alone.
     pub incarnation: u16,
     /// How many collectives the rank had entered on the communicator before.
     pub number: u32,

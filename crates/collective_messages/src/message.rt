@@ -5,7 +5,7 @@ ghost use Rattle.collective_messages.specs.Messages.{IsWithinType, says};
 ghost use Rattle.payload.specs.Spelling.{payload_text};
 
 use datatypes::Buffer;
-use payload::{Choice, Direction, NewGroup, PayloadContent, Payload, Record};
+use payload::{Choice, Direction, NewGroup, Payload, PayloadContent, Record};
 use vocabulary::Endpoint;
 
 /// What a message carries beside the record.
@@ -51,7 +51,10 @@ impl CollectiveMessage {
         let part = match &self.given {
             MessageContent::RecordsDiffer => PayloadContent::RecordsDiffer,
             MessageContent::Nothing(way) => PayloadContent::Nothing(*way),
-            MessageContent::Elements(way, elements) => PayloadContent::Elements(*way, elements.as_bytes()),
+            MessageContent::Elements(way, elements) => PayloadContent::Elements(
+                *way,
+                elements.as_bytes(),
+            ),
             MessageContent::Context(context) => PayloadContent::Context(*context),
             MessageContent::Choice(choice) => PayloadContent::Choice(*choice),
             MessageContent::NullCommunicator => PayloadContent::NullCommunicator,

@@ -1,7 +1,8 @@
 //! What others have told a rank of collectives.
 
 ghost use Rattle.std.specs.Prelude.{◌≡◌};
-ghost use Rattle.collective_messages.specs.Notes.{is_of, is_difference, is_entry, is_result, is_differing, is_found, tells_entry, tells_result, choice_said};
+ghost use Rattle.collective_messages.specs.Notes.{is_of, is_difference, is_entry, is_result, is_differing, is_found};
+ghost use Rattle.collective_messages.specs.Notes.{tells_entry, tells_result, choice_said};
 
 use crate::entry::Entry;
 use datatypes::Buffer;
@@ -28,7 +29,8 @@ pub enum NoteContent {
     NewGroup(u64, Group),
 }
 
-/// A message of a collective that came, and is kept until its collective is left. Where a lesson ends the collective, it stays.
+/// A message of a collective that came, and is kept until its collective is left. Where a lesson ends the collective,
+/// it stays.
 #[derive(Drop)]
 pub struct Note {
     /// Who sent it.
@@ -56,8 +58,8 @@ impl NoteContent {
         ensures { result ≡ is_entry self.now }
     {
         match self {
-            NoteContent::Nothing(Direction::TowardsRoot) | NoteContent::Elements(Direction::TowardsRoot, _) =>
-                true,
+            NoteContent::Nothing(Direction::TowardsRoot)
+            | NoteContent::Elements(Direction::TowardsRoot, _) => true,
             NoteContent::Choice(_) => true,
             _ => false,
         }
@@ -68,8 +70,10 @@ impl NoteContent {
         ensures { result ≡ is_result self.now }
     {
         match self {
-            NoteContent::Nothing(Direction::FromRoot) | NoteContent::Elements(Direction::FromRoot, _) => true,
-            NoteContent::Context(_) | NoteContent::NullCommunicator | NoteContent::NewGroup(..) => true,
+            NoteContent::Nothing(Direction::FromRoot)
+            | NoteContent::Elements(Direction::FromRoot, _) => true,
+            NoteContent::Context(_) | NoteContent::NullCommunicator | NoteContent::NewGroup(..) =>
+                true,
             _ => false,
         }
     }

@@ -1,14 +1,16 @@
 //! What a rank is in a collective: whose word it waits for, and whom it tells what.
 
-ghost use Rattle.std.specs.Prelude.{◌≡◌, ◌<◌, ◌≤◌, All, ◌++◌, IfOk, OnOk, IfSome, Some, ◌∷◌, [], length, map, slice_get, if◌then◌else◌};
+ghost use Rattle.std.specs.Prelude.{◌≡◌, ◌<◌, ◌≤◌, All, ◌++◌, IfOk, OnOk, IfSome, Some, ◌∷◌, [], length, map};
+ghost use Rattle.std.specs.Prelude.{slice_get, if◌then◌else◌};
 ghost use Rattle.std.specs.Option.{option_copied, option_to_list};
-ghost use Rattle.collective_messages.specs.Roles.{above_place, all_or_none, all_or_own, below_place, both_role, onward_place, own_place, ranks_at, role_at, role_of};
+ghost use Rattle.collective_messages.specs.Roles.{above_place, all_or_none, all_or_own, below_place, both_role};
+ghost use Rattle.collective_messages.specs.Roles.{onward_place, own_place, ranks_at, role_at, role_of};
 ghost use Rattle.payload.specs.declared.record.Record.TheVariants as records;
 ghost use Rattle.binomial_trees.specs.Trees.{children, rotate, rotate_back};
 
 use crate::verdict::is_at;
-use groups::Group;
 use binomial_trees::{children, parent, rotate, rotate_back};
+use groups::Group;
 use payload::{Operation, Record, Rooted};
 use std::alloc::{AllocError, Global};
 use std::marker::Model;

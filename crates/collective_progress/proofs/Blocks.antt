@@ -1,36 +1,43 @@
 -- Lemmas on blocks: their bytes, and what is made of them.
-use Rattle.std.proofs.Common.{◌≡◌, ℕ, ◌+◌, ◌*◌, ◌/◌, ◌%◌, ◌<◌, ◌≤◌, Bool, true, false, List, [], ◌∷◌, ◌++◌, length, take, drop, map, get_or, refl, sym, ap, subst, ◌∙◌, arith, Option, Some, None, if◌then◌else◌}
+use Rattle.std.proofs.Common.{◌≡◌, ℕ, ◌+◌, ◌*◌, ◌/◌, ◌%◌, ◌<◌, ◌≤◌, Bool, true, false, List, [], ◌∷◌, ◌++◌, length}
+use Rattle.std.proofs.Common.{take, drop, map, get_or, refl, sym, ap, subst, ◌∙◌, arith, Option, Some, None}
+use Rattle.std.proofs.Common.{if◌then◌else◌}
 use Rattle.std.specs.Prelude.{◌==◌, ◌&&◌, find, fold}
 use Rattle.std.proofs.Math.Nat.{mul-le-mul_right, add-mul}
 use Rattle.std.proofs.lemmas.Bool.{eqb-true, false≢true}
 use Rattle.std.proofs.lemmas.List.{append-nil, length-append, length-drop, map_more}
 use Rattle.std.proofs.lemmas.List.Sums.{fold_push}
 use Rattle.std.proofs.lemmas.Grind.{flat_map-append}
-use Rattle.collective_progress.specs.Blocks.{block_known, block_of_note, folded_values, is_like, joined_values, like_mine, one_more, values_in}
+use Rattle.collective_progress.specs.Blocks.{block_known, block_of_note, folded_values, is_like, joined_values}
+use Rattle.collective_progress.specs.Blocks.{like_mine, one_more, values_in}
 use Rattle.collective_messages.specs.Notes.{tells_entry}
 use Rattle.collective_messages.specs.declared.note.Note.{Note}
 use Rattle.datatypes.specs.Combinations.{IsLike}
-use Rattle.datatypes.specs.ContentLaws.{length-bytes_of, no_rest, sizes, values_of-append, values_of-bytes_of, values_of-drop, values_of-take, whole}
+use Rattle.datatypes.specs.ContentLaws.{length-bytes_of, no_rest, sizes, values_of-append, values_of-bytes_of}
+use Rattle.datatypes.specs.ContentLaws.{values_of-drop, values_of-take, whole}
 use Rattle.datatypes.specs.Contents.{AreWithin, Contents, bytes_of, values_of}
 use Rattle.layouts.specs.Buffers.{is_same_type}
 use Rattle.vocabulary.specs.BasicTypes.{code_of, size_of, type_at}
 use Rattle.vocabulary.specs.Endpoints.{is_same}
 use Rattle.vocabulary.specs.declared.basic_type.BasicType.{BasicType}
-use Rattle.vocabulary.specs.declared.basic_type.BasicType.TheVariants.{Int8, Int16, Int32, Int64, Uint8, Uint16, Uint32, Uint64, Byte}
+use Rattle.vocabulary.specs.declared.basic_type.BasicType.TheVariants.{Int8, Int16, Int32, Int64, Uint8, Uint16, Uint32}
+use Rattle.vocabulary.specs.declared.basic_type.BasicType.TheVariants.{Uint64, Byte}
 use Rattle.vocabulary.specs.declared.endpoint.Endpoint.{Endpoint}
 
 -- ---- the bytes of blocks
 
 -- one more block
 pub joined_more : (f : ℕ → Option Contents) (ranks : List ℕ) (k d : ℕ) → k < length ranks
-    → joined_values (map f (take (k + 1) ranks)) ≡ joined_values (map f (take k ranks)) ++ values_in (f (get_or ranks k d))
+    → joined_values (map f (take (k + 1) ranks)) ≡ joined_values (map f (take k ranks)) ++
+    values_in (f (get_or ranks k d))
 joined_more f ranks k d lt =
     ap joined_values (map_more f ranks k d lt)
     ∙ flat_map-append (λ b. values_in b) (map f (take k ranks)) (f (get_or ranks k d) ∷ [])
     ∙ ap (λ (t : List ℕ). joined_values (map f (take k ranks)) ++ t) (append-nil (values_in (f (get_or ranks k d))))
 
 -- the elements of bytes with those of one more block behind them
-pub joined_step : (basic : BasicType) (bytes values : List ℕ) → length bytes % size_of basic ≡ 0 → AreWithin (size_of basic) values
+pub joined_step : (basic : BasicType) (bytes values : List ℕ) → length bytes % size_of basic ≡ 0 →
+    AreWithin (size_of basic) values
     → values_of (size_of basic) (bytes ++ bytes_of (size_of basic) values) ≡ values_of (size_of basic) bytes ++ values
 joined_step basic bytes values rest within =
     let size = size_of basic in
@@ -55,8 +62,11 @@ whole_step basic bytes values rest =
     no_rest size (n + length values) (bytes ++ bytes_of size values) (sizes basic).positive len
 
 -- the elements in so many bytes from the start of one are so many elements from it
-pub block_values : (basic : BasicType) (values : List ℕ) (start count : ℕ) → AreWithin (size_of basic) values → start + count ≤ length values
-    → values_of (size_of basic) (take (count * size_of basic) (drop (start * size_of basic) (bytes_of (size_of basic) values))) ≡ take count (drop start values)
+pub block_values : (basic : BasicType) (values : List ℕ) (start count : ℕ) → AreWithin (size_of basic) values →
+    start + count ≤ length values
+    → values_of (size_of basic)
+    (take (count * size_of basic) (drop (start * size_of basic) (bytes_of (size_of basic) values))) ≡
+    take count (drop start values)
 block_values basic values start count within fits =
     let size = size_of basic in
     let bytes = bytes_of size values in
@@ -67,7 +77,8 @@ block_values basic values start count within fits =
     let front : start * size ≤ length bytes = omega arith in
     let rest : count * size ≤ length (drop (start * size) bytes) = omega (arith, length-drop (start * size) bytes) in
     values_of-take size (drop (start * size) bytes) count positive rest
-    ∙ ap (take count) (values_of-drop size bytes start positive front ∙ ap (drop start) (values_of-bytes_of size values positive within))
+    ∙ ap (take count) (values_of-drop size bytes start positive front ∙
+    ap (drop start) (values_of-bytes_of size values positive within))
 
 -- so many bytes from the start of one are there
 pub block_room : (basic : BasicType) (values : List ℕ) (start count : ℕ) → start + count ≤ length values
@@ -115,8 +126,14 @@ same_type a b same = ap type_in (sym (code_back a) ∙ ap type_at (eqb-true (cod
 pub alike : (mine b : Contents) → is_like mine b ≡ true → IsLike mine.basic mine.values b
 alike mine b like = by (is_same_type b.basic mine.basic) (length b.values == length mine.values) refl refl like
   where
-    by : (s l : Bool) → is_same_type b.basic mine.basic ≡ s → (length b.values == length mine.values) ≡ l → (s && l) ≡ true → IsLike mine.basic mine.values b
-    by true true same len both = record { basic_is = same_type b.basic mine.basic same; len = eqb-true (length b.values) (length mine.values) len }
+    by : (s l : Bool) → is_same_type b.basic mine.basic ≡ s → (length b.values == length mine.values) ≡ l →
+        (s && l) ≡ true → IsLike mine.basic mine.values b
+    by true true same len both =
+        record {
+          basic_is = same_type b.basic mine.basic same;
+          len =
+              eqb-true (length b.values) (length mine.values) len;
+        }
     by true false same len both = absurd (false≢true both)
     by false true same len both = absurd (false≢true both)
     by false false same len both = absurd (false≢true both)
@@ -127,7 +144,8 @@ MayBeLike mine None = Unit {0}
 MayBeLike mine (Some b) = IsLike mine.basic mine.values b
 
 -- what is kept of a block that may be like mine is
-like_is : (mine : Contents) (o : Option Contents) (b : Contents) → like_mine mine o ≡ Some b → IsLike mine.basic mine.values b
+like_is : (mine : Contents) (o : Option Contents) (b : Contents) → like_mine mine o ≡ Some b →
+    IsLike mine.basic mine.values b
 like_is mine None b is = subst (λ (o : Option Contents). MayBeLike mine o) is tt
 like_is mine (Some x) b is = by (is_like mine x) refl is
   where
@@ -140,37 +158,47 @@ pub known_like : (own : Endpoint) (mine : Contents) (c k : ℕ) (notes : List No
     → block_known own mine c k notes x ≡ Some b → IsLike mine.basic mine.values b
 known_like own mine c k notes x b is = by (is_same x own) is
   where
-    by : (t : Bool) → (if t then Some mine else like_mine mine (block_of_note (find (tells_entry c k x) notes))) ≡ Some b → IsLike mine.basic mine.values b
+    by : (t : Bool) → (if t then Some mine else like_mine mine (block_of_note (find (tells_entry c k x) notes))) ≡
+        Some b → IsLike mine.basic mine.values b
     by true here = subst (λ (o : Option Contents). MayBeLike mine o) here (record { basic_is = refl; len = refl })
     by false here = like_is mine (block_of_note (find (tells_entry c k x) notes)) b here
 
 -- ---- folds
 
 -- the fold of anything behind no elements has none
-pub fold_none : (f : ℕ → ℕ → ℕ) (bs : List (Option Contents)) → fold (λ (all : List ℕ) (next : Option Contents). one_more f all next) [] bs ≡ []
+pub fold_none : (f : ℕ → ℕ → ℕ) (bs : List (Option Contents)) →
+    fold (λ (all : List ℕ) (next : Option Contents). one_more f all next) [] bs ≡ []
 fold_none f [] = refl
 fold_none f (None ∷ bs) = fold_none f bs
 fold_none f (Some b ∷ bs) = fold_none f bs
 
 -- one more block is combined
-pub fold_more_blocks : (f : ℕ → ℕ → ℕ) (of : ℕ → Option Contents) (first : List ℕ) (ranks : List ℕ) (k d : ℕ) → k < length ranks
+pub fold_more_blocks : (f : ℕ → ℕ → ℕ) (of : ℕ → Option Contents) (first : List ℕ) (ranks : List ℕ) (k d : ℕ) →
+    k < length ranks
     → fold (λ (all : List ℕ) (next : Option Contents). one_more f all next) first (map of (take (k + 1) ranks))
-    ≡ one_more f (fold (λ (all : List ℕ) (next : Option Contents). one_more f all next) first (map of (take k ranks))) (of (get_or ranks k d))
+    ≡ one_more f (fold (λ (all : List ℕ) (next : Option Contents). one_more f all next) first (map of (take k ranks)))
+    (of (get_or ranks k d))
 fold_more_blocks f of first ranks k d lt =
     ap (fold (λ (all : List ℕ) (next : Option Contents). one_more f all next) first) (map_more of ranks k d lt)
-    ∙ fold_push (λ (all : List ℕ) (next : Option Contents). one_more f all next) first (map of (take k ranks)) (of (get_or ranks k d))
+    ∙ fold_push (λ (all : List ℕ) (next : Option Contents). one_more f all next) first (map of (take k ranks))
+    (of (get_or ranks k d))
 
 -- a fold that begins with a block
-pub folded_from : (f : ℕ → ℕ → ℕ) (of : ℕ → Option Contents) (ranks rest : List ℕ) (first : ℕ) (b : Contents) → ranks ≡ first ∷ rest → of first ≡ Some b
-    → folded_values f (map of ranks) ≡ fold (λ (all : List ℕ) (next : Option Contents). one_more f all next) b.values (map of rest)
+pub folded_from : (f : ℕ → ℕ → ℕ) (of : ℕ → Option Contents) (ranks rest : List ℕ) (first : ℕ) (b : Contents) →
+    ranks ≡ first ∷ rest → of first ≡ Some b
+    → folded_values f (map of ranks) ≡ fold (λ (all : List ℕ) (next : Option Contents). one_more f all next) b.values
+    (map of rest)
 folded_from f of ranks rest first b cons is =
     ap (λ (rs : List ℕ). folded_values f (map of rs)) cons
-    ∙ ap (λ (o : Option Contents). fold (λ (all : List ℕ) (next : Option Contents). one_more f all next) (values_in o) (map of rest)) is
+    ∙ ap (λ (o : Option Contents). fold (λ (all : List ℕ) (next : Option Contents). one_more f all next) (values_in o)
+    (map of rest)) is
 
 -- a fold that begins with none
-pub folded_none : (f : ℕ → ℕ → ℕ) (of : ℕ → Option Contents) (ranks rest : List ℕ) (first : ℕ) → ranks ≡ first ∷ rest → of first ≡ None
+pub folded_none : (f : ℕ → ℕ → ℕ) (of : ℕ → Option Contents) (ranks rest : List ℕ) (first : ℕ) → ranks ≡ first ∷ rest →
+    of first ≡ None
     → folded_values f (map of ranks) ≡ []
 folded_none f of ranks rest first cons is =
     ap (λ (rs : List ℕ). folded_values f (map of rs)) cons
-    ∙ ap (λ (o : Option Contents). fold (λ (all : List ℕ) (next : Option Contents). one_more f all next) (values_in o) (map of rest)) is
+    ∙ ap (λ (o : Option Contents). fold (λ (all : List ℕ) (next : Option Contents). one_more f all next) (values_in o)
+    (map of rest)) is
     ∙ fold_none f (map of rest)

@@ -1,5 +1,6 @@
 -- What the members of a collective hand in, as a rank knows it, and what is made of it (MPI 3.1, 5.4 to 5.9).
-use Rattle.std.specs.Prelude.{ℕ, Bool, ◌*◌, ◌==◌, ◌&&◌, List, [], ◌∷◌, length, map, take, drop, find, fold, Option, Some, None, is_some, if◌then◌else◌}
+use Rattle.std.specs.Prelude.{ℕ, Bool, ◌*◌, ◌==◌, ◌&&◌, List, [], ◌∷◌, length, map, take, drop, find, fold, Option}
+use Rattle.std.specs.Prelude.{Some, None, is_some, if◌then◌else◌}
 use Rattle.std.specs.List.{flat_map, list_all}
 use Rattle.collective_progress.specs.Operations.{op_of}
 use Rattle.collective_messages.specs.Notes.{member_at, tells_entry}
@@ -40,18 +41,21 @@ abbrev pub like_mine : Contents → Option Contents → Option Contents
 like_mine mine None = None
 like_mine mine (Some b) = if is_like mine b then Some b else None
 
--- what a member handed in, as the rank at `own`, which handed in `mine`, knows it. All members of one collective hand in as many
--- elements of one type; another block counts as none
-abbrev pub block_known : (own : Endpoint) → (mine : Contents) → (context number : ℕ) → List Note → Endpoint → Option Contents
+-- what a member handed in, as the rank at `own`, which handed in `mine`, knows it. All members of one collective hand
+-- in as many elements of one type; another block counts as none
+abbrev pub block_known : (own : Endpoint) → (mine : Contents) → (context number : ℕ) → List Note → Endpoint →
+    Option Contents
 block_known own mine c k notes x =
     if is_same x own then Some mine else like_mine mine (block_of_note (find (tells_entry c k x) notes))
 
 -- what the members with these ranks handed in, in the order of these
-abbrev pub blocks_known : (own : Endpoint) → (mine : Contents) → (incarnation context number : ℕ) → List Note → (ranks : List ℕ) → List (Option Contents)
+abbrev pub blocks_known : (own : Endpoint) → (mine : Contents) → (incarnation context number : ℕ) → List Note →
+    (ranks : List ℕ) → List (Option Contents)
 blocks_known own mine i c k notes ranks = map (λ r. block_known own mine c k notes (member_at i r)) ranks
 
 -- whether what each of these members handed in is known
-abbrev pub are_known : (own : Endpoint) → (mine : Contents) → (incarnation context number : ℕ) → List Note → (ranks : List ℕ) → Bool
+abbrev pub are_known : (own : Endpoint) → (mine : Contents) → (incarnation context number : ℕ) → List Note →
+    (ranks : List ℕ) → Bool
 are_known own mine i c k notes ranks = list_all (λ r. is_some (block_known own mine c k notes (member_at i r))) ranks
 
 -- ---- what is made of it

@@ -1,13 +1,15 @@
 -- What a rank keeps beside the notes of the collective that it is in, so that a message costs no look at them all.
-use Rattle.std.specs.Prelude.{◌≡◌, ◌≤◌, ◌+◌, ◌==◌, ◌&&◌, ◌||◌, ℕ, Bool, true, false, List, length, take, replicate, position, slice_get, slice_set, Option, Some, None, if◌then◌else◌}
-use Rattle.collective_messages.specs.Notes.{differs_in, found_in, have_entered, is_differing, is_found, is_of, member_at, result_place, tells_entry, tells_result}
+use Rattle.std.specs.Prelude.{◌≡◌, ◌≤◌, ◌+◌, ◌==◌, ◌&&◌, ◌||◌, ℕ, Bool, true, false, List, length, take, replicate}
+use Rattle.std.specs.Prelude.{position, slice_get, slice_set, Option, Some, None, if◌then◌else◌}
+use Rattle.collective_messages.specs.Notes.{differs_in, found_in, have_entered, is_differing, is_found, is_of}
+use Rattle.collective_messages.specs.Notes.{member_at, result_place, tells_entry, tells_result}
 use Rattle.collective_messages.specs.declared.entry.Inside.{Inside}
 use Rattle.collective_messages.specs.declared.note.Note.{Note}
 use Rattle.vocabulary.specs.declared.endpoint.Endpoint.{Endpoint}
 
--- So many notes were looked at, the oldest; at the slot of each rank whose word is awaited, where the first note of its word stands; so
--- many of these ranks, from the first on, are known to have entered; whether a note speaks of a difference, and whether one finds it;
--- where the first result stands
+-- So many notes were looked at, the oldest; at the slot of each rank whose word is awaited, where the first note of its
+-- word stands; so many of these ranks, from the first on, are known to have entered; whether a note speaks of a
+-- difference, and whether one finds it; where the first result stands
 pub record Seen : Type 0 where
   pub count : ℕ
   pub places : List (Option ℕ)
@@ -18,7 +20,15 @@ pub record Seen : Type 0 where
 
 -- nothing was looked at, and so many slots are free
 abbrev pub unseen : (slots : ℕ) → Seen
-unseen slots = record { count = 0; places = replicate slots None; entered = 0; differs = false; found = false; result = None }
+unseen slots = record {
+  count = 0;
+  places = replicate slots None;
+  entered = 0;
+  differs = false;
+  found = false;
+  result =
+      None;
+}
 
 -- ---- slots
 
@@ -27,7 +37,8 @@ abbrev pub is_that : (rank : ℕ) → Option ℕ → Bool
 is_that r None = false
 is_that r (Some x) = x == r
 
--- the slot of a rank: its own number where it stands there, as in `world` and its copies, and else where it stands first
+-- the slot of a rank: its own number where it stands there, as in `world` and its copies, and else where it stands
+-- first
 abbrev pub slot : (ranks : List ℕ) → (rank : ℕ) → Option ℕ
 slot ranks r = if is_that r (slice_get ranks r) then Some r else position (λ x. x == r) ranks
 
@@ -83,7 +94,8 @@ filled_at (Some s) at places = filled s at (slice_get places s) places
 -- the places once a note was looked at that stands here
 abbrev pub places_with : Inside → Note → (at : ℕ) → List (Option ℕ) → List (Option ℕ)
 places_with i n at places =
-    if tells_entry i.context i.number (member_at i.incarnation n.sender.rank) n then filled_at (slot i.role.feeders n.sender.rank) at places else places
+    if tells_entry i.context i.number (member_at i.incarnation n.sender.rank) n then
+    filled_at (slot i.role.feeders n.sender.rank) at places else places
 
 -- all once one more note was looked at
 abbrev pub looked : Inside → Note → Seen → Seen

@@ -1,5 +1,6 @@
 -- The rules on what a rank enters a collective with (MPI 3.1, 5.4 to 5.9).
-use Rattle.std.specs.Prelude.{ℕ, Bool, true, false, ◌*◌, ◌==◌, ◌&&◌, ◌||◌, not, length, Option, Some, None, nat_le, nat_lt, if◌then◌else◌}
+use Rattle.std.specs.Prelude.{ℕ, Bool, true, false, ◌*◌, ◌==◌, ◌&&◌, ◌||◌, not, length, Option, Some, None, nat_le}
+use Rattle.std.specs.Prelude.{nat_lt, if◌then◌else◌}
 use Rattle.collective_progress.specs.Operations.{op_of}
 use Rattle.collective_progress.specs.declared.rules.Rule.{Rule}
 use Rattle.collective_progress.specs.declared.rules.Rule.TheVariants.{WrongType, WrongCount, NoRoot, NotDefined}
@@ -63,6 +64,7 @@ number_of_rule NotDefined = 9
 abbrev pub rule_broken : (is_root : Bool) → (size : ℕ) → Entry → Option Rule
 rule_broken is_root size e =
     if is_root && is_other_type e then Some WrongType else
-    (if nat_lt block_limit (block_bytes (elements_of (record_of e))) || (is_root && is_wrong_total size e) then Some WrongCount else
+    (if nat_lt block_limit (block_bytes (elements_of (record_of e))) || (is_root && is_wrong_total size e) then
+    Some WrongCount else
     (if is_rooted e && nat_le size (root_of (record_of e)) then Some NoRoot else
     (if is_undefined e then Some NotDefined else None)))

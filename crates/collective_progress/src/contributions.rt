@@ -2,12 +2,13 @@
 
 ghost use Rattle.std.specs.Prelude.{◌≡◌, find};
 ghost use Rattle.std.specs.Option.{option_copied};
-ghost use Rattle.collective_progress.specs.Blocks.{are_known, block_known, block_of_note, block_said, is_like, like_mine};
+ghost use Rattle.collective_progress.specs.Blocks.{are_known, block_known, block_of_note, block_said, is_like};
+ghost use Rattle.collective_progress.specs.Blocks.{like_mine};
 ghost use Rattle.collective_messages.specs.Notes.{member_at, tells_entry};
 ghost use Rattle.collective_progress.specs.Progress.{IsProgress};
 
-use collective_messages::{Inside, Note, NoteContent, is_same};
 use crate::Progress;
+use collective_messages::{Inside, Note, NoteContent, is_same};
 use datatypes::Buffer;
 use vocabulary::Endpoint;
 
@@ -40,7 +41,9 @@ fn block_told<'a>(
     rank: u16,
 ) -> Option<&'a Buffer>
     requires { IsProgress inside.now notes.now progress.now }
-    ensures { option_copied result ≡ block_of_note (find (tells_entry inside.now.context inside.now.number (member_at inside.now.incarnation rank)) notes.now) }
+    ensures { option_copied result ≡
+        block_of_note
+        (find (tells_entry inside.now.context inside.now.number (member_at inside.now.incarnation rank)) notes.now) }
 {
     match progress.entry_note(inside, notes, rank) {
         Some(note) => block_said(&note.said),
@@ -55,8 +58,8 @@ pub fn is_like(mine: &Buffer, block: &Buffer) -> bool
     block.basic() == mine.basic() && block.len() == mine.len()
 }
 
-/// What the member with this rank handed in, as the rank at `own`, which handed in `mine`, knows it: as many elements of the same
-/// type. Nothing is answered where it isn't known, or is none such.
+/// What the member with this rank handed in, as the rank at `own`, which handed in `mine`, knows it: as many elements
+/// of the same type. Nothing is answered where it isn't known, or is none such.
 pub fn block_known<'a>(
     own: Endpoint,
     inside: &Inside,
@@ -66,7 +69,8 @@ pub fn block_known<'a>(
     rank: u16,
 ) -> Option<&'a Buffer>
     requires { IsProgress inside.now notes.now progress.now }
-    ensures { option_copied result ≡ block_known own mine.now inside.now.context inside.now.number notes.now (member_at inside.now.incarnation rank) }
+    ensures { option_copied result ≡ block_known own mine.now inside.now.context inside.now.number notes.now
+        (member_at inside.now.incarnation rank) }
 {
     if is_same(member(inside, rank), own) {
         return Some(mine);
@@ -92,7 +96,8 @@ pub fn are_known(
     ranks: &[u16],
 ) -> bool
     requires { IsProgress inside.now notes.now progress.now }
-    ensures { result ≡ are_known own mine.now inside.now.incarnation inside.now.context inside.now.number notes.now ranks.now }
+    ensures { result ≡ are_known own mine.now inside.now.incarnation inside.now.context inside.now.number notes.now
+        ranks.now }
 {
     for rank in ranks {
         if block_known(own, inside, mine, notes, progress, *rank).is_none() {

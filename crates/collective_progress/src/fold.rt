@@ -5,10 +5,10 @@ ghost use Rattle.collective_progress.specs.Progress.{IsProgress};
 ghost use Rattle.collective_progress.specs.Blocks.{blocks_known, folded_values, one_more, reduction_of};
 ghost use Rattle.datatypes.specs.Contents.{Contents};
 
+use crate::Progress;
 use crate::contributions::block_known;
 use crate::operation::op_of;
 use collective_messages::{Inside, Note};
-use crate::Progress;
 use datatypes::Buffer;
 use payload::Operation;
 use reductions::{ReduceOp, accumulate};
@@ -34,7 +34,8 @@ fn fold_rest<R: ReduceOp>(
         record all.old {
           values =
               fold (λ (all : List ℕ) (next : Option Contents). one_more (R.combines op.now) all next) all.old.values
-              (blocks_known own mine.now inside.now.incarnation inside.now.context inside.now.number notes.now ranks.now);
+              (blocks_known own mine.now inside.now.incarnation inside.now.context inside.now.number notes.now
+              ranks.now);
         } }
 {
     for rank in ranks {
@@ -57,7 +58,14 @@ fn fold_blocks<R: ReduceOp>(
 ) -> Result<Buffer, AllocError>
     requires progress { IsProgress inside.now notes.now progress.now }
     requires basic { mine.now.basic ≡ R.basic_of op.now }
-    ensures { IfOk result (λ all. all ≡ record { basic = mine.now.basic; values = folded_values (R.combines op.now) (blocks_known own mine.now inside.now.incarnation inside.now.context inside.now.number notes.now ranks.now) }) }
+    ensures { IfOk result
+        (λ all. all ≡
+        record {
+          basic = mine.now.basic;
+          values =
+              folded_values (R.combines op.now)
+              (blocks_known own mine.now inside.now.incarnation inside.now.context inside.now.number notes.now ranks.now);
+        }) }
 {
     let Some((first, rest)) = ranks.split_first() else {
         return Ok(Buffer::new(alloc, mine.basic()));
@@ -72,9 +80,9 @@ fn fold_blocks<R: ReduceOp>(
     }
 }
 
-/// What the members with these ranks handed in, combined by the operation in rank order (MPI 3.1, 5.9): a left fold, whatever
-/// order the parts came in. Nothing is answered where the operation isn't defined on the type. What isn't known of a member is
-/// left out: ask `are_known` first.
+/// What the members with these ranks handed in, combined by the operation in rank order (MPI 3.1, 5.9): a left fold,
+/// whatever order the parts came in. Nothing is answered where the operation isn't defined on the type. What isn't
+/// known of a member is left out: ask `are_known` first.
 pub fn reduction_of(
     alloc: Global,
     operation: Operation,
@@ -86,7 +94,10 @@ pub fn reduction_of(
     ranks: &[u16],
 ) -> Result<Option<Buffer>, AllocError>
     requires { IsProgress inside.now notes.now progress.now }
-    ensures { IfOk result (λ all. all ≡ reduction_of operation mine.now (blocks_known own mine.now inside.now.incarnation inside.now.context inside.now.number notes.now ranks.now)) }
+    ensures { IfOk result
+        (λ all. all ≡
+        reduction_of operation mine.now
+        (blocks_known own mine.now inside.now.incarnation inside.now.context inside.now.number notes.now ranks.now)) }
 {
     let Ok(reduction) = op_of(operation).on(mine.basic()) else {
         return Ok(None);

@@ -6,9 +6,9 @@ ghost use Rattle.collective_progress.specs.Blocks.{blocks_known, joined_values};
 ghost use Rattle.datatypes.specs.Contents.{values_of};
 ghost use Rattle.vocabulary.specs.BasicTypes.{size_of};
 
+use crate::Progress;
 use crate::contributions::block_known;
 use collective_messages::{Inside, Note};
-use crate::Progress;
 use datatypes::Buffer;
 use std::alloc::{AllocError, Global};
 use vocabulary::Endpoint;
@@ -24,7 +24,9 @@ fn joined_bytes(
     ranks: &[u16],
 ) -> Result<Vec<u8>, AllocError>
     requires { IsProgress inside.now notes.now progress.now }
-    ensures values { IfOk result (λ bytes. values_of (size_of mine.now.basic) bytes.items ≡ joined_values (blocks_known own mine.now inside.now.incarnation inside.now.context inside.now.number notes.now ranks.now)) }
+    ensures values { IfOk result (λ bytes. values_of (size_of mine.now.basic) bytes.items ≡
+        joined_values
+        (blocks_known own mine.now inside.now.incarnation inside.now.context inside.now.number notes.now ranks.now)) }
     ensures whole { IfOk result (λ bytes. length bytes.items % size_of mine.now.basic ≡ 0) }
 {
     let mut bytes = Vec::new(alloc);
@@ -36,8 +38,8 @@ fn joined_bytes(
     Ok(bytes)
 }
 
-/// What the members with these ranks handed in, one after the other (MPI 3.1, 5.5). What isn't known of a member is left out:
-/// ask `are_known` first.
+/// What the members with these ranks handed in, one after the other (MPI 3.1, 5.5). What isn't known of a member is
+/// left out: ask `are_known` first.
 pub fn concatenation_of(
     alloc: Global,
     own: Endpoint,
@@ -48,7 +50,14 @@ pub fn concatenation_of(
     ranks: &[u16],
 ) -> Result<Buffer, AllocError>
     requires { IsProgress inside.now notes.now progress.now }
-    ensures { IfOk result (λ all. all ≡ record { basic = mine.now.basic; values = joined_values (blocks_known own mine.now inside.now.incarnation inside.now.context inside.now.number notes.now ranks.now) }) }
+    ensures { IfOk result
+        (λ all. all ≡
+        record {
+          basic = mine.now.basic;
+          values =
+              joined_values
+              (blocks_known own mine.now inside.now.incarnation inside.now.context inside.now.number notes.now ranks.now);
+        }) }
 {
     let bytes = joined_bytes(alloc, own, inside, mine, notes, progress, ranks)?;
     Ok(Buffer::from_bytes(mine.basic(), bytes))

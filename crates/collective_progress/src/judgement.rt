@@ -11,7 +11,8 @@ use collective_messages::{Inside, Note, Verdict, is_same};
 use payload::Choice;
 use vocabulary::Endpoint;
 
-/// What a rank does once those have entered for whom it waits, by where the note stands that tells it with what it leaves.
+/// What a rank does once those have entered for whom it waits, by where the note stands that tells it with what it
+/// leaves.
 fn judge_entered(decides: bool, told: Option<usize>) -> Verdict
     ensures { result ≡ verdict_told decides told }
 {
@@ -22,7 +23,8 @@ fn judge_entered(decides: bool, told: Option<usize>) -> Verdict
     }
 }
 
-/// So many of those for whom the rank at `own` waits, from the first on, are known to have entered, and not the one behind them.
+/// So many of those for whom the rank at `own` waits, from the first on, are known to have entered, and not the one
+/// behind them.
 pub(crate) fn first_known(
     progress: &Progress,
     own: Endpoint,
@@ -33,7 +35,8 @@ pub(crate) fn first_known(
     requires progress { IsProgress inside.now notes.now progress.now }
     requires start { AreFirst own inside.now notes.now start }
     ensures first { AreFirst own inside.now notes.now result }
-    ensures all { (result == length inside.now.role.feeders) ≡ have_entered own inside.now.incarnation inside.now.context inside.now.number notes.now inside.now.role.feeders }
+    ensures all { (result == length inside.now.role.feeders) ≡
+        have_entered own inside.now.incarnation inside.now.context inside.now.number notes.now inside.now.role.feeders }
 {
     let feeders = inside.role.feeders();
     let mut count = start;
@@ -61,8 +64,9 @@ fn choice_at(notes: &[Note], place: Option<usize>) -> Choice
 }
 
 impl Progress {
-    /// What the rank at `own` does that is in a collective: it leaves with 12 where a note of it speaks of a difference; else it stays
-    /// until those have entered for whom it waits, and then leaves, or waits to be told with what.
+    /// What the rank at `own` does that is in a collective: it leaves with 12 where a note of it speaks of a
+    /// difference; else it stays until those have entered for whom it waits, and then leaves, or waits to be told with
+    /// what.
     pub fn judge(&self, own: Endpoint, inside: &Inside, notes: &[Note]) -> Verdict
         requires { IsKept own inside.now notes.now self.now }
         ensures { result ≡ verdict own inside.now notes.now }
@@ -80,7 +84,8 @@ impl Progress {
     /// What the member with this rank asks for in a split, as the rank at `own` knows it.
     pub fn choice_known(&self, own: Endpoint, inside: &Inside, notes: &[Note], rank: u16) -> Choice
         requires { IsProgress inside.now notes.now self.now }
-        ensures { result ≡ choice_known own (own_choice inside.now.entry) inside.now.context inside.now.number notes.now (member_at inside.now.incarnation rank) }
+        ensures { result ≡ choice_known own (own_choice inside.now.entry) inside.now.context inside.now.number notes.now
+            (member_at inside.now.incarnation rank) }
     {
         if is_same(member(inside, rank), own) {
             return inside.entry.choice();

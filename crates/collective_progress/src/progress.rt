@@ -1,8 +1,10 @@
 //! What was found in the notes of a collective so far, and what is found by it.
 
-ghost use Rattle.std.specs.Prelude.{◌≡◌, ◌<◌, ◌≤◌, ◌==◌, OnOk, find, length, replicate, position, slice_get, take, true, None, Some};
+ghost use Rattle.std.specs.Prelude.{◌≡◌, ◌<◌, ◌≤◌, ◌==◌, OnOk, find, length, replicate, position, slice_get, take};
+ghost use Rattle.std.specs.Prelude.{true, None, Some};
 ghost use Rattle.std.specs.Option.{option_copied};
-ghost use Rattle.collective_messages.specs.Notes.{differs_in, found_in, is_known, member_at, result_place, tells_entry, tells_result};
+ghost use Rattle.collective_messages.specs.Notes.{differs_in, found_in, is_known, member_at, result_place, tells_entry};
+ghost use Rattle.collective_messages.specs.Notes.{tells_result};
 ghost use Rattle.collective_progress.specs.Progress.{IsProgress, is_that, slot, unseen};
 
 use collective_messages::{Entry, Inside, Note, differs_in, found_in, is_same};
@@ -10,8 +12,8 @@ use std::alloc::{AllocError, Global};
 use std::marker::Model;
 use vocabulary::Endpoint;
 
-/// What was found in the notes of the collective that a rank is in, as far as they were looked at. Further notes are looked at where they
-/// are asked for, so it stays right where a note is kept behind the others.
+/// What was found in the notes of the collective that a rank is in, as far as they were looked at. Further notes are
+/// looked at where they are asked for, so it stays right where a note is kept behind the others.
 #[derive(Drop)]
 pub struct Progress {
     /// So many notes were looked at, the oldest.
@@ -33,7 +35,15 @@ impl Model for Progress {
 
     ghost Value = { Seen };
 
-    ghost view = { λ p. record { count = p.count; places = p.places.items; entered = p.entered; differs = p.differs; found = p.found; result = p.result } };
+    ghost view = { λ p. record {
+      count = p.count;
+      places = p.places.items;
+      entered = p.entered;
+      differs = p.differs;
+      found =
+          p.found;
+      result = p.result;
+    } };
 }
 
 /// The member of the communicator that has this rank in `world`.
@@ -63,7 +73,8 @@ fn place_among(ranks: &[u16], rank: u16) -> Option<usize>
     ranks.iter().position(|found| *found == rank)
 }
 
-/// The slot of a rank: its own number where it stands there, as in `world` and its copies, and else where it stands first.
+/// The slot of a rank: its own number where it stands there, as in `world` and its copies, and else where it stands
+/// first.
 pub(crate) fn slot(ranks: &[u16], rank: u16) -> Option<usize>
     ensures { result ≡ slot ranks.now rank }
 {
@@ -153,8 +164,8 @@ impl Progress {
         }
     }
 
-    /// Begins with a collective none of whose notes was looked at, with a slot for each of those for whom the rank waits. The only error
-    /// is want of memory.
+    /// Begins with a collective none of whose notes was looked at, with a slot for each of those for whom the rank
+    /// waits. The only error is want of memory.
     pub fn start(&mut self, alloc: Global, inside: &Inside) -> Result<(), AllocError>
         ensures { OnOk result (self.new ≡ unseen (length inside.now.role.feeders)) }
     {
@@ -231,7 +242,9 @@ impl Progress {
     #[tactic(auto, using(crate::proofs::Seeing::slot_is, crate::proofs::Seeing::slot_taken))]
     pub fn entry_place(&self, inside: &Inside, notes: &[Note], rank: u16) -> Option<usize>
         requires { IsProgress inside.now notes.now self.now }
-        ensures { result ≡ position (tells_entry inside.now.context inside.now.number (member_at inside.now.incarnation rank)) notes.now }
+        ensures { result ≡
+            position (tells_entry inside.now.context inside.now.number (member_at inside.now.incarnation rank))
+            notes.now }
     {
         let member = member(inside, rank);
         let Some(slot) = slot(inside.role.feeders(), rank) else {
@@ -250,7 +263,8 @@ impl Progress {
     #[tactic(auto, using(crate::proofs::Places::found_nowhere))]
     pub fn entry_note<'a>(&self, inside: &Inside, notes: &'a [Note], rank: u16) -> Option<&'a Note>
         requires { IsProgress inside.now notes.now self.now }
-        ensures { option_copied result ≡ find (tells_entry inside.now.context inside.now.number (member_at inside.now.incarnation rank)) notes.now }
+        ensures { option_copied result ≡
+            find (tells_entry inside.now.context inside.now.number (member_at inside.now.incarnation rank)) notes.now }
     {
         match self.entry_place(inside, notes, rank) {
             Some(place) => note_there(notes, place),
@@ -262,7 +276,8 @@ impl Progress {
     #[tactic(auto, using(crate::proofs::Places::told_place))]
     pub fn is_known(&self, own: Endpoint, inside: &Inside, notes: &[Note], rank: u16) -> bool
         requires { IsProgress inside.now notes.now self.now }
-        ensures { result ≡ is_known own inside.now.context inside.now.number notes.now (member_at inside.now.incarnation rank) }
+        ensures { result ≡
+            is_known own inside.now.context inside.now.number notes.now (member_at inside.now.incarnation rank) }
     {
         is_same(member(inside, rank), own) || self.entry_place(inside, notes, rank).is_some()
     }

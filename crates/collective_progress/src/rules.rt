@@ -1,7 +1,8 @@
 //! The rules on what a rank enters a collective with.
 
 ghost use Rattle.std.specs.Prelude.{◌≡◌};
-ghost use Rattle.collective_progress.specs.Rules.{block_bytes, is_other_type, is_rooted, is_undefined, is_wrong_total, number_of_rule, rule_broken};
+ghost use Rattle.collective_progress.specs.Rules.{block_bytes, is_other_type, is_rooted, is_undefined, is_wrong_total};
+ghost use Rattle.collective_progress.specs.Rules.{number_of_rule, rule_broken};
 ghost use Rattle.payload.specs.Spelling.{elements_of};
 
 use crate::operation::op_of;
@@ -16,8 +17,8 @@ const BLOCK_LIMIT: u64 = 1_048_560;
 pub enum Rule {
     /// The root of a scatter hands in elements of another type than its blocks have (MPI 3.1, 5.6): error 2.
     WrongType,
-    /// A block has too many bytes, or the root of a scatter hands in another number of elements than a block for each member has
-    /// (MPI 3.1, 5.6): error 1.
+    /// A block has too many bytes, or the root of a scatter hands in another number of elements than a block for each
+    /// member has (MPI 3.1, 5.6): error 1.
     WrongCount,
     /// The communicator has no member of the root's rank: error 7.
     NoRoot,
@@ -94,11 +95,11 @@ fn is_undefined(entry: &Entry) -> bool
     }
 }
 
-/// The first rule that what a rank enters a communicator of so many members with breaks, of 2, 1, 7 and 9. The rules on a scatter's
-/// elements hold of its root alone: `is_root` says whether the rank is the member with the root's rank.
+/// The first rule that what a rank enters a communicator of so many members with breaks, of 2, 1, 7 and 9. The rules on
+/// a scatter's elements hold of its root alone: `is_root` says whether the rank is the member with the root's rank.
 ///
-/// That an earlier call is blocked (6) and that there is no such communicator (4) come before these, that a member is known at another
-/// incarnation (11) and the limits (13) behind them.
+/// That an earlier call is blocked (6) and that there is no such communicator (4) come before these, that a member is
+/// known at another incarnation (11) and the limits (13) behind them.
 pub fn rule_broken(entry: &Entry, is_root: bool, size: u32) -> Option<Rule>
     ensures { result ≡ rule_broken is_root size entry.now }
 {

@@ -8,7 +8,7 @@ ghost use Rattle.collective_messages.specs.declared.message.MessageContent.TheVa
 ghost use Rattle.vocabulary.specs.Endpoints.{is_same};
 ghost use Rattle.vocabulary.specs.declared.basic_type.BasicType.TheVariants.{Uint16};
 
-use collective_messages::{MessageContent, Inside, CollectiveMessage, is_same};
+use collective_messages::{CollectiveMessage, Inside, MessageContent, is_same};
 use context_agreement::Communicator;
 use datatypes::Buffer;
 use payload::Direction;
@@ -69,7 +69,8 @@ pub(crate) fn others(
     inside: &Inside,
     ranks: &[u16],
 ) -> Result<Vec<u16>, AllocError>
-    ensures { IfOk result (λ others. others.items ≡ filter (λ r. not (is_same (member_at inside.now.incarnation r) own)) ranks.now) }
+    ensures { IfOk result (λ others. others.items ≡
+        filter (λ r. not (is_same (member_at inside.now.incarnation r) own)) ranks.now) }
 {
     let mut others = Vec::new(alloc);
     for rank in ranks {
@@ -87,7 +88,8 @@ fn same_to_each(
     ranks: &[u16],
     words: ToAll,
 ) -> Result<Vec<CollectiveMessage>, AllocError>
-    ensures { IfOk result (λ messages. messages.items ≡ map (λ r. message_to inside.now (words_given words) r) ranks.now) }
+    ensures { IfOk result (λ messages. messages.items ≡
+        map (λ r. message_to inside.now (words_given words) r) ranks.now) }
 {
     ranks
         .iter()
@@ -137,7 +139,11 @@ pub(crate) fn mine(made: &[Communicator], rank: u16) -> Option<&Communicator>
 }
 
 /// What a member is told of a split: the communicator that it gets, or MPI_COMM_NULL.
-fn content_for(alloc: Global, made: &[Communicator], rank: u16) -> Result<MessageContent, AllocError>
+fn content_for(
+    alloc: Global,
+    made: &[Communicator],
+    rank: u16,
+) -> Result<MessageContent, AllocError>
     ensures { IfOk result (λ given. given ≡ given_of (mine rank made.now)) }
 {
     match mine(made, rank) {
@@ -153,7 +159,8 @@ fn groups_to_each(
     ranks: &[u16],
     made: &[Communicator],
 ) -> Result<Vec<CollectiveMessage>, AllocError>
-    ensures { IfOk result (λ messages. messages.items ≡ map (λ r. message_to inside.now (given_of (mine r made.now)) r) ranks.now) }
+    ensures { IfOk result (λ messages. messages.items ≡
+        map (λ r. message_to inside.now (given_of (mine r made.now)) r) ranks.now) }
 {
     let mut messages = Vec::new(alloc);
     for rank in ranks {
@@ -171,7 +178,8 @@ pub(crate) fn groups_to_others(
     ranks: &[u16],
     made: &[Communicator],
 ) -> Result<Vec<CollectiveMessage>, AllocError>
-    ensures { IfOk result (λ messages. messages.items ≡ to_others own inside.now (λ r. given_of (mine r made.now)) ranks.now) }
+    ensures { IfOk result (λ messages. messages.items ≡
+        to_others own inside.now (λ r. given_of (mine r made.now)) ranks.now) }
 {
     let others = others(alloc, own, inside, ranks)?;
     groups_to_each(alloc, inside, &others, made)

@@ -1,18 +1,21 @@
 //! What a rank does in the collectives that move elements, made ready: it takes memory, and changes nothing.
 
-ghost use Rattle.std.specs.Prelude.{IsOkUnless, ◌≡◌, ◌<◌, ◌≤◌, ◌+◌, ◌*◌, ◌++◌, ◌∷◌, [], length, map, IfOk, OnOk, Some, None, if◌then◌else◌};
+ghost use Rattle.std.specs.Prelude.{IsOkUnless, ◌≡◌, ◌<◌, ◌≤◌, ◌+◌, ◌*◌, ◌++◌, ◌∷◌, [], length, map, IfOk, OnOk, Some};
+ghost use Rattle.std.specs.Prelude.{None, if◌then◌else◌};
 ghost use Rattle.std.specs.Option.{option_copied};
 ghost use Rattle.collective_messages.specs.Verdicts.{is_at};
 ghost use Rattle.collective_progress.specs.Progress.{IsProgress};
 ghost use Rattle.collective_messages.specs.declared.message.MessageContent.TheVariants as given;
-ghost use Rattle.collective_steps.specs.Steps.{bcast_step, block_of, blocks_to, gather_blocks, handed_in, leaving, leaving_on, leaving_with, message_to, reduce_blocks, scatter_step, telling_all, to_others};
+ghost use Rattle.collective_steps.specs.Steps.{bcast_step, block_of, blocks_to, gather_blocks, handed_in, leaving};
+ghost use Rattle.collective_steps.specs.Steps.{leaving_on, leaving_with, message_to, reduce_blocks, scatter_step};
+ghost use Rattle.collective_steps.specs.Steps.{telling_all, to_others};
 ghost use Rattle.payload.specs.declared.payload.Direction.TheVariants.{FromRoot};
 ghost use Rattle.collective_steps.specs.declared.step.StepOutcome.TheVariants.{Leaves};
 
-use crate::preparation::silent_step;
-use crate::step::{StepOutcome, Step};
 use crate::contents::{block_content, member, message_to, others};
-use collective_messages::{Inside, CollectiveMessage, Note, CollectiveRefusal, is_at, is_same};
+use crate::preparation::silent_step;
+use crate::step::{Step, StepOutcome};
+use collective_messages::{CollectiveMessage, CollectiveRefusal, Inside, Note, is_at, is_same};
 use collective_progress::Progress;
 use datatypes::Buffer;
 use groups::Group;
@@ -37,7 +40,8 @@ fn elements_to_each(
     ranks: &[u16],
     elements: &Buffer,
 ) -> Result<Vec<CollectiveMessage>, AllocError>
-    ensures { IfOk result (λ messages. messages.items ≡ map (λ r. message_to inside.now (given.Elements FromRoot elements.now) r) ranks.now) }
+    ensures { IfOk result (λ messages. messages.items ≡
+        map (λ r. message_to inside.now (given.Elements FromRoot elements.now) r) ranks.now) }
 {
     let mut messages = Vec::new(alloc);
     for rank in ranks {
@@ -55,7 +59,8 @@ pub(crate) fn elements_to_others(
     ranks: &[u16],
     elements: &Buffer,
 ) -> Result<Vec<CollectiveMessage>, AllocError>
-    ensures { IfOk result (λ messages. messages.items ≡ to_others own inside.now (λ r. given.Elements FromRoot elements.now) ranks.now) }
+    ensures { IfOk result (λ messages. messages.items ≡
+        to_others own inside.now (λ r. given.Elements FromRoot elements.now) ranks.now) }
 {
     let others = others(alloc, own, inside, ranks)?;
     elements_to_each(alloc, inside, &others, elements)
@@ -138,7 +143,9 @@ pub(crate) fn gather_step(
     block: &Buffer,
 ) -> Result<Step, CollectiveRefusal>
     requires { IsProgress inside.now notes.now progress.now }
-    ensures ok { IfOk result (λ step. step ≡ (if is_at own inside.now.incarnation ranks.now root then leaving_with (gather_blocks own inside.now notes.now inside.now.role.feeders block.now) else leaving None)) }
+    ensures ok { IfOk result (λ step. step ≡
+        (if is_at own inside.now.incarnation ranks.now root then
+        leaving_with (gather_blocks own inside.now notes.now inside.now.role.feeders block.now) else leaving None)) }
     ensures err { IsOkUnless result CollectiveRefusal.OutOfMemory }
 {
     if !is_at(own, inside.incarnation, ranks, root) {
@@ -171,7 +178,11 @@ pub(crate) fn reduce_step(
     block: &Buffer,
 ) -> Result<Step, CollectiveRefusal>
     requires { IsProgress inside.now notes.now progress.now }
-    ensures ok { IfOk result (λ step. step ≡ (if is_at own inside.now.incarnation ranks.now root then leaving_with (reduce_blocks own inside.now notes.now inside.now.role.feeders operation block.now) else leaving_on own inside.now (reduce_blocks own inside.now notes.now inside.now.role.feeders operation block.now))) }
+    ensures ok { IfOk result (λ step. step ≡
+        (if is_at own inside.now.incarnation ranks.now root then
+        leaving_with (reduce_blocks own inside.now notes.now inside.now.role.feeders operation block.now) else
+        leaving_on own inside.now
+        (reduce_blocks own inside.now notes.now inside.now.role.feeders operation block.now))) }
     ensures err { IsOkUnless result CollectiveRefusal.OutOfMemory }
 {
     let Ok(made) = reduce_blocks(
@@ -244,7 +255,10 @@ pub(crate) fn allreduce_step(
     block: &Buffer,
 ) -> Result<Step, CollectiveRefusal>
     requires { IsProgress inside.now notes.now progress.now }
-    ensures ok { IfOk result (λ step. step ≡ telling_all own inside.now ranks.now (reduce_blocks own inside.now notes.now inside.now.role.feeders operation block.now)) }
+    ensures ok { IfOk result
+        (λ step. step ≡
+        telling_all own inside.now ranks.now
+        (reduce_blocks own inside.now notes.now inside.now.role.feeders operation block.now)) }
     ensures err { IsOkUnless result CollectiveRefusal.OutOfMemory }
 {
     match reduce_blocks(
@@ -274,7 +288,8 @@ fn tell_block(
     rank: u16,
 ) -> Result<(), AllocError>
     requires { place * count + count ≤ length all.now.values }
-    ensures { OnOk result (messages.new.items ≡ messages.old.items ++ blocks_to own inside.now all.now count place (rank ∷ [])) }
+    ensures { OnOk result (messages.new.items ≡ messages.old.items ++
+        blocks_to own inside.now all.now count place (rank ∷ [])) }
 {
     if is_same(member(inside, rank), own) {
         return Ok(());
@@ -328,7 +343,12 @@ fn scatter_block(
 ) -> Result<Step, CollectiveRefusal>
     requires root { root < length group.now }
     requires total { length all.now.values ≡ length group.now * count }
-    ensures ok { IfOk result (λ step. step ≡ record { outcome = Leaves (Some (block_of all.now count root)); drawn = 0; messages = blocks_to own inside.now all.now count 0 group.now }) }
+    ensures ok { IfOk result (λ step. step ≡ record {
+      outcome = Leaves (Some (block_of all.now count root));
+      drawn =
+          0;
+      messages = blocks_to own inside.now all.now count 0 group.now;
+    }) }
     ensures err { IsOkUnless result CollectiveRefusal.OutOfMemory }
 {
     let Ok(messages) = blocks_to_others(alloc, own, inside, group, all, count) else {
@@ -344,8 +364,8 @@ fn scatter_block(
     }
 }
 
-/// The root of a scatter leaves with its own block, and tells each other member its own, where there is one of the type for
-/// each (MPI 3.1, 5.6).
+/// The root of a scatter leaves with its own block, and tells each other member its own, where there is one of the type
+/// for each (MPI 3.1, 5.6).
 fn scatter_step(
     alloc: Global,
     own: Endpoint,
@@ -377,7 +397,9 @@ pub(crate) fn scatter_with(
     rooted: Rooted,
     all: Option<&Buffer>,
 ) -> Result<Step, CollectiveRefusal>
-    ensures ok { IfOk result (λ step. step ≡ scatter_step own inside.now group.now rooted.root rooted.elements (handed_in rooted.elements (option_copied all.entry))) }
+    ensures ok { IfOk result
+        (λ step. step ≡ scatter_step own inside.now group.now rooted.root rooted.elements
+        (handed_in rooted.elements (option_copied all.entry))) }
     ensures err { IsOkUnless result CollectiveRefusal.OutOfMemory }
 {
     match all {

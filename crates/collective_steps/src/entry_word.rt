@@ -5,9 +5,9 @@ ghost use Rattle.std.specs.Option.{option_to_list};
 ghost use Rattle.collective_progress.specs.Progress.{IsProgress};
 ghost use Rattle.collective_steps.specs.Steps.{reduce_blocks, towards, word_given, word_messages, word_to};
 
-use crate::data_movement::reduce_blocks;
 use crate::contents::{block_content, member, message_to};
-use collective_messages::{Entry, MessageContent, Inside, CollectiveMessage, Note, is_same};
+use crate::data_movement::reduce_blocks;
+use collective_messages::{CollectiveMessage, Entry, Inside, MessageContent, Note, is_same};
 use collective_progress::Progress;
 use datatypes::Buffer;
 use payload::{Direction, Operation};
@@ -25,7 +25,9 @@ fn fold_given(
     block: &Buffer,
 ) -> Result<Option<MessageContent>, AllocError>
     requires { IsProgress inside.now notes.now progress.now }
-    ensures { IfOk result (λ given. given ≡ towards (reduce_blocks own inside.now notes.now inside.now.role.feeders operation block.now)) }
+    ensures { IfOk result
+        (λ given. given ≡
+        towards (reduce_blocks own inside.now notes.now inside.now.role.feeders operation block.now)) }
 {
     match reduce_blocks(
         alloc,
@@ -53,8 +55,8 @@ fn block_given(alloc: Global, block: &Buffer) -> Result<Option<MessageContent>, 
     }
 }
 
-/// With what a rank says that it and those below it have entered: in a gather its block, in a reduction the fold of its own and of
-/// those below it, in a split what it asks for.
+/// With what a rank says that it and those below it have entered: in a gather its block, in a reduction the fold of its
+/// own and of those below it, in a split what it asks for.
 fn word_given(
     alloc: Global,
     own: Endpoint,
@@ -95,7 +97,8 @@ fn word_above(
     above: u16,
 ) -> Result<Option<CollectiveMessage>, AllocError>
     requires { IsProgress inside.now notes.now progress.now }
-    ensures { IfOk result (λ message. option_to_list message ≡ word_to own inside.now (Some above) (word_given own inside.now notes.now inside.now.entry)) }
+    ensures { IfOk result (λ message. option_to_list message ≡
+        word_to own inside.now (Some above) (word_given own inside.now notes.now inside.now.entry)) }
 {
     if is_same(member(inside, above), own) {
         return Ok(None);

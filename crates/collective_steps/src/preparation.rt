@@ -3,21 +3,26 @@
 ghost use Rattle.std.specs.Prelude.{◌≡◌, [], ◌++◌, IfErr, IfOk, IsOkUnless, Some, slice_get, if◌then◌else◌};
 ghost use Rattle.std.specs.Option.{option_to_list};
 ghost use Rattle.collective_progress.specs.Progress.{IsKept, IsProgress};
-ghost use Rattle.collective_steps.specs.Steps.{GetsNumbered, HasHeard, IsCarriedOut, IsDecided, IsHeard, IsLacking, IsSplit, LacksFor, Prepared, barrier_step, copy_step, difference_messages, made_step, mine, outcome_of, to_others, passed_on, warned, word_messages, words_given};
+ghost use Rattle.collective_steps.specs.Steps.{GetsNumbered, HasHeard, IsCarriedOut, IsDecided, IsHeard, IsLacking};
+ghost use Rattle.collective_steps.specs.Steps.{IsSplit, LacksFor, Prepared, barrier_step, copy_step};
+ghost use Rattle.collective_steps.specs.Steps.{difference_messages, made_step, mine, outcome_of, to_others, passed_on};
+ghost use Rattle.collective_steps.specs.Steps.{warned, word_messages, words_given};
 ghost use Rattle.collective_messages.specs.Verdicts.{verdict};
 ghost use Rattle.collective_steps.specs.declared.step.StepOutcome.TheVariants as outcomes;
 ghost use Rattle.collective_messages.specs.declared.message.MessageContent.TheVariants as given;
 ghost use Rattle.collective_messages.specs.declared.verdict.Verdict.TheVariants as verdicts;
 
-use crate::split::{made_by, plan_of};
+use crate::contents::{ToAll, groups_to_others, mine, same_to_others};
 use crate::data_movement::{
     allreduce_step, bcast_step, elements_to_others, gather_step, reduce_step, scatter_with,
 };
-use crate::step::{StepOutcome, Step};
-use crate::contents::{ToAll, groups_to_others, mine, same_to_others};
 use crate::entry_word::word;
+use crate::split::{made_by, plan_of};
+use crate::step::{Step, StepOutcome};
+use collective_messages::{
+    CollectiveMessage, CollectiveRefusal, Entry, Inside, Note, NoteContent, Verdict, is_at,
+};
 use collective_progress::{Progress, is_like};
-use collective_messages::{Entry, Inside, CollectiveMessage, Note, CollectiveRefusal, NoteContent, Verdict, is_at};
 use context_agreement::{Communicator, Context, Contexts};
 use datatypes::Buffer;
 use groups::Group;
@@ -168,7 +173,11 @@ fn split_step(
 }
 
 /// What becomes of a rank that was told with what it leaves.
-fn outcome_of_note(alloc: Global, said: &NoteContent, group: &Group) -> Result<StepOutcome, CollectiveRefusal>
+fn outcome_of_note(
+    alloc: Global,
+    said: &NoteContent,
+    group: &Group,
+) -> Result<StepOutcome, CollectiveRefusal>
     ensures ok { IfOk result (HasHeard group.now said.now) }
     ensures err { IsOkUnless result CollectiveRefusal.OutOfMemory }
 {
@@ -276,7 +285,8 @@ fn warn_above(
     inside: &Inside,
     above: Option<u16>,
 ) -> Result<Vec<CollectiveMessage>, AllocError>
-    ensures { IfOk result (λ messages. messages.items ≡ to_others own inside.now (λ r. given.RecordsDiffer) (option_to_list above)) }
+    ensures { IfOk result (λ messages. messages.items ≡
+        to_others own inside.now (λ r. given.RecordsDiffer) (option_to_list above)) }
 {
     match above {
         Some(above) => same_to_others(alloc, own, inside, &[above], ToAll::RecordsDiffer),
@@ -292,7 +302,8 @@ fn warn_all(
     ranks: &[u16],
     found: bool,
 ) -> Result<Vec<CollectiveMessage>, AllocError>
-    ensures { IfOk result (λ messages. messages.items ≡ to_others own inside.now (λ r. given.RecordsDiffer) (if found then ranks.now else [])) }
+    ensures { IfOk result (λ messages. messages.items ≡
+        to_others own inside.now (λ r. given.RecordsDiffer) (if found then ranks.now else [])) }
 {
     if !found {
         return Ok(Vec::new(alloc));
@@ -300,8 +311,8 @@ fn warn_all(
     same_to_others(alloc, own, inside, ranks, ToAll::RecordsDiffer)
 }
 
-/// What a rank tells of a difference: all others, where it found it and all wait for all; in a broadcast those right below it, and in
-/// a reduction the one right above it, or by member 0 the root.
+/// What a rank tells of a difference: all others, where it found it and all wait for all; in a broadcast those right
+/// below it, and in a reduction the one right above it, or by member 0 the root.
 fn warnings(
     alloc: Global,
     own: Endpoint,
@@ -309,7 +320,8 @@ fn warnings(
     ranks: &[u16],
     found: bool,
 ) -> Result<Vec<CollectiveMessage>, AllocError>
-    ensures { IfOk result (λ messages. messages.items ≡ to_others own inside.now (λ r. given.RecordsDiffer) (warned own inside.now ranks.now found inside.now.entry)) }
+    ensures { IfOk result (λ messages. messages.items ≡
+        to_others own inside.now (λ r. given.RecordsDiffer) (warned own inside.now ranks.now found inside.now.entry)) }
 {
     match &inside.entry {
         Entry::Barrier | Entry::Allreduce(..) | Entry::Dup | Entry::Split(_) => {
@@ -343,7 +355,14 @@ fn mismatch_step(
     progress: &Progress,
 ) -> Result<Step, CollectiveRefusal>
     requires { IsProgress inside.now notes.now progress.now }
-    ensures ok { IfOk result (λ step. step ≡ record { outcome = outcomes.Breaks; drawn = 0; messages = difference_messages own inside.now ranks.now notes.now }) }
+    ensures ok { IfOk result
+        (λ step. step ≡
+        record {
+          outcome = outcomes.Breaks;
+          drawn = 0;
+          messages =
+              difference_messages own inside.now ranks.now notes.now;
+        }) }
     ensures err { IsOkUnless result CollectiveRefusal.OutOfMemory }
 {
     let found = progress.has_found_difference(inside, notes);
@@ -369,7 +388,9 @@ fn decision_step(
 ) -> Result<Step, CollectiveRefusal>
     requires { IsProgress inside.now notes.now progress.now }
     ensures ok { IfOk result (IsDecided own inside.now contexts.now.state group.now notes.now inside.now.entry) }
-    ensures err { IfErr result (LacksFor contexts.now.state (IsDecided own inside.now contexts.now.state group.now notes.now inside.now.entry)) }
+    ensures err { IfErr result
+        (LacksFor contexts.now.state
+        (IsDecided own inside.now contexts.now.state group.now notes.now inside.now.entry)) }
 {
     let ranks = group.ranks();
     match &inside.entry {
@@ -452,7 +473,9 @@ fn waiting_step(
     progress: &Progress,
 ) -> Result<Step, CollectiveRefusal>
     requires { IsProgress inside.now notes.now progress.now }
-    ensures ok { IfOk result (λ step. step ≡ record { outcome = outcomes.Waits; drawn = 0; messages = word_messages own inside.now notes.now }) }
+    ensures ok { IfOk result
+        (λ step. step ≡
+        record { outcome = outcomes.Waits; drawn = 0; messages = word_messages own inside.now notes.now }) }
     ensures err { IsOkUnless result CollectiveRefusal.OutOfMemory }
 {
     let Ok(first) = word(alloc, own, inside, notes, progress) else {
@@ -476,7 +499,9 @@ fn deciding_step(
 ) -> Result<Step, CollectiveRefusal>
     requires { IsProgress inside.now notes.now progress.now }
     ensures ok { IfOk result (IsCarriedOut own inside.now contexts.now.state group.now notes.now verdicts.Decides) }
-    ensures err { IfErr result (LacksFor contexts.now.state (IsCarriedOut own inside.now contexts.now.state group.now notes.now verdicts.Decides)) }
+    ensures err { IfErr result
+        (LacksFor contexts.now.state
+        (IsCarriedOut own inside.now contexts.now.state group.now notes.now verdicts.Decides)) }
 {
     let Ok(first) = word(alloc, own, inside, notes, progress) else {
         return Err(CollectiveRefusal::OutOfMemory);
@@ -498,7 +523,8 @@ fn result_step(
     place: usize,
 ) -> Result<Step, CollectiveRefusal>
     requires { IsProgress inside.now notes.now progress.now }
-    ensures ok { IfOk result (λ step. (s : Prepared) × IsHeard own inside.now group.now (slice_get notes.now place) s × (step ≡ record s { messages = word_messages own inside.now notes.now ++ s.messages })) }
+    ensures ok { IfOk result (λ step. (s : Prepared) × IsHeard own inside.now group.now (slice_get notes.now place) s ×
+        (step ≡ record s { messages = word_messages own inside.now notes.now ++ s.messages })) }
     ensures err { IsOkUnless result CollectiveRefusal.OutOfMemory }
 {
     let Ok(first) = word(alloc, own, inside, notes, progress) else {
@@ -521,8 +547,11 @@ pub(crate) fn next_step(
     progress: &Progress,
 ) -> Result<Step, CollectiveRefusal>
     requires { IsKept own inside.now notes.now progress.now }
-    ensures ok { IfOk result (IsCarriedOut own inside.now contexts.now.state group.now notes.now (verdict own inside.now notes.now)) }
-    ensures err { IfErr result (LacksFor contexts.now.state (IsCarriedOut own inside.now contexts.now.state group.now notes.now (verdict own inside.now notes.now))) }
+    ensures ok { IfOk result
+        (IsCarriedOut own inside.now contexts.now.state group.now notes.now (verdict own inside.now notes.now)) }
+    ensures err { IfErr result
+        (LacksFor contexts.now.state
+        (IsCarriedOut own inside.now contexts.now.state group.now notes.now (verdict own inside.now notes.now))) }
 {
     match progress.judge(own, inside, notes) {
         Verdict::Stays => Ok(silent_step(alloc, StepOutcome::Stays)),

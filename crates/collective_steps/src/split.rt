@@ -6,7 +6,7 @@ ghost use Rattle.collective_steps.specs.Steps.{HoldsPart, IsLacking, group_of_pa
 ghost use Rattle.context_agreement.specs.Communicators.{coming_context};
 ghost use Rattle.context_agreement.specs.Splits.{IsSplitPlan};
 
-use collective_messages::{Inside, Note, CollectiveRefusal};
+use collective_messages::{CollectiveRefusal, Inside, Note};
 use collective_progress::Progress;
 use context_agreement::{Communicator, Contexts, SplitPart, SplitRow, split_plan};
 use groups::Group;
@@ -70,7 +70,11 @@ fn one_made(
     further: u64,
 ) -> Result<Communicator, CollectiveRefusal>
     requires { HoldsPart group.now part.now }
-    ensures ok { IfOk result (λ made. made ≡ record { context = coming_context contexts.now.state further; group = group_of_part group.now part.now }) }
+    ensures ok { IfOk result (λ made. made ≡ record {
+      context = coming_context contexts.now.state further;
+      group =
+          group_of_part group.now part.now;
+    }) }
     ensures err { IfErr result (IsLacking contexts.now.state (further + 1)) }
 {
     let Some(context) = contexts.next_context(further) else {

@@ -10,7 +10,8 @@ remove_set (x ∷ xs) zero y = refl
 remove_set (x ∷ xs) (suc i) y = ap (λ t. x ∷ t) (remove_set xs i y)
 
 -- what is removed and inserted again stands where it stood
-pub insert_removed : {A : Type 0} (xs : List A) (i : ℕ) (x : A) → i < length xs → x ≡ slice_index_or xs i x → insert (remove xs i) i x ≡ xs
+pub insert_removed : {A : Type 0} (xs : List A) (i : ℕ) (x : A) → i < length xs → x ≡ slice_index_or xs i x →
+    insert (remove xs i) i x ≡ xs
 insert_removed [] i x there is = absurd (omega (arith, there))
 insert_removed (y ∷ ys) zero x there is = ap (λ t. t ∷ ys) is
 insert_removed (y ∷ ys) (suc i) x there is = ap (λ t. y ∷ t) (insert_removed ys i x (omega (arith, there)) is)

@@ -2,14 +2,15 @@
 use Rattle.std.specs.Prelude.{ℕ, ◌==◌, ◌&&◌, ◌≤◌, Bool, List, ◌++◌, length, take}
 use Rattle.rendezvous.specs.Pieces.{is_next_piece}
 
--- a payload that this rank announced: the rank to which it goes, the number of its transfer in the session with that, and its bytes
+-- a payload that this rank announced: the rank to which it goes, the number of its transfer in the session with that,
+-- and its bytes
 pub record Announced : Type 0 where
   pub target : ℕ
   pub transfer : ℕ
   pub bytes : List ℕ
 
--- a payload that comes: from which rank, and under which number of a transfer; the context and the number of its collective; how
--- many bytes were announced, and those that have come
+-- a payload that comes: from which rank, and under which number of a transfer; the context and the number of its
+-- collective; how many bytes were announced, and those that have come
 pub record Coming : Type 0 where
   pub source : ℕ
   pub transfer : ℕ
@@ -29,7 +30,8 @@ pub record Whole : Type 0 where
   pub number : ℕ
   pub bytes : List ℕ
 
--- a payload that was taken out with its last piece: the place at which it stood, what it was before that piece, and what it says
+-- a payload that was taken out with its last piece: the place at which it stood, what it was before that piece, and
+-- what it says
 pub record Taken : Type 0 where
   pub place : ℕ
   pub before : Coming

@@ -1,6 +1,8 @@
 -- The payloads that a rank announced and those that come to it, and what each step does to them.
-use Rattle.std.specs.Prelude.{ℕ, ◌==◌, not, Bool, false, List, [], ◌∷◌, ◌++◌, Option, Some, None, position, insert, remove, filter, slice_get, slice_set, slice_index_or, if◌then◌else◌}
-use Rattle.collective_transfers.specs.Payloads.{Announced, Coming, Taken, Whole, is_from, is_to, is_whole, is_next_piece, whole_of, with_piece}
+use Rattle.std.specs.Prelude.{ℕ, ◌==◌, not, Bool, false, List, [], ◌∷◌, ◌++◌, Option, Some, None, position, insert}
+use Rattle.std.specs.Prelude.{remove, filter, slice_get, slice_set, slice_index_or, if◌then◌else◌}
+use Rattle.collective_transfers.specs.Payloads.{Announced, Coming, Taken, Whole, is_from, is_to, is_whole}
+use Rattle.collective_transfers.specs.Payloads.{is_next_piece, whole_of, with_piece}
 
 -- the oldest first
 pub record State : Type 0 where

@@ -2,7 +2,8 @@
 
 ghost use Rattle.std.specs.Prelude.{◌≡◌, ◌+◌, ◌≤◌, ◌++◌, [], length, IfOk};
 ghost use Rattle.vocabulary.specs.Limits.{send_limit};
-ghost use Rattle.collective_transfers.specs.Payloads.{cut_to, is_from, is_to, is_whole, is_next_piece, whole_of, with_piece};
+ghost use Rattle.collective_transfers.specs.Payloads.{cut_to, is_from, is_to, is_whole, is_next_piece, whole_of};
+ghost use Rattle.collective_transfers.specs.Payloads.{with_piece};
 
 use rendezvous::is_next_piece;
 use std::alloc::Global;
@@ -94,8 +95,8 @@ impl Model for ComingPayload {
     ghost invariant = { λ p. IsBounded p.total p.bytes.items (vec_capacity p.bytes) };
 }
 
-/// A payload that has come whole with its last piece, taken out of those that come. It stands in the memory that was taken for it
-/// when it began to come, so it can be put back as it was before that piece.
+/// A payload that has come whole with its last piece, taken out of those that come. It stands in the memory that was
+/// taken for it when it began to come, so it can be put back as it was before that piece.
 #[derive(Drop)]
 pub struct WholePayload {
     place: usize,
@@ -116,8 +117,9 @@ impl Model for WholePayload {
 }
 
 impl ComingPayload {
-    /// A payload of so many bytes that a rank announced, of which nothing has come: it is of the collective of this number on
-    /// the communicator of this context. The memory for all its bytes is taken now; it fails for want of memory alone.
+    /// A payload of so many bytes that a rank announced, of which nothing has come: it is of the collective of this
+    /// number on the communicator of this context. The memory for all its bytes is taken now; it fails for want of
+    /// memory alone.
     pub fn new(
         alloc: Global,
         source: u16,
@@ -126,7 +128,16 @@ impl ComingPayload {
         number: u32,
         total: usize,
     ) -> Result<Self, OutOfMemory>
-        ensures { IfOk result (λ payload. payload ≡ record { source = source; transfer = transfer; context = context; number = number; total = total; bytes = [] }) }
+        ensures { IfOk result
+            (λ payload. payload ≡ record {
+              source = source;
+              transfer = transfer;
+              context = context;
+              number =
+                  number;
+              total = total;
+              bytes = [];
+            }) }
     {
         let Ok(bytes) = Vec::with_capacity(alloc, total) else {
             return Err(OutOfMemory {});

@@ -1,9 +1,13 @@
 //! The payloads that a rank announced and those that come to it.
 
-ghost use Rattle.std.specs.Prelude.{◌≡◌, ◌+◌, ◌≤◌, ◌<◌, not, ◌==◌, false, true, filter, insert, length, IfNone, IfSome, OnOk, OnSome, slice_set, vec_len, vec_capacity, is_some, option_map};
+ghost use Rattle.std.specs.Prelude.{◌≡◌, ◌+◌, ◌≤◌, ◌<◌, not, ◌==◌, false, true, filter, insert, length, IfNone, IfSome};
+ghost use Rattle.std.specs.Prelude.{OnOk, OnSome, slice_set, vec_len, vec_capacity, is_some, option_map};
 ghost use Rattle.std.specs.Option.{option_copied};
 ghost use Rattle.collective_transfers.specs.Payloads.{Announced, Coming, Taken, is_whole};
-ghost use Rattle.collective_transfers.specs.State.{after_announcing, after_answer, after_begin, after_data, after_drop, after_return, announced_at, announced_to, coming_at, coming_from, grown_at, is_due, is_taken, opening, place_from, place_to, whole_by, whole_with, with_data_at, without};
+ghost use Rattle.collective_transfers.specs.State.{after_announcing, after_answer, after_begin, after_data, after_drop};
+ghost use Rattle.collective_transfers.specs.State.{after_return, announced_at, announced_to, coming_at, coming_from};
+ghost use Rattle.collective_transfers.specs.State.{grown_at, is_due, is_taken, opening, place_from, place_to, whole_by};
+ghost use Rattle.collective_transfers.specs.State.{whole_with, with_data_at, without};
 
 use crate::payloads::{AnnouncedPayload, ComingPayload, WholePayload};
 use std::alloc::Global;
@@ -104,7 +108,8 @@ fn take_piece(
     offset: u32,
     bytes: &[u8],
 )
-    requires { is_taken (coming_at coming.old.items (place_from source transfer coming.old.items)) offset bytes.now ≡ true }
+    requires { is_taken (coming_at coming.old.items (place_from source transfer coming.old.items)) offset bytes.now ≡
+        true }
     ensures rest { coming.new.items ≡ with_data_at coming.old.items (place_from source transfer coming.old.items) bytes.now }
     ensures bound { vec_len coming.new ≤ vec_len coming.old }
     ensures capacity { vec_capacity coming.new ≡ vec_capacity coming.old }
@@ -116,8 +121,8 @@ fn take_piece(
     }
 }
 
-/// Takes out the payload of the transfer from the rank that has this number, with these bytes behind those that came before,
-/// where it is whole with them.
+/// Takes out the payload of the transfer from the rank that has this number, with these bytes behind those that came
+/// before, where it is whole with them.
 #[tactic(auto, using(crate::proofs::Steps::insert_removed))]
 fn take_whole(
     coming: &mut Vec<ComingPayload>,
@@ -125,8 +130,10 @@ fn take_whole(
     transfer: u32,
     bytes: &[u8],
 ) -> Option<WholePayload>
-    ensures whole { option_map (λ (t : Taken). t.whole) result ≡ whole_by (coming_at coming.old.items (place_from source transfer coming.old.items)) bytes.now }
-    ensures rest { OnSome result (coming.new.items ≡ with_data_at coming.old.items (place_from source transfer coming.old.items) bytes.now) }
+    ensures whole { option_map (λ (t : Taken). t.whole) result ≡
+        whole_by (coming_at coming.old.items (place_from source transfer coming.old.items)) bytes.now }
+    ensures rest { OnSome result
+        (coming.new.items ≡ with_data_at coming.old.items (place_from source transfer coming.old.items) bytes.now) }
     ensures back { IfSome result (λ t. insert coming.new.items t.place t.before ≡ coming.old.items) }
     ensures place { IfSome result (λ t. t.place ≤ length coming.new.items) }
     ensures fewer { OnSome result (vec_len coming.new + 1 ≡ vec_len coming.old) }
@@ -244,8 +251,8 @@ impl CollectiveTransfers {
         find_coming(&self.coming, rank, transfer).is_some()
     }
 
-    /// Whether these bytes from this place on are the next piece of the transfer from the rank that has this number: other data
-    /// are refused with 30.
+    /// Whether these bytes from this place on are the next piece of the transfer from the rank that has this number:
+    /// other data are refused with 30.
     pub fn is_due(&self, rank: u16, transfer: u32, offset: u32, bytes: &[u8]) -> bool
         ensures { result ≡ is_due self.now.state rank transfer offset bytes.now }
     {
@@ -255,8 +262,8 @@ impl CollectiveTransfers {
         }
     }
 
-    /// Takes the next piece of the transfer from the rank that has this number; with its last piece it comes no more. It takes
-    /// no memory.
+    /// Takes the next piece of the transfer from the rank that has this number; with its last piece it comes no more.
+    /// It takes no memory.
     pub fn on_data(&mut self, rank: u16, transfer: u32, offset: u32, bytes: &[u8])
         requires { is_due self.old.state rank transfer offset bytes.now ≡ true }
         ensures state { self.new.state ≡ after_data self.old.state rank transfer bytes.now }
@@ -266,8 +273,8 @@ impl CollectiveTransfers {
         take_piece(&mut self.coming, rank, transfer, offset, bytes);
     }
 
-    /// Takes out the payload of the transfer from the rank that has this number, where it is whole with these bytes: it comes no
-    /// more, unless it is put back. Where it isn't, nothing changes. It takes no memory.
+    /// Takes out the payload of the transfer from the rank that has this number, where it is whole with these bytes: it
+    /// comes no more, unless it is put back. Where it isn't, nothing changes. It takes no memory.
     pub fn take_whole(&mut self, rank: u16, transfer: u32, bytes: &[u8]) -> Option<WholePayload>
         ensures whole { option_map (λ (t : Taken). t.whole) result ≡ whole_with self.old.state rank transfer bytes.now }
         ensures state { OnSome result (self.new.state ≡ after_data self.old.state rank transfer bytes.now) }
@@ -280,8 +287,8 @@ impl CollectiveTransfers {
         take_whole(&mut self.coming, rank, transfer, bytes)
     }
 
-    /// A payload that was taken out stands again where it stood, as it was before its last piece; there is room for it. It takes
-    /// no memory.
+    /// A payload that was taken out stands again where it stood, as it was before its last piece; there is room for it.
+    /// It takes no memory.
     pub fn put_back(&mut self, payload: WholePayload)
         requires place { payload.place ≤ length self.old.state.coming }
         requires room { 0 < self.old.more_coming }
@@ -293,8 +300,8 @@ impl CollectiveTransfers {
         put_at(&mut self.coming, place, payload.into_before());
     }
 
-    /// What was announced to the rank and what comes from it is gone, since it is known at a new incarnation. It takes no
-    /// memory.
+    /// What was announced to the rank and what comes from it is gone, since it is known at a new incarnation. It takes
+    /// no memory.
     ///
     /// MPI 3.1 defines no restart of a rank; what becomes of these is this project's own.
     pub fn drop_from(&mut self, rank: u16)

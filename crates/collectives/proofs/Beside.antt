@@ -17,7 +17,8 @@ note_beside own (Some i) notes None p is = is
 note_beside own (Some i) notes (Some n) p is = kept_behind own i notes (n ∷ []) p is
 
 -- where the rank has told
-pub told_beside : (own : Endpoint) (present : Option Inside) (notes : List Note) (p : Seen) → IsKeptOf own present notes p
+pub told_beside : (own : Endpoint) (present : Option Inside) (notes : List Note) (p : Seen) →
+    IsKeptOf own present notes p
     → IsKeptOf own (told_in present) notes p
 told_beside own None notes p is = tt
 told_beside own (Some i) notes p is = told_kept own i notes p is

@@ -1,19 +1,23 @@
 //! The collectives of a rank: its entries, the messages that come, and what a lesson ends.
 //!
-//! Each event goes in two steps, so that what carries messages may refuse it in between: what it needs is made ready, which
-//! changes nothing but room, and then it is carried out, which can't fail.
+//! Each event goes in two steps, so that what carries messages may refuse it in between: what it needs is made ready,
+//! which changes nothing but room, and then it is carried out, which can't fail.
 
-ghost use Rattle.std.specs.Prelude.{◌≡◌, ◌<◌, ◌≤◌, ◌+◌, ◌^◌, ◌==◌, IfErr, IfOk, None, Some, [], if◌then◌else◌, vec_len, vec_capacity};
+ghost use Rattle.std.specs.Prelude.{◌≡◌, ◌<◌, ◌≤◌, ◌+◌, ◌^◌, ◌==◌, IfErr, IfOk, None, Some, [], if◌then◌else◌, vec_len};
+ghost use Rattle.std.specs.Prelude.{vec_capacity};
 ghost use Rattle.std.specs.Option.{option_copied};
-ghost use Rattle.collectives.specs.Calls.{entered, entry_rule, inside_in, inside_of, is_ended, kept_with, learned, lesson_ending, limit_at, most_collectives, present_met, with_note};
+ghost use Rattle.collectives.specs.Calls.{entered, entry_rule, inside_in, inside_of, is_ended, kept_with, learned};
+ghost use Rattle.collectives.specs.Calls.{lesson_ending, limit_at, most_collectives, present_met, with_note};
 ghost use Rattle.collective_messages.specs.Tallies.{count_in};
 ghost use Rattle.collectives.specs.State.{after_step, has_told, left, opening, told_in, was_left};
 ghost use Rattle.collective_steps.specs.Steps.{MeetsLimit, contexts_after, ending_of, is_waiting};
 
 use crate::limits::{has_former, is_limited, members_incarnation};
-use collective_messages::{Entry, Inside, Note, CollectiveRefusal, Tally, count_in, drop_notes, raise, role_of};
+use collective_messages::{
+    CollectiveRefusal, Entry, Inside, Note, Tally, count_in, drop_notes, raise, role_of,
+};
 use collective_progress::Progress;
-use collective_steps::{Ending, StepOutcome, Step};
+use collective_steps::{Ending, Step, StepOutcome};
 use context_agreement::{Communicator, Contexts};
 use std::alloc::Global;
 use std::marker::Model;
@@ -107,11 +111,11 @@ impl Collective {
         self.present.as_ref()
     }
 
-    /// The first rule that entering would break now, of 6 (the rank is in a collective) and 4 (no communicator is held at the
-    /// place). It takes no memory.
+    /// The first rule that entering would break now, of 6 (the rank is in a collective) and 4 (no communicator is held
+    /// at the place). It takes no memory.
     ///
-    /// That a member is known at another incarnation (11) comes behind them, and before the limits (13): the caller, who knows
-    /// the incarnations of all ranks, judges it.
+    /// That a member is known at another incarnation (11) comes behind them, and before the limits (13): the caller,
+    /// who knows the incarnations of all ranks, judges it.
     pub fn fault_of(&self, contexts: &Contexts, place: usize) -> Option<CollectiveRefusal>
         ensures { result ≡ entry_rule self.now.state contexts.now.state place }
     {
@@ -124,9 +128,9 @@ impl Collective {
         None
     }
 
-    /// Whether entering a collective of the communicator at a place meets a limit (13): 2,147,483,647 collectives were entered
-    /// on it; for a copy or a split 4,096 communicators are held, or at member 0 fewer contexts are left to give than there
-    /// are members. Where no communicator is held at the place it meets none. It takes no memory.
+    /// Whether entering a collective of the communicator at a place meets a limit (13): 2,147,483,647 collectives were
+    /// entered on it; for a copy or a split 4,096 communicators are held, or at member 0 fewer contexts are left to
+    /// give than there are members. Where no communicator is held at the place it meets none. It takes no memory.
     pub fn meets_limit(&self, contexts: &Contexts, place: usize, entry: &Entry) -> bool
         ensures { result ≡ limit_at self.now.state contexts.now.state place entry.now }
     {
@@ -239,11 +243,12 @@ impl Collective {
         ending
     }
 
-    /// The rank leaves the collective that it is in where that ends: what it was told of it is dropped. Where it waits on, it has
-    /// told that it and those below it have entered.
+    /// The rank leaves the collective that it is in where that ends: what it was told of it is dropped. Where it waits
+    /// on, it has told that it and those below it have entered.
     #[tactic(auto, using(crate::proofs::Beside::told_beside))]
     fn leave_if(&mut self, ends: bool, waits: bool)
-        ensures { self.new.state ≡ (if ends then left self.old.state else (if waits then has_told self.old.state else self.old.state)) }
+        ensures { self.new.state ≡
+            (if ends then left self.old.state else (if waits then has_told self.old.state else self.old.state)) }
     {
         if !ends {
             if waits {
@@ -257,8 +262,8 @@ impl Collective {
         set_present(&mut self.present, None);
     }
 
-    /// A rank is known at a higher incarnation now: a collective that has a former one among its members ends with 11. It
-    /// takes no memory, and what was told is kept.
+    /// A rank is known at a higher incarnation now: a collective that has a former one among its members ends with 11.
+    /// It takes no memory, and what was told is kept.
     pub fn learn(&mut self, contexts: &Contexts, rank: u16, incarnation: u16) -> Option<Ending>
         ensures state { self.new.state ≡ learned self.old.state contexts.now.state rank incarnation }
         ensures room { (self.new.more_tallies ≡ self.old.more_tallies) × (self.new.more_notes ≡ self.old.more_notes) }
@@ -297,8 +302,8 @@ pub(crate) fn out_of_memory(entry: Entry) -> RefusedEntry
     RefusedEntry { entry, refused }
 }
 
-/// The collective that the rank is in once a lesson is learnt: a message is judged by it, since the lesson that it teaches comes
-/// first.
+/// The collective that the rank is in once a lesson is learnt: a message is judged by it, since the lesson that it
+/// teaches comes first.
 pub(crate) fn after_lesson<'a>(
     present: &'a Option<Inside>,
     contexts: &Contexts,

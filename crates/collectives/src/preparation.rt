@@ -1,8 +1,10 @@
 //! Entries and messages made ready: all growths are made, and nothing else changes.
 
-ghost use Rattle.std.specs.Prelude.{◌≡◌, ◌<◌, ◌≤◌, ◌+◌, false, All, Err, IfErr, IfOk, IsOkUnless, List, None, Ok, OnOk, Option, length, vec_len, vec_capacity};
+ghost use Rattle.std.specs.Prelude.{◌≡◌, ◌<◌, ◌≤◌, ◌+◌, false, All, Err, IfErr, IfOk, IsOkUnless, List, None, Ok, OnOk};
+ghost use Rattle.std.specs.Prelude.{Option, length, vec_len, vec_capacity};
 ghost use Rattle.std.specs.Option.{option_copied};
-ghost use Rattle.collectives.specs.Calls.{IsReady, MessageRefused, entry_rule, inside_of, kept_note, kept_with, limit_at, after_lesson, most_collectives, present_met};
+ghost use Rattle.collectives.specs.Calls.{IsReady, MessageRefused, entry_rule, inside_of, kept_note, kept_with};
+ghost use Rattle.collectives.specs.Calls.{limit_at, after_lesson, most_collectives, present_met};
 ghost use Rattle.collective_messages.specs.Messages.{IsFitting};
 ghost use Rattle.collective_messages.specs.Tallies.{count_in};
 ghost use Rattle.payload.specs.Spelling.{payload_text};
@@ -11,9 +13,11 @@ ghost use Rattle.collective_steps.specs.Steps.{IsPrepared, IsPreparedEntry, IsRe
 ghost use Rattle.collective_messages.specs.declared.note.Note as notes;
 
 use crate::collective::{
-    Collective, ReadyEntry, ReadyMessage, RefusedEntry, is_left, keep, out_of_memory, after_lesson,
+    Collective, ReadyEntry, ReadyMessage, RefusedEntry, after_lesson, is_left, keep, out_of_memory,
 };
-use collective_messages::{Address, Entry, Inside, CollectiveMessage, Note, CollectiveRefusal, Tally, note_of};
+use collective_messages::{
+    Address, CollectiveMessage, CollectiveRefusal, Entry, Inside, Note, Tally, note_of,
+};
 use collective_progress::Progress;
 use collective_steps::{Step, entry_step, prepare_step};
 use context_agreement::Contexts;
@@ -24,7 +28,8 @@ use vocabulary::Endpoint;
 /// Takes the note back that stands behind so many others, where there is one.
 fn take_back(kept: &mut Vec<Note>, count: usize) -> Option<Note>
     requires { count ≤ vec_len kept.old }
-    ensures back { (front : List notes.Note) (note : Option notes.Note) → length front ≡ count → kept.old.items ≡ kept_with front note
+    ensures back { (front : List notes.Note) (note : Option notes.Note) → length front ≡ count →
+        kept.old.items ≡ kept_with front note
         → (result ≡ note) × (kept.new.items ≡ front) }
     ensures capacity { vec_capacity kept.old ≤ vec_capacity kept.new }
 {
@@ -55,8 +60,8 @@ fn catch_up(progress: &mut Progress, own: Endpoint, present: Option<&Inside>, ke
     }
 }
 
-/// What the rank does of itself once it keeps a note, for which there is room. The note stands behind the others while the
-/// verdict is given, and is taken back whatever comes of it.
+/// What the rank does of itself once it keeps a note, for which there is room. The note stands behind the others while
+/// the verdict is given, and is taken back whatever comes of it.
 #[tactic(auto, using(crate::proofs::Beside::note_beside))]
 pub(crate) fn prepared_with(
     alloc: Global,
@@ -70,9 +75,13 @@ pub(crate) fn prepared_with(
     requires room { vec_len kept.old + 1 ≤ vec_capacity kept.old }
     requires progress { IsKeptOf own (option_copied present) kept.old.items progress.now }
     ensures note { IfOk result (λ ready. ready.note ≡ note) }
-    ensures step { IfOk result (λ ready. IsPrepared own (option_copied present.entry) contexts.now.state (kept_with kept.old.items note) ready.step) }
+    ensures step { IfOk result
+        (λ ready. IsPrepared own (option_copied present.entry) contexts.now.state (kept_with kept.old.items note)
+        ready.step) }
     ensures within { IfOk result (λ ready. MeetsLimit contexts.now.state ready.step → ⊥) }
-    ensures err { IfErr result (IsRefusal contexts.now.state (IsPrepared own (option_copied present.entry) contexts.now.state (kept_with kept.old.items note))) }
+    ensures err { IfErr result
+        (IsRefusal contexts.now.state
+        (IsPrepared own (option_copied present.entry) contexts.now.state (kept_with kept.old.items note))) }
     ensures kept { kept.new.items ≡ kept.old.items }
     ensures capacity { vec_capacity kept.old ≤ vec_capacity kept.new }
 {
@@ -132,7 +141,8 @@ fn ready_entry(
     ensures inside { IfOk result (λ ready. ready.inside ≡ inside) }
     ensures step { IfOk result (λ ready. IsPreparedEntry own inside contexts.now.state kept.now ready.step) }
     ensures within { IfOk result (λ ready. MeetsLimit contexts.now.state ready.step → ⊥) }
-    ensures err { IfErr result (λ back. IsRefusal contexts.now.state (IsPreparedEntry own inside contexts.now.state kept.now) back.refused) }
+    ensures err { IfErr result
+        (λ back. IsRefusal contexts.now.state (IsPreparedEntry own inside contexts.now.state kept.now) back.refused) }
     ensures handed { IfErr result (λ back. back.entry ≡ inside.entry) }
 {
     match entry_step(alloc, own, &inside, contexts, kept, progress) {
@@ -172,8 +182,8 @@ impl ReadyMessage {
 impl Collective {
     /// Makes ready the entry of a collective that breaks no rule. Nothing changes but room.
     ///
-    /// Refused is want of memory (14), and 13 where what the rank then gets can't be held or given; what was handed in comes
-    /// back. That no member is known at another incarnation (11) is the caller's to see to.
+    /// Refused is want of memory (14), and 13 where what the rank then gets can't be held or given; what was handed in
+    /// comes back. That no member is known at another incarnation (11) is the caller's to see to.
     pub fn prepare_entry(
         &mut self,
         contexts: &mut Contexts,
@@ -183,11 +193,18 @@ impl Collective {
         requires rule { entry_rule self.old.state contexts.old.state place ≡ None }
         requires limit { limit_at self.old.state contexts.old.state place entry ≡ false }
         ensures inside { IfOk result (λ ready. ready.inside ≡ inside_of self.old.state contexts.old.state place entry) }
-        ensures step { IfOk result (λ ready. IsPreparedEntry self.old.state.own (inside_of self.old.state contexts.old.state place entry) contexts.old.state self.old.state.kept ready.step) }
+        ensures step { IfOk result
+            (λ ready. IsPreparedEntry self.old.state.own (inside_of self.old.state contexts.old.state place entry)
+            contexts.old.state self.old.state.kept ready.step) }
         ensures fits { IfOk result (λ ready. All IsFitting ready.step.messages) }
         ensures within { IfOk result (λ ready. MeetsLimit contexts.old.state ready.step → ⊥) }
-        ensures number { OnOk result (count_in self.old.state.tallies (inside_of self.old.state contexts.old.state place entry).context < most_collectives) }
-        ensures err { IfErr result (λ back. IsRefusal contexts.old.state (IsPreparedEntry self.old.state.own (inside_of self.old.state contexts.old.state place entry) contexts.old.state self.old.state.kept) back.refused) }
+        ensures number { OnOk result
+            (count_in self.old.state.tallies (inside_of self.old.state contexts.old.state place entry).context <
+            most_collectives) }
+        ensures err { IfErr result
+            (λ back. IsRefusal contexts.old.state
+            (IsPreparedEntry self.old.state.own (inside_of self.old.state contexts.old.state place entry)
+            contexts.old.state self.old.state.kept) back.refused) }
         ensures handed { IfErr result (λ back. back.entry ≡ entry) }
         ensures room { OnOk result (0 < self.new.more_tallies) }
         ensures held { OnOk result (0 < contexts.new.more) }
@@ -212,11 +229,11 @@ impl Collective {
         )
     }
 
-    /// Makes ready what a message of a collective brings, once the lesson is learnt that it teaches, if any. Nothing changes
-    /// but room.
+    /// Makes ready what a message of a collective brings, once the lesson is learnt that it teaches, if any. Nothing
+    /// changes but room.
     ///
-    /// Refused is 30 where what it carries doesn't fit its record, 14 for want of memory, and 13 where what the rank then gets
-    /// can't be held or given.
+    /// Refused is 30 where what it carries doesn't fit its record, 14 for want of memory, and 13 where what the rank
+    /// then gets can't be held or given.
     pub fn prepare_message(
         &mut self,
         contexts: &mut Contexts,
@@ -224,10 +241,13 @@ impl Collective {
         address: Address,
         payload: Payload<'_>,
     ) -> Result<ReadyMessage, CollectiveRefusal>
-        ensures ready { IfOk result (IsReady (after_lesson self.old.state contexts.old.state lesson) contexts.old.state address (payload_text payload.entry)) }
+        ensures ready { IfOk result (IsReady (after_lesson self.old.state contexts.old.state lesson) contexts.old.state address
+            (payload_text payload.entry)) }
         ensures fits { IfOk result (λ ready. All IsFitting ready.step.messages) }
         ensures within { IfOk result (λ ready. MeetsLimit contexts.old.state ready.step → ⊥) }
-        ensures err { IfErr result (MessageRefused (after_lesson self.old.state contexts.old.state lesson) contexts.old.state address (payload_text payload.entry)) }
+        ensures err { IfErr result
+            (MessageRefused (after_lesson self.old.state contexts.old.state lesson) contexts.old.state address
+            (payload_text payload.entry)) }
         ensures room { OnOk result (0 < self.new.more_notes) }
         ensures held { OnOk result (0 < contexts.new.more) }
         ensures kept { self.new.state ≡ self.old.state }
@@ -286,10 +306,17 @@ fn prepared_for(
 ) -> Result<ReadyMessage, CollectiveRefusal>
     requires room { vec_len kept.old + 1 ≤ vec_capacity kept.old }
     requires progress { IsKeptOf own present.now kept.old.items progress.old }
-    ensures note { IfOk result (λ ready. ready.note ≡ kept_note tallies.now (present_met present.now contexts.now.state lesson) arrived) }
-    ensures step { IfOk result (λ ready. IsPrepared own (present_met present.now contexts.now.state lesson) contexts.now.state (kept_with kept.old.items (kept_note tallies.now (present_met present.now contexts.now.state lesson) arrived)) ready.step) }
+    ensures note { IfOk result
+        (λ ready. ready.note ≡ kept_note tallies.now (present_met present.now contexts.now.state lesson) arrived) }
+    ensures step { IfOk result (λ ready. IsPrepared own (present_met present.now contexts.now.state lesson) contexts.now.state
+        (kept_with kept.old.items (kept_note tallies.now (present_met present.now contexts.now.state lesson) arrived))
+        ready.step) }
     ensures within { IfOk result (λ ready. MeetsLimit contexts.now.state ready.step → ⊥) }
-    ensures err { IfErr result (IsRefusal contexts.now.state (IsPrepared own (present_met present.now contexts.now.state lesson) contexts.now.state (kept_with kept.old.items (kept_note tallies.now (present_met present.now contexts.now.state lesson) arrived)))) }
+    ensures err { IfErr result
+        (IsRefusal contexts.now.state
+        (IsPrepared own (present_met present.now contexts.now.state lesson) contexts.now.state
+        (kept_with kept.old.items
+        (kept_note tallies.now (present_met present.now contexts.now.state lesson) arrived)))) }
     ensures progress { IsKeptOf own present.now kept.new.items progress.new }
     ensures kept { kept.new.items ≡ kept.old.items }
     ensures capacity { vec_capacity kept.old ≤ vec_capacity kept.new }

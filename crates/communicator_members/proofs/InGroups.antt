@@ -1,5 +1,6 @@
 -- The rank in a group is the place of the first member that is the rank of world.
-use Rattle.std.proofs.Common.{◌≡◌, ℕ, zero, suc, ◌+◌, ◌≤◌, Bool, true, false, cond, ltb, List, [], ◌∷◌, length, Some, None, refl, sym, ◌∙◌, arith, inl, inr}
+use Rattle.std.proofs.Common.{◌≡◌, ℕ, zero, suc, ◌+◌, ◌≤◌, Bool, true, false, cond, ltb, List, [], ◌∷◌, length, Some}
+use Rattle.std.proofs.Common.{None, refl, sym, ◌∙◌, arith, inl, inr}
 use Rattle.std.specs.Prelude.{◌==◌, position}
 use Rattle.std.specs.List.{position_or_len}
 use Rattle.std.proofs.lemmas.Bool.{cases_lt, lt-ltb}
@@ -29,7 +30,8 @@ same_if false n p is = absurd cc
 -- the place that is found
 pub found_is : (xs : List ℕ) (m p : ℕ) → position (λ x. x == m) xs ≡ Some p → p ≡ rank_in xs m
 found_is xs m p is =
-    same_if (ltb (position_or_len (λ x. x == m) xs) (length xs)) (position_or_len (λ x. x == m) xs) p is ∙ sym (rank_is m xs)
+    same_if (ltb (position_or_len (λ x. x == m) xs) (length xs)) (position_or_len (λ x. x == m) xs) p is ∙
+    sym (rank_is m xs)
 
 not_below : (b : Bool) (n : ℕ) → b ≡ true → cond b (Some n) None ≡ None → ⊥
 not_below true n at is = cc

@@ -10,8 +10,9 @@ use std::marker::Model;
 use std::rc::RcSlice;
 use vocabulary::{Source, Status};
 
-/// The members of a communicator, as ranks of world in the order of their ranks in it (MPI 3.1, 6.2.1). They don't change,
-/// and one owner has them or several share them. Contracts see them as the list of these ranks, of which there are at most
+/// The members of a communicator, as ranks of world in the order of their ranks in it (MPI 3.1, 6.2.1). They don't
+/// change, and one owner has them or several share them. Contracts see them as the list of these ranks, of which there
+/// are at most
 /// 65,535, as a job has no more.
 #[derive(Debug, Drop)]
 pub struct Members {
@@ -72,7 +73,8 @@ impl Members {
         self.ranks.as_slice()
     }
 
-    /// The rank in the communicator of the member that is this rank of world; one behind the last where it is no member.
+    /// The rank in the communicator of the member that is this rank of world; one behind the last where it is no
+    /// member.
     pub fn rank_of(&self, member: u16) -> u16
         ensures { result ≡ rank_in self.now member }
     {
@@ -80,7 +82,8 @@ impl Members {
     }
 }
 
-/// The same group for one more owner, without a copy; none stays none. The only error is that there are too many owners.
+/// The same group for one more owner, without a copy; none stays none. The only error is that there are too many
+/// owners.
 pub fn share_group(group: &Option<Members>) -> Result<Option<Members>, AllocError>
     ensures { IfOk result (λ shared. shared ≡ group.now) }
 {

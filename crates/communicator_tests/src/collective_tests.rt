@@ -5,7 +5,7 @@ use collective_messages::{Address, Entry};
 use collectives::Collective;
 use context_agreement::{Context, Contexts};
 use groups::Group;
-use payload::{Choice, Direction, NewGroup, PayloadContent, Payload, Record};
+use payload::{Choice, Direction, NewGroup, Payload, PayloadContent, Record};
 use std::alloc::Global;
 use vocabulary::Endpoint;
 
@@ -68,8 +68,8 @@ fn enter(rank: &mut Rank, entry: Entry) -> bool {
     }
 }
 
-/// What entering a barrier on world would break before the rank is in a collective, and inside, where a communicator is held and
-/// where none is.
+/// What entering a barrier on world would break before the rank is in a collective, and inside, where a communicator is
+/// held and where none is.
 fn blocked(rank: &mut Rank) -> (Option<u8>, bool, [Option<u8>; 2]) {
     let before = fault(rank, 0, Entry::Barrier);
     let inside = enter(rank, Entry::Barrier);
@@ -154,8 +154,8 @@ fn address_of(incarnation: u16) -> Address {
     }
 }
 
-/// A message of rank 0 of the first collective on world comes to the rank: the ending of its collective, or the number of the
-/// refusal.
+/// A message of rank 0 of the first collective on world comes to the rank: the ending of its collective, or the number
+/// of the refusal.
 fn arrive(rank: &mut Rank, payload: Payload<'_>) -> Result<Option<End>, u8> {
     match rank
         .collective
@@ -216,8 +216,8 @@ fn a_part_of_another_record_is_refused(rt: HostRuntime) {
     assert_eq!(rt; told_of_parts(&mut rank), (true, answers));
 }
 
-/// What ends the rank's barrier, where the message that would end it comes from rank 0 started anew: the lesson, and then the
-/// message.
+/// What ends the rank's barrier, where the message that would end it comes from rank 0 started anew: the lesson, and
+/// then the message.
 fn told_by_replaced(rank: &mut Rank) -> Option<[Option<End>; 2]> {
     if !enter(rank, Entry::Barrier) {
         return None;

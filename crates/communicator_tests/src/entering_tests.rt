@@ -2,7 +2,7 @@
 
 use crate::ranks::{End, Step, TURNED, arrive, end_of, enter, rank_of, split};
 use communicators::{Communicators, Entry};
-use payload::{PayloadContent, Payload, Record};
+use payload::{Payload, PayloadContent, Record};
 
 /// What a barrier of the rank alone and a copy of its communicator give, and whether it holds the copy.
 fn enter_alone(rank: &mut Communicators) -> ([Step; 2], bool) {
@@ -54,8 +54,8 @@ fn a_part_of_another_record_is_refused(rt: HostRuntime) {
     );
 }
 
-/// What a barrier on world gives, what a lesson of rank 0 at incarnations 0 and 1 ends, and whether the rank is in the barrier
-/// then.
+/// What a barrier on world gives, what a lesson of rank 0 at incarnations 0 and 1 ends, and whether the rank is in the
+/// barrier then.
 fn learn_inside(rank: &mut Communicators) -> (Step, [Option<End>; 2], bool) {
     let entered = enter(rank, 0, Entry::Barrier);
     let lessons = [end_of(rank.learn(0, 0)), end_of(rank.learn(0, 1))];

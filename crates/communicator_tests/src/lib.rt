@@ -1,5 +1,5 @@
-//! Each call on the communicators of a rank on its happy path, the rules that it breaks, groups that are shared, what refuses or ends a
-//! collective, and what a rank inside a tree tells.
+//! Each call on the communicators of a rank on its happy path, the rules that it breaks, groups that are shared, what
+//! refuses or ends a collective, and what a rank inside a tree tells.
 #![tactic(auto)]
 
 #[cfg(test)]

@@ -1,11 +1,13 @@
 //! Whom a call names, and what a rank is told of its communicators.
 
 use crate::ranks::{enter, rank_of, turn};
-use communicators::{Communicators, CommunicatorComparison, Entry, FactRef, Question, calls_are_routed};
+use communicators::{
+    CommunicatorComparison, Communicators, Entry, FactRef, Question, calls_are_routed,
+};
 use vocabulary::Source;
 
-/// The number of the context, whom the call names as a rank of world, and whether the group has just these ranks, where the route
-/// has one.
+/// The number of the context, whom the call names as a rank of world, and whether the group has just these ranks, where
+/// the route has one.
 type Told = Option<(u64, Source, Option<bool>)>;
 
 /// The route of a call on the communicator at a place that names this rank.
@@ -19,7 +21,8 @@ fn route(rank: &Communicators, place: usize, named: Source, ranks: &[u16]) -> To
     }
 }
 
-/// The routes on world, on self of its rank and of one that it lacks, on the communicator of ranks 1 and 0, and on none.
+/// The routes on world, on self of its rank and of one that it lacks, on the communicator of ranks 1 and 0, and on
+/// none.
 fn routes(rank: &mut Communicators) -> (bool, [Told; 5]) {
     let turned = turn(rank);
     let routes = [
@@ -63,8 +66,8 @@ fn has_ranks(rank: &Communicators, place: usize, ranks: &[u16]) -> bool {
     }
 }
 
-/// Its ranks in world, in the communicator of ranks 1 and 0 and in none, how many ranks world has, and whether the communicator
-/// has these.
+/// Its ranks in world, in the communicator of ranks 1 and 0 and in none, how many ranks world has, and whether the
+/// communicator has these.
 fn numbers(rank: &mut Communicators) -> (bool, [Option<usize>; 4], bool) {
     let turned = turn(rank);
     let numbers = [

@@ -1,7 +1,7 @@
 //! A rank that holds communicators, enters collectives and is told of them. Each step answers plain values.
 
 use communicators::{Address, Communicators, Ending, Entry, entries_are_allowed};
-use payload::{Choice, NewGroup, PayloadContent, Payload, Record};
+use payload::{Choice, NewGroup, Payload, PayloadContent, Record};
 use std::alloc::Global;
 use vocabulary::Endpoint;
 
@@ -100,5 +100,7 @@ pub(crate) fn arrive_from(rank: &mut Communicators, sender: u16, payload: Payloa
 
 /// Rank 1 of two gets the communicator of ranks 1 and 0 at place 2; whether it did.
 pub(crate) fn turn(rank: &mut Communicators) -> bool {
-    enter(rank, 0, split()).is_ok() && arrive(rank, TURNED).is_ok() && !rank.has_no_communicator(Some(2))
+    enter(rank, 0, split()).is_ok()
+        && arrive(rank, TURNED).is_ok()
+        && !rank.has_no_communicator(Some(2))
 }

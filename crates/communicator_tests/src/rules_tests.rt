@@ -1,7 +1,7 @@
 //! The rules that a call breaks by its communicator.
 
 use crate::ranks::{enter, rank_of, turn};
-use communicators::{Communicators, Entry, CommunicatorFault, Question};
+use communicators::{CommunicatorFault, Communicators, Entry, Question};
 use vocabulary::Source;
 
 /// Whether a communicator is missing at each of these places, and at none.
@@ -43,8 +43,8 @@ fn ranks_behind_the_last_are_missing(rt: HostRuntime) {
     );
 }
 
-/// Rank 0 of world is known at incarnation 1: whether it is replaced where world and the communicator of ranks 1 and 0 name it,
-/// where the latter names rank 1, and for collectives of world, of self and of the latter.
+/// Rank 0 of world is known at incarnation 1: whether it is replaced where world and the communicator of ranks 1 and 0
+/// name it, where the latter names rank 1, and for collectives of world, of self and of the latter.
 fn replaced(rank: &mut Communicators) -> (bool, [bool; 3], [bool; 3]) {
     let turned = turn(rank);
     let known = [1u16, 0].as_slice();
@@ -75,9 +75,15 @@ fn barrier(rank: &Communicators, is_blocked: bool, incarnation: u16) -> Option<C
     rank.fault_of_entry(is_blocked, &[incarnation, 0], Some(0), &Entry::Barrier)
 }
 
-/// What an entry breaks: blocked on requests, with no communicator, with a member that was replaced, and with none of these; and
-/// then in a collective.
-fn entries(rank: &mut Communicators) -> ([Option<CommunicatorFault>; 4], bool, Option<CommunicatorFault>) {
+/// What an entry breaks: blocked on requests, with no communicator, with a member that was replaced, and with none of
+/// these; and then in a collective.
+fn entries(
+    rank: &mut Communicators,
+) -> (
+    [Option<CommunicatorFault>; 4],
+    bool,
+    Option<CommunicatorFault>,
+) {
     let faults = [
         barrier(rank, true, 1),
         rank.fault_of_entry(false, &[1, 0], Some(2), &Entry::Dup),
@@ -97,12 +103,21 @@ fn entries_are_judged_in_order(rt: HostRuntime) {
         Some(CommunicatorFault::Replaced),
         None,
     ];
-    assert_eq!(rt; entries(&mut rank), (faults, true, Some(CommunicatorFault::Blocked)));
+    assert_eq!(rt;
+        entries(&mut rank),
+        (faults, true, Some(CommunicatorFault::Blocked))
+    );
 }
 
-/// What a question breaks: blocked on requests, with no communicator, compared with none, and with none of these; and then in a
-/// collective.
-fn questions(rank: &mut Communicators) -> ([Option<CommunicatorFault>; 4], bool, Option<CommunicatorFault>) {
+/// What a question breaks: blocked on requests, with no communicator, compared with none, and with none of these; and
+/// then in a collective.
+fn questions(
+    rank: &mut Communicators,
+) -> (
+    [Option<CommunicatorFault>; 4],
+    bool,
+    Option<CommunicatorFault>,
+) {
     let faults = [
         rank.fault_of_question(true, None, Question::Rank),
         rank.fault_of_question(false, None, Question::Size),
@@ -123,7 +138,10 @@ fn questions_are_judged_in_order(rt: HostRuntime) {
         Some(CommunicatorFault::NoCommunicator),
         None,
     ];
-    assert_eq!(rt; questions(&mut rank), (faults, true, Some(CommunicatorFault::Blocked)));
+    assert_eq!(rt;
+        questions(&mut rank),
+        (faults, true, Some(CommunicatorFault::Blocked))
+    );
 }
 
 #[test]

@@ -3,7 +3,7 @@
 use crate::ranks::{End, Step, arrive_from, enter, rank_of};
 use communicators::{Block, Communicators, Entry};
 use datatypes::Buffer;
-use payload::{Direction, Elements, Operation, PayloadContent, Payload, Record, Rooted};
+use payload::{Direction, Elements, Operation, Payload, PayloadContent, Record, Rooted};
 use std::alloc::Global;
 use vocabulary::BasicType;
 

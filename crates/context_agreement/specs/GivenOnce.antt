@@ -1,9 +1,11 @@
 -- No context is given twice: a law over whole lists of calls.
-use Rattle.std.specs.Prelude.{◌≡◌, ◌≢◌, ℕ, zero, suc, ◌+◌, ◌^◌, ◌<◌, ◌≤◌, List, [], ◌∷◌, ◌++◌, Result, Ok, Err, All, AllPairs}
+use Rattle.std.specs.Prelude.{◌≡◌, ◌≢◌, ℕ, zero, suc, ◌+◌, ◌^◌, ◌<◌, ◌≤◌, List, [], ◌∷◌, ◌++◌, Result, Ok, Err, All}
+use Rattle.std.specs.Prelude.{AllPairs}
 use Rattle.context_agreement.specs.declared.context.Context.{Context}
 use Rattle.context_agreement.specs.declared.communicator.NotInstalled.{NotInstalled}
 use Rattle.context_agreement.specs.declared.refusal.ContextRefusal.{ContextRefusal}
-use Rattle.context_agreement.specs.Communicators.{ContextsState, NextGives, InstallGives, after_draw, coming_context, next_context, opening, world_and_self}
+use Rattle.context_agreement.specs.Communicators.{ContextsState, NextGives, InstallGives, after_draw, coming_context}
+use Rattle.context_agreement.specs.Communicators.{next_context, opening, world_and_self}
 
 -- a call that may change the state, with its answer: a context was asked for, or a communicator
 -- installed

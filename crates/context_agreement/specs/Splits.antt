@@ -1,5 +1,6 @@
 -- What a split makes of the rows of its members (MPI 3.1, 6.4.2).
-use Rattle.std.specs.Prelude.{◌≡◌, ℕ, ◌<◌, ◌≤◌, ◌==◌, suc, Bool, false, List, filter, map, length, All, Contains, Option, Some, None, IsPermutation, IsSorted, slice_index_or}
+use Rattle.std.specs.Prelude.{◌≡◌, ℕ, ◌<◌, ◌≤◌, ◌==◌, suc, Bool, false, List, filter, map, length, All, Contains}
+use Rattle.std.specs.Prelude.{Option, Some, None, IsPermutation, IsSorted, slice_index_or}
 use Rattle.std.specs.List.Sorted.{IsStrictlyIncreasing}
 use Rattle.std.specs.Option.{option_cmp}
 use Rattle.std.specs.Ordering.{nat_cmp, int_cmp, ordering_then}

@@ -1,8 +1,10 @@
 //! The communicators of a rank, and the contexts that it gives.
 
-ghost use Rattle.std.specs.Prelude.{◌≡◌, ◌<◌, ◌≤◌, ◌+◌, ◌^◌, ◌↔◌, position, find, length, slice_get, IsTrue, IfOk, OnOk, IsOkUnless};
+ghost use Rattle.std.specs.Prelude.{◌≡◌, ◌<◌, ◌≤◌, ◌+◌, ◌^◌, ◌↔◌, position, find, length, slice_get, IsTrue, IfOk};
+ghost use Rattle.std.specs.Prelude.{OnOk, IsOkUnless};
 ghost use Rattle.std.specs.Option.{option_copied};
-ghost use Rattle.context_agreement.specs.Communicators.{opening, next_context, NextGives, InstallGives, after_draw, after_install, is_same, place_of, group_of};
+ghost use Rattle.context_agreement.specs.Communicators.{opening, next_context, NextGives, InstallGives, after_draw};
+ghost use Rattle.context_agreement.specs.Communicators.{after_install, is_same, place_of, group_of};
 
 use crate::communicator::{Communicator, NotInstalled};
 use crate::context::Context;
@@ -53,7 +55,12 @@ impl Model for Contexts {
 impl Contexts {
     /// The contexts of a rank at an incarnation, in a world of this many ranks: it holds `world` at
     /// place 0 and `self` at place 1.
-    pub fn new(alloc: Global, rank: u16, incarnation: u16, size: u16) -> Result<Self, ContextRefusal>
+    pub fn new(
+        alloc: Global,
+        rank: u16,
+        incarnation: u16,
+        size: u16,
+    ) -> Result<Self, ContextRefusal>
         ensures ok { IfOk result (λ contexts. contexts.state ≡ opening rank incarnation size) }
         ensures err { IsOkUnless result ContextRefusal.OutOfMemory }
     {
@@ -143,7 +150,9 @@ impl Contexts {
         ensures kept { self.new.state ≡ self.old.state }
         ensures err { IsOkUnless result ContextRefusal.OutOfMemory }
     {
-        self.held.reserve(1).map_err(|_| ContextRefusal::OutOfMemory)
+        self.held
+            .reserve(1)
+            .map_err(|_| ContextRefusal::OutOfMemory)
     }
 
     /// The context that is given once `further` others are, where as many are left to give. It takes

@@ -13,6 +13,6 @@ pub use communicator::{Communicator, NotInstalled};
 pub use context::{Context, contexts_have_their_own_numbers};
 pub use contexts::Contexts;
 pub use laws::contexts_are_given_once;
-pub use split_part::SplitPart;
 pub use refusal::ContextRefusal;
 pub use split::{SplitRow, split_plan};
+pub use split_part::SplitPart;

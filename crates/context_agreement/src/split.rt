@@ -4,8 +4,8 @@ ghost use Rattle.std.specs.Prelude.{◌≡◌, ◌<◌, length, map, IfOk, IsOkU
 ghost use Rattle.std.specs.List.Sorted.{IsNonDecreasingBy};
 ghost use Rattle.context_agreement.specs.Splits.{IsSplitPlan, IsCut, IsRun, colour_number, full_order};
 
-use crate::split_part::SplitPart;
 use crate::refusal::ContextRefusal;
+use crate::split_part::SplitPart;
 use std::alloc::{AllocError, Global};
 
 /// What a member of a communicator that is split gives (MPI 3.1, 6.4.2). The fields stand in the

@@ -2,7 +2,7 @@
 
 ghost use Rattle.std.specs.Prelude.{◌≡◌, ◌∷◌, [], IfOk};
 
-use datatypes::{IndexedBlock, Buffer, Element, Layout, LayoutRefusal, number_of};
+use datatypes::{Buffer, Element, IndexedBlock, Layout, LayoutRefusal, number_of};
 use reductions::{Op, ReduceOp, accumulate, fold};
 use std::alloc::{AllocError, Global};
 use std::test::Fail;
@@ -329,7 +329,8 @@ fn refused_growths_have_the_number_14(rt: HostRuntime) {
     assert_eq!(rt; (number, buffer.len()), (Some(14), 0));
 }
 
-/// The number with which as many copies as there are elements are refused, of a layout that has 2^20 times the same place.
+/// The number with which as many copies as there are elements are refused, of a layout that has 2^20 times the same
+/// place.
 fn number_of_packed(alloc: Global, buffer: &Buffer) -> Option<u8> {
     let number = Layout::new(alloc, BasicType::Uint64).ok()?;
     let repeated = number.vector(alloc, 1_048_576, 1, 0).ok()?;

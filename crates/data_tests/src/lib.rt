@@ -1,4 +1,5 @@
-//! Each call of the libraries of data, payloads and messages that go in pieces on its happy path, worked rows, and what is refused.
+//! Each call of the libraries of data, payloads and messages that go in pieces on its happy path, worked rows, and what
+//! is refused.
 #![tactic(auto)]
 
 #[cfg(test)]

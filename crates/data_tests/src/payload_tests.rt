@@ -1,8 +1,8 @@
 //! Payloads of collectives: worked bytes, read and written.
 
 use payload::{
-    Choice, Direction, Elements, NewGroup, Operation, PayloadContent, Payload, Record, PayloadRefusal, Rooted,
-    read_payload, write_payload,
+    Choice, Direction, Elements, NewGroup, Operation, Payload, PayloadContent, PayloadRefusal,
+    Record, Rooted, read_payload, write_payload,
 };
 use std::alloc::Global;
 use vocabulary::BasicType;

@@ -18,7 +18,8 @@ fn said(whole: &WholePayload, sent: &[u8]) -> (u64, u32, bool) {
     (whole.context(), whole.number(), whole.bytes() == sent)
 }
 
-/// What the pieces of 2,500 bytes give, one after the other: of which collective the payload is, and whether it is what was sent.
+/// What the pieces of 2,500 bytes give, one after the other: of which collective the payload is, and whether it is what
+/// was sent.
 fn passed(alloc: Global) -> Option<(usize, usize, Option<(u64, u32, bool)>, bool)> {
     let all = bytes(alloc, 2500)?;
     let mut transfers = CollectiveTransfers::new(alloc);
@@ -54,8 +55,8 @@ fn a_payload_is_handed_out_whole_with_its_last_piece(rt: HostRuntime) {
     );
 }
 
-/// Of a payload of two pieces that is taken out with the second one and put back: whether it comes before and after that, whether
-/// that piece is due again then, and what it is when that comes again.
+/// Of a payload of two pieces that is taken out with the second one and put back: whether it comes before and after
+/// that, whether that piece is due again then, and what it is when that comes again.
 fn put_back(alloc: Global) -> Option<([bool; 3], (u64, u32, bool))> {
     let all = bytes(alloc, 1500)?;
     let first = all.get(0..1024)?;
@@ -88,8 +89,8 @@ fn a_payload_that_is_put_back_comes_as_before(rt: HostRuntime) {
     assert_eq!(rt; put_back(rt.alloc()), Some(([true; 3], (77, 8, true))));
 }
 
-/// Of a payload of which one piece came: whether the same piece is due again, one behind the next, one that is too short, and that
-/// of another transfer or rank.
+/// Of a payload of which one piece came: whether the same piece is due again, one behind the next, one that is too
+/// short, and that of another transfer or rank.
 fn other_pieces(alloc: Global) -> Option<[bool; 5]> {
     let all = bytes(alloc, 3000)?;
     let mut transfers = CollectiveTransfers::new(alloc);
@@ -123,7 +124,8 @@ fn announced(alloc: Global, target: u16, transfer: u32, count: usize) -> Option<
     Some(AnnouncedPayload::new(target, transfer, bytes))
 }
 
-/// Two payloads to rank 1 and one to rank 2; then one is answered, and rank 2 is started anew. How many bytes each has that is kept.
+/// Two payloads to rank 1 and one to rank 2; then one is answered, and rank 2 is started anew. How many bytes each has
+/// that is kept.
 fn kept(alloc: Global) -> Option<[[Option<usize>; 3]; 3]> {
     let mut transfers = CollectiveTransfers::new(alloc);
     let mut all = Vec::new(alloc);

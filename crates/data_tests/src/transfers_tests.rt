@@ -132,7 +132,8 @@ fn an_offer_is_answered_once(rt: HostRuntime) -> Result<(), OutOfMemory> {
     Ok(())
 }
 
-/// Whether data are due: the first piece, that at a later place, a short one, and one of a transfer that isn't collected.
+/// Whether data are due: the first piece, that at a later place, a short one, and one of a transfer that isn't
+/// collected.
 fn are_due(transfers: &Transfers) -> [bool; 4] {
     let piece = [0; 1024];
     let (short, _) = piece.split_at(1023);
@@ -160,8 +161,8 @@ fn are_with(alloc: Global, transfers: &Transfers, requests: &[usize]) -> bool {
     }
 }
 
-/// Whether announcements 0 and 1 are taken and no second 1, and what is collected is with rank 0; and then whether after a
-/// restart nothing is, and announcement 0 is taken, and no 2.
+/// Whether announcements 0 and 1 are taken and no second 1, and what is collected is with rank 0; and then whether
+/// after a restart nothing is, and announcement 0 is taken, and no 2.
 fn start_anew(alloc: Global, to: &mut Transfers) -> ([bool; 5], [bool; 3]) {
     let before = [
         announce(to, 0),

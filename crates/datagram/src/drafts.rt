@@ -17,8 +17,8 @@ const SHORT_BODY: usize = 32;
 /// The memory of at most so many datagrams is kept for those to come: as many as the largest message has.
 const MOST_SPARE: usize = 1024;
 
-/// Where datagrams are spelled, and the memory of those that are gone, for those to come. It saves asking for memory, and
-/// nothing else: contracts see nothing of it.
+/// Where datagrams are spelled, and the memory of those that are gone, for those to come. It saves asking for memory,
+/// and nothing else: contracts see nothing of it.
 #[derive(Drop)]
 pub struct Drafts {
     /// Where all memory of datagrams comes from.
@@ -106,9 +106,9 @@ impl Drafts {
         })
     }
 
-    /// The bytes that spell a datagram, for which `write` asks the same. The only refusal is want of memory. A short one, which
-    /// is an acknowledgement, a reset, or a frame of at most 32 bytes, takes no memory once the first one was spelled; a long
-    /// one takes none where that of one as long was kept and has no other owner any more.
+    /// The bytes that spell a datagram, for which `write` asks the same. The only refusal is want of memory. A short
+    /// one, which is an acknowledgement, a reset, or a frame of at most 32 bytes, takes no memory once the first one
+    /// was spelled; a long one takes none where that of one as long was kept and has no other owner any more.
     pub fn spell(&mut self, datagram: &Datagram) -> Result<Bytes, DatagramRefusal>
         requires body { BodyFits (content_text datagram.now.content) }
         requires sequence { SequenceFits datagram.now.header.sequence (content_text datagram.now.content) }
@@ -122,8 +122,8 @@ impl Drafts {
         }
     }
 
-    /// Keeps the memory of bytes whose other owners are about to go, for a datagram to come. Bytes that stand in the value
-    /// itself have none, and no more than that of 1,024 is kept.
+    /// Keeps the memory of bytes whose other owners are about to go, for a datagram to come. Bytes that stand in the
+    /// value itself have none, and no more than that of 1,024 is kept.
     pub fn keep(&mut self, bytes: &Bytes)
         ensures { self.new ≡ self.old }
     {

@@ -1,9 +1,11 @@
 -- Layouts that are made of blocks of places that follow one another.
-use Rattle.std.proofs.Common.{◌≡◌, ℕ, zero, suc, ◌+◌, ◌*◌, ◌/◌, ◌<◌, ◌≤◌, List, ◌++◌, length, get_or, take, drop, sym, ap, subst, ◌∙◌, arith}
+use Rattle.std.proofs.Common.{◌≡◌, ℕ, zero, suc, ◌+◌, ◌*◌, ◌/◌, ◌<◌, ◌≤◌, List, ◌++◌, length, get_or, take, drop, sym}
+use Rattle.std.proofs.Common.{ap, subst, ◌∙◌, arith}
 use Rattle.std.specs.List.{range_with_len}
 use Rattle.std.proofs.Math.Nat.{add-mul, div-add-mod', mul-div_cancel, mul-le-mul_left, mul-le-mul_right}
 use Rattle.std.proofs.Math.Seq.{take-add}
-use Rattle.std.proofs.lemmas.List.{length-append, length-take, length-drop, drop-drop, map-append, get_or-drop, get_or-take}
+use Rattle.std.proofs.lemmas.List.{length-append, length-take, length-drop, drop-drop, map-append, get_or-drop}
+use Rattle.std.proofs.lemmas.List.{get_or-take}
 use Rattle.std.proofs.lemmas.List.Concat.{flat_map-append}
 use Rattle.std.proofs.lemmas.List.FromFn.{get_or-range_with_len}
 use Rattle.derived_types.specs.Layouts.{moved}
@@ -24,7 +26,8 @@ block_there block number len lt =
     omega arith
 
 -- so many elements from a place on, in bytes
-pub block_in_bytes : (size : ℕ) (bytes : List ℕ) (at count : ℕ) → 1 ≤ size → AreWhole size bytes → at + count ≤ length (values_of size bytes)
+pub block_in_bytes : (size : ℕ) (bytes : List ℕ) (at count : ℕ) → 1 ≤ size → AreWhole size bytes →
+    at + count ≤ length (values_of size bytes)
     → (at * size + count * size ≤ length bytes) × (at ≤ at * size)
 block_in_bytes size bytes at count h w le =
     let all = whole size bytes w.no_rest in
@@ -36,7 +39,8 @@ block_in_bytes size bytes at count h w le =
 
 -- one block more
 pub moved_block : (block number from : ℕ) (xs : List ℕ) → AreBlocks block xs → number * block + block ≤ length xs
-    → moved from (take (number * block + block) xs) ≡ moved from (take (number * block) xs) ++ range_with_len (from + get_or xs (number * block) 0) block
+    → moved from (take (number * block + block) xs) ≡ moved from (take (number * block) xs) ++
+    range_with_len (from + get_or xs (number * block) 0) block
 moved_block block number from xs w le =
     let n = number * block in
     let o = get_or xs n 0 in
@@ -45,7 +49,8 @@ moved_block block number from xs w le =
     ∙ ap (λ (t : List ℕ). moved from (take n xs) ++ t) (moved_run from o block)
 
 -- a block ends where the buffer does, or before
-pub block_near : (block number from elements : ℕ) (xs : List ℕ) → AreBlocks block xs → 0 < block → number * block + block ≤ length xs → AreNear (moved from xs) elements
+pub block_near : (block number from elements : ℕ) (xs : List ℕ) → AreBlocks block xs → 0 < block →
+    number * block + block ≤ length xs → AreNear (moved from xs) elements
     → from + get_or xs (number * block) 0 + block ≤ elements
 block_near zero number from elements xs w p le near = absurd (omega arith)
 block_near (suc b) number from elements xs w p le near =
@@ -60,9 +65,11 @@ block_near (suc b) number from elements xs w p le near =
     in
     omega arith
 
-pub block_piece : (size block number from : ℕ) (bytes xs : List ℕ) → AreBlocks block xs → number * block + block ≤ length xs
+pub block_piece : (size block number from : ℕ) (bytes xs : List ℕ) → AreBlocks block xs →
+    number * block + block ≤ length xs
     → pieces_of size bytes (moved from (take (number * block + block) xs))
-    ≡ pieces_of size bytes (moved from (take (number * block) xs)) ++ take (block * size) (drop ((from + get_or xs (number * block) 0) * size) bytes)
+    ≡ pieces_of size bytes (moved from (take (number * block) xs)) ++
+    take (block * size) (drop ((from + get_or xs (number * block) 0) * size) bytes)
 block_piece size block number from bytes xs w le =
     let n = number * block in
     let at = from + get_or xs n 0 in
@@ -73,7 +80,8 @@ block_piece size block number from bytes xs w le =
 -- ---- blocks that are put at their places
 
 -- the elements of a part of a message
-pub block_read : (size at count : ℕ) (message : List ℕ) → 0 < size → AreWhole size message → at * size + count * size ≤ length message
+pub block_read : (size at count : ℕ) (message : List ℕ) → 0 < size → AreWhole size message →
+    at * size + count * size ≤ length message
     → AreWhole size (take (count * size) (drop (at * size) message))
     × (values_of size (take (count * size) (drop (at * size) message)) ≡ take count (drop at (values_of size message)))
 block_read size at count message h w le =
@@ -81,12 +89,20 @@ block_read size at count message h w le =
     let len = length-drop (at * size) message in
     let wr : AreWhole size rest = AreWhole-drop size message at h w (omega arith) in (
       AreWhole-take size rest count h wr (omega arith),
-      (values_of-take size rest count h (omega arith) ∙ ap (take count) (values_of-drop size message at h (omega arith))),
+      (values_of-take size rest count h (omega arith) ∙
+          ap (take count) (values_of-drop size message at h (omega arith))),
     )
 
-pub with_run-len : (at : ℕ) (bytes message : List ℕ) → at + length message ≤ length bytes → length (with_run at bytes (length message) message) ≡ length bytes
+pub with_run-len : (at : ℕ) (bytes message : List ℕ) → at + length message ≤ length bytes →
+    length (with_run at bytes (length message) message) ≡ length bytes
 with_run-len at bytes message le =
-    omega (arith, length-append (take at bytes ++ message) (drop (at + length message) bytes), length-append (take at bytes) message, length-take at bytes, length-drop (at + length message) bytes)
+    omega (
+      arith,
+      length-append (take at bytes ++ message) (drop (at + length message) bytes),
+      length-append (take at bytes) message,
+      length-take at bytes,
+      length-drop (at + length message) bytes,
+    )
 
 -- a part of a message over a run of places
 pub block_put : (size to at count : ℕ) (bytes message : List ℕ) → 0 < size → AreWhole size bytes → AreWhole size message
@@ -94,7 +110,8 @@ pub block_put : (size to at count : ℕ) (bytes message : List ℕ) → 0 < size
     → (piece : List ℕ) → piece ≡ take (count * size) (drop (at * size) message)
     → (length piece ≡ count * size)
     × AreWhole size (with_run (to * size) bytes (length piece) piece)
-    × (values_of size (with_run (to * size) bytes (length piece) piece) ≡ put_at (values_of size bytes) (range_with_len to count) (take count (drop at (values_of size message))))
+    × (values_of size (with_run (to * size) bytes (length piece) piece) ≡
+    put_at (values_of size bytes) (range_with_len to count) (take count (drop at (values_of size message))))
 block_put size to at count bytes message h w wm from room piece e =
     let read = block_read size at count message h wm from in
     let wp : AreWhole size piece = subst (AreWhole size) (sym e) read.0 in
@@ -110,8 +127,10 @@ block_put size to at count bytes message h w wm from room piece e =
     )
 
 -- the elements put at the places of one block more
-pub blocks_more : (block number from start : ℕ) (values xs ms : List ℕ) → AreBlocks block xs → number * block + block ≤ length xs → start + length xs ≤ length ms
-    → put_at (put_at values (moved from (take (number * block) xs)) (take (number * block) (drop start ms))) (range_with_len (from + get_or xs (number * block) 0) block) (take block (drop (start + number * block) ms))
+pub blocks_more : (block number from start : ℕ) (values xs ms : List ℕ) → AreBlocks block xs →
+    number * block + block ≤ length xs → start + length xs ≤ length ms
+    → put_at (put_at values (moved from (take (number * block) xs)) (take (number * block) (drop start ms)))
+    (range_with_len (from + get_or xs (number * block) 0) block) (take block (drop (start + number * block) ms))
     ≡ put_at values (moved from (take (number * block + block) xs)) (take (number * block + block) (drop start ms))
 blocks_more block number from start values xs ms w le room =
     let n = number * block in

@@ -1,20 +1,24 @@
 -- Layouts whose offsets follow one another: all their copies are one run of places.
-use Rattle.std.proofs.Common.{◌≡◌, ℕ, zero, suc, ◌+◌, ◌*◌, ◌<◌, ◌≤◌, List, [], ◌∷◌, ◌++◌, length, get_or, set, take, drop, refl, sym, ap, subst, ◌∙◌, arith, inl, inr, Result, Ok, Err}
+use Rattle.std.proofs.Common.{◌≡◌, ℕ, zero, suc, ◌+◌, ◌*◌, ◌<◌, ◌≤◌, List, [], ◌∷◌, ◌++◌, length, get_or, set, take}
+use Rattle.std.proofs.Common.{drop, refl, sym, ap, subst, ◌∙◌, arith, inl, inr, Result, Ok, Err}
 use Rattle.std.specs.Prelude.{IfOk}
 use Rattle.std.specs.List.{range_with_len}
 use Rattle.std.proofs.Math.Nat.{suc-mul, zero-mul, mul-le-mul_left, mul-le-mul_right}
 use Rattle.std.proofs.Math.Seq.{take-add}
 use Rattle.std.proofs.lemmas.Bool.{cases_lt}
-use Rattle.std.proofs.lemmas.List.{length-take, length-set, drop-drop, drop-set-lt, append_assoc, append-nil, take-append-drop}
+use Rattle.std.proofs.lemmas.List.{length-take, length-set, drop-drop, drop-set-lt, append_assoc, append-nil}
+use Rattle.std.proofs.lemmas.List.{take-append-drop}
 use Rattle.std.proofs.lemmas.Grind.{take-set_at}
 use Rattle.std.proofs.lemmas.List.FromFn.{length-range_with_len, get_or-range_with_len}
 use Rattle.datatypes.specs.Contents.{values_of, AreWhole}
-use Rattle.datatypes.specs.ContentLaws.{IsBytes-take, no_rest, whole, length-values_of, values_of-append, values_of-take, values_of-drop, values_of-nil}
+use Rattle.datatypes.specs.ContentLaws.{IsBytes-take, no_rest, whole, length-values_of, values_of-append}
+use Rattle.datatypes.specs.ContentLaws.{values_of-take, values_of-drop, values_of-nil}
 use Rattle.derived_types.specs.Layouts.{highest_of, lowest_of, extent_of, moved, places, copies_at}
 use Rattle.datatypes.specs.Pieces.{pieces_of}
 use Rattle.datatypes.specs.Transfers.{room_for, elements_at, put_at, first_places, AreNear}
 use Rattle.datatypes.proofs.BufferSteps.{AreWhole-append, AreWhole-drop}
-use Rattle.derived_types.proofs.LayoutLaws.{copies_at-none, copies_at-nil, copies_at-suc, length-copies_at, extent_of-is}
+use Rattle.derived_types.proofs.LayoutLaws.{copies_at-none, copies_at-nil, copies_at-suc, length-copies_at}
+use Rattle.derived_types.proofs.LayoutLaws.{extent_of-is}
 use Rattle.datatypes.proofs.PieceLaws.{near_copy, near_from_room, pieces_are}
 use Rattle.datatypes.proofs.PlaceLaws.{first_places-is}
 
@@ -31,7 +35,8 @@ range-append a (suc m) n =
     let e : a + 1 + m ≡ a + suc m = omega arith in
     let s : suc m + n ≡ suc (m + n) = omega arith in
     ap (range_with_len a) s
-    ∙ ap (λ (t : List ℕ). a ∷ t) (range-append (a + 1) m n ∙ ap (λ (k : ℕ). range_with_len (a + 1) m ++ range_with_len k n) e)
+    ∙ ap (λ (t : List ℕ). a ∷ t) (range-append (a + 1) m n ∙
+    ap (λ (k : ℕ). range_with_len (a + 1) m ++ range_with_len k n) e)
 
 pub moved_run : (by a n : ℕ) → moved by (range_with_len a n) ≡ range_with_len (by + a) n
 moved_run by a zero = refl
@@ -56,13 +61,16 @@ extent_run a (suc n) p =
     let e = extent_of-is (range_with_len a (suc n)) (omega arith) in
     omega arith
 
-copies_run : (first copies a n : ℕ) → 0 < n → copies_at first copies (range_with_len a n) ≡ range_with_len (first * n + a) (copies * n)
-copies_run first zero a n p = copies_at-none first (range_with_len a n) ∙ ap (range_with_len (first * n + a)) (sym (zero-mul n))
+copies_run : (first copies a n : ℕ) → 0 < n → copies_at first copies (range_with_len a n) ≡
+    range_with_len (first * n + a) (copies * n)
+copies_run first zero a n p = copies_at-none first (range_with_len a n) ∙
+    ap (range_with_len (first * n + a)) (sym (zero-mul n))
 copies_run first (suc k) a n p =
     let next : (first + 1) * n + a ≡ first * n + a + n = omega arith in
     let more : n + k * n ≡ suc k * n = sym (suc-mul k n ∙ omega arith) in
     copies_at-suc first k (range_with_len a n)
-    ∙ ap (λ (e : ℕ). moved (first * e) (range_with_len a n) ++ copies_at (first + 1) k (range_with_len a n)) (extent_run a n p)
+    ∙ ap (λ (e : ℕ). moved (first * e) (range_with_len a n) ++ copies_at (first + 1) k (range_with_len a n))
+    (extent_run a n p)
     ∙ ap (λ (t : List ℕ). t ++ copies_at (first + 1) k (range_with_len a n)) (moved_run (first * n) a n)
     ∙ ap (λ (t : List ℕ). range_with_len (first * n + a) n ++ t) (copies_run (first + 1) k a n p)
     ∙ ap (λ (f : ℕ). range_with_len (first * n + a) n ++ range_with_len f (k * n)) next
@@ -70,20 +78,24 @@ copies_run first (suc k) a n p =
     ∙ ap (range_with_len (first * n + a)) more
 
 -- the places of all copies are one run
-pub places_run : (copies : ℕ) (xs : List ℕ) → 0 < length xs → AreRun xs → places copies xs ≡ range_with_len (get_or xs 0 0) (copies * length xs)
+pub places_run : (copies : ℕ) (xs : List ℕ) → 0 < length xs → AreRun xs →
+    places copies xs ≡ range_with_len (get_or xs 0 0) (copies * length xs)
 places_run copies xs p run =
     let e : 0 * length xs + get_or xs 0 0 ≡ get_or xs 0 0 = omega (arith, zero-mul (length xs)) in
     ap (λ (t : List ℕ). places copies t) run
     ∙ copies_run 0 copies (get_or xs 0 0) (length xs) p
     ∙ ap (λ (k : ℕ). range_with_len k (copies * length xs)) e
 
-pub pieces_range : (size : ℕ) (bytes : List ℕ) (a n : ℕ) → pieces_of size bytes (range_with_len a n) ≡ take (n * size) (drop (a * size) bytes)
+pub pieces_range : (size : ℕ) (bytes : List ℕ) (a n : ℕ) → pieces_of size bytes (range_with_len a n) ≡
+    take (n * size) (drop (a * size) bytes)
 pieces_range size bytes a zero = rw (zero-mul size) refl
 pieces_range size bytes a (suc n) =
     let rest = drop (a * size) bytes in
     let next : (a + 1) * size ≡ a * size + size = omega arith in
     let more : suc n * size ≡ size + n * size = suc-mul n size ∙ omega arith in
-    ap (λ (t : List ℕ). take size rest ++ t) (pieces_range size bytes (a + 1) n ∙ ap (λ (k : ℕ). take (n * size) (drop k bytes)) next ∙ ap (take (n * size)) (sym (drop-drop size (a * size) bytes)))
+    ap (λ (t : List ℕ). take size rest ++ t) (pieces_range size bytes (a + 1) n ∙
+    ap (λ (k : ℕ). take (n * size) (drop k bytes)) next ∙
+    ap (take (n * size)) (sym (drop-drop size (a * size) bytes)))
     ∙ sym (take-add size (n * size) rest)
     ∙ ap (λ (k : ℕ). take k rest) (sym more)
 
@@ -91,9 +103,11 @@ pieces_range size bytes a (suc n) =
 pub pieces_run : (size copies : ℕ) (bytes xs : List ℕ) → 0 < length xs → AreRun xs
     → pieces_of size bytes (places copies xs) ≡ take (copies * length xs * size) (drop (get_or xs 0 0 * size) bytes)
 pieces_run size copies bytes xs p run =
-    ap (pieces_of size bytes) (places_run copies xs p run) ∙ pieces_range size bytes (get_or xs 0 0) (copies * length xs)
+    ap (pieces_of size bytes) (places_run copies xs p run) ∙
+    pieces_range size bytes (get_or xs 0 0) (copies * length xs)
 
-pub run_fits : (size copies : ℕ) (xs : List ℕ) (len : ℕ) → 0 < copies → 0 < length xs → AreRun xs → room_for (places copies xs) * size ≤ len
+pub run_fits : (size copies : ℕ) (xs : List ℕ) (len : ℕ) → 0 < copies → 0 < length xs → AreRun xs →
+    room_for (places copies xs) * size ≤ len
     → (get_or xs 0 0 + copies * length xs) * size ≤ len
 run_fits size copies [] len c p run near = absurd (omega arith)
 run_fits size zero (x ∷ xs) len c p run near = absurd (omega arith)
@@ -115,16 +129,19 @@ if_ok (Err e) f h = tt
 -- ---- what is gathered of a run
 
 -- the room that the places need, in bytes
-pub room_in_bytes : (size : ℕ) (bytes at : List ℕ) → AreWhole size bytes → room_for at ≤ length (values_of size bytes) → room_for at * size ≤ length bytes
+pub room_in_bytes : (size : ℕ) (bytes at : List ℕ) → AreWhole size bytes → room_for at ≤ length (values_of size bytes) →
+    room_for at * size ≤ length bytes
 room_in_bytes size bytes at w room =
     let all = whole size bytes w.no_rest in
     let counted = ap (λ (k : ℕ). k * size) (length-values_of size bytes) in
     let m : room_for at * size ≤ length (values_of size bytes) * size = mul-le-mul_right size room in
     omega arith
 
-pub run_gathered : (size copies : ℕ) (bytes xs : List ℕ) → 0 < size → AreWhole size bytes → 0 < length xs → AreRun xs → room_for (places copies xs) ≤ length (values_of size bytes)
+pub run_gathered : (size copies : ℕ) (bytes xs : List ℕ) → 0 < size → AreWhole size bytes → 0 < length xs → AreRun xs →
+    room_for (places copies xs) ≤ length (values_of size bytes)
     → AreWhole size (take (copies * length xs * size) (drop (get_or xs 0 0 * size) bytes))
-    × (values_of size (take (copies * length xs * size) (drop (get_or xs 0 0 * size) bytes)) ≡ elements_at (values_of size bytes) (places copies xs))
+    × (values_of size (take (copies * length xs * size) (drop (get_or xs 0 0 * size) bytes)) ≡
+    elements_at (values_of size bytes) (places copies xs))
 run_gathered size copies bytes xs h w p run room =
     let at = places copies xs in
     let are = pieces_are size bytes at h w (near_from_room at (length (values_of size bytes)) room) in
@@ -136,7 +153,8 @@ run_gathered size copies bytes xs h w p run room =
 pub none_gathered : (size : ℕ) (values xs : List ℕ) → 0 < size → values_of size [] ≡ elements_at values (places 0 xs)
 none_gathered size values xs h = values_of-nil size h ∙ sym (ap (elements_at values) (copies_at-none 0 xs))
 
-pub nil_gathered : (size copies : ℕ) (values xs : List ℕ) → 0 < size → length xs ≡ 0 → values_of size [] ≡ elements_at values (places copies xs)
+pub nil_gathered : (size copies : ℕ) (values xs : List ℕ) → 0 < size → length xs ≡ 0 →
+    values_of size [] ≡ elements_at values (places copies xs)
 nil_gathered size copies values [] h e = values_of-nil size h ∙ sym (ap (elements_at values) (copies_at-nil 0 copies))
 nil_gathered size copies values (x ∷ xs) h e = absurd (omega arith)
 
@@ -147,7 +165,8 @@ take_run a zero r h = refl
 take_run a (suc n) zero h = absurd (omega arith)
 take_run a (suc n) (suc r) h = ap (λ (t : List ℕ). a ∷ t) (take_run (a + 1) n r (omega arith))
 
-pub first_run : (count : ℕ) (xs : List ℕ) → 0 < length xs → AreRun xs → first_places count xs ≡ range_with_len (get_or xs 0 0) count
+pub first_run : (count : ℕ) (xs : List ℕ) → 0 < length xs → AreRun xs →
+    first_places count xs ≡ range_with_len (get_or xs 0 0) count
 first_run count xs p run =
     let wide : count * 1 ≤ count * length xs = mul-le-mul_left count p in
     let len = length-copies_at 0 count xs in
@@ -155,7 +174,8 @@ first_run count xs p run =
     ∙ ap (take count) (places_run count xs p run)
     ∙ take_run (get_or xs 0 0) count (count * length xs) (omega arith)
 
-pub run_near : (count elements : ℕ) (xs : List ℕ) → 0 < count → 0 < length xs → AreRun xs → AreNear (first_places count xs) elements → get_or xs 0 0 + count ≤ elements
+pub run_near : (count elements : ℕ) (xs : List ℕ) → 0 < count → 0 < length xs → AreRun xs →
+    AreNear (first_places count xs) elements → get_or xs 0 0 + count ≤ elements
 run_near zero elements xs c p run near = absurd (omega arith)
 run_near (suc k) elements xs c p run near =
     let first = get_or xs 0 0 in
@@ -168,13 +188,16 @@ put_range : (values ms : List ℕ) (a : ℕ) → a + length ms ≤ length values
     → put_at values (range_with_len a (length ms)) ms ≡ take a values ++ ms ++ drop (a + length ms) values
 put_range values [] a h =
     let e : a + 0 ≡ a = omega arith in
-    sym (ap (λ (t : List ℕ). t ++ drop (a + 0) values) (append-nil (take a values)) ∙ ap (λ (k : ℕ). take a values ++ drop k values) e ∙ take-append-drop a values)
+    sym (ap (λ (t : List ℕ). t ++ drop (a + 0) values) (append-nil (take a values)) ∙
+    ap (λ (k : ℕ). take a values ++ drop k values) e ∙ take-append-drop a values)
 put_range values (m ∷ ms) a h =
     let e : a + 1 + length ms ≡ a + suc (length ms) = omega arith in
     let one : a + 1 ≡ a + 1 = refl in
     put_range (set values a m) ms (a + 1) (omega (arith, length-set values a m))
-    ∙ ap (λ (t : List ℕ). t ++ ms ++ drop (a + 1 + length ms) (set values a m)) (take-set_at values a (a + 1) m one (omega arith))
-    ∙ ap (λ (t : List ℕ). (take a values ++ m ∷ []) ++ ms ++ t) (drop-set-lt (a + 1 + length ms) values a m (omega arith))
+    ∙ ap (λ (t : List ℕ). t ++ ms ++ drop (a + 1 + length ms) (set values a m))
+    (take-set_at values a (a + 1) m one (omega arith))
+    ∙ ap (λ (t : List ℕ). (take a values ++ m ∷ []) ++ ms ++ t)
+    (drop-set-lt (a + 1 + length ms) values a m (omega arith))
     ∙ ap (λ (k : ℕ). (take a values ++ m ∷ []) ++ ms ++ drop k values) e
     ∙ ap (λ (t : List ℕ). t ++ drop (a + suc (length ms)) values) (append_assoc (take a values) (m ∷ []) ms)
 
@@ -192,7 +215,8 @@ with_run at bytes count message = take at bytes ++ message ++ drop (at + count) 
 pub with_run-is : (size : ℕ) (bytes message : List ℕ) (a : ℕ) → 0 < size → AreWhole size bytes → AreWhole size message
     → a * size + length message ≤ length bytes
     → AreWhole size (with_run (a * size) bytes (length message) message)
-    × (values_of size (with_run (a * size) bytes (length message) message) ≡ put_at (values_of size bytes) (range_with_len a (length (values_of size message))) (values_of size message))
+    × (values_of size (with_run (a * size) bytes (length message) message) ≡
+    put_at (values_of size bytes) (range_with_len a (length (values_of size message))) (values_of size message))
 with_run-is size bytes message a h w wm le =
     let n = length (values_of size message) in
     let lm : length message ≡ n * size = whole size message wm.no_rest ∙ ap (λ (k : ℕ). k * size) (sym (length-values_of size message)) in

@@ -1,8 +1,10 @@
 //! Elements of one basic type.
 
-ghost use Rattle.std.specs.Prelude.{◌≡◌, ◌%◌, ◌*◌, ◌^◌, ◌<◌, ◌≤◌, ◌↔◌, ◌++◌, ◌∷◌, [], length, drop, replicate, slice_get, slice_index, slice_set, None, IsTrue, IfOk, OnOk, OnErr};
+ghost use Rattle.std.specs.Prelude.{◌≡◌, ◌%◌, ◌*◌, ◌^◌, ◌<◌, ◌≤◌, ◌↔◌, ◌++◌, ◌∷◌, [], length, drop, replicate};
+ghost use Rattle.std.specs.Prelude.{slice_get, slice_index, slice_set, None, IsTrue, IfOk, OnOk, OnErr};
 ghost use Rattle.derived_types.specs.Layouts.{places};
-ghost use Rattle.datatypes.specs.Transfers.{send_fault, receive_fault, unpack_fault, elements_at, put_at, first_places, AreNear, PackGives, UnpackGives};
+ghost use Rattle.datatypes.specs.Transfers.{send_fault, receive_fault, unpack_fault, elements_at, put_at, first_places};
+ghost use Rattle.datatypes.specs.Transfers.{AreNear, PackGives, UnpackGives};
 ghost use Rattle.vocabulary.specs.BasicTypes.{size_of};
 ghost use Rattle.datatypes.specs.Combinations.{combined_values, IsLike};
 ghost use Rattle.datatypes.specs.Contents.{values_of, bytes_of, AreWithin};
@@ -223,7 +225,12 @@ impl Buffer {
     /// Refused where the basic types differ, where an offset occurs twice, and where this buffer is
     /// too short; then it stays as it was.
     #[tactic(auto, unfolding(crate::specs::Transfers::unpack_fault))]
-    pub fn unpack(&mut self, message: &Buffer, layout: &Layout, copies: u64) -> Result<(), LayoutRefusal>
+    pub fn unpack(
+        &mut self,
+        message: &Buffer,
+        layout: &Layout,
+        copies: u64,
+    ) -> Result<(), LayoutRefusal>
         requires { length message.now.values ≤ length (places copies layout.now.offsets) }
         ensures { UnpackGives (unpack_fault message.now self.old layout.now copies) self.old
             (places copies layout.now.offsets) message.now.values result self.new }

@@ -1,6 +1,7 @@
 //! Numbers of a given size as bytes, the highest byte first.
 
-ghost use Rattle.std.specs.Prelude.{◌≡◌, ◌≤◌, ◌<◌, ◌+◌, ◌*◌, ◌^◌, ◌++◌, length, take, drop, replicate, slice_set, vec_len, vec_capacity, if◌then◌else◌, is_ok};
+ghost use Rattle.std.specs.Prelude.{◌≡◌, ◌≤◌, ◌<◌, ◌+◌, ◌*◌, ◌^◌, ◌++◌, length, take, drop, replicate, slice_set};
+ghost use Rattle.std.specs.Prelude.{vec_len, vec_capacity, if◌then◌else◌, is_ok};
 ghost use Rattle.byteorder.specs.Endian.{big_bytes};
 ghost use Rattle.datatypes.specs.Contents.{element_at, values_of, bytes_of, copies_of, AreWhole};
 ghost use Rattle.datatypes.specs.Pieces.{piece_at};

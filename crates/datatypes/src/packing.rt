@@ -1,6 +1,7 @@
 //! Elements that stand apart, gathered one after the other.
 
-ghost use Rattle.std.specs.Prelude.{◌≡◌, ◌≤◌, ◌<◌, ◌+◌, ◌*◌, ◌++◌, length, take, drop, slice_index, IfOk, IfSome, IsTrue};
+ghost use Rattle.std.specs.Prelude.{◌≡◌, ◌≤◌, ◌<◌, ◌+◌, ◌*◌, ◌++◌, length, take, drop, slice_index, IfOk, IfSome};
+ghost use Rattle.std.specs.Prelude.{IsTrue};
 ghost use Rattle.std.specs.List.{range_with_len};
 ghost use Rattle.derived_types.specs.Layouts.{extent_of, moved, places};
 ghost use Rattle.datatypes.specs.Transfers.{room_for, elements_at, AreNear};

@@ -1,5 +1,6 @@
 -- What acknowledgements say of one another.
-use Rattle.std.specs.Prelude.{◌≡◌, ◌≢◌, ◌≤◌, ◌⊎◌, ℕ, List, length, ◌==◌, if◌then◌else◌, Option, Some, None, Result, Ok, Err, IsSomeAnd}
+use Rattle.std.specs.Prelude.{◌≡◌, ◌≢◌, ◌≤◌, ◌⊎◌, ℕ, List, length, ◌==◌, if◌then◌else◌, Option, Some, None, Result, Ok}
+use Rattle.std.specs.Prelude.{Err, IsSomeAnd}
 use Rattle.datagram.specs.declared.datagram.Header.{Header}
 use Rattle.datagram.specs.declared.refusal.DatagramRefusal.{DatagramRefusal}
 use Rattle.datagram.specs.Reading.{datagram_of}
@@ -20,8 +21,8 @@ acknowledgement (Err e) = None
 abbrev pub short_acknowledgement : List ℕ → Option Acknowledgement
 short_acknowledgement bytes = if length bytes == 40 then acknowledgement (datagram_of bytes) else None
 
--- an acknowledgement says all that an earlier one says: both are of one direction of one session, the earlier one tells of no frame
--- that is held, and the later one is of no fewer frames
+-- an acknowledgement says all that an earlier one says: both are of one direction of one session, the earlier one tells
+-- of no frame that is held, and the later one is of no fewer frames
 pub record Covers (later earlier : Acknowledgement) : Type 0 where
   pub source : later.header.source ≡ earlier.header.source
   pub target : later.header.target ≡ earlier.header.target

@@ -11,8 +11,8 @@ const MOST_STOOD_FOR: u32 = 16;
 /// For so many receives one is kept back at most.
 const MOST_RECEIVES: u32 = 128;
 
-/// For so many nanoseconds one is kept back at most where its rank waits: a millisecond, a twentieth of the time after which a frame
-/// is sent again.
+/// For so many nanoseconds one is kept back at most where its rank waits: a millisecond, a twentieth of the time after
+/// which a frame is sent again.
 const LATE: u128 = 1_000_000;
 
 /// For how many others, how many receives and how long an acknowledgement has been kept back.
@@ -73,8 +73,8 @@ impl Delay {
         self.stands_for >= MOST_STOOD_FOR || self.receives >= MOST_RECEIVES
     }
 
-    /// Whether it has been kept for as long as it may, a millisecond; where the clock doesn't tell the time now, or didn't tell when
-    /// that began, it has.
+    /// Whether it has been kept for as long as it may, a millisecond; where the clock doesn't tell the time now, or
+    /// didn't tell when that began, it has.
     pub fn is_late(self, now: Option<Instant>) -> bool
         ensures told { IfSome self.since (λ since. IfSome now (λ time.
             result ≡ nat_le 1000000 (instant_nanos time - instant_nanos since))) }

@@ -37,8 +37,12 @@ pub fn delayed_of(target: u16, bytes: &[u8]) -> Option<DelayedAcknowledgement>
     })
 }
 
-/// The acknowledgement that goes now, behind which this one is kept: the former one, unless this one says all that it says.
-pub fn sent_before(former: Option<DelayedAcknowledgement>, next: DelayedAcknowledgement) -> Option<DelayedAcknowledgement>
+/// The acknowledgement that goes now, behind which this one is kept: the former one, unless this one says all that it
+/// says.
+pub fn sent_before(
+    former: Option<DelayedAcknowledgement>,
+    next: DelayedAcknowledgement,
+) -> Option<DelayedAcknowledgement>
     ensures lost { IfSome former (λ k. (result ≡ Some k) ⊎ Covers next.said k.said) }
     ensures covered { IfSome former (λ k. Covers next.said k.said → result ≡ None) }
     ensures other { (result ≡ None) ⊎ (result ≡ former) }

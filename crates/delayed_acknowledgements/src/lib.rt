@@ -1,5 +1,5 @@
-//! Acknowledgements that a rank keeps back for a little while, since a later one may say all that they say: one datagram then
-//! stands for several of them.
+//! Acknowledgements that a rank keeps back for a little while, since a later one may say all that they say: one
+//! datagram then stands for several of them.
 #![tactic(auto)]
 
 mod acknowledgements;
@@ -8,4 +8,4 @@ mod delayed;
 
 pub use crate::acknowledgements::{Acknowledgement, acknowledgement_in, covers, is_urgent};
 pub use crate::delay::Delay;
-pub use crate::delayed::{DelayedAcknowledgement, sent_before, delayed_of};
+pub use crate::delayed::{DelayedAcknowledgement, delayed_of, sent_before};

@@ -1,5 +1,6 @@
 -- The places of copies in a buffer, and what is sent and received there.
-use Rattle.std.proofs.Common.{◌≡◌, ℕ, zero, suc, ◌+◌, ◌-◌, ◌*◌, ◌/◌, ◌%◌, ◌^◌, ◌<◌, false, ltb, leb, List, [], ◌∷◌, length, refl, sym, ap, ◌∙◌, arith, inl, inr}
+use Rattle.std.proofs.Common.{◌≡◌, ℕ, zero, suc, ◌+◌, ◌-◌, ◌*◌, ◌/◌, ◌%◌, ◌^◌, ◌<◌, false, ltb, leb, List, [], ◌∷◌}
+use Rattle.std.proofs.Common.{length, refl, sym, ap, ◌∙◌, arith, inl, inr}
 use Rattle.std.specs.Prelude.{min}
 use Rattle.std.proofs.Math.Nat.{mul-div_cancel, div-add-mod'}
 use Rattle.std.proofs.lemmas.Bool.{cases_lt, lt-ltb, le-ltb, le-leb, lt-leb}
@@ -13,7 +14,8 @@ room_for-is (x ∷ xs) h = refl
 
 -- the room that so many copies need, as counted with a ceiling
 pub room_is : (copies len : ℕ) (xs : List ℕ) → 0 < copies → 0 < length xs → len < 2 ^ 64
-    → ltb len (room_for (places copies xs)) ≡ leb len (min (min ((copies - 1) * extent_of xs) (2 ^ 64 - 1) + highest_of xs) (2 ^ 64 - 1))
+    → ltb len (room_for (places copies xs)) ≡
+    leb len (min (min ((copies - 1) * extent_of xs) (2 ^ 64 - 1) + highest_of xs) (2 ^ 64 - 1))
 room_is zero len xs c h s = absurd (omega arith)
 room_is (suc k) len xs c h s =
     let r = Reaches-copies 0 k xs h in
@@ -30,7 +32,8 @@ pub room_is-none : (len : ℕ) (xs : List ℕ) → ltb len (room_for (places 0 x
 room_is-none len xs = ap (λ (t : List ℕ). ltb len (room_for t)) (copies_at-none 0 xs) ∙ le-ltb len 0 (omega arith)
 
 pub room_is-nil : (len copies : ℕ) (xs : List ℕ) → length xs ≡ 0 → ltb len (room_for (places copies xs)) ≡ false
-room_is-nil len copies [] h = ap (λ (t : List ℕ). ltb len (room_for t)) (copies_at-nil 0 copies) ∙ le-ltb len 0 (omega arith)
+room_is-nil len copies [] h = ap (λ (t : List ℕ). ltb len (room_for t)) (copies_at-nil 0 copies) ∙
+    le-ltb len 0 (omega arith)
 room_is-nil len copies (x ∷ xs) h = absurd (omega arith)
 
 -- a whole number of copies, and none

@@ -1,11 +1,13 @@
 -- Layouts: which places of a buffer hold data (MPI 3.1, 4.1.2).
-use Rattle.std.specs.Prelude.{◌≡◌, ◌≤◌, ℕ, ◌*◌, ◌/◌, ◌%◌, ◌==◌, ◌||◌, nat_lt, Bool, true, false, Option, Some, None, Result, Ok, Err, List, length, if◌then◌else◌}
+use Rattle.std.specs.Prelude.{◌≡◌, ◌≤◌, ℕ, ◌*◌, ◌/◌, ◌%◌, ◌==◌, ◌||◌, nat_lt, Bool, true, false, Option, Some, None}
+use Rattle.std.specs.Prelude.{Result, Ok, Err, List, length, if◌then◌else◌}
 use Rattle.std.specs.List.{flat_map, range_with_len}
 use Rattle.vocabulary.specs.declared.basic_type.BasicType.{BasicType}
 pub use Rattle.layouts.specs.Layouts.{Shape, highest_of, lowest_of, extent_of, moved, places, has_repeats}
 unfoldable pub use Rattle.layouts.specs.Layouts.{copies_at}
 use Rattle.derived_types.specs.declared.refusal.LayoutRefusal.{LayoutRefusal}
-use Rattle.derived_types.specs.declared.refusal.LayoutRefusal.TheVariants.{WrongType, TooShort, NotDefined, Limit, OutOfMemory}
+use Rattle.derived_types.specs.declared.refusal.LayoutRefusal.TheVariants.{WrongType, TooShort, NotDefined, Limit}
+use Rattle.derived_types.specs.declared.refusal.LayoutRefusal.TheVariants.{OutOfMemory}
 use Rattle.derived_types.specs.declared.block.IndexedBlock.{IndexedBlock}
 
 -- count copies of the old layout, one after the other
@@ -41,7 +43,8 @@ pub record IsKept (offsets : List ℕ) (lowest highest : ℕ) (repeats : Bool) :
 
 -- what a constructor gives, of a layout with these offsets: it is refused where they pass a limit
 abbrev pub LayoutGives : BasicType → List ℕ → Result Shape LayoutRefusal → Type 0
-LayoutGives basic offsets (Ok layout) = (is_beyond offsets ≡ false) × (layout ≡ record { basic = basic; offsets = offsets })
+LayoutGives basic offsets (Ok layout) = (is_beyond offsets ≡ false) ×
+    (layout ≡ record { basic = basic; offsets = offsets })
 LayoutGives basic offsets (Err Limit) = is_beyond offsets ≡ true
 LayoutGives basic offsets (Err OutOfMemory) = is_beyond offsets ≡ false
 LayoutGives basic offsets (Err WrongType) = ⊥

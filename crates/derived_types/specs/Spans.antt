@@ -1,8 +1,10 @@
 -- How far the offsets of a layout reach, told without making them.
-use Rattle.std.specs.Prelude.{◌≡◌, true, false, ℕ, ◌+◌, ◌-◌, ◌*◌, ◌==◌, ◌||◌, nat_lt, min, max, Bool, List, length, Option, Some, None, Result, Ok, Err, if◌then◌else◌}
+use Rattle.std.specs.Prelude.{◌≡◌, true, false, ℕ, ◌+◌, ◌-◌, ◌*◌, ◌==◌, ◌||◌, nat_lt, min, max, Bool, List, length}
+use Rattle.std.specs.Prelude.{Option, Some, None, Result, Ok, Err, if◌then◌else◌}
 use Rattle.derived_types.specs.declared.span.Span.{Span}
 use Rattle.derived_types.specs.declared.refusal.LayoutRefusal.{LayoutRefusal}
-use Rattle.derived_types.specs.declared.refusal.LayoutRefusal.TheVariants.{WrongType, TooShort, NotDefined, Limit, OutOfMemory}
+use Rattle.derived_types.specs.declared.refusal.LayoutRefusal.TheVariants.{WrongType, TooShort, NotDefined, Limit}
+use Rattle.derived_types.specs.declared.refusal.LayoutRefusal.TheVariants.{OutOfMemory}
 use Rattle.derived_types.specs.Layouts.{highest_of, lowest_of, is_beyond}
 
 -- of no offset

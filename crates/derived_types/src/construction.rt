@@ -1,7 +1,8 @@
 //! The parts of making a layout: offsets that are appended, and what is kept beside them.
 
 ghost use Rattle.std.specs.Prelude.{◌≡◌, ◌+◌, ◌<◌, ◌^◌, ◌++◌, length, IfOk};
-ghost use Rattle.derived_types.specs.Layouts.{highest_of, extent_of, moved, copies_at, vector_offsets, indexed_offsets, has_repeats};
+ghost use Rattle.derived_types.specs.Layouts.{highest_of, extent_of, moved, copies_at, vector_offsets, indexed_offsets};
+ghost use Rattle.derived_types.specs.Layouts.{has_repeats};
 
 use crate::block::IndexedBlock;
 use std::alloc::{AllocError, Global};

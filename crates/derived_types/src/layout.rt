@@ -1,7 +1,9 @@
 //! Layouts: which places of a buffer hold data.
 
-ghost use Rattle.std.specs.Prelude.{◌≡◌, ◌+◌, ◌*◌, ◌<◌, ◌≤◌, ◌^◌, ◌↔◌, ◌⊎◌, ◌∷◌, ◌++◌, ◌-◌, [], length, false, min, nat_lt, ℕ, ◌≢◌, IfOk, IfErr, IfSome, IfNone, MatchResult};
-ghost use Rattle.derived_types.specs.Layouts.{extent_of, places, contiguous_offsets, vector_offsets, indexed_offsets, is_beyond, has_repeats, LayoutGives, whole_copies};
+ghost use Rattle.std.specs.Prelude.{◌≡◌, ◌+◌, ◌*◌, ◌<◌, ◌≤◌, ◌^◌, ◌↔◌, ◌⊎◌, ◌∷◌, ◌++◌, ◌-◌, [], length, false, min};
+ghost use Rattle.std.specs.Prelude.{nat_lt, ℕ, ◌≢◌, IfOk, IfErr, IfSome, IfNone, MatchResult};
+ghost use Rattle.derived_types.specs.Layouts.{extent_of, places, contiguous_offsets, vector_offsets, indexed_offsets};
+ghost use Rattle.derived_types.specs.Layouts.{is_beyond, has_repeats, LayoutGives, whole_copies};
 ghost use Rattle.layouts.specs.Buffers.{room_for};
 ghost use Rattle.derived_types.specs.Spans.{span_of, JudgesOffsets};
 

@@ -1,5 +1,6 @@
 -- Payloads of collectives in pieces: the frames of their answers and of their data.
-use Rattle.std.proofs.Common.{◌≡◌, Result, Ok, Err, ℕ, ◌<◌, ◌≤◌, Bool, true, false, List, [], ◌∷◌, length, map, Option, Some, None, refl, sym, ap, subst, ◌∙◌}
+use Rattle.std.proofs.Common.{◌≡◌, Result, Ok, Err, ℕ, ◌<◌, ◌≤◌, Bool, true, false, List, [], ◌∷◌, length, map, Option}
+use Rattle.std.proofs.Common.{Some, None, refl, sym, ap, subst, ◌∙◌}
 use Rattle.std.specs.Prelude.{All, IfErr, OnOk}
 use Rattle.std.proofs.lemmas.List.{length-map}
 use Rattle.std.proofs.lemmas.List.Elements.{All-cons, All-nil}
@@ -30,8 +31,10 @@ pub answer_is_for : (h : HeardText) (t : RequestText) → AreFor h.source.rank 1
 answer_is_for h t = record { each = (refl, tt); many = refl }
 
 -- the sessions can send it
-pub answer_goes : (p : Place) (h : HeardText) (t : RequestText) → h.source.rank < p.size → All (CanSend p) (answer_to h t ∷ [])
-answer_goes p h t there = All-cons (CanSend p) (answer_to h t) [] (record { there = there; fits = tt }) (All-nil (CanSend p))
+pub answer_goes : (p : Place) (h : HeardText) (t : RequestText) → h.source.rank < p.size →
+    All (CanSend p) (answer_to h t ∷ [])
+answer_goes p h t there =
+    All-cons (CanSend p) (answer_to h t) [] (record { there = there; fits = tt }) (All-nil (CanSend p))
 
 -- the rules come first
 next_fault : (b : Bool) (limit : Option Refusal) → b ≡ true → limit ≡ first_fault (bad_unless b) limit
@@ -50,25 +53,34 @@ said : (rank transfer : ℕ) (ps : List Piece) →
     sendings (map (λ (p : Piece). outgoing_of (framed rank transfer p)) ps)
     ≡ map sending_of (map (data_frame rank transfer) (map (λ (p : Piece). (p.offset, p.bytes.now)) ps))
 said rank transfer [] = refl
-said rank transfer (p ∷ ps) = ap (λ (rest : List Sending). sending_of (data_frame rank transfer (p.offset, p.bytes.now)) ∷ rest) (said rank transfer ps)
+said rank transfer (p ∷ ps) =
+    ap (λ (rest : List Sending). sending_of (data_frame rank transfer (p.offset, p.bytes.now)) ∷ rest)
+    (said rank transfer ps)
 
 -- what is handed to the sessions is the data, all of them in order
-pub data_are : (rank transfer : ℕ) (os : List Outgoing) (ps qs : List Piece) (bytes : List ℕ) → os ≡ map (λ (p : Piece). outgoing_of (framed rank transfer p)) qs → qs ≡ ps →
+pub data_are : (rank transfer : ℕ) (os : List Outgoing) (ps qs : List Piece) (bytes : List ℕ) →
+    os ≡ map (λ (p : Piece). outgoing_of (framed rank transfer p)) qs → qs ≡ ps →
     map (λ (p : Piece). (p.offset, p.bytes.now)) ps ≡ pieces_of bytes → sendings os ≡ data_sent rank transfer bytes
 data_are rank transfer os ps qs bytes made same are =
-    ap sendings made ∙ ap (λ (xs : List Piece). sendings (map (λ (p : Piece). outgoing_of (framed rank transfer p)) xs)) same ∙ said rank transfer ps
+    ap sendings made ∙ ap (λ (xs : List Piece). sendings (map (λ (p : Piece). outgoing_of (framed rank transfer p)) xs))
+    same ∙ said rank transfer ps
     ∙ ap (λ (xs : List (ℕ × List ℕ)). map sending_of (data_frames rank transfer xs)) are
 
 -- they go to the rank that asked for them
-pub data_go_to : (rank transfer count : ℕ) (bytes : List ℕ) → count ≡ length (pieces_of bytes) → AreFor rank count (data_sent rank transfer bytes)
+pub data_go_to : (rank transfer count : ℕ) (bytes : List ℕ) → count ≡ length (pieces_of bytes) →
+    AreFor rank count (data_sent rank transfer bytes)
 data_go_to rank transfer count bytes is = record {
   each = data_are_for rank transfer (pieces_of bytes);
-  many = length-map (data_frames rank transfer (pieces_of bytes)) sending_of ∙ length-map (pieces_of bytes) (data_frame rank transfer) ∙ sym is;
+  many = length-map (data_frames rank transfer (pieces_of bytes)) sending_of ∙
+      length-map (pieces_of bytes) (data_frame rank transfer) ∙ sym is;
 }
 
 -- the sessions can send them
-pub data_can_go : (p : Place) (rank transfer : ℕ) (bytes : List ℕ) → rank < p.size → length bytes ≤ 1048576 → All (CanSend p) (data_sent rank transfer bytes)
-data_can_go p rank transfer bytes there limit = can_send p.size p (data_frames rank transfer (pieces_of bytes)) refl (data_go p.size rank transfer bytes there limit)
+pub data_can_go : (p : Place) (rank transfer : ℕ) (bytes : List ℕ) → rank < p.size → length bytes ≤ 1048576 →
+    All (CanSend p) (data_sent rank transfer bytes)
+data_can_go p rank transfer bytes there limit =
+    can_send p.size p (data_frames rank transfer (pieces_of bytes)) refl
+    (data_go p.size rank transfer bytes there limit)
 
 -- no frame goes to a rank
 pub none_for : (rank : ℕ) → AreFor rank 0 []
@@ -81,7 +93,8 @@ on_ok (Ok x) p = p
 on_ok (Err e) p = tt
 
 -- where no limit is met, only memory was wanting
-pub memory_wanting : (o : Option Refusal) (r : Result (Unit {0}) Refusal) → o ≡ None → IfErr r (λ e. e ≡ refusals.OutOfMemory) → IfErr r (IsRefusal o)
+pub memory_wanting : (o : Option Refusal) (r : Result (Unit {0}) Refusal) → o ≡ None →
+    IfErr r (λ e. e ≡ refusals.OutOfMemory) → IfErr r (IsRefusal o)
 memory_wanting o (Ok x) none is = tt
 memory_wanting o (Err e) none is = subst (λ (l : Option Refusal). IsRefusal l e) (sym none) is
 

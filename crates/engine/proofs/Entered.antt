@@ -20,10 +20,18 @@ use Rattle.engine_calls.specs.declared.reply.Reply.TheVariants as replies
 
 -- the engine with another core, other groups, payloads and sessions
 abbrev pub moved : EngineState → State → ContextsState → CoreState → payloads.State → SessionsState → EngineState
-moved e t k d q links = record { core = d; groups = record { collective = t; contexts = k }; ended = e.ended; payloads = q; sessions = links }
+moved e t k d q links = record {
+  core = d;
+  groups = record { collective = t; contexts = k };
+  ended = e.ended;
+  payloads =
+      q;
+  sessions = links;
+}
 
 -- a rule or limit refuses a call
-pub refused_by : (e : EngineState) (call : Call) (why : Refusal) → fault_of e call ≡ Some why → IsRefused e call why call e
+pub refused_by : (e : EngineState) (call : Call) (why : Refusal) → fault_of e call ≡ Some why →
+    IsRefused e call why call e
 refused_by e call why fault = record {
   handed = refl;
   unchanged = refl;
@@ -31,7 +39,8 @@ refused_by e call why fault = record {
 }
 
 -- where there is none, want of room does
-pub refused_for : (e new : EngineState) (call : Call) (why : Refusal) → fault_of e call ≡ None → new ≡ e → LacksRoom e call why → IsRefused e call why call new
+pub refused_for : (e new : EngineState) (call : Call) (why : Refusal) → fault_of e call ≡ None → new ≡ e →
+    LacksRoom e call why → IsRefused e call why call new
 refused_for e new call why free same lacks = record {
   handed = refl;
   unchanged = same;
@@ -39,7 +48,8 @@ refused_for e new call why free same lacks = record {
 }
 
 -- why a rank doesn't enter
-pub lacks_room : (e : EngineState) (place : ℕ) (x : Entry) (why : Refusal) → WhyNot e.groups.collective e.groups.contexts e.core.transfers.numbers e.sessions place x why →
+pub lacks_room : (e : EngineState) (place : ℕ) (x : Entry) (why : Refusal) →
+    WhyNot e.groups.collective e.groups.contexts e.core.transfers.numbers e.sessions place x why →
     LacksRoom e (calls.Enter (Some place) x) why
 lacks_room e place x refusals.OutOfMemory not = inl refl
 lacks_room e place x refusals.Limit not = inr (refl, (not.step, not.prepared, not.limit))
@@ -65,8 +75,10 @@ lacks_room e place x refusals.BadFrame not = absurd not
 lacks_room e place x refusals.OutOfWindow not = absurd not
 lacks_room e place x refusals.ClockBack not = absurd not
 
-is_entered : (e : EngineState) (t : State) (k : ContextsState) (d : CoreState) (q : payloads.State) (links : SessionsState) (place : ℕ) (x : Entry) (ending : Option Ending) →
-    fault_of e (calls.Enter (Some place) x) ≡ None → Goes e.groups.collective e.groups.contexts e.core e.payloads e.sessions place x ending t k d q links →
+is_entered : (e : EngineState) (t : State) (k : ContextsState) (d : CoreState) (q : payloads.State)
+    (links : SessionsState) (place : ℕ) (x : Entry) (ending : Option Ending) →
+    fault_of e (calls.Enter (Some place) x) ≡ None →
+    Goes e.groups.collective e.groups.contexts e.core e.payloads e.sessions place x ending t k d q links →
     IsEntered e (Some place) x (reply_on_entry ending) (moved e t k d q links)
 is_entered e t k d q links place x ending free goes = record {
   allowed = free;
@@ -85,30 +97,39 @@ is_entered e t k d q links place x ending free goes = record {
 }
 
 -- a rank enters
-pub entered : (e : EngineState) (t : State) (k : ContextsState) (d : CoreState) (q : payloads.State) (links : SessionsState) (place : ℕ) (x : Entry) (ending : Option Ending) →
-    fault_of e (calls.Enter (Some place) x) ≡ None → Goes e.groups.collective e.groups.contexts e.core e.payloads e.sessions place x ending t k d q links →
+pub entered : (e : EngineState) (t : State) (k : ContextsState) (d : CoreState) (q : payloads.State)
+    (links : SessionsState) (place : ℕ) (x : Entry) (ending : Option Ending) →
+    fault_of e (calls.Enter (Some place) x) ≡ None →
+    Goes e.groups.collective e.groups.contexts e.core e.payloads e.sessions place x ending t k d q links →
     EnteringGives e (Some place) x (reply_on_entry ending) (moved e t k d q links)
 entered e t k d q links place x None free goes = is_entered e t k d q links place x None free goes
 entered e t k d q links place x (Some o) free goes = is_entered e t k d q links place x (Some o) free goes
 
 -- the same, told of the parts of the engine
-pub entered_at : (e now new : EngineState) (t : State) (k : ContextsState) (d : CoreState) (q : payloads.State) (links : SessionsState) (comm : Option ℕ) (place : ℕ) (x : Entry) (ending : Option Ending)
-    (r reply : Reply) → e ≡ now → comm ≡ Some place → reply ≡ r → r ≡ reply_on_entry ending → fault_of now (calls.Enter comm x) ≡ None →
-    Goes e.groups.collective e.groups.contexts e.core e.payloads e.sessions place x ending t k d q links → new ≡ moved e t k d q links → EnteringGives now comm x reply new
+pub entered_at : (e now new : EngineState) (t : State) (k : ContextsState) (d : CoreState) (q : payloads.State)
+    (links : SessionsState) (comm : Option ℕ) (place : ℕ) (x : Entry) (ending : Option Ending)
+    (r reply : Reply) → e ≡ now → comm ≡ Some place → reply ≡ r → r ≡ reply_on_entry ending →
+    fault_of now (calls.Enter comm x) ≡ None →
+    Goes e.groups.collective e.groups.contexts e.core e.payloads e.sessions place x ending t k d q links →
+    new ≡ moved e t k d q links → EnteringGives now comm x reply new
 entered_at e now new t k d q links comm place x ending r reply same named back is free goes moves =
     subst (λ (s : EngineState). fault_of s (calls.Enter comm x) ≡ None → EnteringGives s comm x reply new) same
     (subst (λ (o : Option ℕ). fault_of e (calls.Enter o x) ≡ None → EnteringGives e o x reply new) (sym named)
     (λ allowed.
     subst (λ (a : Reply). EnteringGives e (Some place) x a new) (sym (back ∙ is))
-    (subst (λ (s : EngineState). EnteringGives e (Some place) x (reply_on_entry ending) s) (sym moves) (entered e t k d q links place x ending allowed goes)))) free
+    (subst (λ (s : EngineState). EnteringGives e (Some place) x (reply_on_entry ending) s) (sym moves)
+    (entered e t k d q links place x ending allowed goes)))) free
 
 -- or it is refused, and what was handed in comes back
-pub stays_out : (e now new : EngineState) (comm : Option ℕ) (place : ℕ) (x y : Entry) (why : Refusal) (reply : Reply) → e ≡ now → comm ≡ Some place →
+pub stays_out : (e now new : EngineState) (comm : Option ℕ) (place : ℕ) (x y : Entry) (why : Refusal) (reply : Reply) →
+    e ≡ now → comm ≡ Some place →
     reply ≡ replies.Refused why (calls.Enter (Some place) y) → y ≡ x → fault_of now (calls.Enter comm x) ≡ None →
-    WhyNot e.groups.collective e.groups.contexts e.core.transfers.numbers e.sessions place x why → new ≡ e → EnteringGives now comm x reply new
+    WhyNot e.groups.collective e.groups.contexts e.core.transfers.numbers e.sessions place x why → new ≡ e →
+    EnteringGives now comm x reply new
 stays_out e now new comm place x y why reply same named back handed free not stays =
     subst (λ (a : Reply). EnteringGives now comm x a new)
-    (sym (back ∙ ap (λ (z : Entry). replies.Refused why (calls.Enter (Some place) z)) handed ∙ ap (λ (o : Option ℕ). replies.Refused why (calls.Enter o x)) (sym named)))
+    (sym (back ∙ ap (λ (z : Entry). replies.Refused why (calls.Enter (Some place) z)) handed ∙
+    ap (λ (o : Option ℕ). replies.Refused why (calls.Enter o x)) (sym named)))
     (refused_for now new (calls.Enter comm x) why free (stays ∙ same)
     (subst (λ (o : Option ℕ). LacksRoom now (calls.Enter o x) why) (sym named)
     (subst (λ (s : EngineState). LacksRoom s (calls.Enter (Some place) x) why) same (lacks_room e place x why not))))

@@ -43,10 +43,12 @@ pub data_are_for : (rank transfer : ℕ) (ps : List (ℕ × List ℕ)) → AreFr
 data_are_for rank transfer [] = tt
 data_are_for rank transfer (p ∷ ps) = (refl, data_are_for rank transfer ps)
 
-wanted_are_for : (rank : ℕ) (clearance : Clearance) (o : Option Offer) → AreFramesFor rank (wanted_frames rank clearance o)
+wanted_are_for : (rank : ℕ) (clearance : Clearance) (o : Option Offer) →
+    AreFramesFor rank (wanted_frames rank clearance o)
 wanted_are_for rank Drop o = tt
 wanted_are_for rank Send None = tt
-wanted_are_for rank Send (Some o) = data_are_for rank o.transfer (pieces_of (bytes_of (size_of o.elements.basic) o.elements.values))
+wanted_are_for rank Send (Some o) =
+    data_are_for rank o.transfer (pieces_of (bytes_of (size_of o.elements.basic) o.elements.values))
 
 answer_is_for : (slots : List (Option TableEntry)) (r : Option PostedReceive) (s : Endpoint) (t : RequestText) →
     AreFramesFor s.rank (as_list (answer_on_arrival slots (arrival_at r (announced_of s t))))
@@ -86,11 +88,13 @@ said [] = refl
 said (f ∷ fs) = ap (λ (rest : List Sending). sending_of (addressed_text f) ∷ rest) (said fs)
 
 -- what the program hands to the sessions says what the core calls for
-pub outgoing_says : (c : CoreState) (h : HeardText) (os : List Outgoing) (fs : List Addressed) → os ≡ map outgoing_of fs →
+pub outgoing_says : (c : CoreState) (h : HeardText) (os : List Outgoing) (fs : List Addressed) →
+    os ≡ map outgoing_of fs →
     map addressed_text fs ≡ news_frames c (news_of h) → sendings os ≡ replies c h
 outgoing_says c h os fs made are = ap sendings made ∙ said fs ∙ ap (map sending_of) are
 
-pub outgoing_can_go : (c : CoreState) (place : Place) (h : HeardText) (os : List Outgoing) → sendings os ≡ replies c h → c.place ≡ place →
+pub outgoing_can_go : (c : CoreState) (place : Place) (h : HeardText) (os : List Outgoing) → sendings os ≡ replies c h →
+    c.place ≡ place →
     AllByRecursion (CanGo c.place.size) (news_frames c (news_of h)) → All (CanSend place) (sendings os)
 outgoing_can_go c place h os says same go =
     subst (λ (fs : List Sending). All (CanSend place) fs) (sym says)
@@ -99,6 +103,7 @@ outgoing_can_go c place h os says same go =
 -- ---- what becomes of it
 
 -- where there is no limit, only memory was wanting
-pub only_memory : (l : Option lower.SessionRefusal) (e : lower.SessionRefusal) → l ≡ None → lowest.IsRefusal l e → e ≡ lowers.OutOfMemory
+pub only_memory : (l : Option lower.SessionRefusal) (e : lower.SessionRefusal) → l ≡ None → lowest.IsRefusal l e →
+    e ≡ lowers.OutOfMemory
 only_memory None e is refused = refused
 only_memory (Some f) e is refused = absurd cc

@@ -1,5 +1,6 @@
 -- The first rule or limit that entering a collective, or a question, meets.
-use Rattle.std.proofs.Common.{◌≡◌, ℕ, ◌==◌, ◌||◌, Bool, true, false, cond, if◌then◌else◌, is_some, List, Option, Some, None, refl, sym, ap, subst, ◌∙◌}
+use Rattle.std.proofs.Common.{◌≡◌, ℕ, ◌==◌, ◌||◌, Bool, true, false, cond, if◌then◌else◌, is_some, List, Option, Some}
+use Rattle.std.proofs.Common.{None, refl, sym, ap, subst, ◌∙◌}
 use Rattle.std.specs.Prelude.{is_none, option_map}
 use Rattle.std.specs.Option.{option_or}
 use Rattle.collective_progress.specs.Rules.{number_of_rule}
@@ -9,7 +10,8 @@ use Rattle.collective_messages.specs.declared.entry.Entry.{Entry}
 use Rattle.communicators.proofs.Judging.{entry_judged, question_judged}
 use Rattle.communicators.specs.Members.{call_of, held_in}
 use Rattle.communicators.specs.Questions.{question_of}
-use Rattle.communicators.specs.Rules.{Allows, EntriesAreAllowed, known_by, limit_in, no_requests, number_of_fault, or_limited, rule_in}
+use Rattle.communicators.specs.Rules.{Allows, EntriesAreAllowed, known_by, limit_in, no_requests, number_of_fault}
+use Rattle.communicators.specs.Rules.{or_limited, rule_in}
 use Rattle.communicators.specs.declared.fault.CommunicatorFault.{CommunicatorFault}
 use Rattle.communicators.specs.declared.fault.CommunicatorFault.TheVariants as faults
 use Rattle.communicators.specs.declared.question.Question.{Question}
@@ -58,7 +60,8 @@ fault_in b n o r l =
     (first_fault (broken n refusals.Communicator)
     (first_fault (option_map of_entry_rule o) (first_fault (broken r refusals.Replaced) (broken l refusals.Limit))))
 
-in_order : (b n : Bool) (o : Option Rule) (r l : Bool) → option_map refusal_of (or_limited (number_by b n o r) l) ≡ fault_in b n o r l
+in_order : (b n : Bool) (o : Option Rule) (r l : Bool) → option_map refusal_of (or_limited (number_by b n o r) l) ≡
+    fault_in b n o r l
 in_order true n o r l = refl
 in_order false true o r l = refl
 in_order false false (Some rules.WrongType) r l = refl
@@ -69,25 +72,33 @@ in_order false false None true l = refl
 in_order false false None false true = refl
 in_order false false None false false = refl
 
-pub entry_ruled : (e : EngineState) (b : Bool) (known : List ℕ) (comm : Option ℕ) (x : Entry) (o : Option CommunicatorFault) → b ≡ is_some e.core.blocked →
+pub entry_ruled : (e : EngineState) (b : Bool) (known : List ℕ) (comm : Option ℕ) (x : Entry)
+    (o : Option CommunicatorFault) → b ≡ is_some e.core.blocked →
     known ≡ e.sessions.known →
     option_map number_of_fault o
     ≡ or_limited
-    (fault_by (b || is_within (member_of e.groups).present) no_requests e.groups.collective.own (known_by known) (member_of e.groups) (Enter comm (call_of x)))
+    (fault_by (b || is_within (member_of e.groups).present) no_requests e.groups.collective.own (known_by known)
+    (member_of e.groups) (Enter comm (call_of x)))
     (limit_in e.groups.collective e.groups.contexts comm x) →
     option_map of_rule o ≡ fault_of e (calls.Enter comm x)
 entry_ruled e b known comm x o blocked knows is =
     let m : Membership = member_of e.groups in
     let limit : Bool = limit_in e.groups.collective e.groups.contexts comm x in
     by_number o ∙ ap (option_map refusal_of) is
-    ∙ ap (λ (t : Bool). option_map refusal_of (or_limited (fault_by (t || is_within m.present) no_requests e.groups.collective.own (known_by known) m (Enter comm (call_of x))) limit)) blocked
-    ∙ ap (λ (k : List ℕ). option_map refusal_of (or_limited (fault_by (is_busy e) no_requests e.groups.collective.own (known_by k) m (Enter comm (call_of x))) limit)) knows
+    ∙ ap (λ (t : Bool). option_map refusal_of
+    (or_limited (fault_by (t || is_within m.present) no_requests e.groups.collective.own (known_by known) m
+    (Enter comm (call_of x))) limit)) blocked
+    ∙ ap (λ (k : List ℕ). option_map refusal_of
+    (or_limited (fault_by (is_busy e) no_requests e.groups.collective.own (known_by k) m (Enter comm (call_of x)))
+    limit)) knows
     ∙ ap (λ (f : Option ℕ). option_map refusal_of (or_limited f limit))
     (entry_judged (is_busy e) e.groups.collective e.groups.contexts (known_by e.sessions.known) comm x)
-    ∙ in_order (is_busy e) (is_none (held_at m comm)) (rule_in e.groups.collective.own (held_in e.groups.contexts comm) x)
+    ∙ in_order (is_busy e) (is_none (held_at m comm))
+    (rule_in e.groups.collective.own (held_in e.groups.contexts comm) x)
     (has_replaced (known_by e.sessions.known) (held_at m comm)) limit
 
-none_of : (b n : Bool) (o : Option Rule) (r l : Bool) → fault_in b n o r l ≡ None → or_limited (number_by b n o r) l ≡ None
+none_of : (b n : Bool) (o : Option Rule) (r l : Bool) → fault_in b n o r l ≡ None → or_limited (number_by b n o r) l ≡
+    None
 none_of true n o r l is = absurd cc
 none_of false true o r l is = absurd cc
 none_of false false (Some rule) r l is = absurd cc
@@ -96,38 +107,48 @@ none_of false false None false true is = absurd cc
 none_of false false None false false is = refl
 
 -- where none is met, it can be made ready
-pub entry_allowed : EntriesAreAllowed → (e now : EngineState) (comm : Option ℕ) (x : Entry) → e ≡ now → fault_of now (calls.Enter comm x) ≡ None → Allows e.groups.collective e.groups.contexts comm x
+pub entry_allowed : EntriesAreAllowed → (e now : EngineState) (comm : Option ℕ) (x : Entry) → e ≡ now →
+    fault_of now (calls.Enter comm x) ≡ None → Allows e.groups.collective e.groups.contexts comm x
 entry_allowed allowed e now comm x same met =
     let free : fault_of e (calls.Enter comm x) ≡ None = subst (λ (s : EngineState). fault_of s (calls.Enter comm x) ≡ None) (sym same) met in
     let m : Membership = member_of e.groups in
     let limit : Bool = limit_in e.groups.collective e.groups.contexts comm x in
     allowed e.groups.collective e.groups.contexts (is_some e.core.blocked) (known_by e.sessions.known) comm x
-    (ap (λ (f : Option ℕ). or_limited f limit) (entry_judged (is_busy e) e.groups.collective e.groups.contexts (known_by e.sessions.known) comm x)
-    ∙ none_of (is_busy e) (is_none (held_at m comm)) (rule_in e.groups.collective.own (held_in e.groups.contexts comm) x)
+    (ap (λ (f : Option ℕ). or_limited f limit)
+    (entry_judged (is_busy e) e.groups.collective e.groups.contexts (known_by e.sessions.known) comm x)
+    ∙ none_of (is_busy e) (is_none (held_at m comm))
+    (rule_in e.groups.collective.own (held_in e.groups.contexts comm) x)
     (has_replaced (known_by e.sessions.known) (held_at m comm)) limit free)
 
 -- at its place
-pub allowed_at : EntriesAreAllowed → (e now : EngineState) (comm : Option ℕ) (place : ℕ) (x : Entry) → e ≡ now → comm ≡ Some place →
+pub allowed_at : EntriesAreAllowed → (e now : EngineState) (comm : Option ℕ) (place : ℕ) (x : Entry) → e ≡ now →
+    comm ≡ Some place →
     fault_of now (calls.Enter comm x) ≡ None → Allows e.groups.collective e.groups.contexts (Some place) x
 allowed_at allowed e now comm place x same named met =
-    subst (λ (o : Option ℕ). Allows e.groups.collective e.groups.contexts o x) named (entry_allowed allowed e now comm x same met)
+    subst (λ (o : Option ℕ). Allows e.groups.collective e.groups.contexts o x) named
+    (entry_allowed allowed e now comm x same met)
 
 -- ---- questions
 
-in_turn : (b n : Bool) → option_map refusal_of (cond b (Some 6) (cond n (Some 4) None)) ≡ first_fault (broken b refusals.Request) (broken n refusals.Communicator)
+in_turn : (b n : Bool) → option_map refusal_of (cond b (Some 6) (cond n (Some 4) None)) ≡
+    first_fault (broken b refusals.Request) (broken n refusals.Communicator)
 in_turn true n = refl
 in_turn false true = refl
 in_turn false false = refl
 
-pub question_ruled : (e : EngineState) (b : Bool) (comm : Option ℕ) (q : Question) (o : Option CommunicatorFault) → b ≡ is_some e.core.blocked →
+pub question_ruled : (e : EngineState) (b : Bool) (comm : Option ℕ) (q : Question) (o : Option CommunicatorFault) →
+    b ≡ is_some e.core.blocked →
     ((known : ℕ → ℕ) → option_map number_of_fault o
-    ≡ fault_by (b || is_within (member_of e.groups).present) no_requests e.groups.collective.own known (member_of e.groups) (Inquire comm (question_of q))) →
+    ≡ fault_by (b || is_within (member_of e.groups).present) no_requests e.groups.collective.own known
+    (member_of e.groups) (Inquire comm (question_of q))) →
     option_map of_rule o ≡ fault_of e (calls.Ask comm q)
 question_ruled e b comm q o blocked is =
     let m : Membership = member_of e.groups in
     let nobody : ℕ → ℕ = λ r. 0 in
     by_number o ∙ ap (option_map refusal_of) (is nobody)
-    ∙ ap (λ (t : Bool). option_map refusal_of (fault_by (t || is_within m.present) no_requests e.groups.collective.own nobody m (Inquire comm (question_of q)))) blocked
+    ∙ ap (λ (t : Bool). option_map refusal_of
+    (fault_by (t || is_within m.present) no_requests e.groups.collective.own nobody m
+    (Inquire comm (question_of q)))) blocked
     ∙ ap (option_map refusal_of) (question_judged (is_busy e) e.groups.collective.own nobody m comm q)
     ∙ in_turn (is_busy e) (is_none (held_at m comm) || asks_of_none m (question_of q))
 
@@ -141,7 +162,9 @@ none_of_either true a is = is
 none_of_either false a is = refl
 
 -- where none is met, the rank holds the communicator
-pub is_held : (e : EngineState) (comm : Option ℕ) (q : Question) → fault_of e (calls.Ask comm q) ≡ None → is_none (held_at (member_of e.groups) comm) ≡ false
+pub is_held : (e : EngineState) (comm : Option ℕ) (q : Question) → fault_of e (calls.Ask comm q) ≡ None →
+    is_none (held_at (member_of e.groups) comm) ≡ false
 is_held e comm q free =
     let m : Membership = member_of e.groups in
-    none_of_either (is_none (held_at m comm)) (asks_of_none m (question_of q)) (held_by (is_busy e) (is_none (held_at m comm) || asks_of_none m (question_of q)) free)
+    none_of_either (is_none (held_at m comm)) (asks_of_none m (question_of q))
+    (held_by (is_busy e) (is_none (held_at m comm) || asks_of_none m (question_of q)) free)

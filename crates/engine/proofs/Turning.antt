@@ -1,5 +1,6 @@
 -- What a turn is, and what comes of one.
-use Rattle.std.proofs.Common.{◌≡◌, ℕ, zero, suc, ◌+◌, ◌-◌, ◌<◌, ◌≤◌, false, List, [], ◌∷◌, length, drop, refl, sym, ap, subst, ◌∙◌, arith, inl, inr, Option, Some, None, Result, Ok, Err, slice_set}
+use Rattle.std.proofs.Common.{◌≡◌, ℕ, zero, suc, ◌+◌, ◌-◌, ◌<◌, ◌≤◌, false, List, [], ◌∷◌, length, drop, refl, sym, ap}
+use Rattle.std.proofs.Common.{subst, ◌∙◌, arith, inl, inr, Option, Some, None, Result, Ok, Err, slice_set}
 use Rattle.std.proofs.lemmas.Grind.{common_steps}
 use Rattle.std.proofs.lemmas.List.{length-append, length-drop, length-take}
 use Rattle.std.proofs.lemmas.List.Sorted.{length_permutation}
@@ -17,7 +18,8 @@ use Rattle.datagram.specs.declared.frame.Frame.{Frame}
 use Rattle.sessions.specs.declared.heard.LinkEvent.{LinkEvent}
 use Rattle.sessions.specs.declared.heard.LinkEvent.TheVariants as words
 use Rattle.sessions.specs.Heard.{CanHear, Follows, Hands, HeardText, WordText, session_met, word_text}
-use Rattle.sessions.specs.Events.{Sending, after_event, after_heard, after_send, after_sends, answer_in, event_limit, next_bytes, out_on_accept, taught_known}
+use Rattle.sessions.specs.Events.{Sending, after_event, after_heard, after_send, after_sends, answer_in, event_limit}
+use Rattle.sessions.specs.Events.{next_bytes, out_on_accept, taught_known}
 use Rattle.sessions.specs.Following.{turn_of, turn_of_body, turn_read}
 use Rattle.sessions.specs.Arranging.{IsArranged, IsInOrder}
 use Rattle.sessions.specs.Windows.{StaysWithin, room}
@@ -27,7 +29,8 @@ use Rattle.sessions.proofs.Windows.{room_set}
 use Rattle.point_to_point_calls.specs.declared.refusal.Refusal.{Refusal}
 use Rattle.point_to_point_calls.specs.declared.refusal.Refusal.TheVariants as refusals
 use Rattle.engine_calls.specs.EngineState.{EngineState}
-use Rattle.engine.specs.Datagrams.{FollowGives, FollowedBy, HasFollowed, HeardGives, TurnGives, acknowledged, notice_in, turn_from, without_next}
+use Rattle.engine.specs.Datagrams.{FollowGives, FollowedBy, HasFollowed, HeardGives, TurnGives, acknowledged, notice_in}
+use Rattle.engine.specs.Datagrams.{turn_from, without_next}
 use Rattle.engine.specs.Following.{FollowEnds, StaysFor, TurnEnds}
 use Rattle.engine.proofs.Hearing.{IsCarried, carried_by, known_carried, unheard_leaves}
 
@@ -50,7 +53,8 @@ of_body source (FrameBody f) h e = record { frame = f; is = sym (ap (or_else h) 
 of_body source (AckBody held) h e = absurd (grind (arith, common_steps, e))
 of_body source ResetBody h e = absurd (grind (arith, common_steps, e))
 
-of_read : (source : Endpoint) (r : Result DatagramText reading.DatagramRefusal) (h : HeardText) → Some h ≡ turn_read source r → IsTurnOf source h
+of_read : (source : Endpoint) (r : Result DatagramText reading.DatagramRefusal) (h : HeardText) →
+    Some h ≡ turn_read source r → IsTurnOf source h
 of_read source (Ok d) h e = of_body source d.body h e
 of_read source (Err w) h e = absurd (grind (arith, common_steps, e))
 
@@ -59,14 +63,17 @@ unfolding turn_of
 of_bytes source bytes h e = of_read source (datagram_of bytes) h e
 
 -- it can be heard
-pub can_hear : (s : SessionsState) (source : Endpoint) (h : HeardText) → IsTurnOf source h → source.rank < length s.peers → CanHear s (Some h)
+pub can_hear : (s : SessionsState) (source : Endpoint) (h : HeardText) → IsTurnOf source h →
+    source.rank < length s.peers → CanHear s (Some h)
 can_hear s source h t there = subst (λ (x : HeardText). CanHear s (Some x)) t.is (there, tt)
 
-pub source_there : (source : Endpoint) (h : HeardText) (size : ℕ) → IsTurnOf source h → source.rank < size → h.source.rank < size
+pub source_there : (source : Endpoint) (h : HeardText) (size : ℕ) → IsTurnOf source h → source.rank < size →
+    h.source.rank < size
 source_there source h size t there = subst (λ (x : HeardText). x.source.rank < size) t.is there
 
 -- where it meets no limit, its number isn't the last one
-pub left : (s : SessionsState) (source : Endpoint) (h : HeardText) → IsTurnOf source h → is_some (event_limit s (Some h) []) ≡ false →
+pub left : (s : SessionsState) (source : Endpoint) (h : HeardText) → IsTurnOf source h →
+    is_some (event_limit s (Some h) []) ≡ false →
     (peer_at s.peers source.rank).receiver.next ≡ 18446744073709551615 → ⊥
 left s source h t free e =
     let k : is_some (event_limit s (Some (turn source t.frame)) []) ≡ false = subst (λ (x : HeardText). is_some (event_limit s (Some x) []) ≡ false) (sym t.is) free in
@@ -75,20 +82,24 @@ left s source h t free e =
 -- ---- what a turn leaves of the sessions
 
 -- with another sender a receiver is what it was
-receiver_kept : (peers : List Peer) (q r : ℕ) (p : Peer) → p.receiver ≡ (peer_at peers q).receiver → (peer_at (slice_set peers q p) r).receiver ≡ (peer_at peers r).receiver
+receiver_kept : (peers : List Peer) (q r : ℕ) (p : Peer) → p.receiver ≡ (peer_at peers q).receiver →
+    (peer_at (slice_set peers q p) r).receiver ≡ (peer_at peers r).receiver
 receiver_kept [] q r p is = refl
 receiver_kept (a ∷ rest) zero zero p is = is
 receiver_kept (a ∷ rest) zero (suc r) p is = refl
 receiver_kept (a ∷ rest) (suc q) zero p is = refl
 receiver_kept (a ∷ rest) (suc q) (suc r) p is = receiver_kept rest q r p is
 
-receiver_sends : (s : SessionsState) (fs : List Sending) (rank : ℕ) → (peer_at (after_sends s fs).peers rank).receiver ≡ (peer_at s.peers rank).receiver
+receiver_sends : (s : SessionsState) (fs : List Sending) (rank : ℕ) → (peer_at (after_sends s fs).peers rank).receiver ≡
+    (peer_at s.peers rank).receiver
 receiver_sends s [] rank = refl
 receiver_sends s (f ∷ fs) rank = receiver_sends (after_send s f) fs rank ∙ receiver_kept s.peers f.rank rank _ refl
 
 -- the acknowledgement that was spelled before says what is reached behind it
-ack_is : (s mid : SessionsState) (source : Endpoint) (h : HeardText) → IsTurnOf source h → source.rank < length s.peers → IsCarried s h mid →
-    ack_of mid.place source (peer_at mid.peers source.rank).receiver ≡ ack_of s.place source (advanced (peer_at s.peers source.rank).receiver)
+ack_is : (s mid : SessionsState) (source : Endpoint) (h : HeardText) → IsTurnOf source h →
+    source.rank < length s.peers → IsCarried s h mid →
+    ack_of mid.place source (peer_at mid.peers source.rank).receiver ≡
+    ack_of s.place source (advanced (peer_at s.peers source.rank).receiver)
 ack_is s mid source h t there goes =
     let new : Peer = record { sender = (peer_at s.peers source.rank).sender; receiver = advanced (peer_at s.peers source.rank).receiver } in
     let carried : mid ≡ after_event s (Some (turn source t.frame)) goes.frames = goes.carried ∙ ap (λ (x : HeardText). after_event s (Some x) goes.frames) (sym t.is) in
@@ -100,17 +111,24 @@ ack_is s mid source h t there goes =
     ap (λ (r : ReceiverState). ack_of mid.place source r) receiver
     ∙ ap (λ p. ack_of p source (advanced (peer_at s.peers source.rank).receiver)) place
 
-pub heard_carried : (old mid : EngineState) (h : HeardText) → HeardGives old h (Ok tt) mid → IsCarried old.sessions h mid.sessions
+pub heard_carried : (old mid : EngineState) (h : HeardText) → HeardGives old h (Ok tt) mid →
+    IsCarried old.sessions h mid.sessions
 heard_carried old mid h gives = carried_by (notice_in h.lesson old.payloads h.source.rank h.word) old mid h tt gives
 
 -- so what is put in the place of the former one is just that
-pub replaced : (old mid : EngineState) (at : ℕ) (source : Endpoint) (h : HeardText) (ack : List ℕ) → IsTurnOf source h → source.rank < length old.sessions.peers →
-    HeardGives old h (Ok tt) mid → ack ≡ ack_of old.sessions.place source (advanced (peer_at old.sessions.peers source.rank).receiver) →
-    record mid { sessions = record mid.sessions { out = slice_set mid.sessions.out at (source.rank, ack) } } ≡ acknowledged at source mid
+pub replaced : (old mid : EngineState) (at : ℕ) (source : Endpoint) (h : HeardText) (ack : List ℕ) → IsTurnOf source h →
+    source.rank < length old.sessions.peers →
+    HeardGives old h (Ok tt) mid →
+    ack ≡ ack_of old.sessions.place source (advanced (peer_at old.sessions.peers source.rank).receiver) →
+    record mid { sessions = record mid.sessions { out = slice_set mid.sessions.out at (source.rank, ack) } } ≡
+    acknowledged at source mid
 replaced old mid at source h ack t there gives is =
     let same : ack ≡ ack_of mid.sessions.place source (peer_at mid.sessions.peers source.rank).receiver =
     is ∙ sym (ack_is old.sessions mid.sessions source h t there (heard_carried old mid h gives)) in
-    ap (λ (bytes : List ℕ). record mid { sessions = record mid.sessions { out = slice_set mid.sessions.out at (source.rank, bytes) } }) same
+    ap (λ (bytes : List ℕ). record mid {
+      sessions =
+          record mid.sessions { out = slice_set mid.sessions.out at (source.rank, bytes) };
+    }) same
 
 -- ---- what goes out
 
@@ -124,7 +142,8 @@ longer_sends s (f ∷ fs) =
     )
 
 -- what went out stays
-pub longer : (old mid : EngineState) (source : Endpoint) (h : HeardText) → IsTurnOf source h → HeardGives old h (Ok tt) mid →
+pub longer : (old mid : EngineState) (source : Endpoint) (h : HeardText) → IsTurnOf source h →
+    HeardGives old h (Ok tt) mid →
     length old.sessions.out ≤ length mid.sessions.out
 longer old mid source h t gives =
     let goes = heard_carried old mid h gives in
@@ -138,7 +157,8 @@ longer old mid source h t gives =
     )
 
 -- the acknowledgement of a frame that is handed up stands behind what went out before
-pub acknowledged_first : (old first : EngineState) (h : HeardText) (f : FrameText) → h.word ≡ Hands f → HeardGives old h (Ok tt) first →
+pub acknowledged_first : (old first : EngineState) (h : HeardText) (f : FrameText) → h.word ≡ Hands f →
+    HeardGives old h (Ok tt) first →
     length old.sessions.out < length first.sessions.out
 acknowledged_first old first h f is gives =
     let goes = heard_carried old first h gives in
@@ -154,22 +174,26 @@ acknowledged_first old first h f is gives =
     )
 
 -- a turn takes of the room in the windows
-pub turn_within : (s t : SessionsState) (source : Endpoint) (h : HeardText) → IsTurnOf source h → StaysWithin (Some h) s t →
+pub turn_within : (s t : SessionsState) (source : Endpoint) (h : HeardText) → IsTurnOf source h →
+    StaysWithin (Some h) s t →
     length t.out + room t.peers ≤ length s.out + room s.peers
 turn_within s t source h is stays =
     let w : StaysWithin (Some (turn source is.frame)) s t = subst (λ (x : HeardText). StaysWithin (Some x) s t) (sym is.is) stays in
     omega (arith, w)
 
 -- and it teaches nothing
-pub turn_known : (old mid : EngineState) (source : Endpoint) (h : HeardText) → IsTurnOf source h → HeardGives old h (Ok tt) mid →
+pub turn_known : (old mid : EngineState) (source : Endpoint) (h : HeardText) → IsTurnOf source h →
+    HeardGives old h (Ok tt) mid →
     mid.sessions.known ≡ old.sessions.known
 turn_known old mid source h t gives =
     known_carried old.sessions mid.sessions h (heard_carried old mid h gives)
     ∙ subst (λ (x : HeardText). taught_known x.lesson old.sessions.known x.source ≡ old.sessions.known) t.is refl
 
 -- what isn't held any more leaves the room as it was
-pub discard_within : (old new : EngineState) (source : Endpoint) → source.rank < old.sessions.place.size → length old.sessions.peers ≡ old.sessions.place.size →
-    new ≡ without_next old source → length new.sessions.out + room new.sessions.peers ≤ length old.sessions.out + room old.sessions.peers
+pub discard_within : (old new : EngineState) (source : Endpoint) → source.rank < old.sessions.place.size →
+    length old.sessions.peers ≡ old.sessions.place.size →
+    new ≡ without_next old source → length new.sessions.out + room new.sessions.peers ≤ length old.sessions.out +
+    room old.sessions.peers
 discard_within old new source there each is =
     let peers : List Peer = old.sessions.peers in
     let p : Peer = record { sender = (peer_at peers source.rank).sender; receiver = discarded (peer_at peers source.rank).receiver } in
@@ -194,7 +218,8 @@ arranged_length from old new in_order =
     )
 
 -- so it takes as much of the room
-pub arranged_within : (from : ℕ) (old new : SessionsState) → IsArranged from old new → length new.out + room new.peers ≡ length old.out + room old.peers
+pub arranged_within : (from : ℕ) (old new : SessionsState) → IsArranged from old new → length new.out + room new.peers ≡
+    length old.out + room old.peers
 arranged_within from old new arranged =
     omega (
       arith,
@@ -205,13 +230,15 @@ arranged_within from old new arranged =
 -- ---- so many turns
 
 -- nothing follows where nothing is held
-pub nothing_held : (why : Option Refusal) (turns at : ℕ) (source : Endpoint) (old : EngineState) → 0 < turns → turn_from old source ≡ None →
+pub nothing_held : (why : Option Refusal) (turns at : ℕ) (source : Endpoint) (old : EngineState) → 0 < turns →
+    turn_from old source ≡ None →
     FollowEnds why turns at source old old
 nothing_held why zero at source old some is = absurd (omega (arith, some))
 nothing_held why (suc k) at source old some is = rw is refl
 
 -- whatever is held may stay for want of memory or a limit
-pub stays : (why : Option Refusal) (turns at : ℕ) (source : Endpoint) (old new : EngineState) → 0 < turns → StaysFor why → new ≡ old →
+pub stays : (why : Option Refusal) (turns at : ℕ) (source : Endpoint) (old new : EngineState) → 0 < turns →
+    StaysFor why → new ≡ old →
     FollowEnds why turns at source old new
 stays why zero at source old new some for same = absurd (omega (arith, some))
 stays why (suc k) at source old new some for same = go (turn_from old source)
@@ -222,14 +249,17 @@ stays why (suc k) at source old new some for same = go (turn_from old source)
     go (Some (Some h)) = inr (inr (for, same))
 
 -- what spells no frame is taken out
-pub taken_out : (turns at : ℕ) (source : Endpoint) (old new : EngineState) → 0 < turns → turn_from old source ≡ Some None → new ≡ without_next old source →
+pub taken_out : (turns at : ℕ) (source : Endpoint) (old new : EngineState) → 0 < turns →
+    turn_from old source ≡ Some None → new ≡ without_next old source →
     FollowEnds None turns at source old new
 taken_out zero at source old new some is gone = absurd (omega (arith, some))
 taken_out (suc k) at source old new some is gone = rw is (inl (refl, gone))
 
 -- and so is what breaks a rule
-pub refused : (turns at : ℕ) (source : Endpoint) (old mid new : EngineState) (h : HeardText) → 0 < turns → turn_from old source ≡ Some (Some h) →
-    HeardGives old h (Err refusals.BadFrame) mid → new ≡ without_next mid source → FollowEnds None turns at source old new
+pub refused : (turns at : ℕ) (source : Endpoint) (old mid new : EngineState) (h : HeardText) → 0 < turns →
+    turn_from old source ≡ Some (Some h) →
+    HeardGives old h (Err refusals.BadFrame) mid → new ≡ without_next mid source →
+    FollowEnds None turns at source old new
 refused zero at source old mid new h some is gives gone = absurd (omega (arith, some))
 refused (suc k) at source old mid new h some is gives gone =
     let same : mid ≡ old = unheard_leaves (notice_in h.lesson old.payloads h.source.rank h.word) old mid h refusals.BadFrame gives in
@@ -240,8 +270,10 @@ refused (suc k) at source old mid new h some is gives gone =
     )))
 
 -- a turn that is taken in, and the rest
-pub taken : (why : Option Refusal) (turns at : ℕ) (source : Endpoint) (old mid new : EngineState) (h : HeardText) → 0 < turns →
-    turn_from old source ≡ Some (Some h) → HeardGives old h (Ok tt) mid → FollowEnds why (turns - 1) at source (acknowledged at source mid) new →
+pub taken : (why : Option Refusal) (turns at : ℕ) (source : Endpoint) (old mid new : EngineState) (h : HeardText) →
+    0 < turns →
+    turn_from old source ≡ Some (Some h) → HeardGives old h (Ok tt) mid →
+    FollowEnds why (turns - 1) at source (acknowledged at source mid) new →
     FollowEnds why turns at source old new
 taken why zero at source old mid new h some is gives rest = absurd (omega (arith, some))
 taken why (suc k) at source old mid new h some is gives rest =
@@ -249,26 +281,32 @@ taken why (suc k) at source old mid new h some is gives rest =
     rw is (inl (mid, gives, subst (λ (n : ℕ). FollowEnds why n at source (acknowledged at source mid) new) back rest))
 
 -- the reason is forgotten
-forget_turn : (why : Option Refusal) (k at : ℕ) (source : Endpoint) (old new : EngineState) (t : Option (Option HeardText)) →
+forget_turn : (why : Option Refusal) (k at : ℕ) (source : Endpoint) (old new : EngineState)
+    (t : Option (Option HeardText)) →
     ((e : EngineState) → FollowEnds why k at source e new → FollowGives k at source e new) →
-    TurnEnds t why at source (FollowEnds why k at source) old new → TurnGives t at source (FollowGives k at source) old new
+    TurnEnds t why at source (FollowEnds why k at source) old new →
+    TurnGives t at source (FollowGives k at source) old new
 forget_turn why k at source old new None rest ends = ends
 forget_turn why k at source old new (Some None) rest (inl ends) = inl ends.1
 forget_turn why k at source old new (Some None) rest (inr ends) = inr ends.1
-forget_turn why k at source old new (Some (Some h)) rest (inl ends) = inl (ends.0, ends.1, rest (acknowledged at source ends.0) ends.2)
+forget_turn why k at source old new (Some (Some h)) rest (inl ends) =
+    inl (ends.0, ends.1, rest (acknowledged at source ends.0) ends.2)
 forget_turn why k at source old new (Some (Some h)) rest (inr (inl ends)) = inr (inl (ends.1, ends.2))
 forget_turn why k at source old new (Some (Some h)) rest (inr (inr ends)) = inr (inr ends.1)
 
-pub forget : (why : Option Refusal) (turns at : ℕ) (source : Endpoint) (old new : EngineState) → FollowEnds why turns at source old new →
+pub forget : (why : Option Refusal) (turns at : ℕ) (source : Endpoint) (old new : EngineState) →
+    FollowEnds why turns at source old new →
     FollowGives turns at source old new
 forget why zero at source old new ends = ends.1
 forget why (suc k) at source old new ends =
-    forget_turn why k at source old new (turn_from old source) (λ (e : EngineState) rest. forget why k at source e new rest) ends
+    forget_turn why k at source old new (turn_from old source)
+    (λ (e : EngineState) rest. forget why k at source e new rest) ends
 
 -- ---- behind what is heard
 
 -- nothing follows another word
-pub follows_none : (w : LinkEvent) (at : ℕ) (source : Endpoint) (e : EngineState) → ((f : Frame) → w ≡ words.Hands f → ⊥) → FollowedBy (word_text w) at source e e
+pub follows_none : (w : LinkEvent) (at : ℕ) (source : Endpoint) (e : EngineState) →
+    ((f : Frame) → w ≡ words.Hands f → ⊥) → FollowedBy (word_text w) at source e e
 follows_none (words.Acknowledges n held) at source e other = refl
 follows_none words.Repeats at source e other = refl
 follows_none (words.Hands f) at source e other = absurd (other f refl)
@@ -277,7 +315,9 @@ follows_none (words.Follows f) at source e other = refl
 follows_none words.Nothing at source e other = refl
 
 -- a frame that is handed up is followed
-pub follows_handed : (w : WordText) (f : FrameText) (at place : ℕ) (source : Endpoint) (first last : EngineState) → w ≡ Hands f → at ≡ place →
+pub follows_handed : (w : WordText) (f : FrameText) (at place : ℕ) (source : Endpoint) (first last : EngineState) →
+    w ≡ Hands f → at ≡ place →
     HasFollowed 64 at source first last → FollowedBy w place source first last
 follows_handed w f at place source first last is same followed =
-    subst (λ (x : WordText). FollowedBy x place source first last) (sym is) (subst (λ (n : ℕ). HasFollowed 64 n source first last) same followed)
+    subst (λ (x : WordText). FollowedBy x place source first last) (sym is)
+    (subst (λ (n : ℕ). HasFollowed 64 n source first last) same followed)

@@ -1,18 +1,22 @@
 -- What a datagram does to the engine: what is heard in it, all of its parts take in.
-use Rattle.std.specs.Prelude.{◌≡◌, ◌⊎◌, ℕ, zero, suc, Bool, true, false, is_some, length, List, [], ◌∷◌, Option, Some, None, option_map, Result, Ok, Err, if◌then◌else◌, map, slice_index}
+use Rattle.std.specs.Prelude.{◌≡◌, ◌⊎◌, ℕ, zero, suc, Bool, true, false, is_some, length, List, [], ◌∷◌, Option, Some}
+use Rattle.std.specs.Prelude.{None, option_map, Result, Ok, Err, if◌then◌else◌, map, slice_index}
 use Rattle.collective_messages.specs.declared.address.Address.{Address}
 use Rattle.collective_messages.specs.declared.message.CollectiveMessage.{CollectiveMessage}
 use Rattle.collective_messages.specs.declared.refusal.CollectiveRefusal.TheVariants as notes
 use Rattle.collective_transfers.specs.Payloads.{Announced, Coming, Whole}
 use Rattle.collective_transfers.specs.State as payloads
-use Rattle.collective_transfers.specs.State.{after_announcing, after_answer, after_begin, after_data, after_drop, announced_to, coming_from, is_due, whole_with}
+use Rattle.collective_transfers.specs.State.{after_announcing, after_answer, after_begin, after_data, after_drop}
+use Rattle.collective_transfers.specs.State.{announced_to, coming_from, is_due, whole_with}
 use Rattle.collectives.specs.Calls.{IsReady, MessageRefused, after_lesson, with_note}
 use Rattle.collectives.specs.State.{State, after_step}
 use Rattle.collective_steps.specs.Steps.{contexts_after, ending_of}
 use Rattle.collectives.specs.declared.collective.ReadyMessage.{ReadyMessage}
 use Rattle.collective_steps.specs.declared.step.Ending.{Ending}
 use Rattle.datagram.specs.Reading.{datagram_of}
-use Rattle.datagram.specs.Spelling.{ClearFrame, ClearText, DataFrame, DataText, DatagramText, EagerFrame, EagerText, FrameText, RequestFrame, RequestText, clear_text, data_text, eager_text, request_text}
+use Rattle.datagram.specs.Spelling.{ClearFrame, ClearText, DataFrame, DataText, DatagramText, EagerFrame, EagerText}
+use Rattle.datagram.specs.Spelling.{FrameText, RequestFrame, RequestText, clear_text, data_text, eager_text}
+use Rattle.datagram.specs.Spelling.{request_text}
 use Rattle.datagram.specs.declared.kinds.Clearance.{Clearance}
 use Rattle.datagram.specs.declared.kinds.Clearance.TheVariants.{Drop, Send}
 use Rattle.datagram.specs.declared.kinds.Plane.{Plane}
@@ -104,7 +108,8 @@ replies c h = map sending_of (news_frames c (news_of h))
 abbrev pub heard_fault : EngineState → HeardText → Option Refusal
 heard_fault e h =
     first_fault (hold_fault h.word)
-    (first_fault (news_fault e.core (news_of h)) (fault_of_sessions (event_limit e.sessions (Some h) (replies e.core h))))
+    (first_fault (news_fault e.core (news_of h))
+    (fault_of_sessions (event_limit e.sessions (Some h) (replies e.core h))))
 
 -- who teaches the rank its incarnation, if what is heard is a lesson
 abbrev pub lesson_in : HeardText → Option Endpoint
@@ -133,8 +138,8 @@ after_heard e h = record {
   sessions = after_event e.sessions (Some h) (replies e.core h);
 }
 
--- What is heard is taken in by all parts; or a rule, a limit or want of memory refused it, and nothing changes. What says
--- nothing new isn't refused
+-- What is heard is taken in by all parts; or a rule, a limit or want of memory refused it, and nothing changes. What
+-- says nothing new isn't refused
 abbrev pub NewsGives : EngineState → HeardText → Result (Unit {0}) Refusal → EngineState → Type 0
 NewsGives old h (Ok x) new = (heard_fault old h ≡ None) × (new ≡ after_heard old h)
 NewsGives old h (Err e) new = (says_nothing h.lesson h.word ≡ false) × IsRefusal (heard_fault old h) e × (new ≡ old)
@@ -161,31 +166,37 @@ met_by e h = after_lesson e.groups.collective e.groups.contexts (lesson_in h)
 abbrev pub numbers_met : CoreState → HeardText → List Numbers
 numbers_met c h = (transfers_met h.lesson c.transfers h.source.rank).numbers
 
--- What is heard is taken in without its frame, and the others are told by these messages: each can go, they are sent or announced,
--- and the payloads of those that are announced are kept behind the others
-pub record IsTold (c : CoreState) (p : payloads.State) (s : SessionsState) (h : HeardText) (ms : List CollectiveMessage) (c2 : CoreState) (p2 : payloads.State) (s2 : SessionsState) : Type 0 where
+-- What is heard is taken in without its frame, and the others are told by these messages: each can go, they are sent or
+-- announced, and the payloads of those that are announced are kept behind the others
+pub record IsTold (c : CoreState) (p : payloads.State) (s : SessionsState) (h : HeardText) (ms : List CollectiveMessage)
+    (c2 : CoreState) (p2 : payloads.State) (s2 : SessionsState) : Type 0 where
   pub whole : AreWhole ms
   pub goes : step_limit s (numbers_met c h) (Some h) ms ≡ None
   pub core : c2 ≡ with_numbers (after_news c (lesson_alone h)) (step_numbers (numbers_met c h) ms)
   pub payloads : p2 ≡ after_announcing (payloads_met p (lesson_in h)) (step_payloads (numbers_met c h) ms)
   pub sessions : s2 ≡ after_event s (Some h) (step_sendings s.place (numbers_met c h) ms)
 
--- A message of a collective is taken in: it is read, the rank does of itself what follows, and the others are told; what is too
--- long for a frame is announced to them, and kept behind these payloads
-pub record IsNoticed (old : EngineState) (before : payloads.State) (h : HeardText) (w : Whole) (new : EngineState) : Type 0 where
+-- A message of a collective is taken in: it is read, the rank does of itself what follows, and the others are told;
+-- what is too long for a frame is announced to them, and kept behind these payloads
+pub record IsNoticed (old : EngineState) (before : payloads.State) (h : HeardText) (w : Whole)
+    (new : EngineState) : Type 0 where
   pub payload : PayloadText
   pub read : payload_of w.bytes ≡ Some payload
   pub ready : ReadyMessage
   pub is_ready : IsReady (met_by old h) old.groups.contexts (address_of h.source w) payload ready
   pub whole : AreWhole ready.step.messages
   pub goes : step_limit old.sessions (numbers_met old.core h) (Some h) ready.step.messages ≡ None
-  pub core : new.core ≡ with_numbers (after_news old.core (lesson_alone h)) (step_numbers (numbers_met old.core h) ready.step.messages)
+  pub core : new.core ≡
+      with_numbers (after_news old.core (lesson_alone h)) (step_numbers (numbers_met old.core h) ready.step.messages)
   pub collective : new.groups.collective ≡ after_step (with_note (met_by old h) ready.note) ready.step.outcome
   pub contexts : new.groups.contexts ≡ contexts_after old.groups.contexts ready.step.drawn ready.step.outcome
   pub ended :
-      new.ended ≡ or_before (ending_of old.groups.contexts ready.step.outcome) (or_before (ended_by old.groups (lesson_in h)) old.ended)
+      new.ended ≡
+      or_before (ending_of old.groups.contexts ready.step.outcome)
+      (or_before (ended_by old.groups (lesson_in h)) old.ended)
   pub payloads : new.payloads ≡ after_announcing before (step_payloads (numbers_met old.core h) ready.step.messages)
-  pub sessions : new.sessions ≡ after_event old.sessions (Some h) (step_sendings old.sessions.place (numbers_met old.core h) ready.step.messages)
+  pub sessions : new.sessions ≡
+      after_event old.sessions (Some h) (step_sendings old.sessions.place (numbers_met old.core h) ready.step.messages)
 
 -- the step that a message would bring meets a limit by what it sends
 abbrev pub IsStepStopped : EngineState → HeardText → Whole → PayloadText → Type 0
@@ -193,8 +204,8 @@ IsStepStopped old h w p =
     (ready : ReadyMessage) × IsReady (met_by old h) old.groups.contexts (address_of h.source w) p ready
     × (step_limit old.sessions (numbers_met old.core h) (Some h) ready.step.messages ≡ Some refusals.Limit)
 
--- Why a message of a collective is refused: it can't be read, or what it carries doesn't fit its record (30); what the rank would
--- then get can't be held or given, or a frame can't go (13); or, where its part fits, for want of memory
+-- Why a message of a collective is refused: it can't be read, or what it carries doesn't fit its record (30); what the
+-- rank would then get can't be held or given, or a frame can't go (13); or, where its part fits, for want of memory
 abbrev pub WhyUnnoticed : EngineState → HeardText → Whole → Refusal → Type 0
 WhyUnnoticed old h w refusals.BadFrame =
     (payload_of w.bytes ≡ None)
@@ -202,8 +213,10 @@ WhyUnnoticed old h w refusals.BadFrame =
     × MessageRefused (met_by old h) old.groups.contexts (address_of h.source w) p notes.BadFrame)
 WhyUnnoticed old h w refusals.Limit =
     (p : PayloadText) × (payload_of w.bytes ≡ Some p)
-    × (MessageRefused (met_by old h) old.groups.contexts (address_of h.source w) p notes.Limit ⊎ IsStepStopped old h w p)
-WhyUnnoticed old h w refusals.OutOfMemory = (p : PayloadText) × (payload_of w.bytes ≡ Some p) × PartFits p.record_is p.part
+    × (MessageRefused (met_by old h) old.groups.contexts (address_of h.source w) p notes.Limit ⊎
+    IsStepStopped old h w p)
+WhyUnnoticed old h w refusals.OutOfMemory =
+    (p : PayloadText) × (payload_of w.bytes ≡ Some p) × PartFits p.record_is p.part
 WhyUnnoticed old h w _ = ⊥
 
 -- a message of a collective is taken in, or refused with nothing changed
@@ -219,10 +232,18 @@ answer_to h t = record { rank = h.source.rank; frame = ClearFrame (record { clea
 
 -- what comes from then on
 abbrev pub coming_by : HeardText → RequestText → Coming
-coming_by h t = record { source = h.source.rank; transfer = t.transfer; context = t.context; number = t.tag; total = t.count; bytes = [] }
+coming_by h t = record {
+  source = h.source.rank;
+  transfer = t.transfer;
+  context = t.context;
+  number = t.tag;
+  total =
+      t.count;
+  bytes = [];
+}
 
--- the first rule or limit that it meets: 30 where it is of a synchronous send, which no payload is, or its number isn't the next one
--- of its session, and 13
+-- the first rule or limit that it meets: 30 where it is of a synchronous send, which no payload is, or its number isn't
+-- the next one of its session, and 13
 abbrev pub announcement_fault : CoreState → SessionsState → HeardText → RequestText → Option Refusal
 announcement_fault c s h t =
     first_fault (bad_unless (is_standard t.mode))
@@ -241,7 +262,8 @@ after_announcement e h t = record {
 
 -- so it is, or a rule, a limit or want of memory refused it, and nothing changed
 abbrev pub AnnouncementGives : EngineState → HeardText → RequestText → Result (Unit {0}) Refusal → EngineState → Type 0
-AnnouncementGives old h t (Ok x) new = (announcement_fault old.core old.sessions h t ≡ None) × (new ≡ after_announcement old h t)
+AnnouncementGives old h t (Ok x) new = (announcement_fault old.core old.sessions h t ≡ None) ×
+    (new ≡ after_announcement old h t)
 AnnouncementGives old h t (Err e) new = IsRefusal (announcement_fault old.core old.sessions h t) e × (new ≡ old)
 
 -- ---- payloads of collectives that the rank announced
@@ -286,15 +308,16 @@ AnswerGives old h t (Err e) new = IsRefusal (answer_fault old.payloads old.sessi
 abbrev pub payloads_grown : EngineState → HeardText → DataText → payloads.State
 payloads_grown e h t = after_data e.payloads h.source.rank t.transfer t.bytes
 
--- the next piece is taken in: it stands behind those that came before. With the last one the message is taken in, as one is that stands
--- in a frame
+-- the next piece is taken in: it stands behind those that came before. With the last one the message is taken in, as
+-- one is that stands in a frame
 abbrev pub IsPieceTaken : Option Whole → EngineState → HeardText → DataText → EngineState → Type 0
 IsPieceTaken None old h t new =
     (fault_of_sessions (event_limit old.sessions (Some h) []) ≡ None)
     × (new ≡ record old { payloads = payloads_grown old h t; sessions = after_event old.sessions (Some h) [] })
 IsPieceTaken (Some w) old h t new = IsNoticed old (payloads_grown old h t) h w new
 
--- why a piece that is due is refused: for a limit or want of memory; with the last one as the message is, as if it stood in a frame
+-- why a piece that is due is refused: for a limit or want of memory; with the last one as the message is, as if it
+-- stood in a frame
 abbrev pub WhyNotTaken : Option Whole → EngineState → HeardText → Refusal → Type 0
 WhyNotTaken None old h e = IsRefusal (fault_of_sessions (event_limit old.sessions (Some h) [])) e
 WhyNotTaken (Some w) old h e = WhyUnnoticed old h w e
@@ -307,10 +330,12 @@ WhyNoPieceBy false w old h e = e ≡ refusals.BadFrame
 -- whether data of a payload are taken
 abbrev pub WhyNoPiece : EngineState → HeardText → DataText → Refusal → Type 0
 WhyNoPiece old h t e =
-    WhyNoPieceBy (is_due old.payloads h.source.rank t.transfer t.offset t.bytes) (whole_with old.payloads h.source.rank t.transfer t.bytes) old h e
+    WhyNoPieceBy (is_due old.payloads h.source.rank t.transfer t.offset t.bytes)
+    (whole_with old.payloads h.source.rank t.transfer t.bytes) old h e
 
 -- where they are due, they are taken in, or refused with nothing changed
-abbrev pub PieceGivesBy : (due : Bool) → Option Whole → EngineState → HeardText → DataText → Result (Unit {0}) Refusal → EngineState → Type 0
+abbrev pub PieceGivesBy : (due : Bool) → Option Whole → EngineState → HeardText → DataText → Result (Unit {0}) Refusal →
+    EngineState → Type 0
 PieceGivesBy true w old h t (Ok x) new = IsPieceTaken w old h t new
 PieceGivesBy true w old h t (Err e) new = WhyNoPieceBy true w old h e × (new ≡ old)
 PieceGivesBy false w old h t (Ok x) new = ⊥
@@ -319,7 +344,8 @@ PieceGivesBy false w old h t (Err e) new = WhyNoPieceBy false w old h e × (new 
 -- data of a payload that comes are taken in, or refused with nothing changed
 abbrev pub PieceGives : EngineState → HeardText → DataText → Result (Unit {0}) Refusal → EngineState → Type 0
 PieceGives old h t result new =
-    PieceGivesBy (is_due old.payloads h.source.rank t.transfer t.offset t.bytes) (whole_with old.payloads h.source.rank t.transfer t.bytes) old h t result new
+    PieceGivesBy (is_due old.payloads h.source.rank t.transfer t.offset t.bytes)
+    (whole_with old.payloads h.source.rank t.transfer t.bytes) old h t result new
 
 -- ---- any of them
 
@@ -340,7 +366,8 @@ abbrev pub announcement_on : Plane → RequestText → Option NoticeText
 announcement_on planes.PointToPoint t = None
 announcement_on planes.Collective t = Some (OfAnnouncement t)
 
--- whether the transfer to the rank that has this number is of a collective: with a lesson the session starts anew, and none is
+-- whether the transfer to the rank that has this number is of a collective: with a lesson the session starts anew, and
+-- none is
 abbrev pub is_to_collective : (lesson : Bool) → payloads.State → (rank transfer : ℕ) → Bool
 is_to_collective true p rank transfer = false
 is_to_collective false p rank transfer = is_some (announced_to p rank transfer)
@@ -354,8 +381,10 @@ is_from_collective false p rank transfer = is_some (coming_from p rank transfer)
 abbrev pub notice_of_frame : (lesson : Bool) → payloads.State → (rank : ℕ) → FrameText → Option NoticeText
 notice_of_frame lesson p rank (EagerFrame t) = notice_of_message t.plane t
 notice_of_frame lesson p rank (RequestFrame t) = announcement_on t.plane t
-notice_of_frame lesson p rank (ClearFrame t) = if is_to_collective lesson p rank t.transfer then Some (OfAnswer t) else None
-notice_of_frame lesson p rank (DataFrame t) = if is_from_collective lesson p rank t.transfer then Some (OfPiece t) else None
+notice_of_frame lesson p rank (ClearFrame t) = if is_to_collective lesson p rank t.transfer then Some (OfAnswer t) else
+    None
+notice_of_frame lesson p rank (DataFrame t) = if is_from_collective lesson p rank t.transfer then Some (OfPiece t) else
+    None
 
 -- what of a word does
 abbrev pub notice_in : (lesson : Bool) → payloads.State → (rank : ℕ) → WordText → Option NoticeText
@@ -403,9 +432,11 @@ without_next e source = record e { sessions = without_ready e.sessions source.ra
 abbrev pub turn_from : EngineState → Endpoint → Option (Option HeardText)
 turn_from e source = option_map (turn_of source) (ready_from e.sessions source.rank)
 
--- One turn, and then the rest: the frame is taken in as any other, and the acknowledgement says so; or it breaks a rule (30), is held
--- no more, and nothing follows; or it stays held, for a limit (13) or want of memory (14), and nothing follows
-abbrev pub TurnGives : Option (Option HeardText) → (at : ℕ) → Endpoint → (rest : EngineState → EngineState → Type 0) → EngineState → EngineState → Type 0
+-- One turn, and then the rest: the frame is taken in as any other, and the acknowledgement says so; or it breaks a rule
+-- (30), is held no more, and nothing follows; or it stays held, for a limit (13) or want of memory (14), and nothing
+-- follows
+abbrev pub TurnGives : Option (Option HeardText) → (at : ℕ) → Endpoint → (rest : EngineState → EngineState → Type 0) →
+    EngineState → EngineState → Type 0
 TurnGives None at source rest old new = new ≡ old
 TurnGives (Some None) at source rest old new = (new ≡ without_next old source) ⊎ (new ≡ old)
 TurnGives (Some (Some h)) at source rest old new =
@@ -418,8 +449,8 @@ abbrev pub FollowGives : (turns : ℕ) → (at : ℕ) → Endpoint → EngineSta
 FollowGives zero at source old new = new ≡ old
 FollowGives (suc k) at source old new = TurnGives (turn_from old source) at source (FollowGives k at source) old new
 
--- the frames that were held behind one that is handed up come, and then what goes out behind their acknowledgement stands by rising
--- rank and, for one rank, by its numbers
+-- the frames that were held behind one that is handed up come, and then what goes out behind their acknowledgement
+-- stands by rising rank and, for one rank, by its numbers
 pub record HasFollowed (most at : ℕ) (source : Endpoint) (old new : EngineState) : Type 0 where
   pub last : EngineState
   pub turns : FollowGives most at source old last
@@ -439,8 +470,8 @@ FollowedBy Nothing at source old new = new ≡ old
 abbrev pub woken_engine : EngineState → EngineState
 woken_engine e = record e { core = after_wake e.core }
 
--- What is heard is taken in, then the frames that were held behind it, and at the end of all that the blocked call is answered. The
--- acknowledgement, where there is one, stands first of what goes out
+-- What is heard is taken in, then the frames that were held behind it, and at the end of all that the blocked call is
+-- answered. The acknowledgement, where there is one, stands first of what goes out
 pub record IsTakenIn (old : EngineState) (h : HeardText) (new : EngineState) : Type 0 where
   pub first : EngineState
   pub last : EngineState
@@ -458,7 +489,8 @@ IsTakenInUnless false old h new = IsTakenIn old h new
 -- it is refused as the sessions turn it away, with a reset or without, and leaves the core as it was
 abbrev pub TurnedAwayGives : EngineState → Unheard → Result (Unit {0}) Refusal → EngineState → Type 0
 TurnedAwayGives old u result new =
-    (e : lower.SessionRefusal) × (result ≡ Err (of_sessions e)) × (new ≡ record old { sessions = new.sessions }) × TurnedAway u.reset u.refused old.sessions e new.sessions
+    (e : lower.SessionRefusal) × (result ≡ Err (of_sessions e)) × (new ≡ record old { sessions = new.sessions }) ×
+    TurnedAway u.reset u.refused old.sessions e new.sessions
 
 -- ALL OF IT
 
@@ -468,14 +500,16 @@ HearingGives (Ok h) old (Ok x) new = IsTakenInUnless (says_nothing h.lesson h.wo
 HearingGives (Ok h) old (Err e) new = HeardGives old h (Err e) new
 HearingGives (Err u) old result new = TurnedAwayGives old u result new
 
--- The datagram is read, judged by both of its endpoints and by the link, and then taken in, with what follows, or turned away.
+-- The datagram is read, judged by both of its endpoints and by the link, and then taken in, with what follows, or
+-- turned away.
 abbrev pub DatagramGives : EngineState → List ℕ → Result (Unit {0}) Refusal → EngineState → Type 0
 DatagramGives old bytes result new = HearingGives (heard_of old.sessions bytes) old result new
 
 -- a refusal changes nothing, but for the reset that goes out with a refusal of what was meant for a former incarnation
 abbrev pub RefusedDatagramLeaves : Result (Unit {0}) Refusal → EngineState → EngineState → Type 0
 RefusedDatagramLeaves (Ok x) old new = Unit {0}
-RefusedDatagramLeaves (Err refusals.StaleTarget) old new = new ≡ record old { sessions = record old.sessions { out = new.sessions.out } }
+RefusedDatagramLeaves (Err refusals.StaleTarget) old new =
+    new ≡ record old { sessions = record old.sessions { out = new.sessions.out } }
 RefusedDatagramLeaves (Err e) old new = new ≡ old
 
 -- the source of the datagram that the bytes spell is known at the incarnation in its header

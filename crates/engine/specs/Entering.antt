@@ -17,9 +17,10 @@ use Rattle.sessions.specs.Events.{after_event}
 use Rattle.sessions.specs.SessionsState.{SessionsState}
 use Rattle.engine_calls.specs.Frames.{AreWhole, step_limit, step_numbers, step_payloads, step_sendings}
 
--- the rank has entered, does of itself what follows, and the others are told; what is announced by it is counted by the core, and
--- kept
-pub record Goes (s : State) (h : ContextsState) (c : CoreState) (p : payloads.State) (links : SessionsState) (place : ℕ) (x : Entry) (ending : Option Ending)
+-- the rank has entered, does of itself what follows, and the others are told; what is announced by it is counted by the
+-- core, and kept
+pub record Goes (s : State) (h : ContextsState) (c : CoreState) (p : payloads.State) (links : SessionsState) (place : ℕ)
+    (x : Entry) (ending : Option Ending)
     (t : State) (k : ContextsState) (d : CoreState) (q : payloads.State) (new : SessionsState) : Type 0 where
   pub step : Prepared
   pub enters : EntryGives s h (inside_of s h place x) (Ok (ending, step)) t k
@@ -30,7 +31,8 @@ pub record Goes (s : State) (h : ContextsState) (c : CoreState) (p : payloads.St
   pub sent : new ≡ after_event links None (step_sendings links.place c.transfers.numbers step.messages)
 
 -- what the rank would do of itself meets a limit: a communicator can't be held or given, or a frame can't go
-pub record IsLimited (s : State) (h : ContextsState) (ns : List Numbers) (links : SessionsState) (place : ℕ) (x : Entry) : Type 0 where
+pub record IsLimited (s : State) (h : ContextsState) (ns : List Numbers) (links : SessionsState) (place : ℕ)
+    (x : Entry) : Type 0 where
   pub step : Prepared
   pub prepared : IsPreparedEntry s.own (inside_of s h place x) h s.kept step
   pub limit : steps.MeetsLimit h step ⊎ (step_limit links ns None step.messages ≡ Some refusals.Limit)

@@ -12,9 +12,11 @@ abbrev pub StaysFor : Option Refusal → Type 0
 StaysFor why = (why ≡ Some refusals.Limit) ⊎ (why ≡ Some refusals.OutOfMemory)
 
 -- one turn, and then the rest, with the reason for which a frame whose turn has come stays held, if one does
-abbrev pub TurnEnds : Option (Option HeardText) → (why : Option Refusal) → (at : ℕ) → Endpoint → (rest : EngineState → EngineState → Type 0) → EngineState → EngineState → Type 0
+abbrev pub TurnEnds : Option (Option HeardText) → (why : Option Refusal) → (at : ℕ) → Endpoint →
+    (rest : EngineState → EngineState → Type 0) → EngineState → EngineState → Type 0
 TurnEnds None why at source rest old new = new ≡ old
-TurnEnds (Some None) why at source rest old new = ((why ≡ None) × (new ≡ without_next old source)) ⊎ (StaysFor why × (new ≡ old))
+TurnEnds (Some None) why at source rest old new = ((why ≡ None) × (new ≡ without_next old source)) ⊎
+    (StaysFor why × (new ≡ old))
 TurnEnds (Some (Some h)) why at source rest old new =
     ((first : EngineState) × HeardGives old h (Ok tt) first × rest (acknowledged at source first) new)
     ⊎ (((why ≡ None) × HeardGives old h (Err refusals.BadFrame) old × (new ≡ without_next old source))
@@ -23,4 +25,5 @@ TurnEnds (Some (Some h)) why at source rest old new =
 -- so many turns at most
 abbrev pub FollowEnds : (why : Option Refusal) → (turns : ℕ) → (at : ℕ) → Endpoint → EngineState → EngineState → Type 0
 FollowEnds why zero at source old new = (why ≡ None) × (new ≡ old)
-FollowEnds why (suc k) at source old new = TurnEnds (turn_from old source) why at source (FollowEnds why k at source) old new
+FollowEnds why (suc k) at source old new =
+    TurnEnds (turn_from old source) why at source (FollowEnds why k at source) old new

@@ -11,8 +11,8 @@ ghost use Rattle.vocabulary.specs.declared.envelope.Source.TheVariants.{Null};
 
 use crate::engine::Engine;
 use engine_calls::{
-    RoutedCall, Call, JudgedCall, Probe, Receive, Reply, Send, answer_unless_refused, ask_for_message,
-    ask_on_requests, ask_to_probe, ask_to_receive, ask_to_send, judge,
+    Call, JudgedCall, Probe, Receive, Reply, RoutedCall, Send, answer_unless_refused,
+    ask_for_message, ask_on_requests, ask_to_probe, ask_to_receive, ask_to_send, judge,
 };
 use point_to_point::HandedBack;
 use requests::{Region, Request};
@@ -57,7 +57,10 @@ impl Engine {
     }
 
     /// What the core is to be asked by a call on requests, unless it is refused by now.
-    fn asked_on_requests(&self, call: point_to_point::CoreCall) -> Result<RoutedCall, HandedBack<Call>>
+    fn asked_on_requests(
+        &self,
+        call: point_to_point::CoreCall,
+    ) -> Result<RoutedCall, HandedBack<Call>>
         requires { IsOnRequests call }
         ensures { AskGives self.now (call_of_core None Null call) result }
     {
@@ -68,7 +71,8 @@ impl Engine {
     #[tactic(auto, using(engine_calls::proofs::Asks::can_ask))]
     fn reply_to(&mut self, asked: Result<RoutedCall, HandedBack<Call>>) -> Reply
         requires { CanAskBy self.old.core self.old.groups self.old.sessions asked }
-        ensures exact { (call : engine_calls.Call) → AskGives self.old call asked → CoreGives self.old call result self.new }
+        ensures exact { (call : engine_calls.Call) → AskGives self.old call asked →
+            CoreGives self.old call result self.new }
         ensures few { length self.new.sessions.out ≤ length self.old.sessions.out + 1 }
         ensures placed { self.new.sessions.place ≡ self.old.sessions.place }
         ensures core_placed { self.new.core.place ≡ self.old.core.place }
@@ -153,9 +157,9 @@ impl Engine {
         judge(self.asked_on_requests(call))
     }
 
-    /// The first rule or limit that a call would be refused by now, of 6, 4, 2, 1, 3, 5, 7, 9, 11 and 13: see `call`; and the call as it
-    /// was handed in. It takes no memory; a call that meets none is refused for want of memory (14), and a collective also where
-    /// what the rank then does of itself meets a limit (13).
+    /// The first rule or limit that a call would be refused by now, of 6, 4, 2, 1, 3, 5, 7, 9, 11 and 13: see `call`;
+    /// and the call as it was handed in. It takes no memory; a call that meets none is refused for want of memory (14),
+    /// and a collective also where what the rank then does of itself meets a limit (13).
     #[tactic(auto, using(engine_calls::proofs::Asks::judged_fault, engine_calls::proofs::Asks::judged_back))]
     pub fn judge(&self, call: Call) -> JudgedCall
         ensures fault { result.fault ≡ fault_of self.now call }
@@ -168,7 +172,9 @@ impl Engine {
             Call::Test(request) => self.judge_on_requests(point_to_point::CoreCall::Test(request)),
             Call::Waitany(list) => self.judge_on_requests(point_to_point::CoreCall::Waitany(list)),
             Call::Waitall(list) => self.judge_on_requests(point_to_point::CoreCall::Waitall(list)),
-            Call::Cancel(request) => self.judge_on_requests(point_to_point::CoreCall::Cancel(request)),
+            Call::Cancel(request) => self.judge_on_requests(point_to_point::CoreCall::Cancel(
+                request,
+            )),
             Call::Enter(comm, entry) => JudgedCall {
                 fault: self.fault_of_entry(comm, &entry),
                 call: Call::Enter(comm, entry),
@@ -204,7 +210,9 @@ impl Engine {
             Call::Test(request) => self.call_on_requests(point_to_point::CoreCall::Test(request)),
             Call::Waitany(list) => self.call_on_requests(point_to_point::CoreCall::Waitany(list)),
             Call::Waitall(list) => self.call_on_requests(point_to_point::CoreCall::Waitall(list)),
-            Call::Cancel(request) => self.call_on_requests(point_to_point::CoreCall::Cancel(request)),
+            Call::Cancel(request) => self.call_on_requests(point_to_point::CoreCall::Cancel(
+                request,
+            )),
             Call::Enter(comm, entry) => self.enter(comm, entry),
             Call::Ask(comm, question) => self.ask(comm, question),
             Call::Iprobe(probe) => self.iprobe(probe),
@@ -216,29 +224,29 @@ impl Engine {
 
     /// Answers a call.
     ///
-    /// Refused is the first that holds of: 6 (an earlier call is blocked, on requests or in a collective; there is no such
-    /// request, a list names one twice, what is cancelled is no receive, or what is to be received is no message that was
-    /// taken out and isn't received), 4 (MPI_COMM_NULL, or the rank holds no such communicator, nor one to compare with), 2
-    /// (buffer and layout are of different basic types, a receive names a place twice, or a scatter's root hands in elements
-    /// of another type than its blocks), 1 (more than 1,048,576 bytes of data in a send, the buffer is too short, a block of
-    /// a collective has more than 1,048,560 bytes, or a scatter's root hands in another number of elements than a block for
-    /// each member), 3 (the tag is above the greatest, or the wildcard in a send), 5 (no such rank in the communicator, or
-    /// any rank in a send), 7 (no such root), 9 (the operation isn't defined on the type), 11 (the member that is named is
-    /// known at another incarnation, which counts off `world` alone; in a collective any member), 13 (65,536 requests are
-    /// there, messages that were taken out among them, and one more is wanted, which a matching probe wants only for a
-    /// message that it found; no number is left for a message that is announced to the rank or for a frame to it, a
-    /// communicator can't be held or given, no further collective may be entered on it, or a member would have to be told
-    /// more than 1,008 bytes of elements), 14. A refusal hands the call back, and changes nothing. A send to the own rank
-    /// (MPI 3.1, 3.2.4) or to the null process (3.11) emits no datagram; one of more than 1,024 bytes to another rank is
-    /// announced, and finished once that rank answers. A receive that takes a message which was announced answers it: its
-    /// data are to come where the receive has their type and places for them, and else it has ended without them. A
-    /// collective is entered, and the other members are told; where it has not ended by that, the rank is blocked in it
-    /// (5.1).
+    /// Refused is the first that holds of: 6 (an earlier call is blocked, on requests or in a collective; there is no
+    /// such request, a list names one twice, what is cancelled is no receive, or what is to be received is no message
+    /// that was taken out and isn't received), 4 (MPI_COMM_NULL, or the rank holds no such communicator, nor one to
+    /// compare with), 2 (buffer and layout are of different basic types, a receive names a place twice, or a scatter's
+    /// root hands in elements of another type than its blocks), 1 (more than 1,048,576 bytes of data in a send, the
+    /// buffer is too short, a block of a collective has more than 1,048,560 bytes, or a scatter's root hands in another
+    /// number of elements than a block for each member), 3 (the tag is above the greatest, or the wildcard in a send),
+    /// 5 (no such rank in the communicator, or any rank in a send), 7 (no such root), 9 (the operation isn't defined on
+    /// the type), 11 (the member that is named is known at another incarnation, which counts off `world` alone; in a
+    /// collective any member), 13 (65,536 requests are there, messages that were taken out among them, and one more is
+    /// wanted, which a matching probe wants only for a message that it found; no number is left for a message that is
+    /// announced to the rank or for a frame to it, a communicator can't be held or given, no further collective may be
+    /// entered on it, or a member would have to be told more than 1,008 bytes of elements), 14. A refusal hands the
+    /// call back, and changes nothing. A send to the own rank (MPI 3.1, 3.2.4) or to the null process (3.11) emits no
+    /// datagram; one of more than 1,024 bytes to another rank is announced, and finished once that rank answers. A
+    /// receive that takes a message which was announced answers it: its data are to come where the receive has their
+    /// type and places for them, and else it has ended without them. A collective is entered, and the other members are
+    /// told; where it has not ended by that, the rank is blocked in it (5.1).
     ///
-    /// A synchronous send is announced however few bytes it has, and finished once a receive has its message (3.4); one to the own
-    /// rank emits nothing. A probe tells what such a receive would take now and changes nothing (3.8.1); a matching probe takes
-    /// that message out, so that no receive finds it (3.8.2), and tells its sender nothing. The receive of that message answers
-    /// its sender, and is over where its data are there, or is waited for (3.8.3).
+    /// A synchronous send is announced however few bytes it has, and finished once a receive has its message (3.4); one
+    /// to the own rank emits nothing. A probe tells what such a receive would take now and changes nothing (3.8.1); a
+    /// matching probe takes that message out, so that no receive finds it (3.8.2), and tells its sender nothing. The
+    /// receive of that message answers its sender, and is over where its data are there, or is waited for (3.8.3).
     #[tactic(auto, using(engine_calls::proofs::Answering::few_by_one))]
     pub fn call(&mut self, call: Call) -> Reply
         ensures exact { CallGives self.old call result self.new }

@@ -17,9 +17,9 @@ use point_to_point::{Core, HandedBack, Refusal};
 use sessions::Sessions;
 use std::alloc::Global;
 
-/// Enters a collective of the communicator at a place, which breaks no rule and meets no limit: what the rank then does of
-/// itself is made ready and its frames are sent, and only then it has entered. Refused is 13 and 14; then nothing changes, and
-/// what was handed in comes back.
+/// Enters a collective of the communicator at a place, which breaks no rule and meets no limit: what the rank then does
+/// of itself is made ready and its frames are sent, and only then it has entered. Refused is 13 and 14; then nothing
+/// changes, and what was handed in comes back.
 fn go_in(
     alloc: Global,
     core: &mut Core,
@@ -31,8 +31,13 @@ fn go_in(
 ) -> Result<Option<Ending>, HandedBack<Entry>>
     requires rule { entry_rule communicators.old.collective.state communicators.old.contexts.state place ≡ None }
     requires limit { limit_at communicators.old.collective.state communicators.old.contexts.state place entry ≡ false }
-    ensures ok { IfOk result (λ ending. Goes communicators.old.collective.state communicators.old.contexts.state core.old.state payloads.old.state sessions.old place entry ending communicators.new.collective.state communicators.new.contexts.state core.new.state payloads.new.state sessions.new) }
-    ensures err { IfErr result (λ back. WhyNot communicators.old.collective.state communicators.old.contexts.state core.old.state.transfers.numbers sessions.old place entry back.refused) }
+    ensures ok { IfOk result
+        (λ ending. Goes communicators.old.collective.state communicators.old.contexts.state core.old.state
+        payloads.old.state sessions.old place entry ending communicators.new.collective.state
+        communicators.new.contexts.state core.new.state payloads.new.state sessions.new) }
+    ensures err { IfErr result
+        (λ back. WhyNot communicators.old.collective.state communicators.old.contexts.state
+        core.old.state.transfers.numbers sessions.old place entry back.refused) }
     ensures handed { IfErr result (λ back. back.value ≡ entry) }
     ensures collective { OnErr result (communicators.new.collective.state ≡ communicators.old.collective.state) }
     ensures contexts { OnErr result (communicators.new.contexts.state ≡ communicators.old.contexts.state) }
@@ -108,8 +113,8 @@ impl Engine {
         }
     }
 
-    /// Enters a collective (MPI 3.1, chapter 5 and 6.4.2). Refused is the first that holds of 6, 4, 2, 1, 7, 9, 11, 13 and 14; a
-    /// refusal hands the call back, and changes nothing.
+    /// Enters a collective (MPI 3.1, chapter 5 and 6.4.2). Refused is the first that holds of 6, 4, 2, 1, 7, 9, 11, 13
+    /// and 14; a refusal hands the call back, and changes nothing.
     pub(crate) fn enter(&mut self, comm: Option<usize>, entry: Entry) -> Reply
         ensures exact { EnteringGives self.old comm entry result self.new }
         ensures unchanged { RefusedLeaves result self.old self.new }

@@ -1,6 +1,7 @@
 //! How an engine takes datagrams in.
 
-ghost use Rattle.std.specs.Prelude.{◌≡◌, ◌≤◌, ◌<◌, ◌+◌, ◌*◌, length, map, IfErr, IfOk, None, Ok, Err, OnErr, OnOk, Option, Some};
+ghost use Rattle.std.specs.Prelude.{◌≡◌, ◌≤◌, ◌<◌, ◌+◌, ◌*◌, length, map, IfErr, IfOk, None, Ok, Err, OnErr, OnOk};
+ghost use Rattle.std.specs.Prelude.{Option, Some};
 ghost use Rattle.collective_steps.specs.declared.step.Ending.{Ending};
 ghost use Rattle.datagram.specs.Spelling.{eager_text};
 ghost use Rattle.point_to_point_calls.specs.Hearing.{frame_option, news_text};
@@ -12,13 +13,15 @@ ghost use Rattle.engine_calls.specs.EngineState.{or_before};
 ghost use Rattle.engine_calls.specs.Frames.{outgoing_of};
 ghost use Rattle.engine_calls.specs.Refusals.{fault_of_sessions};
 ghost use Rattle.engine_calls.specs.Steps.{engine_held};
-ghost use Rattle.engine.specs.Datagrams.{DatagramGives, HeardGives, NewsGives, SourceIsKnown, RefusedDatagramLeaves, form_fault, frame_in, hold_fault, news_of, received, replies, says_nothing, whole_in};
+ghost use Rattle.engine.specs.Datagrams.{DatagramGives, HeardGives, NewsGives, SourceIsKnown, RefusedDatagramLeaves};
+ghost use Rattle.engine.specs.Datagrams.{form_fault, frame_in, hold_fault, news_of, received, replies, says_nothing};
+ghost use Rattle.engine.specs.Datagrams.{whole_in};
 
-use crate::outgoing_payloads::{take_announcement, take_answer};
-use crate::incoming_payloads::take_piece;
 use crate::engine::Engine;
-use crate::notices::{ReceivedPayload, forget, learn, lesson_in, ending_or, take_message};
+use crate::incoming_payloads::take_piece;
 use crate::notice_kinds::{Notice, notice_in};
+use crate::notices::{ReceivedPayload, ending_or, forget, learn, lesson_in, take_message};
+use crate::outgoing_payloads::{take_announcement, take_answer};
 use collective_transfers::CollectiveTransfers;
 use collectives::Ending;
 use communicators::Communicators;
@@ -26,7 +29,7 @@ use datagram::{Eager, Frame, Plane};
 use engine_calls::of_sessions;
 use payload::read_payload;
 use point_to_point::{Addressed, Core, News, PreparedNews, Refusal};
-use sessions::{Heard, Outgoing, Sessions, LinkEvent};
+use sessions::{Heard, LinkEvent, Outgoing, Sessions};
 use std::alloc::Global;
 
 /// The frame that is handed up, if one is.
@@ -73,8 +76,8 @@ fn form_fault(message: Eager<'_>) -> Option<Refusal>
     }
 }
 
-/// The rule that a word breaks by the frame that is to be held: the form of a collective's message (30). All else of it is judged
-/// when its turn comes.
+/// The rule that a word breaks by the frame that is to be held: the form of a collective's message (30). All else of it
+/// is judged when its turn comes.
 fn hold_fault(word: LinkEvent<'_>) -> Option<Refusal>
     ensures { result ≡ hold_fault (word_text word.entry) }
 {
@@ -134,8 +137,11 @@ fn carry_out(
     requires place { core.now.state.place ≡ sessions.old.place }
     requires allowed { news_fault core.now.state (news_of (heard_text heard)) ≡ None }
     requires ready { CanTake core.now (news_of (heard_text heard)) ready.now }
-    requires limit { event_limit sessions.old (Some (heard_text heard)) (replies core.now.state (heard_text heard)) ≡ None }
-    ensures ok { OnOk result (sessions.new ≡ after_event sessions.old (Some (heard_text heard.entry)) (replies core.now.state (heard_text heard.entry))) }
+    requires limit { event_limit sessions.old (Some (heard_text heard)) (replies core.now.state (heard_text heard)) ≡
+        None }
+    ensures ok { OnOk result
+        (sessions.new ≡
+        after_event sessions.old (Some (heard_text heard.entry)) (replies core.now.state (heard_text heard.entry))) }
     ensures unchanged { OnErr result (sessions.new ≡ sessions.old) }
     ensures err { IfErr result (λ e. e ≡ Refusal.OutOfMemory) }
     ensures within { OnOk result (StaysWithin (Some (heard_text heard.entry)) sessions.old sessions.new) }
@@ -162,8 +168,8 @@ fn limit_of_heard(core: &Core, sessions: &Sessions, heard: Heard<'_>) -> Option<
     }
 }
 
-/// All parts take in what is heard and concerns no collective, or refuse it. Answered is with what a collective ends by it, by
-/// a lesson.
+/// All parts take in what is heard and concerns no collective, or refuse it. Answered is with what a collective ends by
+/// it, by a lesson.
 fn take_news(
     core: &mut Core,
     communicators: &mut Communicators,
@@ -174,10 +180,14 @@ fn take_news(
     requires can { CanHear sessions.old (Some (heard_text heard)) }
     requires fits { WordFits (word_text heard.word) }
     requires place { core.old.state.place ≡ sessions.old.place }
-    ensures ok { IfOk result (λ ending. (before : Option Ending) → NewsGives (engine_held core.old communicators.old before payloads.old.state sessions.old)
-        (heard_text heard.entry) (Ok tt) (engine_held core.new communicators.new (or_before ending before) payloads.new.state sessions.new)) }
-    ensures err { IfErr result (λ e. (before : Option Ending) → NewsGives (engine_held core.old communicators.old before payloads.old.state sessions.old)
-        (heard_text heard.entry) (Err e) (engine_held core.new communicators.new before payloads.new.state sessions.new)) }
+    ensures ok { IfOk result (λ ending. (before : Option Ending) →
+        NewsGives (engine_held core.old communicators.old before payloads.old.state sessions.old)
+        (heard_text heard.entry) (Ok tt)
+        (engine_held core.new communicators.new (or_before ending before) payloads.new.state sessions.new)) }
+    ensures err { IfErr result (λ e. (before : Option Ending) →
+        NewsGives (engine_held core.old communicators.old before payloads.old.state sessions.old)
+        (heard_text heard.entry) (Err e)
+        (engine_held core.new communicators.new before payloads.new.state sessions.new)) }
     ensures within { OnOk result (StaysWithin (Some (heard_text heard.entry)) sessions.old sessions.new) }
     ensures placed { sessions.new.place ≡ sessions.old.place }
     ensures core_placed { core.new.state.place ≡ core.old.state.place }
@@ -227,10 +237,14 @@ fn hear(
     requires fits { WordFits (word_text heard.word) }
     requires there { heard.source.rank < sessions.old.place.size }
     requires place { core.old.state.place ≡ sessions.old.place }
-    ensures ok { IfOk result (λ ending. (before : Option Ending) → HeardGives (engine_held core.old communicators.old before payloads.old.state sessions.old)
-        (heard_text heard.entry) (Ok tt) (engine_held core.new communicators.new (or_before ending before) payloads.new.state sessions.new)) }
-    ensures err { IfErr result (λ e. (before : Option Ending) → HeardGives (engine_held core.old communicators.old before payloads.old.state sessions.old)
-        (heard_text heard.entry) (Err e) (engine_held core.new communicators.new before payloads.new.state sessions.new)) }
+    ensures ok { IfOk result (λ ending. (before : Option Ending) →
+        HeardGives (engine_held core.old communicators.old before payloads.old.state sessions.old)
+        (heard_text heard.entry) (Ok tt)
+        (engine_held core.new communicators.new (or_before ending before) payloads.new.state sessions.new)) }
+    ensures err { IfErr result (λ e. (before : Option Ending) →
+        HeardGives (engine_held core.old communicators.old before payloads.old.state sessions.old)
+        (heard_text heard.entry) (Err e)
+        (engine_held core.new communicators.new before payloads.new.state sessions.new)) }
     ensures within { OnOk result (StaysWithin (Some (heard_text heard.entry)) sessions.old sessions.new) }
     ensures placed { sessions.new.place ≡ sessions.old.place }
     ensures core_placed { core.new.state.place ≡ core.old.state.place }
@@ -274,8 +288,8 @@ fn hear(
 }
 
 impl Engine {
-    /// Takes in what is heard, or refuses it. With what a collective ends by it is kept until that is handed out. No blocked call
-    /// is answered yet.
+    /// Takes in what is heard, or refuses it. With what a collective ends by it is kept until that is handed out. No
+    /// blocked call is answered yet.
     pub(crate) fn take_heard(&mut self, heard: Heard<'_>) -> Result<(), Refusal>
         requires can { CanHear self.old.sessions (Some (heard_text heard)) }
         requires fits { WordFits (word_text heard.word) }
@@ -300,30 +314,32 @@ impl Engine {
 
     /// Takes a datagram in.
     ///
-    /// Refused is the first that holds of: 21 to 25 and 30 (the bytes spell no datagram), 26 (another job), 27 (for another
-    /// rank or a later incarnation of this one, or from no other rank of the job), 28 (from a former incarnation of its
-    /// source), 29 (for a former incarnation of this rank: where the datagram is no reset itself, one reset goes out to its
-    /// source), 31 (a number outside the window), 30 (a message of a collective that can't be read, or carries what doesn't
-    /// fit its record; an announcement under another number than the next of its session, or one of a payload of a collective
-    /// as of a synchronous send; an answer to a transfer that is not offered, or 'drop' to a payload of a collective, which
-    /// no engine answers; data that are not due), 13 and 14. With the last data of a payload its message is judged, as if it
-    /// stood in a frame. A refusal changes nothing, but for that reset; without memory for the reset it is 14.
+    /// Refused is the first that holds of: 21 to 25 and 30 (the bytes spell no datagram), 26 (another job), 27 (for
+    /// another rank or a later incarnation of this one, or from no other rank of the job), 28 (from a former
+    /// incarnation of its source), 29 (for a former incarnation of this rank: where the datagram is no reset itself,
+    /// one reset goes out to its source), 31 (a number outside the window), 30 (a message of a collective that can't be
+    /// read, or carries what doesn't fit its record; an announcement under another number than the next of its session,
+    /// or one of a payload of a collective as of a synchronous send; an answer to a transfer that is not offered, or
+    /// 'drop' to a payload of a collective, which no engine answers; data that are not due), 13 and 14. With the last
+    /// data of a payload its message is judged, as if it stood in a frame. A refusal changes nothing, but for that
+    /// reset; without memory for the reset it is 14.
     ///
-    /// A frame that comes before its turn is held, up to 63 behind the next one. Of such a frame only the form of a collective's
-    /// message is judged at once (30); all else is judged when its turn comes. Once the next frame is taken in, those that are
-    /// held behind it follow one by one, as if each had come then, but for two things: one that meets 13 or 14 stays held, and is
-    /// taken in when it comes again; one that meets 30 isn't held any more, and its sender sends it again. Nothing follows either,
-    /// and neither is acknowledged. Of what goes out the acknowledgement stands first, and says what was reached and what is
-    /// held; what else goes out stands by rising rank and, for one rank, by its numbers. A blocked call is answered once, at the end of all
-    /// that: a waitany then with the lowest index that is ready. Links are this project's own; MPI 3.1 has none.
+    /// A frame that comes before its turn is held, up to 63 behind the next one. Of such a frame only the form of a
+    /// collective's message is judged at once (30); all else is judged when its turn comes. Once the next frame is
+    /// taken in, those that are held behind it follow one by one, as if each had come then, but for two things: one
+    /// that meets 13 or 14 stays held, and is taken in when it comes again; one that meets 30 isn't held any more, and
+    /// its sender sends it again. Nothing follows either, and neither is acknowledged. Of what goes out the
+    /// acknowledgement stands first, and says what was reached and what is held; what else goes out stands by rising
+    /// rank and, for one rank, by its numbers. A blocked call is answered once, at the end of all that: a waitany then
+    /// with the lowest index that is ready. Links are this project's own; MPI 3.1 has none.
     ///
-    /// A message of a collective is kept until the rank has entered that collective; then, or where it has, the rank does of
-    /// itself all that follows, the others are told, and a rank that is thereby through leaves.
+    /// A message of a collective is kept until the rank has entered that collective; then, or where it has, the rank
+    /// does of itself all that follows, the others are told, and a rank that is thereby through leaves.
     ///
-    /// A payload of a collective of more than 1,024 bytes is announced first. The announcement is answered at once, whether or not
-    /// the rank has entered the collective or left it; its data go out on the answer, in frames of 1,024 bytes, at most 1,024
-    /// of them, and with the last of them the message is taken in. Answers and data are told from those of point to point by
-    /// their transfer number, which both kinds share.
+    /// A payload of a collective of more than 1,024 bytes is announced first. The announcement is answered at once,
+    /// whether or not the rank has entered the collective or left it; its data go out on the answer, in frames of 1,024
+    /// bytes, at most 1,024 of them, and with the last of them the message is taken in. Answers and data are told from
+    /// those of point to point by their transfer number, which both kinds share.
     ///
     /// An announcement of a large message that a receive waits for is answered: its data are to come where the receive
     /// has their type and places for them, and else the message is used up without them. Data that are asked for go out
@@ -331,11 +347,11 @@ impl Engine {
     ///
     /// A datagram from a later incarnation of its source than the known one teaches it, before the datagram is
     /// handled. Both directions of the session start anew, so of a frame or an acknowledgement only number 0 is within
-    /// the window; receives that name the rank or collect from it end as replaced, with their buffers as they were, and so do
-    /// sends that wait for its answer; messages from its former incarnations that were not received are dropped, with
-    /// what came of those of which some data came; and a collective that the rank is in with a former one among its members
-    /// ends with 11. A reset that teaches nothing changes nothing. MPI 3.1 has no restarts of a rank: these rules are this
-    /// project's own. What is not refused leaves its source known at the incarnation in its header.
+    /// the window; receives that name the rank or collect from it end as replaced, with their buffers as they were, and
+    /// so do sends that wait for its answer; messages from its former incarnations that were not received are dropped,
+    /// with what came of those of which some data came; and a collective that the rank is in with a former one among
+    /// its members ends with 11. A reset that teaches nothing changes nothing. MPI 3.1 has no restarts of a rank: these
+    /// rules are this project's own. What is not refused leaves its source known at the incarnation in its header.
     pub fn on_datagram(&mut self, bytes: &[u8]) -> Result<(), Refusal>
         ensures exact { DatagramGives self.old bytes.now result self.new }
         ensures known { OnOk result (SourceIsKnown self.new bytes.now) }

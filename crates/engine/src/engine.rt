@@ -5,7 +5,8 @@ ghost use Rattle.point_to_point_calls.specs.Refusals.{IsRefusal};
 ghost use Rattle.sessions.specs.Peers.{IsIdlePeer};
 ghost use Rattle.sessions.specs.SessionsState.{SessionGives};
 ghost use Rattle.engine.specs.Places.{place_fault};
-ghost use Rattle.engine_calls.specs.EngineState.{completion_by, completion_of, opening, without_completion, without_out};
+ghost use Rattle.engine_calls.specs.EngineState.{completion_by, completion_of, opening, without_completion};
+ghost use Rattle.engine_calls.specs.EngineState.{without_out};
 ghost use Rattle.engine.specs.Ticks.{TickGives};
 
 use collective_transfers::CollectiveTransfers;
@@ -66,8 +67,8 @@ fn completion_by(ended: Option<Ending>, answer: Option<Answer>) -> Option<Comple
 }
 
 impl Engine {
-    /// The engine of a rank at its start: it holds `world` and `self`, nothing is pending, its clock is at 0, no session has
-    /// begun, and every other rank is known at incarnation 0.
+    /// The engine of a rank at its start: it holds `world` and `self`, nothing is pending, its clock is at 0, no
+    /// session has begun, and every other rank is known at incarnation 0.
     ///
     /// Refused with 5 where the rank is not below the size, with 13 where the size is above 1,024, and with 14.
     pub fn new(alloc: Global, place: Place) -> Result<Engine, Refusal>
@@ -126,8 +127,8 @@ impl Engine {
         self.sessions.take_out()
     }
 
-    /// Gives the list back that `take_out` handed out, so that what is emitted next has its room. What it holds is dropped, and
-    /// nothing else changes. It takes no memory.
+    /// Gives the list back that `take_out` handed out, so that what is emitted next has its room. What it holds is
+    /// dropped, and nothing else changes. It takes no memory.
     pub fn give_back(&mut self, taken: Vec<(u16, Bytes)>)
         ensures { self.new ≡ self.old }
     {
@@ -147,7 +148,8 @@ impl Engine {
     }
 
     /// Hands out the answer of a blocked call, once, after the event in which it was ready: of its requests, or of the
-    /// collective that it entered. It is to be taken after each such event: of two answers that were not taken one is lost.
+    /// collective that it entered. It is to be taken after each such event: of two answers that were not taken one is
+    /// lost.
     pub fn take_completion(&mut self) -> Option<Completion>
         ensures completion { result ≡ completion_of self.old }
         ensures rest { self.new ≡ without_completion self.old }

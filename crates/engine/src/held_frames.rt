@@ -1,8 +1,8 @@
-//! What follows a frame that is handed up: the frames that were held behind it, each as if it had come then, and the answer of a
-//! blocked call at the end of all.
+//! What follows a frame that is handed up: the frames that were held behind it, each as if it had come then, and the
+//! answer of a blocked call at the end of all.
 //!
-//! A delivery has one acknowledgement, which stands first in what goes out. It is spelled before a turn is taken, since nothing
-//! may fail behind one, and says then what the turn has reached.
+//! A delivery has one acknowledgement, which stands first in what goes out. It is spelled before a turn is taken, since
+//! nothing may fail behind one, and says then what the turn has reached.
 
 ghost use Rattle.std.specs.Prelude.{◌≡◌, ◌≤◌, ◌<◌, ◌+◌, ◌*◌, length, Err, IfErr, IfOk, OnOk, Some, slice_set, suc};
 ghost use Rattle.reliable_link.specs.ReceiverState.{advanced};
@@ -14,7 +14,8 @@ ghost use Rattle.sessions.specs.Peers.{peer_at};
 ghost use Rattle.sessions.specs.Spellings.{ack_of};
 ghost use Rattle.sessions.specs.Windows.{room};
 ghost use Rattle.engine.specs.Following.{FollowEnds, StaysFor};
-ghost use Rattle.engine.specs.Datagrams.{HasFollowed, HeardGives, IsTakenInUnless, says_nothing, without_next, woken_engine};
+ghost use Rattle.engine.specs.Datagrams.{HasFollowed, HeardGives, IsTakenInUnless, says_nothing, without_next};
+ghost use Rattle.engine.specs.Datagrams.{woken_engine};
 
 use crate::datagrams::says_nothing;
 use crate::engine::Engine;
@@ -42,8 +43,8 @@ impl Engine {
         }
     }
 
-    /// The acknowledgement that says that what the next frame of an endpoint says in these bytes was handed up. Refused is 13
-    /// where its number is the last one, and 14.
+    /// The acknowledgement that says that what the next frame of an endpoint says in these bytes was handed up. Refused
+    /// is 13 where its number is the last one, and 14.
     fn spell_turn(
         &mut self,
         source: Endpoint,
@@ -52,7 +53,9 @@ impl Engine {
     ) -> Result<Bytes, Refusal>
         requires there { source.rank < self.old.sessions.place.size }
         requires turn { Some (heard_text heard) ≡ turn_of source bytes.now }
-        ensures ack { IfOk result (λ ack. ack ≡ ack_of self.old.sessions.place source (advanced (peer_at self.old.sessions.peers source.rank).receiver)) }
+        ensures ack { IfOk result
+            (λ ack. ack ≡
+            ack_of self.old.sessions.place source (advanced (peer_at self.old.sessions.peers source.rank).receiver)) }
         ensures err { IfErr result (λ e. StaysFor (Some e)) }
         ensures kept { self.new ≡ self.old }
     {
@@ -70,7 +73,11 @@ impl Engine {
     /// This goes out in the place of what was to go out there.
     fn replace(&mut self, at: usize, rank: u16, bytes: Bytes)
         requires { at < length self.old.sessions.out }
-        ensures { self.new ≡ record self.old { sessions = record self.old.sessions { out = slice_set self.old.sessions.out at (rank, bytes) } } }
+        ensures { self.new ≡
+            record self.old {
+              sessions =
+                  record self.old.sessions { out = slice_set self.old.sessions.out at (rank, bytes) };
+            } }
     {
         self.sessions.replace(at, rank, bytes);
     }
@@ -83,14 +90,16 @@ impl Engine {
         self.sessions.discard(source.rank);
     }
 
-    /// Takes in the frames of an endpoint that were held behind the one that was handed up, so many at most, and the acknowledgement
-    /// at this place says so. One that breaks a rule isn't held any more, and one that meets a limit, or for which there is no
-    /// memory, stays held; nothing follows either. Answered is why one stays held (13, 14), if one does.
+    /// Takes in the frames of an endpoint that were held behind the one that was handed up, so many at most, and the
+    /// acknowledgement at this place says so. One that breaks a rule isn't held any more, and one that meets a limit,
+    /// or for which there is no memory, stays held; nothing follows either. Answered is why one stays held (13, 14), if
+    /// one does.
     fn follow(&mut self, at: usize, source: Endpoint, turns: u32) -> Option<Refusal>
         requires there { source.rank < self.old.sessions.place.size }
         requires at { at < length self.old.sessions.out }
         ensures exact { FollowEnds result turns at source self.old self.new }
-        ensures within { length self.new.sessions.out + room self.new.sessions.peers ≤ length self.old.sessions.out + room self.old.sessions.peers }
+        ensures within { length self.new.sessions.out + room self.new.sessions.peers ≤ length self.old.sessions.out +
+            room self.old.sessions.peers }
         ensures longer { length self.old.sessions.out ≤ length self.new.sessions.out }
         ensures known { self.new.sessions.known ≡ self.old.sessions.known }
         ensures placed { self.new.sessions.place ≡ self.old.sessions.place }
@@ -139,12 +148,14 @@ impl Engine {
         self.sessions.arrange(at + 1);
     }
 
-    /// Takes in what was held behind a frame of an endpoint that was handed up, whose acknowledgement stands at this place.
+    /// Takes in what was held behind a frame of an endpoint that was handed up, whose acknowledgement stands at this
+    /// place.
     fn take_following(&mut self, at: usize, source: Endpoint)
         requires there { source.rank < self.old.sessions.place.size }
         requires at { at < length self.old.sessions.out }
         ensures exact { HasFollowed 64 at source self.old self.new }
-        ensures within { length self.new.sessions.out + room self.new.sessions.peers ≤ length self.old.sessions.out + room self.old.sessions.peers }
+        ensures within { length self.new.sessions.out + room self.new.sessions.peers ≤ length self.old.sessions.out +
+            room self.old.sessions.peers }
         ensures known { self.new.sessions.known ≡ self.old.sessions.known }
         ensures placed { self.new.sessions.place ≡ self.old.sessions.place }
         ensures core_placed { self.new.core.place ≡ self.old.core.place }
@@ -161,14 +172,17 @@ impl Engine {
         self.core.wake();
     }
 
-    /// Takes in what is heard, and what follows it, or refuses it; at the end a blocked call is answered. What says nothing new
-    /// changes nothing.
+    /// Takes in what is heard, and what follows it, or refuses it; at the end a blocked call is answered. What says
+    /// nothing new changes nothing.
     pub(crate) fn take_in(&mut self, heard: Heard<'_>) -> Result<(), Refusal>
         requires can { CanHear self.old.sessions (Some (heard_text heard)) }
         requires fits { WordFits (word_text heard.word) }
         requires there { heard.source.rank < self.old.sessions.place.size }
-        ensures taken { OnOk result (IsTakenInUnless (says_nothing heard.entry.lesson (word_text heard.entry.word)) self.old (heard_text heard.entry) self.new) }
-        ensures known { OnOk result (self.new.sessions.known ≡ taught_known heard.entry.lesson self.old.sessions.known heard.entry.source) }
+        ensures taken { OnOk result
+            (IsTakenInUnless (says_nothing heard.entry.lesson (word_text heard.entry.word)) self.old
+            (heard_text heard.entry) self.new) }
+        ensures known { OnOk result (self.new.sessions.known ≡
+            taught_known heard.entry.lesson self.old.sessions.known heard.entry.source) }
         ensures refused { IfErr result (λ e. HeardGives self.old (heard_text heard.entry) (Err e) self.new) }
         ensures few { length self.new.sessions.out ≤ length self.old.sessions.out + 65 * self.old.sessions.place.size }
         ensures placed { self.new.sessions.place ≡ self.old.sessions.place }

@@ -7,12 +7,12 @@
 //! It has four parts: a core, which knows requests and messages, by contexts and ranks of `world`; communicators, which
 //! know their groups and contexts, and collectives; the payloads of collectives that are too long for a frame, which it
 //! announced or which come to it in pieces; and sessions, which know bytes, numbers and time. An event goes
-//! through all of them: each finds the rule or limit that it breaks, then the core and the communicators make room and name
-//! the frames that they call for, then the sessions carry it out and send those frames, or find no memory, and then the
-//! others do their part, which cannot fail.
+//! through all of them: each finds the rule or limit that it breaks, then the core and the communicators make room and
+//! name the frames that they call for, then the sessions carry it out and send those frames, or find no memory, and
+//! then the others do their part, which cannot fail.
 //!
-//! A datagram may bring more than its own frame: frames that were held behind it follow, each through all parts as one that
-//! comes then, and one acknowledgement tells of all. The blocked call is answered once, at the end of that.
+//! A datagram may bring more than its own frame: frames that were held behind it follow, each through all parts as one
+//! that comes then, and one acknowledgement tells of all. The blocked call is answered once, at the end of that.
 #![tactic(auto)]
 
 mod calls;

@@ -3,7 +3,8 @@
 ghost use Rattle.std.specs.Prelude.{◌≡◌, option_map};
 ghost use Rattle.datagram.specs.Spelling.{clear_text, data_text, eager_text, frame_text, request_text};
 ghost use Rattle.sessions.specs.Heard.{word_text};
-ghost use Rattle.engine.specs.Datagrams.{announcement_on, is_from_collective, is_to_collective, notice_in, notice_of_frame, notice_of_message, notice_text};
+ghost use Rattle.engine.specs.Datagrams.{announcement_on, is_from_collective, is_to_collective, notice_in};
+ghost use Rattle.engine.specs.Datagrams.{notice_of_frame, notice_of_message, notice_text};
 
 use collective_transfers::CollectiveTransfers;
 use datagram::{ClearToSend, Data, Eager, Frame, Plane, RequestToSend};
@@ -102,10 +103,15 @@ pub(crate) fn notice_in<'a>(payloads: &CollectiveTransfers, heard: Heard<'a>) ->
         ≡ notice_in heard.entry.lesson payloads.now.state heard.entry.source.rank (word_text heard.entry.word) }
 {
     match heard.word {
-        LinkEvent::Hands(frame) => { notice_of_frame(payloads, heard.lesson, heard.source.rank, frame) }
+        LinkEvent::Hands(frame) => {
+            notice_of_frame(payloads, heard.lesson, heard.source.rank, frame)
+        }
         LinkEvent::Follows(frame) => {
             notice_of_frame(payloads, heard.lesson, heard.source.rank, frame)
         }
-        LinkEvent::Acknowledges(..) | LinkEvent::Repeats | LinkEvent::Holds(_) | LinkEvent::Nothing => None,
+        LinkEvent::Acknowledges(..)
+        | LinkEvent::Repeats
+        | LinkEvent::Holds(_)
+        | LinkEvent::Nothing => None,
     }
 }

@@ -8,7 +8,8 @@ ghost use Rattle.payload.specs.Reading.{payload_of};
 ghost use Rattle.payload.specs.Spelling.{payload_text};
 ghost use Rattle.sessions.specs.Windows.{StaysWithin};
 ghost use Rattle.sessions.specs.Heard.{CanHear, heard_text};
-ghost use Rattle.engine.specs.Datagrams.{IsNoticed, IsTold, WhyUnnoticed, lesson_in, numbers_met, payloads_met, received};
+ghost use Rattle.engine.specs.Datagrams.{IsNoticed, IsTold, WhyUnnoticed, lesson_in, numbers_met, payloads_met};
+ghost use Rattle.engine.specs.Datagrams.{received};
 ghost use Rattle.engine_calls.specs.EngineState.{or_before};
 ghost use Rattle.engine_calls.specs.Frames.{step_limit};
 ghost use Rattle.engine_calls.specs.Steps.{StepStops, ending_met, engine_held};
@@ -36,9 +37,11 @@ pub(crate) fn lesson_in(heard: Heard<'_>) -> Option<Endpoint>
     }
 }
 
-/// The communicators learn the lesson, if there is one; a collective that has a former incarnation among its members ends.
+/// The communicators learn the lesson, if there is one; a collective that has a former incarnation among its members
+/// ends.
 pub(crate) fn learn(communicators: &mut Communicators, lesson: Option<Endpoint>) -> Option<Ending>
-    ensures collective { communicators.new.collective.state ≡ after_lesson communicators.old.collective.state communicators.old.contexts.state lesson }
+    ensures collective { communicators.new.collective.state ≡
+        after_lesson communicators.old.collective.state communicators.old.contexts.state lesson }
     ensures notes { communicators.new.collective.more_notes ≡ communicators.old.collective.more_notes }
     ensures contexts { communicators.new.contexts ≡ communicators.old.contexts }
     ensures ending { result ≡ ending_met communicators.old.collective.state communicators.old.contexts.state lesson }
@@ -106,8 +109,8 @@ pub struct ReceivedPayload<'a> {
     pub bytes: &'a [u8],
 }
 
-/// The core, the payloads and the sessions take in what is heard, without its frame, and the others are told by these messages;
-/// those that are too long for a frame are announced and kept. Refused is 13 and 14; then nothing changes.
+/// The core, the payloads and the sessions take in what is heard, without its frame, and the others are told by these
+/// messages; those that are too long for a frame are announced and kept. Refused is 13 and 14; then nothing changes.
 fn carry_out_notices(
     alloc: Global,
     core: &mut Core,
@@ -118,8 +121,13 @@ fn carry_out_notices(
 ) -> Result<(), Refusal>
     requires can { CanHear sessions.old (Some (heard_text heard)) }
     requires fits { All IsFitting messages.now }
-    ensures ok { OnOk result (IsTold core.old.state payloads.old.state sessions.old (heard_text heard.entry) messages.now core.new.state payloads.new.state sessions.new) }
-    ensures err { IfErr result (StepStops (step_limit sessions.old (numbers_met core.old.state (heard_text heard.entry)) (Some (heard_text heard.entry)) messages.now)) }
+    ensures ok { OnOk result
+        (IsTold core.old.state payloads.old.state sessions.old (heard_text heard.entry) messages.now core.new.state
+        payloads.new.state sessions.new) }
+    ensures err { IfErr result
+        (StepStops
+        (step_limit sessions.old (numbers_met core.old.state (heard_text heard.entry)) (Some (heard_text heard.entry))
+        messages.now)) }
     ensures core { OnErr result (core.new.state ≡ core.old.state) }
     ensures payloads { OnErr result (payloads.new.state ≡ payloads.old.state) }
     ensures coming { payloads.old.more_coming ≤ payloads.new.more_coming }
@@ -150,9 +158,9 @@ fn carry_out_notices(
     Ok(())
 }
 
-/// Takes in a message of a collective: it is read and made ready with all that follows, the others are told, and only then
-/// the lesson is learnt and the message taken. Answered is with what a collective ends by it. Refused is 30, 13 and 14; then
-/// nothing changes.
+/// Takes in a message of a collective: it is read and made ready with all that follows, the others are told, and only
+/// then the lesson is learnt and the message taken. Answered is with what a collective ends by it. Refused is 30, 13
+/// and 14; then nothing changes.
 pub(crate) fn take_message(
     alloc: Global,
     core: &mut Core,
@@ -163,10 +171,13 @@ pub(crate) fn take_message(
     message: ReceivedPayload<'_>,
 ) -> Result<Option<Ending>, Refusal>
     requires can { CanHear sessions.old (Some (heard_text heard)) }
-    ensures ok { IfOk result (λ ending. (before : Option Ending) → IsNoticed (engine_held core.old communicators.old before payloads.old.state sessions.old)
+    ensures ok { IfOk result (λ ending. (before : Option Ending) →
+        IsNoticed (engine_held core.old communicators.old before payloads.old.state sessions.old)
         (payloads_met payloads.old.state (lesson_in (heard_text heard.entry)))
-        (heard_text heard.entry) (received message.entry) (engine_held core.new communicators.new (or_before ending before) payloads.new.state sessions.new)) }
-    ensures err { IfErr result (WhyUnnoticed (engine_held core.old communicators.old None payloads.old.state sessions.old) (heard_text heard.entry) (received message.entry)) }
+        (heard_text heard.entry) (received message.entry)
+        (engine_held core.new communicators.new (or_before ending before) payloads.new.state sessions.new)) }
+    ensures err { IfErr result (WhyUnnoticed (engine_held core.old communicators.old None payloads.old.state sessions.old)
+        (heard_text heard.entry) (received message.entry)) }
     ensures core { OnErr result (core.new.state ≡ core.old.state) }
     ensures collective { OnErr result (communicators.new.collective.state ≡ communicators.old.collective.state) }
     ensures contexts { OnErr result (communicators.new.contexts.state ≡ communicators.old.contexts.state) }

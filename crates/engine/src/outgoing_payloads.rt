@@ -1,6 +1,7 @@
 //! How payloads of collectives go in pieces: announcements and answers of them.
 
-ghost use Rattle.std.specs.Prelude.{◌≡◌, ◌≤◌, ◌<◌, [], ◌∷◌, All, List, true, length, map, is_some, IfErr, IfOk, None, Ok, OnErr, OnOk, Option, Some};
+ghost use Rattle.std.specs.Prelude.{◌≡◌, ◌≤◌, ◌<◌, [], ◌∷◌, All, List, true, length, map, is_some, IfErr, IfOk, None};
+ghost use Rattle.std.specs.Prelude.{Ok, OnErr, OnOk, Option, Some};
 ghost use Rattle.collective_steps.specs.declared.step.Ending.{Ending};
 ghost use Rattle.collective_transfers.specs.State.{after_answer, announced_to};
 ghost use Rattle.datagram.specs.Spelling.{clear_text, request_text};
@@ -17,7 +18,8 @@ ghost use Rattle.engine_calls.specs.EngineState.{or_before};
 ghost use Rattle.engine_calls.specs.Frames.{outgoing_of};
 ghost use Rattle.engine_calls.specs.Refusals.{fault_of_sessions};
 ghost use Rattle.engine_calls.specs.Steps.{engine_held};
-ghost use Rattle.engine.specs.Datagrams.{AnnouncementGives, announcement_fault, answer_fault, answer_to, coming_by, data_for, data_sent, lesson_alone, numbers_met};
+ghost use Rattle.engine.specs.Datagrams.{AnnouncementGives, announcement_fault, answer_fault, answer_to, coming_by};
+ghost use Rattle.engine.specs.Datagrams.{data_for, data_sent, lesson_alone, numbers_met};
 
 use crate::notices::{forget, learn, lesson_in, numbers_met};
 use collective_transfers::{CollectiveTransfers, ComingPayload};
@@ -43,7 +45,8 @@ pub(crate) fn limit_of(sessions: &Sessions, heard: Heard<'_>, count: usize) -> O
     }
 }
 
-/// The sessions take in what is heard, which meets no limit with these frames; or there is no memory (14), and nothing changes.
+/// The sessions take in what is heard, which meets no limit with these frames; or there is no memory (14), and nothing
+/// changes.
 pub(crate) fn carry_out(
     sessions: &mut Sessions,
     heard: Heard<'_>,
@@ -51,7 +54,8 @@ pub(crate) fn carry_out(
 ) -> Result<(), Refusal>
     requires can { CanHear sessions.old (Some (heard_text heard)) }
     requires go { All (CanSend sessions.old.place) (sendings frames.now) }
-    requires limit { fault_of_sessions (event_limit sessions.old (Some (heard_text heard)) (sendings frames.now)) ≡ None }
+    requires limit { fault_of_sessions (event_limit sessions.old (Some (heard_text heard)) (sendings frames.now)) ≡
+        None }
     ensures ok { OnOk result (sessions.new ≡ after_event sessions.old (Some (heard_text heard.entry)) (sendings frames.now)) }
     ensures unchanged { OnErr result (sessions.new ≡ sessions.old) }
     ensures err { IfErr result (λ e. e ≡ Refusal.OutOfMemory) }
@@ -64,8 +68,8 @@ pub(crate) fn carry_out(
     }
 }
 
-/// The first rule or limit that the announcement of a payload meets: it is of a synchronous send, which no payload is (30), its
-/// number isn't the next one of its session (30), or the sessions meet their limit (13). It takes no memory.
+/// The first rule or limit that the announcement of a payload meets: it is of a synchronous send, which no payload is
+/// (30), its number isn't the next one of its session (30), or the sessions meet their limit (13). It takes no memory.
 fn fault_of_announcement(
     core: &Core,
     sessions: &Sessions,
@@ -84,8 +88,8 @@ fn fault_of_announcement(
     limit_of(sessions, heard, 1)
 }
 
-/// The sessions take in the announcement of a payload, which breaks no rule and meets no limit, and send the answer to it; or
-/// there is no memory (14), and nothing changes.
+/// The sessions take in the announcement of a payload, which breaks no rule and meets no limit, and send the answer to
+/// it; or there is no memory (14), and nothing changes.
 fn send_answer(
     sessions: &mut Sessions,
     heard: Heard<'_>,
@@ -93,8 +97,13 @@ fn send_answer(
 ) -> Result<(), Refusal>
     requires can { CanHear sessions.old (Some (heard_text heard)) }
     requires there { heard.source.rank < sessions.old.place.size }
-    requires limit { fault_of_sessions (event_limit sessions.old (Some (heard_text heard)) (answer_to (heard_text heard) (request_text request) ∷ [])) ≡ None }
-    ensures ok { OnOk result (sessions.new ≡ after_event sessions.old (Some (heard_text heard.entry)) (answer_to (heard_text heard.entry) (request_text request) ∷ [])) }
+    requires limit { fault_of_sessions
+        (event_limit sessions.old (Some (heard_text heard)) (answer_to (heard_text heard) (request_text request) ∷ []))
+        ≡ None }
+    ensures ok { OnOk result
+        (sessions.new ≡
+        after_event sessions.old (Some (heard_text heard.entry))
+        (answer_to (heard_text heard.entry) (request_text request) ∷ [])) }
     ensures unchanged { OnErr result (sessions.new ≡ sessions.old) }
     ensures err { IfErr result (λ e. e ≡ Refusal.OutOfMemory) }
     ensures within { OnOk result (StaysWithin (Some (heard_text heard.entry)) sessions.old sessions.new) }
@@ -138,8 +147,8 @@ fn make_place(
     }
 }
 
-/// The core and the sessions take in the announcement of a payload, which breaks no rule and meets no limit: it is counted, and the
-/// answer to it is sent; or there is no memory (14), and nothing changes.
+/// The core and the sessions take in the announcement of a payload, which breaks no rule and meets no limit: it is
+/// counted, and the answer to it is sent; or there is no memory (14), and nothing changes.
 fn count_and_answer(
     core: &mut Core,
     sessions: &mut Sessions,
@@ -149,8 +158,12 @@ fn count_and_answer(
     requires can { CanHear sessions.old (Some (heard_text heard)) }
     requires there { heard.source.rank < sessions.old.place.size }
     requires allowed { announcement_fault core.old.state sessions.old (heard_text heard) (request_text request) ≡ None }
-    ensures core { OnOk result (core.new.state ≡ with_numbers (after_news core.old.state (lesson_alone (heard_text heard.entry))) (with_announced (numbers_met core.old.state (heard_text heard.entry)) heard.entry.source.rank)) }
-    ensures sessions { OnOk result (sessions.new ≡ after_event sessions.old (Some (heard_text heard.entry)) (answer_to (heard_text heard.entry) (request_text request) ∷ [])) }
+    ensures core { OnOk result (core.new.state ≡ with_numbers (after_news core.old.state (lesson_alone (heard_text heard.entry)))
+        (with_announced (numbers_met core.old.state (heard_text heard.entry)) heard.entry.source.rank)) }
+    ensures sessions { OnOk result
+        (sessions.new ≡
+        after_event sessions.old (Some (heard_text heard.entry))
+        (answer_to (heard_text heard.entry) (request_text request) ∷ [])) }
     ensures err { IfErr result (λ e. e ≡ Refusal.OutOfMemory) }
     ensures kept { OnErr result (core.new.state ≡ core.old.state) }
     ensures unchanged { OnErr result (sessions.new ≡ sessions.old) }
@@ -172,8 +185,8 @@ fn count_and_answer(
     Ok(())
 }
 
-/// Takes in the announcement of a payload: it is counted, it is answered, and its payload begins to come. Answered is with what a
-/// collective ends by its lesson. Refused is 30, 13 and 14; then nothing changes.
+/// Takes in the announcement of a payload: it is counted, it is answered, and its payload begins to come. Answered is
+/// with what a collective ends by its lesson. Refused is 30, 13 and 14; then nothing changes.
 pub(crate) fn take_announcement(
     alloc: Global,
     core: &mut Core,
@@ -185,9 +198,12 @@ pub(crate) fn take_announcement(
 ) -> Result<Option<Ending>, Refusal>
     requires can { CanHear sessions.old (Some (heard_text heard)) }
     requires there { heard.source.rank < sessions.old.place.size }
-    ensures ok { IfOk result (λ ending. (before : Option Ending) → AnnouncementGives (engine_held core.old communicators.old before payloads.old.state sessions.old)
-        (heard_text heard.entry) (request_text request) (Ok tt) (engine_held core.new communicators.new (or_before ending before) payloads.new.state sessions.new)) }
-    ensures err { IfErr result (IsRefusal (announcement_fault core.old.state sessions.old (heard_text heard.entry) (request_text request))) }
+    ensures ok { IfOk result (λ ending. (before : Option Ending) →
+        AnnouncementGives (engine_held core.old communicators.old before payloads.old.state sessions.old)
+        (heard_text heard.entry) (request_text request) (Ok tt)
+        (engine_held core.new communicators.new (or_before ending before) payloads.new.state sessions.new)) }
+    ensures err { IfErr result
+        (IsRefusal (announcement_fault core.old.state sessions.old (heard_text heard.entry) (request_text request))) }
     ensures core { OnErr result (core.new.state ≡ core.old.state) }
     ensures communicators { OnErr result (communicators.new ≡ communicators.old) }
     ensures payloads { OnErr result (payloads.new.state ≡ payloads.old.state) }
@@ -254,8 +270,8 @@ fn data_frames<'a>(
     frames_of(alloc, rank, transfer, &pieces)
 }
 
-/// The sessions take in the answer to a payload of so many bytes, and send all its data. Refused is 13 where the sessions meet
-/// their limit, and 14; then nothing changes.
+/// The sessions take in the answer to a payload of so many bytes, and send all its data. Refused is 13 where the
+/// sessions meet their limit, and 14; then nothing changes.
 fn send_data(
     alloc: Global,
     sessions: &mut Sessions,
@@ -266,9 +282,19 @@ fn send_data(
     requires can { CanHear sessions.old (Some (heard_text heard)) }
     requires there { heard.source.rank < sessions.old.place.size }
     requires limit { length bytes.now ≤ send_limit }
-    ensures none { OnOk result (fault_of_sessions (event_limit sessions.old (Some (heard_text heard.entry)) (data_sent heard.entry.source.rank transfer bytes.now)) ≡ None) }
-    ensures sent { OnOk result (sessions.new ≡ after_event sessions.old (Some (heard_text heard.entry)) (data_sent heard.entry.source.rank transfer bytes.now)) }
-    ensures err { IfErr result (IsRefusal (fault_of_sessions (event_limit sessions.old (Some (heard_text heard.entry)) (data_sent heard.entry.source.rank transfer bytes.now)))) }
+    ensures none { OnOk result
+        (fault_of_sessions
+        (event_limit sessions.old (Some (heard_text heard.entry))
+        (data_sent heard.entry.source.rank transfer bytes.now)) ≡ None) }
+    ensures sent { OnOk result
+        (sessions.new ≡
+        after_event sessions.old (Some (heard_text heard.entry))
+        (data_sent heard.entry.source.rank transfer bytes.now)) }
+    ensures err { IfErr result
+        (IsRefusal
+        (fault_of_sessions
+        (event_limit sessions.old (Some (heard_text heard.entry))
+        (data_sent heard.entry.source.rank transfer bytes.now)))) }
     ensures unchanged { OnErr result (sessions.new ≡ sessions.old) }
     ensures within { OnOk result (StaysWithin (Some (heard_text heard.entry)) sessions.old sessions.new) }
     ensures placed { sessions.new.place ≡ sessions.old.place }
@@ -280,8 +306,8 @@ fn send_data(
     carry_out(sessions, heard, &frames)
 }
 
-/// Takes in the answer to a payload that this rank announced: all its data go out, and it isn't kept any more. Refused is 30
-/// where the answer doesn't ask for the data, 13 and 14; then nothing changes.
+/// Takes in the answer to a payload that this rank announced: all its data go out, and it isn't kept any more. Refused
+/// is 30 where the answer doesn't ask for the data, 13 and 14; then nothing changes.
 pub(crate) fn take_answer(
     alloc: Global,
     payloads: &mut CollectiveTransfers,
@@ -292,10 +318,15 @@ pub(crate) fn take_answer(
     requires can { CanHear sessions.old (Some (heard_text heard)) }
     requires there { heard.source.rank < sessions.old.place.size }
     requires announced { is_some (announced_to payloads.old.state heard.source.rank answer.transfer) ≡ true }
-    ensures none { OnOk result (answer_fault payloads.old.state sessions.old (heard_text heard.entry) (clear_text answer) ≡ None) }
+    ensures none { OnOk result (answer_fault payloads.old.state sessions.old (heard_text heard.entry) (clear_text answer) ≡
+        None) }
     ensures payloads { OnOk result (payloads.new.state ≡ after_answer payloads.old.state heard.entry.source.rank answer.transfer) }
-    ensures sent { OnOk result (sessions.new ≡ after_event sessions.old (Some (heard_text heard.entry)) (data_for payloads.old.state (heard_text heard.entry) (clear_text answer))) }
-    ensures err { IfErr result (IsRefusal (answer_fault payloads.old.state sessions.old (heard_text heard.entry) (clear_text answer))) }
+    ensures sent { OnOk result
+        (sessions.new ≡
+        after_event sessions.old (Some (heard_text heard.entry))
+        (data_for payloads.old.state (heard_text heard.entry) (clear_text answer))) }
+    ensures err { IfErr result
+        (IsRefusal (answer_fault payloads.old.state sessions.old (heard_text heard.entry) (clear_text answer))) }
     ensures kept { OnErr result (payloads.new.state ≡ payloads.old.state) }
     ensures unchanged { OnErr result (sessions.new ≡ sessions.old) }
     ensures within { OnOk result (StaysWithin (Some (heard_text heard.entry)) sessions.old sessions.new) }

@@ -17,8 +17,8 @@ impl Engine {
         fault_of_look(&self.core, &self.communicators, &self.sessions, probe)
     }
 
-    /// Tells what message such a receive would take now, and changes nothing (MPI 3.1, 3.8.1). Refused is the first that
-    /// holds of 6, 4, 3, 5 and 11; a refusal hands the call back. It takes no memory.
+    /// Tells what message such a receive would take now, and changes nothing (MPI 3.1, 3.8.1). Refused is the first
+    /// that holds of 6, 4, 3, 5 and 11; a refusal hands the call back. It takes no memory.
     pub(crate) fn iprobe(&self, probe: Probe) -> Reply
         ensures { LookingGives self.now probe result self.now }
     {

@@ -57,8 +57,8 @@ impl Engine {
         }
     }
 
-    /// Answers a question about a communicator (MPI 3.1, 6.4.1). Refused is the first that holds of 6, 4 and 14, which is
-    /// for the members alone; a refusal hands the call back.
+    /// Answers a question about a communicator (MPI 3.1, 6.4.1). Refused is the first that holds of 6, 4 and 14, which
+    /// is for the members alone; a refusal hands the call back.
     pub(crate) fn ask(&self, comm: Option<usize>, question: Question) -> Reply
         ensures { AskingGives self.now comm question result self.now }
     {

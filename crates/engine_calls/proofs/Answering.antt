@@ -1,5 +1,6 @@
 -- What the core answers is what the engine answers.
-use Rattle.std.proofs.Common.{◌≡◌, ◌<◌, ◌≤◌, ◌+◌, ◌*◌, ℕ, List, Option, Some, None, refl, sym, ap, ap₂, subst, ◌∙◌, arith}
+use Rattle.std.proofs.Common.{◌≡◌, ◌<◌, ◌≤◌, ◌+◌, ◌*◌, ℕ, List, Option, Some, None, refl, sym, ap, ap₂, subst, ◌∙◌}
+use Rattle.std.proofs.Common.{arith}
 use Rattle.point_to_point_calls.specs.Calls as cores
 use Rattle.point_to_point_calls.specs.declared.call.CoreCall as core_asks
 use Rattle.point_to_point_calls.specs.declared.call.CoreCall.TheVariants as core_calls
@@ -13,7 +14,8 @@ use Rattle.point_to_point.specs.CoreState.{CoreState}
 use Rattle.sessions.specs.SessionsState.{SessionsState}
 use Rattle.vocabulary.specs.declared.envelope.Source.{Source}
 use Rattle.engine_calls.proofs.Clear.{within_same}
-use Rattle.engine_calls.specs.Asks.{AnswerGives, IsAsked, NeedsGroup, call_of_core, call_of, engine_of, group_at, reply_of_core, with_group}
+use Rattle.engine_calls.specs.Asks.{AnswerGives, IsAsked, NeedsGroup, call_of_core, call_of, engine_of, group_at}
+use Rattle.engine_calls.specs.Asks.{reply_of_core, with_group}
 use Rattle.engine_calls.specs.Calls.{CoreGives, IsAnswered, LacksRoom, NeedsMemory, RefusedLeaves, WhyRefused}
 use Rattle.engine_calls.specs.EngineState.{EngineState, GroupsState, Rest}
 use Rattle.engine_calls.specs.Faults.{fault_of}
@@ -28,7 +30,8 @@ use Rattle.engine_calls.specs.declared.reply.Reply.TheVariants as replies
 -- ---- the core
 
 -- the core answers, and its frame is on its way
-pub answer_given : (c mid d : CoreState) (s t : SessionsState) (q : core_asks.CoreCall) (reply : core_answers.CoreReply) → mid ≡ c → cores.IsTaken reply →
+pub answer_given : (c mid d : CoreState) (s t : SessionsState) (q : core_asks.CoreCall)
+    (reply : core_answers.CoreReply) → mid ≡ c → cores.IsTaken reply →
     Answers mid q reply d → t ≡ after_frame s (call_frame c q) → AnswerGives c s q reply d t
 answer_given c mid d s t q (core_replies.Refused why back) kept taken answers sent = absurd taken
 answer_given c mid d s t q (core_replies.Started r) kept taken answers sent =
@@ -46,7 +49,8 @@ answer_given c mid d s t q core_replies.Blocked kept taken answers sent =
 
 -- ---- want of memory
 
-lacks_by : (e : EngineState) (call : Call) (why : Refusal) → why ≡ refusals.OutOfMemory → NeedsMemory (core_call e.groups call) → LacksRoom e call why
+lacks_by : (e : EngineState) (call : Call) (why : Refusal) → why ≡ refusals.OutOfMemory →
+    NeedsMemory (core_call e.groups call) → LacksRoom e call why
 lacks_by e (calls.Isend s) why memory need = (memory, need)
 lacks_by e (calls.Irecv v) why memory need = (memory, need)
 lacks_by e (calls.Wait q) why memory need = absurd need
@@ -61,7 +65,8 @@ lacks_by e (calls.Improbe p) why memory need = (memory, need)
 lacks_by e (calls.Mrecv message into) why memory need = (memory, need)
 
 -- what is asked, and needs memory, is refused for want of it
-reason_is : (e : EngineState) (call : Call) (q : core_asks.CoreCall) (why : Refusal) → fault_of e call ≡ None → core_call e.groups call ≡ Some q →
+reason_is : (e : EngineState) (call : Call) (q : core_asks.CoreCall) (why : Refusal) → fault_of e call ≡ None →
+    core_call e.groups call ≡ Some q →
     why ≡ refusals.OutOfMemory → cores.NeedsMemory q → WhyRefused (fault_of e call) e call why
 reason_is e call q why allowed routed memory need =
     subst (λ (o : Option Refusal). WhyRefused o e call why) (sym allowed)
@@ -85,16 +90,23 @@ group_refused e call a asked need =
     record {
       handed = asked.back;
       unchanged = refl;
-      reason = reason_is e call (with_group (group_at e.groups a.comm a.named) a.call) refusals.OutOfMemory asked.allowed asked.routed refl
+      reason = reason_is e call (with_group (group_at e.groups a.comm a.named) a.call) refusals.OutOfMemory
+          asked.allowed asked.routed refl
           (needs (group_at e.groups a.comm a.named) a.call need);
     }
 
 -- ---- what a rule or a limit refuses
 
-pub fault_refused : (e : EngineState) (call : Call) (h : HandedBack Call) → (fault_of e call ≡ Some h.refused) × (h.value ≡ call) →
+pub fault_refused : (e : EngineState) (call : Call) (h : HandedBack Call) → (fault_of e call ≡ Some h.refused) ×
+    (h.value ≡ call) →
     CoreGives e call (replies.Refused h.refused h.value) e
 fault_refused e call h is =
-    record { handed = is.1; unchanged = refl; reason = subst (λ (o : Option Refusal). WhyRefused o e call h.refused) (sym is.0) refl }
+    record {
+      handed = is.1;
+      unchanged = refl;
+      reason =
+          subst (λ (o : Option Refusal). WhyRefused o e call h.refused) (sym is.0) refl;
+    }
 
 -- ---- the answer
 
@@ -110,7 +122,8 @@ named_same comm named group (core_calls.Cancel q) = refl
 named_same comm named group (core_calls.Improbe p) = refl
 named_same comm named group (core_calls.Mrecv message into) = refl
 
-is_answered : (c d : CoreState) (g : GroupsState) (rest : Rest) (s t : SessionsState) (call : Call) (a : RoutedCall) (answer : core_answers.CoreReply)
+is_answered : (c d : CoreState) (g : GroupsState) (rest : Rest) (s t : SessionsState) (call : Call) (a : RoutedCall)
+    (answer : core_answers.CoreReply)
     (reply : Reply) → IsAsked (engine_of c g rest s) call a → core_reply reply ≡ Some answer →
     Answers c (with_group (group_at g a.comm a.named) a.call) answer d →
     t ≡ after_frame s (call_frame c (with_group (group_at g a.comm a.named) a.call)) →
@@ -138,9 +151,11 @@ pub told_gives : (c d : CoreState) (g : GroupsState) (rest : Rest) (s t : Sessio
 told_gives c d g rest s t call a (core_replies.Refused why back) asked gives =
     record {
       handed =
-          ap (call_of_core a.comm a.named) gives.0 ∙ named_same a.comm a.named (group_at g a.comm a.named) a.call ∙ asked.back;
+          ap (call_of_core a.comm a.named) gives.0 ∙ named_same a.comm a.named (group_at g a.comm a.named) a.call ∙
+          asked.back;
       unchanged = ap₂ (λ (x : CoreState) (y : SessionsState). engine_of x g rest y) gives.3 gives.4;
-      reason = reason_is (engine_of c g rest s) call (with_group (group_at g a.comm a.named) a.call) why asked.allowed asked.routed gives.1 gives.2;
+      reason = reason_is (engine_of c g rest s) call (with_group (group_at g a.comm a.named) a.call) why asked.allowed
+          asked.routed gives.1 gives.2;
     }
 told_gives c d g rest s t call a (core_replies.Started r) asked gives =
     is_answered c d g rest s t call a (core_replies.Started r) (replies.Started r) asked refl gives.0 gives.1
@@ -156,26 +171,32 @@ told_gives c d g rest s t call a core_replies.Blocked asked gives =
     is_answered c d g rest s t call a core_replies.Blocked replies.Blocked asked refl gives.0 gives.1
 
 -- the same of what the program handed on
-pub answer_told : (c d : CoreState) (g : GroupsState) (s t : SessionsState) (a b : RoutedCall) (answer : core_answers.CoreReply) (reply : Reply) →
-    b ≡ record a { call = with_group (group_at g a.comm a.named) a.call } → AnswerGives c s b.call answer d t → reply ≡ reply_of_core b.comm b.named answer →
+pub answer_told : (c d : CoreState) (g : GroupsState) (s t : SessionsState) (a b : RoutedCall)
+    (answer : core_answers.CoreReply) (reply : Reply) →
+    b ≡ record a { call = with_group (group_at g a.comm a.named) a.call } → AnswerGives c s b.call answer d t →
+    reply ≡ reply_of_core b.comm b.named answer →
     (rest : Rest) (call : Call) → IsAsked (engine_of c g rest s) call a →
     CoreGives (engine_of c g rest s) call reply (engine_of d g rest t)
 answer_told c d g s t a b answer reply is gives tells rest call asked =
     subst (λ (r : Reply). CoreGives (engine_of c g rest s) call r (engine_of d g rest t)) (sym tells)
     (subst
-    (λ (x : RoutedCall). AnswerGives c s x.call answer d t → CoreGives (engine_of c g rest s) call (reply_of_core x.comm x.named answer) (engine_of d g rest t))
+    (λ (x : RoutedCall). AnswerGives c s x.call answer d t →
+    CoreGives (engine_of c g rest s) call (reply_of_core x.comm x.named answer) (engine_of d g rest t))
     (sym is) (told_gives c d g rest s t call a answer asked) gives)
 
-pub group_told : (c : CoreState) (g : GroupsState) (s : SessionsState) (a b : RoutedCall) (back : Call) → back ≡ call_of b → b ≡ a → NeedsGroup a.call →
+pub group_told : (c : CoreState) (g : GroupsState) (s : SessionsState) (a b : RoutedCall) (back : Call) →
+    back ≡ call_of b → b ≡ a → NeedsGroup a.call →
     (rest : Rest) (call : Call) → IsAsked (engine_of c g rest s) call a →
     CoreGives (engine_of c g rest s) call (replies.Refused refusals.OutOfMemory back) (engine_of c g rest s)
 group_told c g s a b back is same need rest call asked =
-    subst (λ (r : Call). CoreGives (engine_of c g rest s) call (replies.Refused refusals.OutOfMemory r) (engine_of c g rest s))
+    subst (λ (r : Call). CoreGives (engine_of c g rest s) call (replies.Refused refusals.OutOfMemory r)
+    (engine_of c g rest s))
     (sym (is ∙ ap call_of same)) (group_refused (engine_of c g rest s) call a asked need)
 
 -- ---- what a refusal leaves
 
-pub core_leaves : (old new : EngineState) (call : Call) (reply : Reply) → CoreGives old call reply new → RefusedLeaves reply old new
+pub core_leaves : (old new : EngineState) (call : Call) (reply : Reply) → CoreGives old call reply new →
+    RefusedLeaves reply old new
 core_leaves old new call (replies.Refused why back) gives = gives.unchanged
 core_leaves old new call (replies.Started r) gives = tt
 core_leaves old new call (replies.Done a) gives = tt

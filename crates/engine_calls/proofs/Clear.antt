@@ -14,7 +14,8 @@ use Rattle.point_to_point_calls.specs.declared.refusal.Refusal.{Refusal}
 use Rattle.point_to_point_calls.specs.declared.refusal.Refusal.TheVariants.{WrongType, Count, Tag, Rank, Limit}
 use Rattle.perfect_queues.specs.Buffers.{is_too_short}
 use Rattle.perfect_queues.specs.Refusals.{is_source_beyond, is_tag_above}
-use Rattle.point_to_point.specs.Calls.{argument_fault, call_fault, call_frame, fault_at, limit_fault, request_fault, request_fault_at}
+use Rattle.point_to_point.specs.Calls.{argument_fault, call_fault, call_frame, fault_at, limit_fault, request_fault}
+use Rattle.point_to_point.specs.Calls.{request_fault_at}
 use Rattle.point_to_point.specs.CoreState.{CoreState}
 use Rattle.point_to_point.specs.Messages.{message_fault, probe_rule, region_rule, search_limit}
 use Rattle.point_to_point.specs.Receiving.{receive_fault, receive_frame, receive_rule}
@@ -29,26 +30,31 @@ use Rattle.engine_calls.specs.Refusals.{first_fault}
 
 -- ---- no rule and no limit
 
-by_tests : (a b d e f : Bool) → cond a (Some WrongType) (cond b (Some Count) (cond d (Some Tag) (cond e (Some Rank) None))) ≡ None →
+by_tests : (a b d e f : Bool) →
+    cond a (Some WrongType) (cond b (Some Count) (cond d (Some Tag) (cond e (Some Rank) None))) ≡ None →
     cond f (Some Limit) None ≡ None →
-    cond a (Some WrongType) (cond b (Some Count) (cond d (Some Tag) (cond e (Some Rank) (cond f (Some Limit) None)))) ≡ None
+    cond a (Some WrongType) (cond b (Some Count) (cond d (Some Tag) (cond e (Some Rank) (cond f (Some Limit) None)))) ≡
+    None
 by_tests true b d e f rule limit = absurd cc
 by_tests false true d e f rule limit = absurd cc
 by_tests false false true e f rule limit = absurd cc
 by_tests false false false true f rule limit = absurd cc
 by_tests false false false false f rule limit = limit
 
-receive_allowed : (c : CoreState) (v : CoreReceive) → receive_rule c.place.size v ≡ None → or_full None c ≡ None → receive_fault c v ≡ None
+receive_allowed : (c : CoreState) (v : CoreReceive) → receive_rule c.place.size v ≡ None → or_full None c ≡ None →
+    receive_fault c v ≡ None
 unfolding receive_rule receive_fault
 receive_allowed c v rule limit =
-    by_tests (is_unfit_to_receive (handed_of v.into)) (is_too_short (handed_of v.into)) (is_tag_above v.tag) (is_source_beyond c.place.size v.source)
+    by_tests (is_unfit_to_receive (handed_of v.into)) (is_too_short (handed_of v.into)) (is_tag_above v.tag)
+    (is_source_beyond c.place.size v.source)
     (is_full c.slots c.serial) rule limit
 
 both_none : (a b : Option Refusal) → a ≡ None → b ≡ None → first_of a b ≡ None
 both_none None b first second = second
 both_none (Some e) b first second = absurd cc
 
-allowed_at : (a : Option Awaited) (c : CoreState) (q : CoreCall) → request_fault_at a c q ≡ None → argument_fault c.place q ≡ None →
+allowed_at : (a : Option Awaited) (c : CoreState) (q : CoreCall) → request_fault_at a c q ≡ None →
+    argument_fault c.place q ≡ None →
     limit_fault c q ≡ None → fault_at a c q ≡ None
 allowed_at (Some a) c q free arguments limit = absurd cc
 allowed_at None c (calls.Isend s) free arguments limit =
@@ -59,11 +65,14 @@ allowed_at None c (calls.Test q) free arguments limit = free
 allowed_at None c (calls.Waitany qs) free arguments limit = free
 allowed_at None c (calls.Waitall qs) free arguments limit = free
 allowed_at None c (calls.Cancel q) free arguments limit = free
-allowed_at None c (calls.Improbe p) free arguments limit = both_none (probe_rule c.place.size p.source p.tag) (search_limit p.source c p) arguments limit
-allowed_at None c (calls.Mrecv message into) free arguments limit = both_none (message_fault c message) (region_rule into) free arguments
+allowed_at None c (calls.Improbe p) free arguments limit =
+    both_none (probe_rule c.place.size p.source p.tag) (search_limit p.source c p) arguments limit
+allowed_at None c (calls.Mrecv message into) free arguments limit =
+    both_none (message_fault c message) (region_rule into) free arguments
 
 -- a call that breaks no rule and meets no limit of the core's is allowed there
-pub allowed_by : (c : CoreState) (q : CoreCall) → request_fault c q ≡ None → argument_fault c.place q ≡ None → limit_fault c q ≡ None →
+pub allowed_by : (c : CoreState) (q : CoreCall) → request_fault c q ≡ None → argument_fault c.place q ≡ None →
+    limit_fault c q ≡ None →
     call_fault c q ≡ None
 allowed_by c q free arguments limit = allowed_at c.blocked c q free arguments limit
 
@@ -79,7 +88,8 @@ are_none None None (Some e) f is = absurd cc
 are_none None (Some e) l f is = absurd cc
 are_none (Some e) r l f is = absurd cc
 
-pub is_clear : (c : CoreState) (s : SessionsState) (rule : Option Refusal) (q : CoreCall) → request_fault c q ≡ None → None ≡ asked_fault c s rule q →
+pub is_clear : (c : CoreState) (s : SessionsState) (rule : Option Refusal) (q : CoreCall) → request_fault c q ≡ None →
+    None ≡ asked_fault c s rule q →
     IsClear c s q
 is_clear c s rule q free none =
     let are : AreNone (argument_fault c.place q) rule (limit_fault c q) (frame_limit s (call_frame c q)) =
@@ -88,11 +98,13 @@ is_clear c s rule q free none =
 
 -- ---- the group has no part in it
 
-rule_same : (size : ℕ) (v : CoreReceive) (group : Option (List ℕ)) → receive_rule size (record v { group = group }) ≡ receive_rule size v
+rule_same : (size : ℕ) (v : CoreReceive) (group : Option (List ℕ)) → receive_rule size (record v { group = group }) ≡
+    receive_rule size v
 unfolding receive_rule
 rule_same size v group = refl
 
-pub arguments_same : (p : Place) (group : Option (List ℕ)) (q : CoreCall) → argument_fault p (with_group group q) ≡ argument_fault p q
+pub arguments_same : (p : Place) (group : Option (List ℕ)) (q : CoreCall) → argument_fault p (with_group group q) ≡
+    argument_fault p q
 arguments_same p group (calls.Isend s) = refl
 arguments_same p group (calls.Irecv v) = rule_same p.size v group
 arguments_same p group (calls.Wait q) = refl
@@ -103,7 +115,8 @@ arguments_same p group (calls.Cancel q) = refl
 arguments_same p group (calls.Improbe q) = refl
 arguments_same p group (calls.Mrecv message into) = refl
 
-fault_same : (c : CoreState) (v : CoreReceive) (group : Option (List ℕ)) → receive_fault c (record v { group = group }) ≡ receive_fault c v
+fault_same : (c : CoreState) (v : CoreReceive) (group : Option (List ℕ)) →
+    receive_fault c (record v { group = group }) ≡ receive_fault c v
 unfolding receive_fault
 fault_same c v group = refl
 
@@ -113,7 +126,8 @@ search_by sources.Any c p group = refl
 search_by (sources.Rank r) c p group = refl
 search_by sources.Null c p group = refl
 
-faults_at : (a : Option Awaited) (c : CoreState) (group : Option (List ℕ)) (q : CoreCall) → fault_at a c (with_group group q) ≡ fault_at a c q
+faults_at : (a : Option Awaited) (c : CoreState) (group : Option (List ℕ)) (q : CoreCall) →
+    fault_at a c (with_group group q) ≡ fault_at a c q
 faults_at (Some a) c group q = refl
 faults_at None c group (calls.Isend s) = refl
 faults_at None c group (calls.Irecv v) = fault_same c v group
@@ -122,7 +136,8 @@ faults_at None c group (calls.Test q) = refl
 faults_at None c group (calls.Waitany qs) = refl
 faults_at None c group (calls.Waitall qs) = refl
 faults_at None c group (calls.Cancel q) = refl
-faults_at None c group (calls.Improbe p) = ap (first_of (probe_rule c.place.size p.source p.tag)) (search_by p.source c p group)
+faults_at None c group (calls.Improbe p) =
+    ap (first_of (probe_rule c.place.size p.source p.tag)) (search_by p.source c p group)
 faults_at None c group (calls.Mrecv message into) = refl
 
 frame_by : (source : Source) (c : CoreState) (v : CoreReceive) (group : Option (List ℕ)) →
@@ -131,7 +146,8 @@ frame_by sources.Any c v group = refl
 frame_by (sources.Rank r) c v group = refl
 frame_by sources.Null c v group = refl
 
-pub frames_same : (c : CoreState) (group : Option (List ℕ)) (q : CoreCall) → call_frame c (with_group group q) ≡ call_frame c q
+pub frames_same : (c : CoreState) (group : Option (List ℕ)) (q : CoreCall) → call_frame c (with_group group q) ≡
+    call_frame c q
 frames_same c group (calls.Isend s) = refl
 frames_same c group (calls.Irecv v) = frame_by v.source c v group
 frames_same c group (calls.Wait q) = refl
@@ -142,7 +158,8 @@ frames_same c group (calls.Cancel q) = refl
 frames_same c group (calls.Improbe p) = refl
 frames_same c group (calls.Mrecv message into) = refl
 
-pub limits_same : (c : CoreState) (group : Option (List ℕ)) (q : CoreCall) → limit_fault c (with_group group q) ≡ limit_fault c q
+pub limits_same : (c : CoreState) (group : Option (List ℕ)) (q : CoreCall) → limit_fault c (with_group group q) ≡
+    limit_fault c q
 limits_same c group (calls.Isend s) = refl
 limits_same c group (calls.Irecv v) = refl
 limits_same c group (calls.Wait q) = refl
@@ -154,8 +171,10 @@ limits_same c group (calls.Improbe p) = search_by p.source c p group
 limits_same c group (calls.Mrecv message into) = refl
 
 -- what is clear is so with any group
-pub clear_same : (c : CoreState) (s : SessionsState) (group : Option (List ℕ)) (q : CoreCall) → IsClear c s q → IsClear c s (with_group group q)
-clear_same c s group q clear = (faults_at c.blocked c group q ∙ clear.0, ap (frame_limit s) (frames_same c group q) ∙ clear.1)
+pub clear_same : (c : CoreState) (s : SessionsState) (group : Option (List ℕ)) (q : CoreCall) → IsClear c s q →
+    IsClear c s (with_group group q)
+clear_same c s group q clear =
+    (faults_at c.blocked c group q ∙ clear.0, ap (frame_limit s) (frames_same c group q) ∙ clear.1)
 
 -- and each element has its width
 pub within_same : (group : Option (List ℕ)) (q : CoreCall) → IsWithin q → IsWithin (with_group group q)

@@ -10,7 +10,8 @@ use Rattle.datatypes.specs.Contents.{Contents}
 use Rattle.incarnation.specs.declared.place.Place.{Place}
 use Rattle.requests.specs.Regions.{sent_from}
 use Rattle.point_to_point_calls.specs.declared.call.CoreCall.{CoreCall}
-use Rattle.point_to_point_calls.specs.declared.call.CoreCall.TheVariants.{Isend, Irecv, Wait, Test, Waitany, Waitall, Cancel, Improbe, Mrecv}
+use Rattle.point_to_point_calls.specs.declared.call.CoreCall.TheVariants.{Isend, Irecv, Wait, Test, Waitany, Waitall}
+use Rattle.point_to_point_calls.specs.declared.call.CoreCall.TheVariants.{Cancel, Improbe, Mrecv}
 use Rattle.point_to_point_calls.specs.declared.refusal.Refusal.{Refusal}
 use Rattle.point_to_point_calls.specs.Calls.{NeedsMemory}
 use Rattle.point_to_point.specs.Calls.{call_frame, call_rank}
@@ -31,7 +32,8 @@ abbrev pub IsLimitTo : SessionsState → (rank : ℕ) → Option lower.SessionRe
 IsLimitTo s rank limit = (f : FrameText) → limit ≡ event_limit s None (record { rank = rank; frame = f } ∷ [])
 
 -- a frame meets the limit of its rank
-met_by : (s : SessionsState) (o : Option FrameFor) (rank : ℕ) (limit : Option lower.SessionRefusal) → option_map (λ f. f.rank) o ≡ Some rank →
+met_by : (s : SessionsState) (o : Option FrameFor) (rank : ℕ) (limit : Option lower.SessionRefusal) →
+    option_map (λ f. f.rank) o ≡ Some rank →
     IsLimitTo s rank limit → fault_of_sessions limit ≡ frame_limit s o
 met_by s None rank limit is met = absurd cc
 met_by s (Some f) rank limit is met =
@@ -39,25 +41,34 @@ met_by s (Some f) rank limit is met =
     ap fault_of_sessions (subst (λ (r : ℕ). IsLimitTo s r limit) same met f.frame)
 
 -- by whether the destination is the own rank
-met_unless : (s : SessionsState) (own : Bool) (t : State) (mode : Mode) (to tag context : ℕ) (m : Contents) (rank : ℕ) (limit : Option lower.SessionRefusal) →
+met_unless : (s : SessionsState) (own : Bool) (t : State) (mode : Mode) (to tag context : ℕ) (m : Contents) (rank : ℕ)
+    (limit : Option lower.SessionRefusal) →
     rank_unless own (record { rank = to; tag = tag; context = context }) ≡ Some rank → IsLimitTo s rank limit →
-    fault_of_sessions limit ≡ frame_limit s (frame_unless own t mode (record { rank = to; tag = tag; context = context }) m)
+    fault_of_sessions limit ≡
+    frame_limit s (frame_unless own t mode (record { rank = to; tag = tag; context = context }) m)
 met_unless s true t mode to tag context m rank limit is met = absurd cc
 met_unless s false t mode to tag context m rank limit is met =
-    met_by s (Some (record { rank = to; frame = frame_with t mode (record { rank = to; tag = tag; context = context }) m })) rank limit is met
+    met_by s (Some
+    (record { rank = to; frame = frame_with t mode (record { rank = to; tag = tag; context = context }) m })) rank
+    limit is met
 
 -- by the destination
-met_to : (s : SessionsState) (p : Place) (t : State) (mode : Mode) (target : Source) (tag : Option ℕ) (context : ℕ) (m : Contents) (rank : ℕ) (limit : Option lower.SessionRefusal) →
-    rank_to p (destination target tag context) ≡ Some rank → IsLimitTo s rank limit → fault_of_sessions limit ≡ frame_limit s (frame_to p t mode (destination target tag context) m)
+met_to : (s : SessionsState) (p : Place) (t : State) (mode : Mode) (target : Source) (tag : Option ℕ) (context : ℕ)
+    (m : Contents) (rank : ℕ) (limit : Option lower.SessionRefusal) →
+    rank_to p (destination target tag context) ≡ Some rank → IsLimitTo s rank limit →
+    fault_of_sessions limit ≡ frame_limit s (frame_to p t mode (destination target tag context) m)
 met_to s p t mode Any g context m rank limit is met = absurd cc
 met_to s p t mode Null g context m rank limit is met = absurd cc
 met_to s p t mode (Rank to) None context m rank limit is met = absurd cc
-met_to s p t mode (Rank to) (Some tag) context m rank limit is met = met_unless s (to == p.endpoint.rank) t mode to tag context m rank limit is met
+met_to s p t mode (Rank to) (Some tag) context m rank limit is met =
+    met_unless s (to == p.endpoint.rank) t mode to tag context m rank limit is met
 
 -- the limit of a frame is that of its rank
-pub limit_is_met : (s : SessionsState) (c : CoreState) (call : CoreCall) (rank : ℕ) (limit : Option lower.SessionRefusal) → call_rank c call ≡ Some rank →
+pub limit_is_met : (s : SessionsState) (c : CoreState) (call : CoreCall) (rank : ℕ)
+    (limit : Option lower.SessionRefusal) → call_rank c call ≡ Some rank →
     IsLimitTo s rank limit → fault_of_sessions limit ≡ frame_limit s (call_frame c call)
-limit_is_met s c (Isend v) rank limit is met = met_to s c.place c.transfers v.mode v.target v.tag v.context (sent_from v.from) rank limit is met
+limit_is_met s c (Isend v) rank limit is met =
+    met_to s c.place c.transfers v.mode v.target v.tag v.context (sent_from v.from) rank limit is met
 limit_is_met s c (Irecv v) rank limit is met = met_by s (receive_frame v.source c v) rank limit is met
 limit_is_met s c (Wait q) rank limit is met = absurd cc
 limit_is_met s c (Test q) rank limit is met = absurd cc
@@ -73,13 +84,15 @@ none_by s None is = refl
 none_by s (Some f) is = absurd cc
 
 -- the own rank gets no frame
-none_unless : (s : SessionsState) (own : Bool) (t : State) (mode : Mode) (to tag context : ℕ) (m : Contents) → rank_unless own (record { rank = to; tag = tag; context = context }) ≡ None →
+none_unless : (s : SessionsState) (own : Bool) (t : State) (mode : Mode) (to tag context : ℕ) (m : Contents) →
+    rank_unless own (record { rank = to; tag = tag; context = context }) ≡ None →
     frame_limit s (frame_unless own t mode (record { rank = to; tag = tag; context = context }) m) ≡ None
 none_unless s true t mode to tag context m is = refl
 none_unless s false t mode to tag context m is = absurd cc
 
 -- nor does the null process
-none_to : (s : SessionsState) (p : Place) (t : State) (mode : Mode) (target : Source) (tag : Option ℕ) (context : ℕ) (m : Contents) → rank_to p (destination target tag context) ≡ None →
+none_to : (s : SessionsState) (p : Place) (t : State) (mode : Mode) (target : Source) (tag : Option ℕ) (context : ℕ)
+    (m : Contents) → rank_to p (destination target tag context) ≡ None →
     frame_limit s (frame_to p t mode (destination target tag context) m) ≡ None
 none_to s p t mode Any g context m is = refl
 none_to s p t mode Null g context m is = refl
@@ -87,7 +100,8 @@ none_to s p t mode (Rank to) None context m is = refl
 none_to s p t mode (Rank to) (Some tag) context m is = none_unless s (to == p.endpoint.rank) t mode to tag context m is
 
 -- where no frame goes to another rank, no limit is met
-pub no_limit_is_met : (s : SessionsState) (c : CoreState) (call : CoreCall) → call_rank c call ≡ None → frame_limit s (call_frame c call) ≡ None
+pub no_limit_is_met : (s : SessionsState) (c : CoreState) (call : CoreCall) → call_rank c call ≡ None →
+    frame_limit s (call_frame c call) ≡ None
 no_limit_is_met s c (Isend v) is = none_to s c.place c.transfers v.mode v.target v.tag v.context (sent_from v.from) is
 no_limit_is_met s c (Irecv v) is = none_by s (receive_frame v.source c v) is
 no_limit_is_met s c (Wait q) is = refl
@@ -111,7 +125,8 @@ frame_needs c (Improbe p) f is = tt
 frame_needs c (Mrecv message into) f is = tt
 
 -- and so does one that meets its frame's limit
-pub limit_needs : (s : SessionsState) (c : CoreState) (call : CoreCall) (why : Refusal) → frame_limit s (call_frame c call) ≡ Some why → NeedsMemory call
+pub limit_needs : (s : SessionsState) (c : CoreState) (call : CoreCall) (why : Refusal) →
+    frame_limit s (call_frame c call) ≡ Some why → NeedsMemory call
 limit_needs s c (Isend v) why is = tt
 limit_needs s c (Irecv v) why is = tt
 limit_needs s c (Wait q) why is = absurd cc

@@ -1,5 +1,6 @@
 -- What a probe finds that takes nothing out, and its first rule.
-use Rattle.std.proofs.Common.{◌≡◌, ◌≤◌, ◌||◌, ℕ, Bool, true, false, List, [], length, Option, Some, None, Ok, Err, refl, sym, ap, subst, ◌∙◌, is_some, option_map}
+use Rattle.std.proofs.Common.{◌≡◌, ◌≤◌, ◌||◌, ℕ, Bool, true, false, List, [], length, Option, Some, None, Ok, Err, refl}
+use Rattle.std.proofs.Common.{sym, ap, subst, ◌∙◌, is_some, option_map}
 use Rattle.std.specs.Prelude.{IfSome, nat_lt}
 use Rattle.std.proofs.lemmas.Bool.{ltb-false}
 use Rattle.communicators.specs.Routes.{RouteText}
@@ -22,7 +23,8 @@ use Rattle.engine_calls.proofs.Asks.{busy_is, free_is}
 use Rattle.engine_calls.specs.Asks.{LookGives, engine_of, route_probe, source_rule}
 use Rattle.engine_calls.specs.Calls.{LookingGives, WhyRefused}
 use Rattle.engine_calls.specs.EngineState.{EngineState, GroupsState, Rest, member_of}
-use Rattle.engine_calls.specs.Faults.{broken, fault_of, free_fault, group_limit, is_busy, is_replaced, look_rules, on_route}
+use Rattle.engine_calls.specs.Faults.{broken, fault_of, free_fault, group_limit, is_busy, is_replaced, look_rules}
+use Rattle.engine_calls.specs.Faults.{on_route}
 use Rattle.engine_calls.specs.Refusals.{first_fault}
 use Rattle.engine_calls.specs.Routing.{probe_by, route_at}
 use Rattle.engine_calls.specs.declared.call.Call.TheVariants as calls
@@ -32,23 +34,29 @@ use Rattle.engine_calls.specs.declared.reply.Reply.TheVariants as replies
 -- ---- its rule
 
 -- while an earlier call is blocked (6)
-pub busy_look : (c : CoreState) (g : GroupsState) (s : SessionsState) (p : Probe) → (is_some c.blocked || is_within (member_of g).present) ≡ true →
+pub busy_look : (c : CoreState) (g : GroupsState) (s : SessionsState) (p : Probe) →
+    (is_some c.blocked || is_within (member_of g).present) ≡ true →
     (rest : Rest) → Some refusals.Request ≡ fault_of (engine_of c g rest s) (calls.Iprobe p)
 busy_look c g s p busy rest = sym (busy_is (engine_of c g rest s) (calls.Iprobe p) busy)
 
 -- without a route (4)
-pub unrouted_look : (c : CoreState) (g : GroupsState) (s : SessionsState) (p : Probe) → (is_some c.blocked || is_within (member_of g).present) ≡ false →
-    route_at g p.comm p.source ≡ None → (rest : Rest) → Some refusals.Communicator ≡ fault_of (engine_of c g rest s) (calls.Iprobe p)
+pub unrouted_look : (c : CoreState) (g : GroupsState) (s : SessionsState) (p : Probe) →
+    (is_some c.blocked || is_within (member_of g).present) ≡ false →
+    route_at g p.comm p.source ≡ None →
+    (rest : Rest) → Some refusals.Communicator ≡ fault_of (engine_of c g rest s) (calls.Iprobe p)
 unrouted_look c g s p free route rest =
-    sym (free_is (engine_of c g rest s) (calls.Iprobe p) free ∙ ap (λ (o : Option RouteText). on_route o (look_rules (engine_of c g rest s) p)) route)
+    sym (free_is (engine_of c g rest s) (calls.Iprobe p) free ∙
+    ap (λ (o : Option RouteText). on_route o (look_rules (engine_of c g rest s) p)) route)
 
 -- with one, by what it names
-pub routed_look : (c : CoreState) (g : GroupsState) (s : SessionsState) (p : Probe) (r : RouteText) (rule : Option Refusal) →
+pub routed_look : (c : CoreState) (g : GroupsState) (s : SessionsState) (p : Probe) (r : RouteText)
+    (rule : Option Refusal) →
     (is_some c.blocked || is_within (member_of g).present) ≡ false → route_at g p.comm p.source ≡ Some r →
     rule ≡ first_fault (argument_fault c.place (route_probe p r).call) (source_rule g s.known p.comm p.source r) →
     (rest : Rest) → rule ≡ fault_of (engine_of c g rest s) (calls.Iprobe p)
 routed_look c g s p r rule free route is rest =
-    is ∙ sym (free_is (engine_of c g rest s) (calls.Iprobe p) free ∙ ap (λ (o : Option RouteText). on_route o (look_rules (engine_of c g rest s) p)) route)
+    is ∙ sym (free_is (engine_of c g rest s) (calls.Iprobe p) free ∙
+    ap (λ (o : Option RouteText). on_route o (look_rules (engine_of c g rest s) p)) route)
 
 -- ---- what it finds
 
@@ -57,7 +65,8 @@ abbrev some : Status → Option Status
 some s = Some s
 
 by_message : (group : Option (List ℕ)) (o : Option Message) →
-    option_map (status_in group) (option_map (λ (m : Message). status_in None (status_of m)) o) ≡ option_map (λ (m : Message). status_in group (status_of m)) o
+    option_map (status_in group) (option_map (λ (m : Message). status_in None (status_of m)) o) ≡
+    option_map (λ (m : Message). status_in group (status_of m)) o
 by_message group None = refl
 by_message group (Some m) = refl
 
@@ -69,15 +78,18 @@ looked_by sources.Any c tag context group = by_message group (found_for c source
 looked_by (sources.Rank r) c tag context group = by_message group (found_for c (sources.Rank r) tag context)
 
 -- a message is found
-pub found_by : (c : CoreState) (source : Source) (tag : Option ℕ) (context : ℕ) (group : Option (List ℕ)) (s t : Status) →
+pub found_by : (c : CoreState) (source : Source) (tag : Option ℕ) (context : ℕ) (group : Option (List ℕ))
+    (s t : Status) →
     Some s ≡ looked c source tag context None → t ≡ status_in group s → Some t ≡ looked c source tag context group
 found_by c source tag context group s t found told =
     ap some told ∙ ap (option_map (status_in group)) found ∙ looked_by source c tag context group
 
 -- or none is
-pub none_found : (c : CoreState) (source : Source) (tag : Option ℕ) (context : ℕ) (group : Option (List ℕ)) → None ≡ looked c source tag context None →
+pub none_found : (c : CoreState) (source : Source) (tag : Option ℕ) (context : ℕ) (group : Option (List ℕ)) →
+    None ≡ looked c source tag context None →
     None ≡ looked c source tag context group
-none_found c source tag context group none = ap (option_map (status_in group)) none ∙ looked_by source c tag context group
+none_found c source tag context group none = ap (option_map (status_in group)) none ∙
+    looked_by source c tag context group
 
 -- ---- what follows of both
 
@@ -86,12 +98,14 @@ abbrev whatever : Option Status → Option (Option Status)
 whatever o = Some o
 
 -- what it finds is told
-pub look_told : (c : CoreState) (g : GroupsState) (s : SessionsState) (p : Probe) (r : RouteText) (found : Option Status) →
+pub look_told : (c : CoreState) (g : GroupsState) (s : SessionsState) (p : Probe) (r : RouteText)
+    (found : Option Status) →
     ((rest : Rest) → None ≡ fault_of (engine_of c g rest s) (calls.Iprobe p)) → route_at g p.comm p.source ≡ Some r →
     found ≡ looked c r.named p.tag r.context r.group → (rest : Rest) → LookGives (engine_of c g rest s) p (Ok found)
 look_told c g s p r found allowed route is rest = (
   sym (allowed rest),
-  ap (λ (o : Option RouteText). option_map (λ (t : RouteText). looked c t.named p.tag t.context t.group) o) route ∙ ap whatever (sym is),
+  ap (λ (o : Option RouteText). option_map (λ (t : RouteText). looked c t.named p.tag t.context t.group) o) route ∙
+      ap whatever (sym is),
 )
 
 -- what is allowed meets neither 6 ..
@@ -115,12 +129,14 @@ no_fault (Some why) none = absurd (none why refl)
 
 -- .. nor the limit of a group
 pub look_shares : (c : CoreState) (g : GroupsState) (s : SessionsState) (p : Probe) (r : RouteText) →
-    ((rest : Rest) → None ≡ fault_of (engine_of c g rest s) (calls.Iprobe p)) → route_at g p.comm p.source ≡ Some r → group_limit r.group ≡ None
+    ((rest : Rest) → None ≡ fault_of (engine_of c g rest s) (calls.Iprobe p)) → route_at g p.comm p.source ≡ Some r →
+    group_limit r.group ≡ None
 look_shares c g s p r allowed route =
     let e : EngineState = engine_of c g blank s in
     let rules : free_fault e (calls.Iprobe p) ≡ None = first_not (is_busy e) (free_fault e (calls.Iprobe p)) (sym (allowed blank)) in
     let routed : look_rules e p r ≡ None = sym (ap (λ (o : Option RouteText). on_route o (look_rules e p)) route) ∙ rules in
-    last_not (argument_fault c.place (core_calls.Improbe (probe_by p r))) (broken (is_source_beyond (held_at (member_of g) p.comm) p.source) refusals.Rank)
+    last_not (argument_fault c.place (core_calls.Improbe (probe_by p r)))
+    (broken (is_source_beyond (held_at (member_of g) p.comm) p.source) refusals.Rank)
     (broken (is_replaced e p.comm p.source) refusals.Replaced) (group_limit r.group) routed
 
 -- a group that can be shared has at most 65,535 members
@@ -135,10 +151,17 @@ few_members (Some ranks) is = within (nat_lt 65535 (length ranks)) refl is
 -- ---- as the engine answers
 
 -- what it finds
-pub looking_gives : (e : EngineState) (p : Probe) (found : Option Status) → LookGives e p (Ok found) → LookingGives e p (replies.Probed found) e
+pub looking_gives : (e : EngineState) (p : Probe) (found : Option Status) → LookGives e p (Ok found) →
+    LookingGives e p (replies.Probed found) e
 looking_gives e p found is = record { allowed = is.0; unchanged = refl; found_is = is.1 }
 
 -- or its first rule
-pub looking_refused : (e : EngineState) (p : Probe) (why : Refusal) → LookGives e p (Err why) → LookingGives e p (replies.Refused why (calls.Iprobe p)) e
+pub looking_refused : (e : EngineState) (p : Probe) (why : Refusal) → LookGives e p (Err why) →
+    LookingGives e p (replies.Refused why (calls.Iprobe p)) e
 looking_refused e p why is =
-    record { handed = refl; unchanged = refl; reason = subst (λ (o : Option Refusal). WhyRefused o e (calls.Iprobe p) why) (sym is) refl }
+    record {
+      handed = refl;
+      unchanged = refl;
+      reason =
+          subst (λ (o : Option Refusal). WhyRefused o e (calls.Iprobe p) why) (sym is) refl;
+    }

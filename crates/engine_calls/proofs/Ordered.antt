@@ -1,5 +1,6 @@
 -- Frames that stand in the order of the ranks that they go to are in it.
-use Rattle.std.proofs.Common.{◌≡◌, ℕ, zero, suc, ◌+◌, ◌<◌, ◌≤◌, ◌==◌, inl, inr, append_assoc, Bool, cond, List, [], ◌∷◌, ◌++◌, length, map, filter, take, get_or, refl, sym, ap, subst, ◌∙◌, arith}
+use Rattle.std.proofs.Common.{◌≡◌, ℕ, zero, suc, ◌+◌, ◌<◌, ◌≤◌, ◌==◌, inl, inr, append_assoc, Bool, cond, List, [], ◌∷◌}
+use Rattle.std.proofs.Common.{◌++◌, length, map, filter, take, get_or, refl, sym, ap, subst, ◌∙◌, arith}
 use Rattle.std.specs.List.{AllByRecursion}
 use Rattle.std.proofs.lemmas.Bool.{cases_order, eq-eqb, ne_eqb}
 use Rattle.std.proofs.lemmas.List.{append-nil, map_more}
@@ -27,7 +28,8 @@ one_not k f not_it = ap (λ (t : Bool). cond t (f ∷ []) []) (ne_eqb f.rank k n
 none_above : (k m : ℕ) (fs : List Sending) → m < k → AllByRecursion (IsUpTo m) fs → those k fs ≡ []
 none_above k m [] above all = refl
 none_above k m (f ∷ fs) above all =
-    ap (λ (t : Bool). cond t (f ∷ those k fs) (those k fs)) (ne_eqb f.rank k (λ same. omega (arith, same, above, all.0)))
+    ap (λ (t : Bool). cond t (f ∷ those k fs) (those k fs))
+    (ne_eqb f.rank k (λ same. omega (arith, same, above, all.0)))
     ∙ none_above k m fs above all.1
 
 -- what goes to a rank from k on is none of the first k
@@ -41,11 +43,13 @@ beyond (suc k) fs f from =
     ∙ append-nil (those k fs))
 
 -- one to the highest rank of all
-at_last : (k : ℕ) (fs : List Sending) (f : Sending) → f.rank ≡ k → by_rank (suc k) (fs ++ f ∷ []) ≡ by_rank (suc k) fs ++ f ∷ []
+at_last : (k : ℕ) (fs : List Sending) (f : Sending) → f.rank ≡ k → by_rank (suc k) (fs ++ f ∷ []) ≡
+    by_rank (suc k) fs ++ f ∷ []
 at_last k fs f same =
     ap (λ (t : List Sending). t ++ those k (fs ++ f ∷ [])) (beyond k fs f (omega (arith, same)))
     ∙ ap (λ (t : List Sending). by_rank k fs ++ t)
-    (filter-append (λ (g : Sending). g.rank == k) fs (f ∷ []) ∙ ap (λ (t : List Sending). those k fs ++ t) (one_is k f same))
+    (filter-append (λ (g : Sending). g.rank == k) fs (f ∷ []) ∙
+    ap (λ (t : List Sending). those k fs ++ t) (one_is k f same))
     ∙ sym (append_assoc (by_rank k fs) (those k fs) (f ∷ []))
 
 -- one to a lower rank, where nothing goes to the highest
@@ -60,7 +64,8 @@ below_last k fs f below all so =
     ap (λ (t : List Sending). by_rank k (fs ++ f ∷ []) ++ t) more
     ∙ append-nil (by_rank k (fs ++ f ∷ []))
     ∙ so
-    ∙ ap (λ (t : List Sending). t ++ f ∷ []) (sym (ap (λ (t : List Sending). by_rank k fs ++ t) none ∙ append-nil (by_rank k fs)))
+    ∙ ap (λ (t : List Sending). t ++ f ∷ [])
+    (sym (ap (λ (t : List Sending). by_rank k fs ++ t) none ∙ append-nil (by_rank k fs)))
 
 -- one behind all, which goes to a rank that is none of theirs, or the highest of them
 by_rank_last : (n : ℕ) (fs : List Sending) (f : Sending) → f.rank < n → AllByRecursion (IsUpTo f.rank) fs →
@@ -77,7 +82,8 @@ all_up : (m n : ℕ) (fs : List Sending) → m ≤ n → AllByRecursion (IsUpTo 
 all_up m n [] up all = tt
 all_up m n (f ∷ fs) up all = (omega (arith, up, all.0), all_up m n fs up all.1)
 
-all_last : (m : ℕ) (fs : List Sending) (f : Sending) → AllByRecursion (IsUpTo m) fs → f.rank ≤ m → AllByRecursion (IsUpTo m) (fs ++ f ∷ [])
+all_last : (m : ℕ) (fs : List Sending) (f : Sending) → AllByRecursion (IsUpTo m) fs → f.rank ≤ m →
+    AllByRecursion (IsUpTo m) (fs ++ f ∷ [])
 all_last m [] f all is = (is, tt)
 all_last m (g ∷ fs) f all is = (all.0, all_last m fs f all.1 is)
 
@@ -95,23 +101,30 @@ pub none_in_order : (size : ℕ) → AreOrdered size 0 [] []
 none_in_order size = record { frames_are = sym (by_rank_none size); all = tt }
 
 -- one more stands in it
-pub one_in_order : (size last : ℕ) (ws : List Written) (i : ℕ) (d : Written) (before after : List Sending) → i < length ws →
-    (written (get_or ws i d)).rank < size → last ≤ (written (get_or ws i d)).rank → AreOrdered size last (take i ws) before →
-    after ≡ before ++ written (get_or ws i d) ∷ [] → AreOrdered size (written (get_or ws i d)).rank (take (i + 1) ws) after
+pub one_in_order : (size last : ℕ) (ws : List Written) (i : ℕ) (d : Written) (before after : List Sending) →
+    i < length ws →
+    (written (get_or ws i d)).rank < size → last ≤ (written (get_or ws i d)).rank →
+    AreOrdered size last (take i ws) before →
+    after ≡ before ++ written (get_or ws i d) ∷ [] →
+    AreOrdered size (written (get_or ws i d)).rank (take (i + 1) ws) after
 one_in_order size last ws i d before after within there up was is =
     let f : Sending = written (get_or ws i d) in
     let fs : List Sending = map written (take i ws) in
     let more : map written (take (i + 1) ws) ≡ fs ++ f ∷ [] = map_more written ws i d within in
     let all : AllByRecursion (IsUpTo f.rank) fs = all_up last f.rank fs up was.all in
     record {
-      frames_are = is ∙ ap (λ (t : List Sending). t ++ f ∷ []) was.frames_are ∙ sym (by_rank_last size fs f there all) ∙ ap (by_rank size) (sym more);
-      all = subst (λ (t : List Sending). AllByRecursion (IsUpTo f.rank) t) (sym more) (all_last f.rank fs f all (omega arith));
+      frames_are = is ∙ ap (λ (t : List Sending). t ++ f ∷ []) was.frames_are ∙ sym (by_rank_last size fs f there all) ∙
+          ap (by_rank size) (sym more);
+      all = subst (λ (t : List Sending). AllByRecursion (IsUpTo f.rank) t) (sym more)
+          (all_last f.rank fs f all (omega arith));
     }
 
 -- the same of one that stands at its place
-pub one_in_order_as : (size last : ℕ) (ws : List Written) (i : ℕ) (w : Written) (before after : List Sending) → w ≡ get_or ws i w → i < length ws →
+pub one_in_order_as : (size last : ℕ) (ws : List Written) (i : ℕ) (w : Written) (before after : List Sending) →
+    w ≡ get_or ws i w → i < length ws →
     w.target < size → last ≤ w.target → AreOrdered size last (take i ws) before →
     after ≡ before ++ written w ∷ [] → AreOrdered size w.target (take (i + 1) ws) after
 one_in_order_as size last ws i w before after at within there up was is =
-    subst (λ (v : Written). v.target < size → last ≤ v.target → after ≡ before ++ written v ∷ [] → AreOrdered size v.target (take (i + 1) ws) after)
+    subst (λ (v : Written). v.target < size → last ≤ v.target → after ≡ before ++ written v ∷ [] →
+    AreOrdered size v.target (take (i + 1) ws) after)
     (sym at) (λ t u e. one_in_order size last ws i w before after within t u was e) there up is

@@ -1,5 +1,7 @@
 -- The frames of a step: in the order of the ranks, and within the format's limits.
-use Rattle.std.proofs.Common.{◌≡◌, ℕ, zero, suc, ◌+◌, ◌*◌, ◌<◌, ◌≤◌, ◌==◌, ◌&&◌, ◌||◌, ◌⊎◌, inl, inr, not, set, append_assoc, Bool, true, false, cond, List, [], ◌∷◌, ◌++◌, length, map, filter, take, get_or, Option, Some, None, refl, sym, ap, subst, ◌∙◌, arith}
+use Rattle.std.proofs.Common.{◌≡◌, ℕ, zero, suc, ◌+◌, ◌*◌, ◌<◌, ◌≤◌, ◌==◌, ◌&&◌, ◌||◌, ◌⊎◌, inl, inr, not, set}
+use Rattle.std.proofs.Common.{append_assoc, Bool, true, false, cond, List, [], ◌∷◌, ◌++◌, length, map, filter, take}
+use Rattle.std.proofs.Common.{get_or, Option, Some, None, refl, sym, ap, subst, ◌∙◌, arith}
 use Rattle.std.specs.Prelude.{All, if◌then◌else◌, nat_le, nat_lt}
 use Rattle.std.proofs.lemmas.Bool.{leb-true, lt-ltb, ltb-false, ltb-true}
 use Rattle.std.proofs.lemmas.List.{append-nil, length-set, map_more}
@@ -17,13 +19,17 @@ use Rattle.rendezvous.specs.declared.transfers.Numbers.{Numbers}
 use Rattle.sessions.specs.declared.peers.Peer.{Peer}
 use Rattle.sessions.specs.declared.refusal.SessionRefusal as lower
 use Rattle.sessions.specs.declared.refusal.SessionRefusal.TheVariants as lowers
-use Rattle.sessions.specs.Events.{CanSend, Sending, after_event, after_heard, after_send, event_limit, first_limit, heard_limit, last_limit, sendings, sends_limit, word_limit}
+use Rattle.sessions.specs.Events.{CanSend, Sending, after_event, after_heard, after_send, event_limit, first_limit}
+use Rattle.sessions.specs.Events.{heard_limit, last_limit, sendings, sends_limit, word_limit}
 use Rattle.sessions.specs.Refusals.{IsRefusal}
 use Rattle.sessions.specs.declared.heard.Outgoing.{Outgoing}
-use Rattle.sessions.specs.Heard.{Acknowledges, Follows, Hands, HeardText, Holds, Nothing, Repeats, WordText, session_met}
+use Rattle.sessions.specs.Heard.{Acknowledges, Follows, Hands, HeardText, Holds, Nothing, Repeats, WordText}
+use Rattle.sessions.specs.Heard.{session_met}
 use Rattle.sessions.specs.Peers.{peer_at}
 use Rattle.sessions.specs.SessionsState.{SessionsState}
-use Rattle.engine_calls.specs.Frames.{AreWhole, IsWhole, all_can_go, by_rank, can_go, is_large, is_sendable, messages_sent, numbers_after, payload_frame, payload_kept, sending_of_message, step_limit, step_numbers, step_payloads, step_sendings, transfer_of}
+use Rattle.engine_calls.specs.Frames.{AreWhole, IsWhole, all_can_go, by_rank, can_go, is_large, is_sendable}
+use Rattle.engine_calls.specs.Frames.{messages_sent, numbers_after, payload_frame, payload_kept, sending_of_message}
+use Rattle.engine_calls.specs.Frames.{step_limit, step_numbers, step_payloads, step_sendings, transfer_of}
 use Rattle.engine_calls.specs.Refusals.{fault_of_sessions, of_sessions}
 use Rattle.engine_calls.specs.Steps.{AreReady, IsAdded, IsLeftOut, StepStops, written}
 use Rattle.engine_calls.specs.declared.frames.Written.{Written}
@@ -32,7 +38,8 @@ use Rattle.engine_calls.specs.declared.frames.Written.{Written}
 
 more_chosen : (r : ℕ) (ws : List Written) (i : ℕ) (d : Written) → i < length ws →
     filter (λ (f : Sending). f.rank == r) (map written (take (i + 1) ws))
-    ≡ filter (λ (f : Sending). f.rank == r) (map written (take i ws)) ++ filter (λ (f : Sending). f.rank == r) (written (get_or ws i d) ∷ [])
+    ≡ filter (λ (f : Sending). f.rank == r) (map written (take i ws)) ++
+    filter (λ (f : Sending). f.rank == r) (written (get_or ws i d) ∷ [])
 more_chosen r ws i d within =
     ap (filter (λ (f : Sending). f.rank == r)) (map_more written ws i d within)
     ∙ filter-append (λ (f : Sending). f.rank == r) (map written (take i ws)) (written (get_or ws i d) ∷ [])
@@ -44,10 +51,12 @@ pub one_chosen : (r : ℕ) (ws : List Written) (i : ℕ) (d : Written) (old befo
     after ≡ old ++ filter (λ (f : Sending). f.rank == r) (map written (take (i + 1) ws))
 one_chosen r ws i d old before after within was is =
     let next : List Sending = filter (λ (f : Sending). f.rank == r) (written (get_or ws i d) ∷ []) in
-    is ∙ ap (λ (t : List Sending). t ++ next) was ∙ append_assoc old (filter (λ (f : Sending). f.rank == r) (map written (take i ws))) next
+    is ∙ ap (λ (t : List Sending). t ++ next) was ∙
+    append_assoc old (filter (λ (f : Sending). f.rank == r) (map written (take i ws))) next
     ∙ ap (λ (t : List Sending). old ++ t) (sym (more_chosen r ws i d within))
 
-pub by_rank_more : (k : ℕ) (fs : List Sending) → by_rank (k + 1) fs ≡ by_rank k fs ++ filter (λ (f : Sending). f.rank == k) fs
+pub by_rank_more : (k : ℕ) (fs : List Sending) → by_rank (k + 1) fs ≡ by_rank k fs ++
+    filter (λ (f : Sending). f.rank == k) fs
 by_rank_more k fs =
     let next : k + 1 ≡ suc k = omega arith in ap (λ n. by_rank n fs) next
 
@@ -69,7 +78,8 @@ and_stops : (a b : Bool) → b ≡ false → (a && b) ≡ false
 and_stops true b is = is
 and_stops false b is = refl
 
-numbers_snoc : (ns : List Numbers) (xs : List CollectiveMessage) (m : CollectiveMessage) → step_numbers ns (xs ++ m ∷ []) ≡ numbers_after (step_numbers ns xs) m
+numbers_snoc : (ns : List Numbers) (xs : List CollectiveMessage) (m : CollectiveMessage) →
+    step_numbers ns (xs ++ m ∷ []) ≡ numbers_after (step_numbers ns xs) m
 numbers_snoc ns [] m = refl
 numbers_snoc ns (x ∷ xs) m = numbers_snoc (numbers_after ns x) xs m
 
@@ -87,50 +97,62 @@ kept_snoc : (ns : List Numbers) (xs : List CollectiveMessage) (m : CollectiveMes
 kept_snoc ns [] m = append-nil (kept_of ns m)
 kept_snoc ns (x ∷ xs) m =
     ap (λ (t : List Announced). kept_of ns x ++ t) (kept_snoc (numbers_after ns x) xs m)
-    ∙ sym (append_assoc (kept_of ns x) (step_payloads (numbers_after ns x) xs) (kept_of (step_numbers (numbers_after ns x) xs) m))
+    ∙ sym (append_assoc (kept_of ns x) (step_payloads (numbers_after ns x) xs)
+    (kept_of (step_numbers (numbers_after ns x) xs) m))
 
 go_snoc : (p : Place) (ns : List Numbers) (xs : List CollectiveMessage) (m : CollectiveMessage) →
     all_can_go p ns (xs ++ m ∷ []) ≡ (all_can_go p ns xs && can_go p (step_numbers ns xs) m)
 go_snoc p ns [] m = and_true (can_go p ns m)
 go_snoc p ns (x ∷ xs) m =
     ap (λ (b : Bool). can_go p ns x && b) (go_snoc p (numbers_after ns x) xs m)
-    ∙ and_more (can_go p ns x) (all_can_go p (numbers_after ns x) xs) (can_go p (step_numbers (numbers_after ns x) xs) m)
+    ∙ and_more (can_go p ns x) (all_can_go p (numbers_after ns x) xs)
+    (can_go p (step_numbers (numbers_after ns x) xs) m)
 
 whole_snoc : (xs : List CollectiveMessage) (m : CollectiveMessage) → AreWhole xs → IsWhole m → AreWhole (xs ++ m ∷ [])
 whole_snoc [] m all one = (one, tt)
 whole_snoc (x ∷ xs) m all one = (all.0, whole_snoc xs m all.1 one)
 
-snoc : (p : Place) (ns : List Numbers) (xs : List CollectiveMessage) (m : CollectiveMessage) (fs gs : List Sending) (ps qs : List Announced) (n2 n3 : List Numbers) →
+snoc : (p : Place) (ns : List Numbers) (xs : List CollectiveMessage) (m : CollectiveMessage) (fs gs : List Sending)
+    (ps qs : List Announced) (n2 n3 : List Numbers) →
     AreReady p ns xs fs ps n2 → IsAdded p n2 m fs gs ps qs n3 → AreReady p ns (xs ++ m ∷ []) gs qs n3
 snoc p ns xs m fs gs ps qs n2 n3 ready added =
     let one : IsAdded p (step_numbers ns xs) m fs gs ps qs n3 = subst (λ (n : List Numbers). IsAdded p n m fs gs ps qs n3) ready.numbers added in
     record {
       go = go_snoc p ns xs m ∙ ap (λ (b : Bool). b && can_go p (step_numbers ns xs) m) ready.go ∙ one.goes;
-      frames = one.frames ∙ ap (λ (t : List Sending). t ++ sending_of_message (step_numbers ns xs) m ∷ []) ready.frames ∙ sym (sent_snoc ns xs m);
-      kept = one.kept ∙ ap (λ (t : List Announced). t ++ kept_of (step_numbers ns xs) m) ready.kept ∙ sym (kept_snoc ns xs m);
+      frames = one.frames ∙ ap (λ (t : List Sending). t ++ sending_of_message (step_numbers ns xs) m ∷
+          []) ready.frames ∙ sym (sent_snoc ns xs m);
+      kept = one.kept ∙ ap (λ (t : List Announced). t ++ kept_of (step_numbers ns xs) m) ready.kept ∙
+          sym (kept_snoc ns xs m);
       numbers = one.numbers ∙ sym (numbers_snoc ns xs m);
       whole = whole_snoc xs m ready.whole one.whole;
     }
 
-taken_more : (ms : List CollectiveMessage) (i : ℕ) (d : CollectiveMessage) → i < length ms → take (suc i) ms ≡ take i ms ++ get_or ms i d ∷ []
+taken_more : (ms : List CollectiveMessage) (i : ℕ) (d : CollectiveMessage) → i < length ms →
+    take (suc i) ms ≡ take i ms ++ get_or ms i d ∷ []
 taken_more [] i d within = absurd (omega (arith, within))
 taken_more (m ∷ ms) zero d within = refl
-taken_more (m ∷ ms) (suc i) d within = ap (λ (t : List CollectiveMessage). m ∷ t) (taken_more ms i d (omega (arith, within)))
+taken_more (m ∷ ms) (suc i) d within =
+    ap (λ (t : List CollectiveMessage). m ∷ t) (taken_more ms i d (omega (arith, within)))
 
 -- one more is written out
-pub one_more : (p : Place) (ns : List Numbers) (ms : List CollectiveMessage) (i : ℕ) (d : CollectiveMessage) (fs gs : List Sending) (ps qs : List Announced) (n2 n3 : List Numbers) →
-    i < length ms → AreReady p ns (take i ms) fs ps n2 → IsAdded p n2 (get_or ms i d) fs gs ps qs n3 → AreReady p ns (take (i + 1) ms) gs qs n3
+pub one_more : (p : Place) (ns : List Numbers) (ms : List CollectiveMessage) (i : ℕ) (d : CollectiveMessage)
+    (fs gs : List Sending) (ps qs : List Announced) (n2 n3 : List Numbers) →
+    i < length ms → AreReady p ns (take i ms) fs ps n2 → IsAdded p n2 (get_or ms i d) fs gs ps qs n3 →
+    AreReady p ns (take (i + 1) ms) gs qs n3
 one_more p ns ms i d fs gs ps qs n2 n3 within ready added =
     let next : i + 1 ≡ suc i = omega arith in
-    subst (λ (t : List CollectiveMessage). AreReady p ns t gs qs n3) (sym (ap (λ (k : ℕ). take k ms) next ∙ taken_more ms i d within))
+    subst (λ (t : List CollectiveMessage). AreReady p ns t gs qs n3)
+    (sym (ap (λ (k : ℕ). take k ms) next ∙ taken_more ms i d within))
     (snoc p ns (take i ms) (get_or ms i d) fs gs ps qs n2 n3 ready added)
 
-stops_at : (p : Place) (ns : List Numbers) (ms : List CollectiveMessage) (i : ℕ) (d : CollectiveMessage) → i < length ms →
+stops_at : (p : Place) (ns : List Numbers) (ms : List CollectiveMessage) (i : ℕ) (d : CollectiveMessage) →
+    i < length ms →
     can_go p (step_numbers ns (take i ms)) (get_or ms i d) ≡ false → all_can_go p ns ms ≡ false
 stops_at p ns [] i d within is = absurd (omega (arith, within))
 stops_at p ns (m ∷ ms) zero d within is = ap (λ (b : Bool). b && all_can_go p (numbers_after ns m) ms) is
 stops_at p ns (m ∷ ms) (suc i) d within is =
-    and_stops (can_go p ns m) (all_can_go p (numbers_after ns m) ms) (stops_at p (numbers_after ns m) ms i d (omega (arith, within)) is)
+    and_stops (can_go p ns m) (all_can_go p (numbers_after ns m) ms)
+    (stops_at p (numbers_after ns m) ms i d (omega (arith, within)) is)
 
 -- a test that fails stops a step
 stop_of : (b : Bool) → (if b then None else Some refusals.Limit) ≡ Some refusals.Limit → b ≡ false
@@ -138,7 +160,8 @@ stop_of true is = absurd cc
 stop_of false is = refl
 
 -- what stops at one limit stops at another one that is met where that is
-pub stops_as : (l k : Option Refusal) (e : Refusal) → (l ≡ Some refusals.Limit → k ≡ Some refusals.Limit) → StepStops l e → StepStops k e
+pub stops_as : (l k : Option Refusal) (e : Refusal) → (l ≡ Some refusals.Limit → k ≡ Some refusals.Limit) →
+    StepStops l e → StepStops k e
 stops_as l k refusals.OutOfMemory so is = tt
 stops_as l k refusals.Limit so is = so is
 stops_as l k refusals.Count so is = absurd is
@@ -164,13 +187,17 @@ stops_as l k refusals.OutOfWindow so is = absurd is
 stops_as l k refusals.ClockBack so is = absurd is
 
 -- where one message isn't written out, its step isn't
-pub one_left_out : (p : Place) (ns n2 : List Numbers) (ms : List CollectiveMessage) (i : ℕ) (d : CollectiveMessage) (fs : List Sending) (ps : List Announced) (e : Refusal) →
-    i < length ms → AreReady p ns (take i ms) fs ps n2 → IsLeftOut (can_go p n2 (get_or ms i d)) e → IsLeftOut (all_can_go p ns ms) e
+pub one_left_out : (p : Place) (ns n2 : List Numbers) (ms : List CollectiveMessage) (i : ℕ) (d : CollectiveMessage)
+    (fs : List Sending) (ps : List Announced) (e : Refusal) →
+    i < length ms → AreReady p ns (take i ms) fs ps n2 → IsLeftOut (can_go p n2 (get_or ms i d)) e →
+    IsLeftOut (all_can_go p ns ms) e
 one_left_out p ns n2 ms i d fs ps e within ready is =
-    stops_as (if can_go p n2 (get_or ms i d) then None else Some refusals.Limit) (if all_can_go p ns ms then None else Some refusals.Limit) e
+    stops_as (if can_go p n2 (get_or ms i d) then None else Some refusals.Limit) (if all_can_go p ns ms then None else
+    Some refusals.Limit) e
     (λ stop.
     let fails : can_go p (step_numbers ns (take i ms)) (get_or ms i d) ≡ false =
-    subst (λ (n : List Numbers). can_go p n (get_or ms i d) ≡ false) ready.numbers (stop_of (can_go p n2 (get_or ms i d)) stop) in
+    subst (λ (n : List Numbers). can_go p n (get_or ms i d) ≡ false) ready.numbers
+    (stop_of (can_go p n2 (get_or ms i d)) stop) in
     ap (λ (b : Bool). cond b None (Some refusals.Limit)) (stops_at p ns ms i d within fails))
     is
 
@@ -193,24 +220,29 @@ not_false true is = absurd cc
 not_false false is = refl
 
 -- what is too long for a frame can go where a number is left
-pub left_for : (p : Place) (ns : List Numbers) (m : CollectiveMessage) (count : ℕ) → count ≡ length (spelling (says m)) → can_go p ns m ≡ true → 1024 < count →
+pub left_for : (p : Place) (ns : List Numbers) (m : CollectiveMessage) (count : ℕ) →
+    count ≡ length (spelling (says m)) → can_go p ns m ≡ true → 1024 < count →
     is_full_to ns m.target.rank ≡ false
 left_for p ns m count counted is large =
     let parts = both_of (nat_lt m.target.rank p.size) (nat_le m.number 2147483647 && is_sendable ns m.target.rank (length (spelling (says m)))) is in
     let rest = both_of (nat_le m.number 2147483647) (is_sendable ns m.target.rank (length (spelling (says m)))) parts.1 in
-    elim (or_of (nat_le (length (spelling (says m))) 1024) (nat_le (length (spelling (says m))) 1048576 && not (is_full_to ns m.target.rank)) rest.1) [
+    elim (or_of (nat_le (length (spelling (says m))) 1024) (nat_le (length (spelling (says m))) 1048576 &&
+    not (is_full_to ns m.target.rank)) rest.1) [
       | inl small ↦ absurd (omega (arith, leb-true (length (spelling (says m))) 1024 small, counted, large))
-      | inr room ↦ not_false (is_full_to ns m.target.rank) (both_of (nat_le (length (spelling (says m))) 1048576) (not (is_full_to ns m.target.rank)) room).1
+      | inr room ↦ not_false (is_full_to ns m.target.rank)
+          (both_of (nat_le (length (spelling (says m))) 1048576) (not (is_full_to ns m.target.rank)) room).1
     ]
 
 -- and it has at most as many bytes as a message
-pub few_bytes : (p : Place) (ns : List Numbers) (m : CollectiveMessage) (count : ℕ) → count ≡ length (spelling (says m)) → can_go p ns m ≡ true → count ≤ 1048576
+pub few_bytes : (p : Place) (ns : List Numbers) (m : CollectiveMessage) (count : ℕ) →
+    count ≡ length (spelling (says m)) → can_go p ns m ≡ true → count ≤ 1048576
 few_bytes p ns m count counted is =
     let parts = both_of (nat_lt m.target.rank p.size) (nat_le m.number 2147483647 && is_sendable ns m.target.rank (length (spelling (says m)))) is in
     let rest = both_of (nat_le m.number 2147483647) (is_sendable ns m.target.rank (length (spelling (says m)))) parts.1 in
     omega (arith, counted, limited ns m.target.rank (length (spelling (says m))) rest.1)
 
-frame_fits : (b : Bool) (transfer context number : ℕ) (bytes : List ℕ) → nat_lt 1024 (length bytes) ≡ b → number ≤ 2147483647 → length bytes ≤ 1048576 →
+frame_fits : (b : Bool) (transfer context number : ℕ) (bytes : List ℕ) → nat_lt 1024 (length bytes) ≡ b →
+    number ≤ 2147483647 → length bytes ≤ 1048576 →
     FrameFits (payload_frame (cond b (Some transfer) None) context number bytes)
 frame_fits true transfer context number bytes large tag few =
     let some : 1024 < length bytes * 1 = omega (arith, ltb-true 1024 (length bytes) large) in
@@ -220,25 +252,30 @@ frame_fits false transfer context number bytes small tag few =
     let size : length bytes ≡ length bytes * 1 = omega arith in
     record { tag = tag; size = size; limit = ltb-false 1024 (length bytes) small; plane = refl }
 
-one_sends : (p : Place) (ns : List Numbers) (m : CollectiveMessage) → can_go p ns m ≡ true → CanSend p (sending_of_message ns m)
+one_sends : (p : Place) (ns : List Numbers) (m : CollectiveMessage) → can_go p ns m ≡ true →
+    CanSend p (sending_of_message ns m)
 one_sends p ns m is =
     let parts = both_of (nat_lt m.target.rank p.size) (nat_le m.number 2147483647 && is_sendable ns m.target.rank (length (spelling (says m)))) is in
     let rest = both_of (nat_le m.number 2147483647) (is_sendable ns m.target.rank (length (spelling (says m)))) parts.1 in
     record {
       there = ltb-true m.target.rank p.size parts.0;
-      fits = frame_fits (is_large m) (next_to ns m.target.rank) m.context m.number (spelling (says m)) refl (leb-true m.number 2147483647 rest.0)
+      fits = frame_fits (is_large m) (next_to ns m.target.rank) m.context m.number (spelling (says m)) refl
+          (leb-true m.number 2147483647 rest.0)
           (limited ns m.target.rank (length (spelling (says m))) rest.1);
     }
 
 -- the sessions can send the frames of a step
-pub all_send : (p : Place) (ns : List Numbers) (ms : List CollectiveMessage) → all_can_go p ns ms ≡ true → All (CanSend p) (messages_sent ns ms)
+pub all_send : (p : Place) (ns : List Numbers) (ms : List CollectiveMessage) → all_can_go p ns ms ≡ true →
+    All (CanSend p) (messages_sent ns ms)
 all_send p ns [] is = All-nil (CanSend p)
 all_send p ns (m ∷ ms) is =
     let parts = both_of (can_go p ns m) (all_can_go p (numbers_after ns m) ms) is in
-    All-cons (CanSend p) (sending_of_message ns m) (messages_sent (numbers_after ns m) ms) (one_sends p ns m parts.0) (all_send p (numbers_after ns m) ms parts.1)
+    All-cons (CanSend p) (sending_of_message ns m) (messages_sent (numbers_after ns m) ms) (one_sends p ns m parts.0)
+    (all_send p (numbers_after ns m) ms parts.1)
 
 -- and what was written out of one
-pub written_send : (p q : Place) (ns n2 : List Numbers) (ms : List CollectiveMessage) (fs gs : List Sending) (ps : List Announced) → p ≡ q → gs ≡ fs →
+pub written_send : (p q : Place) (ns n2 : List Numbers) (ms : List CollectiveMessage) (fs gs : List Sending)
+    (ps : List Announced) → p ≡ q → gs ≡ fs →
     AreReady p ns ms fs ps n2 → All (CanSend q) gs
 written_send p q ns n2 ms fs gs ps place same ready =
     subst (λ (r : Place). All (CanSend r) gs) place
@@ -276,77 +313,104 @@ word_limited (Holds early) p e is = last_limited early.number e is
 word_limited (Follows f) p e is = last_limited p.receiver.next e is
 word_limited Nothing p e is = absurd cc
 
-heard_limited : (s : SessionsState) (h : Option HeardText) (e : lower.SessionRefusal) → heard_limit s h ≡ Some e → e ≡ lowers.Limit
+heard_limited : (s : SessionsState) (h : Option HeardText) (e : lower.SessionRefusal) → heard_limit s h ≡ Some e →
+    e ≡ lowers.Limit
 heard_limited s None e is = absurd cc
 heard_limited s (Some h) e is = word_limited h.word (session_met h.lesson (peer_at s.peers h.source.rank)) e is
 
-sends_limited : (s : SessionsState) (fs : List Sending) (e : lower.SessionRefusal) → sends_limit s fs ≡ Some e → e ≡ lowers.Limit
+sends_limited : (s : SessionsState) (fs : List Sending) (e : lower.SessionRefusal) → sends_limit s fs ≡ Some e →
+    e ≡ lowers.Limit
 sends_limited s [] e is = absurd cc
 sends_limited s (f ∷ fs) e is = go _ (sends_limited (after_send s f) fs e) is
   where
-    go : (t : Bool) → (sends_limit (after_send s f) fs ≡ Some e → e ≡ lowers.Limit) → cond t (Some lowers.Limit) (sends_limit (after_send s f) fs) ≡ Some e → e ≡ lowers.Limit
+    go : (t : Bool) → (sends_limit (after_send s f) fs ≡ Some e → e ≡ lowers.Limit) →
+        cond t (Some lowers.Limit) (sends_limit (after_send s f) fs) ≡ Some e → e ≡ lowers.Limit
     go true rest q = cc
     go false rest q = rest q
 
-event_limited : (s : SessionsState) (h : Option HeardText) (fs : List Sending) (e : lower.SessionRefusal) → event_limit s h fs ≡ Some e → e ≡ lowers.Limit
+event_limited : (s : SessionsState) (h : Option HeardText) (fs : List Sending) (e : lower.SessionRefusal) →
+    event_limit s h fs ≡ Some e → e ≡ lowers.Limit
 event_limited s h fs e is = go (heard_limit s h) refl is
   where
-    go : (o : Option lower.SessionRefusal) → heard_limit s h ≡ o → first_limit o (sends_limit (after_heard s h) fs) ≡ Some e → e ≡ lowers.Limit
+    go : (o : Option lower.SessionRefusal) → heard_limit s h ≡ o → first_limit o (sends_limit (after_heard s h) fs) ≡
+        Some e → e ≡ lowers.Limit
     go (Some f) found q = let same : Some f ≡ Some e = q in heard_limited s h e (found ∙ same)
     go None found q = sends_limited (after_heard s h) fs e q
 
 -- a message can't go
-pub unfit_stops : (s : SessionsState) (ns : List Numbers) (h : Option HeardText) (ms : List CollectiveMessage) (e : Refusal) → IsLeftOut (all_can_go s.place ns ms) e →
+pub unfit_stops : (s : SessionsState) (ns : List Numbers) (h : Option HeardText) (ms : List CollectiveMessage)
+    (e : Refusal) → IsLeftOut (all_can_go s.place ns ms) e →
     StepStops (step_limit s ns h ms) e
 unfit_stops s ns h ms e is =
     stops_as (if all_can_go s.place ns ms then None else Some refusals.Limit) (step_limit s ns h ms) e
-    (λ stop. ap (λ (t : Bool). cond t (fault_of_sessions (event_limit s h (step_sendings s.place ns ms))) (Some refusals.Limit)) (stop_of (all_can_go s.place ns ms) stop))
+    (λ stop. ap (λ (t : Bool). cond t (fault_of_sessions (event_limit s h (step_sendings s.place ns ms)))
+    (Some refusals.Limit)) (stop_of (all_can_go s.place ns ms) stop))
     is
 
 -- the same, told of a place
-pub left_out : (p : Place) (s : SessionsState) (ns : List Numbers) (h : Option HeardText) (ms : List CollectiveMessage) (e : Refusal) → p ≡ s.place →
+pub left_out : (p : Place) (s : SessionsState) (ns : List Numbers) (h : Option HeardText) (ms : List CollectiveMessage)
+    (e : Refusal) → p ≡ s.place →
     IsLeftOut (all_can_go p ns ms) e → StepStops (step_limit s ns h ms) e
-left_out p s ns h ms e place is = unfit_stops s ns h ms e (subst (λ (q : Place). IsLeftOut (all_can_go q ns ms) e) place is)
+left_out p s ns h ms e place is =
+    unfit_stops s ns h ms e (subst (λ (q : Place). IsLeftOut (all_can_go q ns ms) e) place is)
 
 -- all go
-pub fit_limit : (s : SessionsState) (ns : List Numbers) (h : Option HeardText) (ms : List CollectiveMessage) → all_can_go s.place ns ms ≡ true →
+pub fit_limit : (s : SessionsState) (ns : List Numbers) (h : Option HeardText) (ms : List CollectiveMessage) →
+    all_can_go s.place ns ms ≡ true →
     step_limit s ns h ms ≡ fault_of_sessions (event_limit s h (step_sendings s.place ns ms))
-fit_limit s ns h ms is = ap (λ (t : Bool). cond t (fault_of_sessions (event_limit s h (step_sendings s.place ns ms))) (Some refusals.Limit)) is
+fit_limit s ns h ms is =
+    ap (λ (t : Bool). cond t (fault_of_sessions (event_limit s h (step_sendings s.place ns ms))) (Some refusals.Limit))
+    is
 
-by_limit : (o : Option lower.SessionRefusal) (e : lower.SessionRefusal) (limit : Option Refusal) → ((f : lower.SessionRefusal) → o ≡ Some f → f ≡ lowers.Limit) →
+by_limit : (o : Option lower.SessionRefusal) (e : lower.SessionRefusal) (limit : Option Refusal) →
+    ((f : lower.SessionRefusal) → o ≡ Some f → f ≡ lowers.Limit) →
     limit ≡ fault_of_sessions o → IsRefusal o e → StepStops limit (of_sessions e)
-by_limit None e limit only is refused = subst (λ (f : lower.SessionRefusal). StepStops limit (of_sessions f)) (sym refused) tt
+by_limit None e limit only is refused =
+    subst (λ (f : lower.SessionRefusal). StepStops limit (of_sessions f)) (sym refused) tt
 by_limit (Some f) e limit only is refused =
     let named : f ≡ lowers.Limit = only f refl in
-    subst (λ (g : lower.SessionRefusal). StepStops limit (of_sessions g)) (sym (refused ∙ named)) (is ∙ ap (λ (g : lower.SessionRefusal). Some (of_sessions g)) named)
+    subst (λ (g : lower.SessionRefusal). StepStops limit (of_sessions g)) (sym (refused ∙ named))
+    (is ∙ ap (λ (g : lower.SessionRefusal). Some (of_sessions g)) named)
 
 -- the sessions refuse the frames
-pub sessions_stop : (s : SessionsState) (h : Option HeardText) (gs fs : List Sending) (e : lower.SessionRefusal) → fs ≡ gs → IsRefusal (event_limit s h fs) e →
+pub sessions_stop : (s : SessionsState) (h : Option HeardText) (gs fs : List Sending) (e : lower.SessionRefusal) →
+    fs ≡ gs → IsRefusal (event_limit s h fs) e →
     StepStops (fault_of_sessions (event_limit s h gs)) (of_sessions e)
 sessions_stop s h gs fs e are refused =
     by_limit (event_limit s h gs) e (fault_of_sessions (event_limit s h gs)) (event_limited s h gs) refl
     (subst (λ (hs : List Sending). IsRefusal (event_limit s h hs) e) are refused)
 
 -- what was written out is stopped as its step is
-pub step_stops : (p : Place) (s : SessionsState) (ns n2 : List Numbers) (h : Option HeardText) (ms : List CollectiveMessage) (fs gs : List Sending) (ps : List Announced) (e : Refusal) →
-    p ≡ s.place → gs ≡ fs → AreReady p ns ms fs ps n2 → StepStops (fault_of_sessions (event_limit s h (by_rank s.place.size gs))) e → StepStops (step_limit s ns h ms) e
+pub step_stops : (p : Place) (s : SessionsState) (ns n2 : List Numbers) (h : Option HeardText)
+    (ms : List CollectiveMessage) (fs gs : List Sending) (ps : List Announced) (e : Refusal) →
+    p ≡ s.place → gs ≡ fs → AreReady p ns ms fs ps n2 →
+    StepStops (fault_of_sessions (event_limit s h (by_rank s.place.size gs))) e → StepStops (step_limit s ns h ms) e
 step_stops p s ns n2 h ms fs gs ps e place same ready is =
     let here : AreReady s.place ns ms fs ps n2 = subst (λ (q : Place). AreReady q ns ms fs ps n2) place ready in
     subst (λ (l : Option Refusal). StepStops l e)
-    (ap (λ (hs : List Sending). fault_of_sessions (event_limit s h (by_rank s.place.size hs))) (same ∙ here.frames) ∙ sym (fit_limit s ns h ms here.go)) is
+    (ap (λ (hs : List Sending). fault_of_sessions (event_limit s h (by_rank s.place.size hs))) (same ∙ here.frames) ∙
+    sym (fit_limit s ns h ms here.go)) is
 
 -- it goes as its step does
-pub step_goes : (p : Place) (s : SessionsState) (ns n2 : List Numbers) (h : Option HeardText) (ms : List CollectiveMessage) (fs gs : List Sending) (ps : List Announced) →
-    p ≡ s.place → gs ≡ fs → AreReady p ns ms fs ps n2 → event_limit s h (by_rank s.place.size gs) ≡ None → step_limit s ns h ms ≡ None
+pub step_goes : (p : Place) (s : SessionsState) (ns n2 : List Numbers) (h : Option HeardText)
+    (ms : List CollectiveMessage) (fs gs : List Sending) (ps : List Announced) →
+    p ≡ s.place → gs ≡ fs → AreReady p ns ms fs ps n2 → event_limit s h (by_rank s.place.size gs) ≡ None →
+    step_limit s ns h ms ≡ None
 step_goes p s ns n2 h ms fs gs ps place same ready is =
     let here : AreReady s.place ns ms fs ps n2 = subst (λ (q : Place). AreReady q ns ms fs ps n2) place ready in
-    fit_limit s ns h ms here.go ∙ ap (λ (hs : List Sending). fault_of_sessions (event_limit s h (by_rank s.place.size hs))) (sym (same ∙ here.frames)) ∙ ap fault_of_sessions is
+    fit_limit s ns h ms here.go ∙
+    ap (λ (hs : List Sending). fault_of_sessions (event_limit s h (by_rank s.place.size hs)))
+    (sym (same ∙ here.frames)) ∙ ap fault_of_sessions is
 
 -- and leaves what its step does
-pub step_sent : (p : Place) (s t : SessionsState) (ns n2 : List Numbers) (h : Option HeardText) (ms : List CollectiveMessage) (fs gs : List Sending) (ps : List Announced) →
-    gs ≡ fs → AreReady p ns ms fs ps n2 → t ≡ after_event s h (by_rank s.place.size gs) → t ≡ after_event s h (step_sendings s.place ns ms)
-step_sent p s t ns n2 h ms fs gs ps same ready is = is ∙ ap (λ (hs : List Sending). after_event s h (by_rank s.place.size hs)) (same ∙ ready.frames)
+pub step_sent : (p : Place) (s t : SessionsState) (ns n2 : List Numbers) (h : Option HeardText)
+    (ms : List CollectiveMessage) (fs gs : List Sending) (ps : List Announced) →
+    gs ≡ fs → AreReady p ns ms fs ps n2 → t ≡ after_event s h (by_rank s.place.size gs) →
+    t ≡ after_event s h (step_sendings s.place ns ms)
+step_sent p s t ns n2 h ms fs gs ps same ready is =
+    is ∙ ap (λ (hs : List Sending). after_event s h (by_rank s.place.size hs)) (same ∙ ready.frames)
 
 -- what is handed to the sessions is what was written out, in the order of the ranks
-pub frames_are : (p q : Place) (fs : List Sending) (os us : List Outgoing) → q ≡ p → sendings os ≡ by_rank q.size fs → us ≡ os → sendings us ≡ by_rank p.size fs
+pub frames_are : (p q : Place) (fs : List Sending) (os us : List Outgoing) → q ≡ p → sendings os ≡ by_rank q.size fs →
+    us ≡ os → sendings us ≡ by_rank p.size fs
 frames_are p q fs os us place sorted last = ap sendings last ∙ sorted ∙ ap (λ (r : Place). by_rank r.size fs) place

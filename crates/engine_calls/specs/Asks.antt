@@ -113,8 +113,10 @@ route_probe p r = record {
 
 -- the call by which it is asked, with what that named
 abbrev pub call_of_core : (comm : Option ℕ) → (named : Source) → core_asks.CoreCall → Call
-call_of_core comm named (core_calls.Isend s) = calls.Isend (record { mode = s.mode; comm = comm; target = named; tag = s.tag; from = s.from })
-call_of_core comm named (core_calls.Irecv v) = calls.Irecv (record { comm = comm; source = named; tag = v.tag; into = v.into })
+call_of_core comm named (core_calls.Isend s) =
+    calls.Isend (record { mode = s.mode; comm = comm; target = named; tag = s.tag; from = s.from })
+call_of_core comm named (core_calls.Irecv v) =
+    calls.Irecv (record { comm = comm; source = named; tag = v.tag; into = v.into })
 call_of_core comm named (core_calls.Wait q) = calls.Wait q
 call_of_core comm named (core_calls.Test q) = calls.Test q
 call_of_core comm named (core_calls.Waitany qs) = calls.Waitany qs
@@ -139,7 +141,8 @@ target_rule g known comm named =
 abbrev pub source_rule : GroupsState → (known : List ℕ) → (comm : Option ℕ) → Source → RouteText → Option Refusal
 source_rule g known comm named r =
     first_fault (broken (is_source_beyond (held_at (member_of g) comm) named) refusals.Rank)
-    (first_fault (broken (names_replaced (known_by known) (held_at (member_of g) comm) named) refusals.Replaced) (group_limit r.group))
+    (first_fault (broken (names_replaced (known_by known) (held_at (member_of g) comm) named) refusals.Replaced)
+    (group_limit r.group))
 
 -- the first rule or limit of what the core is asked, where this one comes behind those on what the call hands in
 abbrev pub asked_fault : CoreState → SessionsState → (rule : Option Refusal) → core_asks.CoreCall → Option Refusal
@@ -170,8 +173,8 @@ abbrev pub JudgementGives : Result RoutedCall (HandedBack Call) → JudgedCall �
 JudgementGives (Ok a) j = (j.fault ≡ None) × (j.call ≡ call_of a)
 JudgementGives (Err h) j = (j.fault ≡ Some h.refused) × (j.call ≡ h.value)
 
--- A probe that takes nothing out is refused by its first rule, whatever memory there is; or this is what such a receive would take
--- now, with the status by the group of its communicator
+-- A probe that takes nothing out is refused by its first rule, whatever memory there is; or this is what such a receive
+-- would take now, with the status by the group of its communicator
 abbrev pub LookGives : EngineState → Probe → Result (Option Status) Refusal → Type 0
 LookGives e p (Err why) = fault_of e (calls.Iprobe p) ≡ Some why
 LookGives e p (Ok found) =
@@ -188,21 +191,27 @@ CanAskBy c g s (Ok a) = CanAsk c g s a
 CanAskBy c g s (Err h) = Unit {0}
 
 -- the same of what the core is asked
-abbrev pub JudgingGives : CoreState → SessionsState → (rule : Option Refusal) → RoutedCall → Result RoutedCall (HandedBack Call) → Type 0
-JudgingGives c s rule a (Ok b) = (b ≡ a) × (asked_fault c s rule a.call ≡ None) × cores.IsWithin a.call × IsClear c s a.call
+abbrev pub JudgingGives : CoreState → SessionsState → (rule : Option Refusal) → RoutedCall →
+    Result RoutedCall (HandedBack Call) → Type 0
+JudgingGives c s rule a (Ok b) = (b ≡ a) × (asked_fault c s rule a.call ≡ None) × cores.IsWithin a.call ×
+    IsClear c s a.call
 JudgingGives c s rule a (Err h) = (asked_fault c s rule a.call ≡ Some h.refused) × (h.value ≡ call_of a)
 
 -- ITS ANSWER
 
--- what is clear is answered, and its frame, if it has one, is on its way; or it comes back for want of memory, and nothing changed
-abbrev pub AnswerGives : CoreState → SessionsState → core_asks.CoreCall → core_answers.CoreReply → CoreState → SessionsState → Type 0
+-- what is clear is answered, and its frame, if it has one, is on its way; or it comes back for want of memory, and
+-- nothing changed
+abbrev pub AnswerGives : CoreState → SessionsState → core_asks.CoreCall → core_answers.CoreReply → CoreState →
+    SessionsState → Type 0
 AnswerGives c s q (core_replies.Refused why back) d t =
     (back ≡ q) × (why ≡ refusals.OutOfMemory) × cores.NeedsMemory q × (d ≡ c) × (t ≡ s)
-AnswerGives c s q (core_replies.Started r) d t = Answers c q (core_replies.Started r) d × (t ≡ after_frame s (call_frame c q))
+AnswerGives c s q (core_replies.Started r) d t = Answers c q (core_replies.Started r) d ×
+    (t ≡ after_frame s (call_frame c q))
 AnswerGives c s q (core_replies.Done a) d t = Answers c q (core_replies.Done a) d × (t ≡ after_frame s (call_frame c q))
 AnswerGives c s q core_replies.Pending d t = Answers c q core_replies.Pending d × (t ≡ after_frame s (call_frame c q))
 AnswerGives c s q core_replies.Accepted d t = Answers c q core_replies.Accepted d × (t ≡ after_frame s (call_frame c q))
-AnswerGives c s q (core_replies.Matched found) d t = Answers c q (core_replies.Matched found) d × (t ≡ after_frame s (call_frame c q))
+AnswerGives c s q (core_replies.Matched found) d t = Answers c q (core_replies.Matched found) d ×
+    (t ≡ after_frame s (call_frame c q))
 AnswerGives c s q core_replies.Blocked d t = Answers c q core_replies.Blocked d × (t ≡ after_frame s (call_frame c q))
 
 -- the core's answer as the engine's, to a call that named this

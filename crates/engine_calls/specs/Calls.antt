@@ -1,5 +1,5 @@
--- What a call does to the engine: the core answers it, and the sessions send its frame; or a collective is entered, and the sessions
--- tell the others; or a question is answered.
+-- What a call does to the engine: the core answers it, and the sessions send its frame; or a collective is entered, and
+-- the sessions tell the others; or a question is answered.
 use Rattle.std.specs.Prelude.{◌≡◌, ◌⊎◌, ℕ, Option, Some, None, Ok, option_map}
 use Rattle.collective_messages.specs.declared.entry.Entry.{Entry}
 use Rattle.collective_transfers.specs.State.{after_announcing}
@@ -59,11 +59,13 @@ abbrev pub IsStepLimited : EngineState → (comm : Option ℕ) → Entry → Typ
 IsStepLimited e None x = ⊥
 IsStepLimited e (Some place) x =
     (step : Prepared) ×
-    IsPreparedEntry e.groups.collective.own (inside_of e.groups.collective e.groups.contexts place x) e.groups.contexts e.groups.collective.kept step
-    × (steps.MeetsLimit e.groups.contexts step ⊎ (step_limit e.sessions e.core.transfers.numbers None step.messages ≡ Some refusals.Limit))
+    IsPreparedEntry e.groups.collective.own (inside_of e.groups.collective e.groups.contexts place x) e.groups.contexts
+    e.groups.collective.kept step
+    × (steps.MeetsLimit e.groups.contexts step ⊎
+    (step_limit e.sessions e.core.transfers.numbers None step.messages ≡ Some refusals.Limit))
 
--- Why a call is refused that breaks no rule and meets no limit of its own: for want of memory, if it needs any; a collective also
--- where what the rank then does of itself meets a limit
+-- Why a call is refused that breaks no rule and meets no limit of its own: for want of memory, if it needs any; a
+-- collective also where what the rank then does of itself meets a limit
 abbrev pub LacksRoom : EngineState → Call → Refusal → Type 0
 LacksRoom e (calls.Enter comm x) why = (why ≡ refusals.OutOfMemory) ⊎ ((why ≡ refusals.Limit) × IsStepLimited e comm x)
 LacksRoom e (calls.Ask comm q) why = (why ≡ refusals.OutOfMemory) × IsCopied q
@@ -76,7 +78,8 @@ LacksRoom e (calls.Waitall qs) why = why ≡ refusals.OutOfMemory
 LacksRoom e (calls.Cancel q) why = ⊥
 LacksRoom e (calls.Iprobe p) why = ⊥
 LacksRoom e (calls.Improbe p) why = (why ≡ refusals.OutOfMemory) × NeedsMemory (core_call e.groups (calls.Improbe p))
-LacksRoom e (calls.Mrecv message into) why = (why ≡ refusals.OutOfMemory) × NeedsMemory (core_call e.groups (calls.Mrecv message into))
+LacksRoom e (calls.Mrecv message into) why =
+    (why ≡ refusals.OutOfMemory) × NeedsMemory (core_call e.groups (calls.Mrecv message into))
 
 -- a call is refused by the rule or limit that it meets; where it meets none, for want of room
 abbrev pub WhyRefused : Option Refusal → EngineState → Call → Refusal → Type 0
@@ -110,9 +113,10 @@ abbrev pub reply_on_entry : Option Ending → Reply
 reply_on_entry None = replies.Blocked
 reply_on_entry (Some o) = replies.Left o
 
--- a collective is entered: what the rank then does of itself is done, and the others are told. What is too long for a frame is
--- announced, and kept until it is asked for
-pub record IsEntered (old : EngineState) (comm : Option ℕ) (x : Entry) (reply : Reply) (new : EngineState) : Type 0 where
+-- a collective is entered: what the rank then does of itself is done, and the others are told. What is too long for a
+-- frame is announced, and kept until it is asked for
+pub record IsEntered (old : EngineState) (comm : Option ℕ) (x : Entry) (reply : Reply) (new : EngineState) : Type
+    0 where
   pub allowed : fault_of old (calls.Enter comm x) ≡ None
   pub place : ℕ
   pub named : comm ≡ Some place
@@ -124,7 +128,8 @@ pub record IsEntered (old : EngineState) (comm : Option ℕ) (x : Entry) (reply 
   pub replied : reply ≡ reply_on_entry ending
   pub whole : AreWhole step.messages
   pub goes : step_limit old.sessions old.core.transfers.numbers None step.messages ≡ None
-  pub sessions : new.sessions ≡ after_event old.sessions None (step_sendings old.sessions.place old.core.transfers.numbers step.messages)
+  pub sessions : new.sessions ≡
+      after_event old.sessions None (step_sendings old.sessions.place old.core.transfers.numbers step.messages)
   pub core : new.core ≡ with_numbers old.core (step_numbers old.core.transfers.numbers step.messages)
   pub payloads : new.payloads ≡ after_announcing old.payloads (step_payloads old.core.transfers.numbers step.messages)
   pub ended : new.ended ≡ old.ended
@@ -140,14 +145,16 @@ pub record IsTold (old : EngineState) (comm : Option ℕ) (q : Question) (fact :
   pub allowed : fault_of old (calls.Ask comm q) ≡ None
   pub unchanged : new ≡ old
   pub fact_is :
-      option_map (λ c. fact_of old.groups.collective.own (member_of old.groups) c (question_of q)) (held_at (member_of old.groups) comm)
+      option_map (λ c. fact_of old.groups.collective.own (member_of old.groups) c (question_of q))
+      (held_at (member_of old.groups) comm)
       ≡ Some (fact_said fact)
 
 -- what such a receive would take now is told, and nothing changes
 pub record IsLooked (old : EngineState) (p : Probe) (found : Option Status) (new : EngineState) : Type 0 where
   pub allowed : fault_of old (calls.Iprobe p) ≡ None
   pub unchanged : new ≡ old
-  pub found_is : option_map (λ r. looked old.core r.named p.tag r.context r.group) (route_at old.groups p.comm p.source) ≡ Some found
+  pub found_is : option_map (λ r. looked old.core r.named p.tag r.context r.group) (route_at old.groups p.comm p.source)
+      ≡ Some found
 
 -- a collective is entered, or the call is refused
 abbrev pub EnteringGives : EngineState → (comm : Option ℕ) → Entry → Reply → EngineState → Type 0

@@ -21,7 +21,8 @@ pub record GroupsState : Type 0 where
   pub collective : collectives.State
   pub contexts : ContextsState
 
--- the engine of one rank; all of its parts stand at one place. The transfers of messages and of collectives have one count: the core's
+-- the engine of one rank; all of its parts stand at one place. The transfers of messages and of collectives have one
+-- count: the core's
 pub record EngineState : Type 0 where
   -- what it is to the machine's queues: its calls, its requests, and the messages that it has and wants
   pub core : CoreState
@@ -52,7 +53,15 @@ opening_groups p = record {
 
 -- an engine at its start: it knows every other rank at incarnation 0, and nothing is pending (our own)
 abbrev pub opening : Place → EngineState
-opening p = record { core = cores.opening p; groups = opening_groups p; ended = None; payloads = payloads.opening; sessions = links.opening p }
+opening p =
+    record {
+      core = cores.opening p;
+      groups = opening_groups p;
+      ended = None;
+      payloads = payloads.opening;
+      sessions =
+          links.opening p;
+    }
 
 -- the engine once what it emitted was taken out of it
 abbrev pub without_out : EngineState → EngineState

@@ -1,5 +1,6 @@
 -- The first rule or limit that a call meets.
-use Rattle.std.specs.Prelude.{ℕ, ◌||◌, Bool, List, length, Option, Some, None, if◌then◌else◌, is_none, is_some, nat_lt, option_map}
+use Rattle.std.specs.Prelude.{ℕ, ◌||◌, Bool, List, length, Option, Some, None, if◌then◌else◌, is_none, is_some, nat_lt}
+use Rattle.std.specs.Prelude.{option_map}
 use Rattle.collective_messages.specs.declared.entry.Entry.{Entry}
 use Rattle.communicators.specs.Members.{held_in}
 use Rattle.communicators.specs.Questions.{question_of}
@@ -7,7 +8,8 @@ use Rattle.communicators.specs.Routes.{RouteText}
 use Rattle.communicators.specs.Rules.{known_by, limit_in, rule_in}
 use Rattle.communicators.specs.declared.question.Question.{Question}
 use Rattle.perfect_groups.specs.Calls.{held_at}
-use Rattle.perfect_groups.specs.Faults.{asks_of_none, has_replaced, is_no_target, is_source_beyond, is_within, names_replaced}
+use Rattle.perfect_groups.specs.Faults.{asks_of_none, has_replaced, is_no_target, is_source_beyond, is_within}
+use Rattle.perfect_groups.specs.Faults.{names_replaced}
 use Rattle.point_to_point_calls.specs.declared.call.CoreCall as cores
 use Rattle.point_to_point_calls.specs.declared.call.CoreCall.TheVariants as core_calls
 use Rattle.point_to_point_calls.specs.declared.refusal.Refusal.{Refusal}
@@ -48,7 +50,8 @@ abbrev pub send_rules : EngineState → Send → RouteText → Option Refusal
 send_rules e s r =
     first_fault (argument_fault e.core.place (core_calls.Isend (send_by s r)))
     (first_fault (broken (is_no_target (held_at (member_of e.groups) s.comm) s.target) refusals.Rank)
-    (first_fault (broken (is_replaced e s.comm s.target) refusals.Replaced) (routed_limit e (core_calls.Isend (send_by s r)))))
+    (first_fault (broken (is_replaced e s.comm s.target) refusals.Replaced)
+    (routed_limit e (core_calls.Isend (send_by s r)))))
 
 -- of a receive with a route: 2, 1, 3, 5, 11, 13
 abbrev pub receive_rules : EngineState → Receive → RouteText → Option Refusal
@@ -71,7 +74,8 @@ probe_rules e p r = first_fault (look_rules e p r) (routed_limit e (core_calls.I
 
 -- of the receive of a message: 6, 2, 1, 13
 abbrev pub message_rules : EngineState → cores.CoreCall → Option Refusal
-message_rules e q = first_fault (free_request_fault e.core q) (first_fault (argument_fault e.core.place q) (routed_limit e q))
+message_rules e q =
+    first_fault (free_request_fault e.core q) (first_fault (argument_fault e.core.place q) (routed_limit e q))
 
 -- where there is no route, the rank holds no such communicator (4)
 abbrev pub on_route : Option RouteText → (RouteText → Option Refusal) → Option Refusal
@@ -89,13 +93,15 @@ abbrev pub entry_rules : EngineState → (comm : Option ℕ) → Entry → Optio
 entry_rules e comm x =
     first_fault (broken (is_none (held_at (member_of e.groups) comm)) refusals.Communicator)
     (first_fault (handed_rules e comm x)
-    (first_fault (broken (has_replaced (known_by e.sessions.known) (held_at (member_of e.groups) comm)) refusals.Replaced)
+    (first_fault
+    (broken (has_replaced (known_by e.sessions.known) (held_at (member_of e.groups) comm)) refusals.Replaced)
     (broken (limit_in e.groups.collective e.groups.contexts comm x) refusals.Limit)))
 
 -- of a question: 4
 abbrev pub question_rules : EngineState → (comm : Option ℕ) → Question → Option Refusal
 question_rules e comm q =
-    broken (is_none (held_at (member_of e.groups) comm) || asks_of_none (member_of e.groups) (question_of q)) refusals.Communicator
+    broken (is_none (held_at (member_of e.groups) comm) || asks_of_none (member_of e.groups) (question_of q))
+    refusals.Communicator
 
 -- ---- all calls
 

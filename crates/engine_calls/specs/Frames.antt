@@ -1,5 +1,6 @@
 -- The frames that an event sends: that of a call, and those of a step of a collective.
-use Rattle.std.specs.Prelude.{◌<◌, ◌^◌, ℕ, zero, suc, ◌==◌, ◌&&◌, ◌||◌, not, Bool, true, List, [], ◌∷◌, ◌++◌, filter, length, Option, Some, None, if◌then◌else◌, nat_le, nat_lt}
+use Rattle.std.specs.Prelude.{◌<◌, ◌^◌, ℕ, zero, suc, ◌==◌, ◌&&◌, ◌||◌, not, Bool, true, List, [], ◌∷◌, ◌++◌, filter}
+use Rattle.std.specs.Prelude.{length, Option, Some, None, if◌then◌else◌, nat_le, nat_lt}
 use Rattle.std.specs.List.{AllByRecursion}
 use Rattle.collective_messages.specs.Messages.{IsWithinType, says}
 use Rattle.collective_messages.specs.declared.message.CollectiveMessage.{CollectiveMessage}
@@ -54,7 +55,8 @@ frame_limit s (Some f) = fault_of_sessions (event_limit s None (sendings_of (Som
 abbrev pub is_large : CollectiveMessage → Bool
 is_large m = nat_lt eager_limit (length (spelling (says m)))
 
--- under which number a message is announced, where these are the numbers of the sessions' transfers: the next one to its rank
+-- under which number a message is announced, where these are the numbers of the sessions' transfers: the next one to
+-- its rank
 abbrev pub transfer_of : List Numbers → CollectiveMessage → Option ℕ
 transfer_of ns m = if is_large m then Some (next_to ns m.target.rank) else None
 
@@ -62,8 +64,8 @@ transfer_of ns m = if is_large m then Some (next_to ns m.target.rank) else None
 abbrev pub numbers_after : List Numbers → CollectiveMessage → List Numbers
 numbers_after ns m = if is_large m then with_begun ns m.target.rank else ns
 
--- the frame of a payload: its bytes, or the announcement of so many under the number of a transfer; in the context of its
--- communicator and under the number of its collective (the form is our own)
+-- the frame of a payload: its bytes, or the announcement of so many under the number of a transfer; in the context of
+-- its communicator and under the number of its collective (the form is our own)
 abbrev pub payload_frame : (transfer : Option ℕ) → (context number : ℕ) → List ℕ → FrameText
 payload_frame None context number bytes = EagerFrame (record {
   plane = Collective;
@@ -83,9 +85,11 @@ payload_frame (Some transfer) context number bytes = RequestFrame (record {
   transfer = transfer;
 })
 
--- a message of a collective, as the sessions are to send it: a frame of bytes, which spell its payload, or their announcement
+-- a message of a collective, as the sessions are to send it: a frame of bytes, which spell its payload, or their
+-- announcement
 abbrev pub sending_of_message : List Numbers → CollectiveMessage → Sending
-sending_of_message ns m = record { rank = m.target.rank; frame = payload_frame (transfer_of ns m) m.context m.number (spelling (says m)) }
+sending_of_message ns m =
+    record { rank = m.target.rank; frame = payload_frame (transfer_of ns m) m.context m.number (spelling (says m)) }
 
 -- those of a list, one after the other: each announcement counts
 abbrev pub messages_sent : List Numbers → List CollectiveMessage → List Sending
@@ -105,7 +109,8 @@ payload_kept (Some transfer) rank bytes = (record { target = rank; transfer = tr
 -- the payloads that a step announces
 abbrev pub step_payloads : List Numbers → List CollectiveMessage → List Announced
 step_payloads ns [] = []
-step_payloads ns (m ∷ ms) = payload_kept (transfer_of ns m) m.target.rank (spelling (says m)) ++ step_payloads (numbers_after ns m) ms
+step_payloads ns (m ∷ ms) = payload_kept (transfer_of ns m) m.target.rank (spelling (says m)) ++
+    step_payloads (numbers_after ns m) ms
 
 -- frames in the order of the ranks that they go to, of so many ranks; those for one rank stay in their order
 abbrev pub by_rank : (ranks : ℕ) → List Sending → List Sending
@@ -116,14 +121,17 @@ by_rank (suc k) fs = by_rank k fs ++ filter (λ (f : Sending). f.rank == k) fs
 abbrev pub step_sendings : Place → List Numbers → List CollectiveMessage → List Sending
 step_sendings p ns ms = by_rank p.size (messages_sent ns ms)
 
--- whether so many bytes can go to a rank: in a frame; or, up to 1,048,576 of them, under a number that is left for a transfer
+-- whether so many bytes can go to a rank: in a frame; or, up to 1,048,576 of them, under a number that is left for a
+-- transfer
 abbrev pub is_sendable : List Numbers → (rank : ℕ) → (count : ℕ) → Bool
 is_sendable ns rank count = nat_le count eager_limit || (nat_le count send_limit && not (is_full_to ns rank))
 
--- whether a message can go: to a rank of the job, under a number that a tag can be, as so many bytes. Each can that a collective
--- among at most 1,024 ranks brings, since a block has at most 1,048,560 bytes and the record 16, as long as a number is left
+-- whether a message can go: to a rank of the job, under a number that a tag can be, as so many bytes. Each can that a
+-- collective among at most 1,024 ranks brings, since a block has at most 1,048,560 bytes and the record 16, as long as
+-- a number is left
 abbrev pub can_go : Place → List Numbers → CollectiveMessage → Bool
-can_go p ns m = nat_lt m.target.rank p.size && (nat_le m.number highest_tag && is_sendable ns m.target.rank (length (spelling (says m))))
+can_go p ns m = nat_lt m.target.rank p.size &&
+    (nat_le m.number highest_tag && is_sendable ns m.target.rank (length (spelling (says m))))
 
 -- whether each can, one after the other
 abbrev pub all_can_go : Place → List Numbers → List CollectiveMessage → Bool
@@ -133,7 +141,8 @@ all_can_go p ns (m ∷ ms) = can_go p ns m && all_can_go p (numbers_after ns m) 
 -- the limit that a step meets by what it sends, where these are the numbers of the sessions' transfers
 abbrev pub step_limit : SessionsState → List Numbers → Option HeardText → List CollectiveMessage → Option Refusal
 step_limit s ns heard ms =
-    if all_can_go s.place ns ms then fault_of_sessions (event_limit s heard (step_sendings s.place ns ms)) else Some refusals.Limit
+    if all_can_go s.place ns ms then fault_of_sessions (event_limit s heard (step_sendings s.place ns ms)) else
+    Some refusals.Limit
 
 -- a message can be read as it was written, each element that it carries is within its type, and its context has 64 bits
 pub record IsWhole (m : CollectiveMessage) : Type 0 where

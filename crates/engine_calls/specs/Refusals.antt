@@ -7,7 +7,12 @@ use Rattle.collective_messages.specs.declared.refusal.CollectiveRefusal.TheVaria
 use Rattle.communicators.specs.declared.fault.CommunicatorFault as rules
 use Rattle.communicators.specs.declared.fault.CommunicatorFault.TheVariants as rule_faults
 use Rattle.point_to_point_calls.specs.declared.refusal.Refusal.{Refusal}
-use Rattle.point_to_point_calls.specs.declared.refusal.Refusal.TheVariants.{Communicator, Count, Operation, Rank, Replaced, Request, Root, WrongType, Limit, OutOfMemory, Short, Magic, Version, Kind, Length, ForeignJob, NotForMe, StaleSource, StaleTarget, BadFrame, OutOfWindow, ClockBack}
+use Rattle.point_to_point_calls.specs.declared.refusal.Refusal.TheVariants.{Communicator, Count, Operation, Rank}
+use Rattle.point_to_point_calls.specs.declared.refusal.Refusal.TheVariants.{Replaced, Request, Root, WrongType, Limit}
+use Rattle.point_to_point_calls.specs.declared.refusal.Refusal.TheVariants.{OutOfMemory, Short, Magic, Version, Kind}
+use Rattle.point_to_point_calls.specs.declared.refusal.Refusal.TheVariants.{Length, ForeignJob, NotForMe, StaleSource}
+use Rattle.point_to_point_calls.specs.declared.refusal.Refusal.TheVariants.{StaleTarget, BadFrame, OutOfWindow}
+use Rattle.point_to_point_calls.specs.declared.refusal.Refusal.TheVariants.{ClockBack}
 use Rattle.sessions.specs.declared.refusal.SessionRefusal as lower
 use Rattle.sessions.specs.declared.refusal.SessionRefusal.TheVariants as lowers
 

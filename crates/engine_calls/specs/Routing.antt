@@ -35,7 +35,8 @@ receive_by v r = record { source = r.named; tag = v.tag; context = r.context; gr
 abbrev pub probe_by : Probe → RouteText → core_probes.CoreProbe
 probe_by p r = record { source = r.named; tag = p.tag; context = r.context; group = r.group }
 
--- what the core is asked; of a collective, and of a question, it is asked nothing, and a probe that takes nothing out only looks
+-- what the core is asked; of a collective, and of a question, it is asked nothing, and a probe that takes nothing out
+-- only looks
 abbrev pub core_call : GroupsState → Call → Option core_asks.CoreCall
 core_call g (calls.Isend s) = option_map (λ r. core_calls.Isend (send_by s r)) (route_at g s.comm s.target)
 core_call g (calls.Irecv v) = option_map (λ r. core_calls.Irecv (receive_by v r)) (route_at g v.comm v.source)

@@ -24,7 +24,8 @@ use Rattle.vocabulary.specs.declared.basic_type.BasicType.TheVariants.{Byte}
 use Rattle.vocabulary.specs.declared.endpoint.Endpoint.{Endpoint}
 use Rattle.engine_calls.specs.Asks.{engine_of, groups_of}
 use Rattle.engine_calls.specs.EngineState.{EngineState}
-use Rattle.engine_calls.specs.Frames.{AreWhole, IsWhole, all_can_go, can_go, messages_sent, numbers_after, payload_kept, sending_of_message, step_numbers, step_payloads, transfer_of}
+use Rattle.engine_calls.specs.Frames.{AreWhole, IsWhole, all_can_go, can_go, messages_sent, numbers_after, payload_kept}
+use Rattle.engine_calls.specs.Frames.{sending_of_message, step_numbers, step_payloads, transfer_of}
 use Rattle.engine_calls.specs.declared.frames.FrameContent.{FrameContent}
 use Rattle.engine_calls.specs.declared.frames.FrameContent.TheVariants as parts
 use Rattle.engine_calls.specs.declared.frames.Written.{Written}
@@ -57,17 +58,20 @@ part_frame context number count (parts.Announced transfer) = RequestFrame (recor
 abbrev pub written : Written → Sending
 written w = record { rank = w.target; frame = part_frame w.context w.number w.count w.part }
 
--- One more message is written out behind others: it can go, its frame stands behind theirs, its payload is kept where it is
--- announced, and it is counted then
-pub record IsAdded (p : Place) (ns : List Numbers) (m : CollectiveMessage) (fs gs : List Sending) (ps qs : List Announced) (ns2 : List Numbers) : Type 0 where
+-- One more message is written out behind others: it can go, its frame stands behind theirs, its payload is kept where
+-- it is announced, and it is counted then
+pub record IsAdded (p : Place) (ns : List Numbers) (m : CollectiveMessage) (fs gs : List Sending)
+    (ps qs : List Announced) (ns2 : List Numbers) : Type 0 where
   pub goes : can_go p ns m ≡ true
   pub frames : gs ≡ fs ++ sending_of_message ns m ∷ []
   pub kept : qs ≡ ps ++ payload_kept (transfer_of ns m) m.target.rank (spelling (says m))
   pub numbers : ns2 ≡ numbers_after ns m
   pub whole : IsWhole m
 
--- all messages of a step are written out: each can go, these are their frames, these payloads are kept, and they are counted
-pub record AreReady (p : Place) (ns : List Numbers) (ms : List CollectiveMessage) (fs : List Sending) (ps : List Announced) (ns2 : List Numbers) : Type 0 where
+-- all messages of a step are written out: each can go, these are their frames, these payloads are kept, and they are
+-- counted
+pub record AreReady (p : Place) (ns : List Numbers) (ms : List CollectiveMessage) (fs : List Sending)
+    (ps : List Announced) (ns2 : List Numbers) : Type 0 where
   pub go : all_can_go p ns ms ≡ true
   pub frames : fs ≡ messages_sent ns ms
   pub kept : ps ≡ step_payloads ns ms

@@ -4,21 +4,22 @@ ghost use Rattle.std.specs.Prelude.{◌≡◌, ◌≤◌, ◌<◌, ◌+◌, leng
 ghost use Rattle.engine_calls.specs.EngineState.{Rest};
 ghost use Rattle.point_to_point_calls.specs.Calls.{NeedsMemory};
 ghost use Rattle.point_to_point.specs.Calls.{CanAnswer, call_frame};
-ghost use Rattle.engine_calls.specs.Asks.{AnswerGives, AskGives, CanAsk, CanAskBy, IsAsked, IsClear, engine_of, groups_of};
+ghost use Rattle.engine_calls.specs.Asks.{AnswerGives, AskGives, CanAsk, CanAskBy, IsAsked, IsClear, engine_of};
+ghost use Rattle.engine_calls.specs.Asks.{groups_of};
 ghost use Rattle.engine_calls.specs.Calls.{CoreGives};
 ghost use Rattle.engine_calls.specs.Frames.{after_frame};
 ghost use Rattle.engine_calls.specs.declared.call.Call as engine_calls;
 
-use crate::routed_call::{RoutedCall, share_members, reply_of_core};
 use crate::call::Call;
 use crate::reply::Reply;
+use crate::routed_call::{RoutedCall, reply_of_core, share_members};
 use communicators::Communicators;
 use point_to_point::{Core, HandedBack, PreparedCall, Refusal};
 use sessions::{Outgoing, Sessions};
 use std::alloc::Global;
 
-/// Sends the frame of what the core is asked, if it has one, which meets no limit: it is lent from the call, or from what was
-/// made ready.
+/// Sends the frame of what the core is asked, if it has one, which meets no limit: it is lent from the call, or from
+/// what was made ready.
 #[tactic(auto, using(crate::proofs::Limits::frame_needs))]
 fn send_frame(
     core: &Core,
@@ -49,8 +50,8 @@ fn send_frame(
     }
 }
 
-/// Makes way in the core and the sessions for what breaks no rule and meets no limit: what it needs is made ready, and its
-/// frame, if it has one, is sent.
+/// Makes way in the core and the sessions for what breaks no rule and meets no limit: what it needs is made ready, and
+/// its frame, if it has one, is sent.
 fn make_way(
     core: &mut Core,
     sessions: &mut Sessions,
@@ -76,7 +77,11 @@ fn make_way(
 
 /// The core's answer to what breaks no rule and meets no limit; or it comes back for want of memory.
 #[tactic(auto, using(crate::proofs::Answering::answer_given))]
-fn answer(core: &mut Core, sessions: &mut Sessions, call: point_to_point::CoreCall) -> point_to_point::CoreReply
+fn answer(
+    core: &mut Core,
+    sessions: &mut Sessions,
+    call: point_to_point::CoreCall,
+) -> point_to_point::CoreReply
     requires clear { IsClear core.old.state sessions.old call }
     requires place { core.old.state.place ≡ sessions.old.place }
     ensures exact { AnswerGives core.old.state sessions.old call result core.new.state sessions.new }

@@ -48,7 +48,8 @@ pub struct Probe {
     pub tag: Option<u32>,
 }
 
-/// What a program may ask of its rank. Where a request is named, none is the null request; where a communicator is, none is
+/// What a program may ask of its rank. Where a request is named, none is the null request; where a communicator is,
+/// none is
 /// MPI_COMM_NULL. A message that a matching probe took out is named by a request too, until it is received.
 #[derive(Drop)]
 pub enum Call {
@@ -66,8 +67,9 @@ pub enum Call {
     Waitall(RequestList),
     /// Ends a receive that waits as cancelled; one that was matched goes on (3.8.4).
     Cancel(Option<Request>),
-    /// Enters a collective of the communicator: a barrier (5.3), a broadcast (5.4), a gather (5.5), a scatter (5.6), a reduction
-    /// (5.9.1, 5.9.6), a copy of it or a split (6.4.2). All members are to enter the same ones in the same order.
+    /// Enters a collective of the communicator: a barrier (5.3), a broadcast (5.4), a gather (5.5), a scatter (5.6), a
+    /// reduction (5.9.1, 5.9.6), a copy of it or a split (6.4.2). All members are to enter the same ones in the same
+    /// order.
     Enter(Option<usize>, Entry),
     /// Asks about the communicator (6.4.1).
     Ask(Option<usize>, Question),
@@ -75,7 +77,8 @@ pub enum Call {
     Iprobe(Probe),
     /// Takes a message out of matching that such a receive would take now, if there is one (3.8.2).
     Improbe(Probe),
-    /// Receives a message that was taken out, and waits until its data are there; `None` is that of the null process (3.8.3).
+    /// Receives a message that was taken out, and waits until its data are there; `None` is that of the null process
+    /// (3.8.3).
     Mrecv(Option<Request>, Region),
 }
 

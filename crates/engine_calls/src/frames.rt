@@ -1,13 +1,15 @@
 //! The frames of a step of a collective.
 
-ghost use Rattle.std.specs.Prelude.{◌≡◌, ◌≤◌, ◌++◌, ◌==◌, [], ◌∷◌, false, All, IfErr, IfOk, IfSome, None, Some, OnErr, OnOk, filter, length, map};
+ghost use Rattle.std.specs.Prelude.{◌≡◌, ◌≤◌, ◌++◌, ◌==◌, [], ◌∷◌, false, All, IfErr, IfOk, IfSome, None, Some, OnErr};
+ghost use Rattle.std.specs.Prelude.{OnOk, filter, length, map};
 ghost use Rattle.collective_messages.specs.Messages.{IsFitting, says};
 ghost use Rattle.payload.specs.Spelling.{spelling};
 ghost use Rattle.sessions.specs.Events.{CanSend, after_event, event_limit, sending_text, sendings};
 ghost use Rattle.sessions.specs.Heard.{CanHear, heard_option};
 ghost use Rattle.sessions.specs.Windows.{StaysWithin};
 ghost use Rattle.vocabulary.specs.Limits.{eager_limit, send_limit};
-ghost use Rattle.engine_calls.specs.Frames.{AreWhole, IsWhole, all_can_go, by_rank, can_go, is_sendable, payload_frame, payload_kept, step_limit, step_numbers, step_payloads, step_sendings};
+ghost use Rattle.engine_calls.specs.Frames.{AreWhole, IsWhole, all_can_go, by_rank, can_go, is_sendable, payload_frame};
+ghost use Rattle.engine_calls.specs.Frames.{payload_kept, step_limit, step_numbers, step_payloads, step_sendings};
 ghost use Rattle.engine_calls.specs.Refusals.{fault_of_sessions};
 ghost use Rattle.rendezvous.specs.State.{is_full_to, next_to, with_begun};
 ghost use Rattle.engine_calls.specs.Steps.{AreReady, IsAdded, IsLeftOut, StepStops, part_frame, written};
@@ -95,7 +97,11 @@ fn add_frame(
     part: FrameContent,
 ) -> Result<(), Refusal>
     ensures ok { OnOk result (map written frames.new.items ≡ map written frames.old.items
-        ++ (record { rank = message.now.target.rank; frame = part_frame message.now.context message.now.number count part }) ∷ []) }
+        ++ (record {
+          rank = message.now.target.rank;
+          frame =
+              part_frame message.now.context message.now.number count part;
+        }) ∷ []) }
     ensures err { IfErr result (λ e. e ≡ Refusal.OutOfMemory) }
 {
     let one = Written {
@@ -112,11 +118,19 @@ fn add_frame(
 }
 
 /// Adds the frame of a message whose bytes go in it.
-fn add_whole(message: &CollectiveMessage, bytes: Vec<u8>, frames: &mut Vec<Written>) -> Result<(), Refusal>
+fn add_whole(
+    message: &CollectiveMessage,
+    bytes: Vec<u8>,
+    frames: &mut Vec<Written>,
+) -> Result<(), Refusal>
     requires says { bytes.items ≡ spelling (says message.now) }
     requires small { length bytes.items ≤ eager_limit }
     ensures ok { OnOk result (map written frames.new.items ≡ map written frames.old.items
-        ++ (record { rank = message.now.target.rank; frame = payload_frame None message.now.context message.now.number (spelling (says message.now)) }) ∷ []) }
+        ++ (record {
+          rank = message.now.target.rank;
+          frame =
+              payload_frame None message.now.context message.now.number (spelling (says message.now));
+        }) ∷ []) }
     ensures err { IfErr result (λ e. e ≡ Refusal.OutOfMemory) }
 {
     let count = bytes.len() as u32;
@@ -136,9 +150,15 @@ fn add_announced(
     requires left { is_full_to numbers.old.items message.now.target.rank ≡ false }
     ensures numbers { OnOk result (numbers.new.items ≡ with_begun numbers.old.items message.now.target.rank) }
     ensures frames { OnOk result (map written frames.new.items ≡ map written frames.old.items
-        ++ (record { rank = message.now.target.rank; frame = payload_frame (Some (next_to numbers.old.items message.now.target.rank)) message.now.context message.now.number (spelling (says message.now)) }) ∷ []) }
+        ++ (record {
+          rank = message.now.target.rank;
+          frame =
+              payload_frame (Some (next_to numbers.old.items message.now.target.rank)) message.now.context
+              message.now.number (spelling (says message.now));
+        }) ∷ []) }
     ensures announced { OnOk result (announced.new.items ≡ announced.old.items
-        ++ payload_kept (Some (next_to numbers.old.items message.now.target.rank)) message.now.target.rank (spelling (says message.now))) }
+        ++ payload_kept (Some (next_to numbers.old.items message.now.target.rank)) message.now.target.rank
+        (spelling (says message.now))) }
     ensures err { IfErr result (λ e. e ≡ Refusal.OutOfMemory) }
 {
     let rank = message.target.rank;
@@ -151,8 +171,8 @@ fn add_announced(
     add_frame(frames, message, count, FrameContent::Announced(transfer))
 }
 
-/// Adds one more message to those of a step that are written out: its bytes, or their announcement. It fails where the message
-/// can't go, and for want of memory.
+/// Adds one more message to those of a step that are written out: its bytes, or their announcement. It fails where the
+/// message can't go, and for want of memory.
 fn add_message(
     alloc: Global,
     place: Place,
@@ -162,7 +182,9 @@ fn add_message(
     announced: &mut Vec<AnnouncedPayload>,
 ) -> Result<(), Refusal>
     requires { IsFitting message.now }
-    ensures ok { OnOk result (IsAdded place numbers.old.items message.now (map written frames.old.items) (map written frames.new.items) announced.old.items announced.new.items numbers.new.items) }
+    ensures ok { OnOk result
+        (IsAdded place numbers.old.items message.now (map written frames.old.items) (map written frames.new.items)
+        announced.old.items announced.new.items numbers.new.items) }
     ensures err { IfErr result (IsLeftOut (can_go place numbers.old.items message.now)) }
 {
     let bytes = write(alloc, message)?;
@@ -193,7 +215,9 @@ fn write_each(
     numbers: &mut Vec<Numbers>,
 ) -> Result<WrittenStep, Refusal>
     requires { All IsFitting messages.now }
-    ensures ok { IfOk result (λ step. AreReady place numbers.old.items messages.now (map written step.frames.items) step.announced.items numbers.new.items) }
+    ensures ok { IfOk result
+        (λ step. AreReady place numbers.old.items messages.now (map written step.frames.items) step.announced.items
+        numbers.new.items) }
     ensures err { IfErr result (IsLeftOut (all_can_go place numbers.old.items messages.now)) }
 {
     let mut frames = Vec::new(alloc);
@@ -244,13 +268,15 @@ fn put_frame<'a>(message: &'a Written, frames: &mut Vec<Outgoing<'a>>) -> Result
     }
 }
 
-/// The frames of messages that stand in the order of the ranks that they go to, each of these so many; nothing where they don't.
+/// The frames of messages that stand in the order of the ranks that they go to, each of these so many; nothing where
+/// they don't.
 fn frames_in_order<'a>(
     alloc: Global,
     size: u16,
     messages: &'a [Written],
 ) -> Result<Option<Vec<Outgoing<'a>>>, Refusal>
-    ensures ok { IfOk result (λ ordered. IfSome ordered (λ frames. sendings frames.items ≡ by_rank size (map written messages.now))) }
+    ensures ok { IfOk result
+        (λ ordered. IfSome ordered (λ frames. sendings frames.items ≡ by_rank size (map written messages.now))) }
     ensures err { IfErr result (λ e. e ≡ Refusal.OutOfMemory) }
 {
     let mut frames = Vec::new(alloc);
@@ -271,7 +297,8 @@ fn add_if_for<'a>(
     message: &'a Written,
     frames: &mut Vec<Outgoing<'a>>,
 ) -> Result<(), Refusal>
-    ensures ok { OnOk result (sendings frames.new.items ≡ sendings frames.old.items ++ filter (λ f. f.rank == rank) (written message.now ∷ [])) }
+    ensures ok { OnOk result (sendings frames.new.items ≡ sendings frames.old.items ++
+        filter (λ f. f.rank == rank) (written message.now ∷ [])) }
     ensures err { IfErr result (λ e. e ≡ Refusal.OutOfMemory) }
 {
     if message.target != rank {
@@ -286,7 +313,8 @@ fn add_for<'a>(
     messages: &'a [Written],
     frames: &mut Vec<Outgoing<'a>>,
 ) -> Result<(), Refusal>
-    ensures ok { OnOk result (sendings frames.new.items ≡ sendings frames.old.items ++ filter (λ f. f.rank == rank) (map written messages.now)) }
+    ensures ok { OnOk result (sendings frames.new.items ≡ sendings frames.old.items ++
+        filter (λ f. f.rank == rank) (map written messages.now)) }
     ensures err { IfErr result (λ e. e ≡ Refusal.OutOfMemory) }
 {
     for message in messages {
@@ -328,7 +356,8 @@ fn frames_by_rank<'a>(
     }
 }
 
-/// The sessions take in what was heard, if anything was, and send messages that were written out, in the order of the ranks.
+/// The sessions take in what was heard, if anything was, and send messages that were written out, in the order of the
+/// ranks.
 /// Refused is 13 where the sessions meet their limit, and 14; then nothing changes.
 fn send_written(
     alloc: Global,
@@ -338,9 +367,18 @@ fn send_written(
 ) -> Result<(), Refusal>
     requires can { CanHear sessions.old (heard_option heard) }
     requires go { All (CanSend sessions.old.place) (map written messages.now) }
-    ensures limit { OnOk result (event_limit sessions.old (heard_option heard.entry) (by_rank sessions.old.place.size (map written messages.now)) ≡ None) }
-    ensures sent { OnOk result (sessions.new ≡ after_event sessions.old (heard_option heard.entry) (by_rank sessions.old.place.size (map written messages.now))) }
-    ensures why { IfErr result (StepStops (fault_of_sessions (event_limit sessions.old (heard_option heard.entry) (by_rank sessions.old.place.size (map written messages.now))))) }
+    ensures limit { OnOk result
+        (event_limit sessions.old (heard_option heard.entry)
+        (by_rank sessions.old.place.size (map written messages.now)) ≡ None) }
+    ensures sent { OnOk result
+        (sessions.new ≡
+        after_event sessions.old (heard_option heard.entry)
+        (by_rank sessions.old.place.size (map written messages.now))) }
+    ensures why { IfErr result
+        (StepStops
+        (fault_of_sessions
+        (event_limit sessions.old (heard_option heard.entry)
+        (by_rank sessions.old.place.size (map written messages.now))))) }
     ensures unchanged { OnErr result (sessions.new ≡ sessions.old) }
     ensures within { OnOk result (StaysWithin (heard_option heard.entry) sessions.old sessions.new) }
     ensures placed { sessions.new.place ≡ sessions.old.place }
@@ -353,11 +391,12 @@ fn send_written(
     }
 }
 
-/// The sessions take in what was heard, if anything was, and send a step of a collective in the order of the ranks; there is
-/// room for the payloads that are announced by it, which are answered. The numbers of the sessions' transfers count on.
+/// The sessions take in what was heard, if anything was, and send a step of a collective in the order of the ranks;
+/// there is room for the payloads that are announced by it, which are answered. The numbers of the sessions' transfers
+/// count on.
 ///
-/// Refused is 13 where one of its messages can't go, or the sessions meet their limit, and 14; then nothing changes but the
-/// numbers that were handed in.
+/// Refused is 13 where one of its messages can't go, or the sessions meet their limit, and 14; then nothing changes but
+/// the numbers that were handed in.
 pub fn send_step(
     alloc: Global,
     payloads: &mut CollectiveTransfers,
@@ -370,7 +409,10 @@ pub fn send_step(
     requires fits { All IsFitting messages.now }
     ensures whole { OnOk result (AreWhole messages.now) }
     ensures goes { OnOk result (step_limit sessions.old numbers.old.items (heard_option heard.entry) messages.now ≡ None) }
-    ensures sent { OnOk result (sessions.new ≡ after_event sessions.old (heard_option heard.entry) (step_sendings sessions.old.place numbers.old.items messages.now)) }
+    ensures sent { OnOk result
+        (sessions.new ≡
+        after_event sessions.old (heard_option heard.entry)
+        (step_sendings sessions.old.place numbers.old.items messages.now)) }
     ensures numbers { OnOk result (numbers.new.items ≡ step_numbers numbers.old.items messages.now) }
     ensures width { OnOk result (length numbers.new.items ≡ length numbers.old.items) }
     ensures announced { IfOk result (λ announced. announced.items ≡ step_payloads numbers.old.items messages.now) }

@@ -7,16 +7,17 @@ ghost use Rattle.point_to_point_calls.specs.Calls.{IsWithin};
 ghost use Rattle.point_to_point.specs.Calls.{argument_fault, call_fault, call_frame, limit_fault, request_fault};
 ghost use Rattle.sessions.specs.SessionsState.{SessionsState};
 ghost use Rattle.vocabulary.specs.declared.envelope.Source.TheVariants.{Null};
-ghost use Rattle.engine_calls.specs.Asks.{AskGives, IsOnRequests, JudgementGives, JudgingGives, asked_fault, call_of_core, engine_of, groups_of, source_rule, target_rule};
+ghost use Rattle.engine_calls.specs.Asks.{AskGives, IsOnRequests, JudgementGives, JudgingGives, asked_fault};
+ghost use Rattle.engine_calls.specs.Asks.{call_of_core, engine_of, groups_of, source_rule, target_rule};
 ghost use Rattle.engine_calls.specs.EngineState.{Rest, member_of};
 ghost use Rattle.engine_calls.specs.Faults.{group_limit};
 ghost use Rattle.engine_calls.specs.Frames.{frame_limit};
 ghost use Rattle.engine_calls.specs.Refusals.{first_fault};
 ghost use Rattle.engine_calls.specs.declared.call.Call.TheVariants as calls;
 
-use crate::routed_call::{RoutedCall, route_probe, route_receive, route_send};
 use crate::call::{Call, Probe, Receive, Send};
 use crate::refusal::of_sessions;
+use crate::routed_call::{RoutedCall, route_probe, route_receive, route_send};
 use communicators::{Communicators, Route};
 use point_to_point::{Core, HandedBack, Refusal};
 use requests::{Region, Request};
@@ -75,7 +76,8 @@ pub(crate) fn rule_of_source(
     source: Source,
     route: Route<'_>,
 ) -> Option<Refusal>
-    ensures { result ≡ source_rule (groups_of communicators.now) sessions.now.known comm source (route_text route.entry) }
+    ensures { result ≡ source_rule (groups_of communicators.now) sessions.now.known comm source
+        (route_text route.entry) }
 {
     if communicators.has_no_source(comm, source) {
         return Some(Refusal::Rank);
@@ -88,7 +90,11 @@ pub(crate) fn rule_of_source(
 
 /// The limit that the frame of a call meets, if the call has one.
 #[tactic(auto, using(crate::proofs::Limits::no_limit_is_met))]
-fn limit_of_frame(core: &Core, sessions: &Sessions, call: &point_to_point::CoreCall) -> Option<Refusal>
+fn limit_of_frame(
+    core: &Core,
+    sessions: &Sessions,
+    call: &point_to_point::CoreCall,
+) -> Option<Refusal>
     requires allowed { call_fault core.now.state call.now ≡ None }
     requires place { core.now.state.place ≡ sessions.now.place }
     ensures { result ≡ frame_limit sessions.now (call_frame core.now.state call.now) }
@@ -104,11 +110,17 @@ fn limit_of_frame(core: &Core, sessions: &Sessions, call: &point_to_point::CoreC
 
 /// The limit that what the core is asked meets: of the core, or of its frame.
 #[tactic(auto, using(crate::proofs::Clear::allowed_by))]
-fn limit_of_asked(core: &Core, sessions: &Sessions, call: &point_to_point::CoreCall) -> Option<Refusal>
+fn limit_of_asked(
+    core: &Core,
+    sessions: &Sessions,
+    call: &point_to_point::CoreCall,
+) -> Option<Refusal>
     requires free { request_fault core.now.state call.now ≡ None }
     requires arguments { argument_fault core.now.state.place call.now ≡ None }
     requires place { core.now.state.place ≡ sessions.now.place }
-    ensures { result ≡ first_fault (limit_fault core.now.state call.now) (frame_limit sessions.now (call_frame core.now.state call.now)) }
+    ensures { result ≡
+        first_fault (limit_fault core.now.state call.now)
+        (frame_limit sessions.now (call_frame core.now.state call.now)) }
 {
     if let Some(limit) = core.limit_of(call) {
         return Some(limit);
@@ -166,7 +178,8 @@ pub fn ask_to_send(
     send: Send,
 ) -> Result<RoutedCall, HandedBack<Call>>
     requires place { core.now.state.place ≡ sessions.now.place }
-    ensures { (rest : Rest) → AskGives (engine_of core.now.state (groups_of communicators.now) rest sessions.now) (calls.Isend send) result }
+    ensures { (rest : Rest) →
+        AskGives (engine_of core.now.state (groups_of communicators.now) rest sessions.now) (calls.Isend send) result }
 {
     if is_busy(core, communicators) {
         return Err(HandedBack {
@@ -192,7 +205,9 @@ pub fn ask_to_receive(
     receive: Receive,
 ) -> Result<RoutedCall, HandedBack<Call>>
     requires place { core.now.state.place ≡ sessions.now.place }
-    ensures { (rest : Rest) → AskGives (engine_of core.now.state (groups_of communicators.now) rest sessions.now) (calls.Irecv receive) result }
+    ensures { (rest : Rest) →
+        AskGives (engine_of core.now.state (groups_of communicators.now) rest sessions.now)
+        (calls.Irecv receive) result }
 {
     if is_busy(core, communicators) {
         return Err(HandedBack {
@@ -218,7 +233,9 @@ pub fn ask_to_probe(
     probe: Probe,
 ) -> Result<RoutedCall, HandedBack<Call>>
     requires place { core.now.state.place ≡ sessions.now.place }
-    ensures { (rest : Rest) → AskGives (engine_of core.now.state (groups_of communicators.now) rest sessions.now) (calls.Improbe probe) result }
+    ensures { (rest : Rest) →
+        AskGives (engine_of core.now.state (groups_of communicators.now) rest sessions.now)
+        (calls.Improbe probe) result }
 {
     if is_busy(core, communicators) {
         return Err(HandedBack {
@@ -245,7 +262,9 @@ pub fn ask_for_message(
     into: Region,
 ) -> Result<RoutedCall, HandedBack<Call>>
     requires place { core.now.state.place ≡ sessions.now.place }
-    ensures { (rest : Rest) → AskGives (engine_of core.now.state (groups_of communicators.now) rest sessions.now) (calls.Mrecv message into) result }
+    ensures { (rest : Rest) →
+        AskGives (engine_of core.now.state (groups_of communicators.now) rest sessions.now) (calls.Mrecv message into)
+        result }
 {
     let asked = RoutedCall {
         comm: None,
@@ -274,7 +293,8 @@ pub fn ask_on_requests(
     call: point_to_point::CoreCall,
 ) -> Result<RoutedCall, HandedBack<Call>>
     requires { IsOnRequests call }
-    ensures { (rest : Rest) (s : SessionsState) → AskGives (engine_of core.now.state (groups_of communicators.now) rest s) (call_of_core None Null call) result }
+    ensures { (rest : Rest) (s : SessionsState) →
+        AskGives (engine_of core.now.state (groups_of communicators.now) rest s) (call_of_core None Null call) result }
 {
     let asked = RoutedCall {
         comm: None,

@@ -2,18 +2,19 @@
 
 ghost use Rattle.std.specs.Prelude.{◌≡◌, IfOk, OnErr, OnOk};
 ghost use Rattle.communicators.specs.Routes.{route_text};
-ghost use Rattle.engine_calls.specs.Asks.{IsShareable, NeedsGroup, call_of_core, call_of, group_at, groups_of, route_probe, route_receive, route_send, reply_of_core, with_group};
+ghost use Rattle.engine_calls.specs.Asks.{IsShareable, NeedsGroup, call_of_core, call_of, group_at, groups_of};
+ghost use Rattle.engine_calls.specs.Asks.{route_probe, route_receive, route_send, reply_of_core, with_group};
 ghost use Rattle.engine_calls.specs.Faults.{group_limit};
 
 use crate::call::{Call, Probe, Receive, Send};
 use crate::reply::Reply;
-use communicators::{Communicators, Route};
 use communicator_members::Members;
+use communicators::{Communicators, Route};
 use std::alloc::{AllocError, Global};
 use vocabulary::Source;
 
-/// What the core is asked by a call: in the context of its communicator, with ranks of `world`; and of a call of point to
-/// point what it named.
+/// What the core is asked by a call: in the context of its communicator, with ranks of `world`; and of a call of point
+/// to point what it named.
 #[derive(Drop)]
 pub struct RoutedCall {
     /// The communicator that it named.
@@ -132,8 +133,8 @@ impl RoutedCall {
     }
 }
 
-/// The group by which a receive or a probe on the communicator at a place has its status, to be shared among receives. It fails
-/// for want of memory alone.
+/// The group by which a receive or a probe on the communicator at a place has its status, to be shared among receives.
+/// It fails for want of memory alone.
 fn members_of(
     alloc: Global,
     communicators: &Communicators,
@@ -152,8 +153,8 @@ fn members_of(
     }
 }
 
-/// A receive or a probe has its group from now on, by which its status names the source. It fails for want of memory alone, and
-/// then leaves what is asked as it was.
+/// A receive or a probe has its group from now on, by which its status names the source. It fails for want of memory
+/// alone, and then leaves what is asked as it was.
 pub fn share_members(
     alloc: Global,
     communicators: &Communicators,

@@ -1,5 +1,5 @@
-//! Payloads of collectives that are too long for a frame: announced, asked for, and sent in pieces. What passes between engines
-//! takes them by `&mut` and answers plain values, so that no engine is dropped there.
+//! Payloads of collectives that are too long for a frame: announced, asked for, and sent in pieces. What passes between
+//! engines takes them by `&mut` and answers plain values, so that no engine is dropped there.
 
 use crate::steps::{Told, block, copies, deliver, enter, rank_of_two, two_ranks};
 use engine::{Call, Engine, Entry, Region, Reply, Send};
@@ -138,8 +138,8 @@ fn refused_then_taken(
     last
 }
 
-/// Another transfer than the next is announced; one is answered that isn't offered, or with 'drop'; and data come of another
-/// place than is due.
+/// Another transfer than the next is announced; one is answered that isn't offered, or with 'drop'; and data come of
+/// another place than is due.
 fn pass_with_faults(
     alloc: Global,
     zero: &mut Engine,
@@ -171,8 +171,8 @@ fn wrong_numbers_are_refused_and_nothing_changes(rt: HostRuntime) {
     );
 }
 
-/// A broadcast of 70,000 bytes passes: what it gives, how many datagrams go at the answer and in the turn after that, and whether
-/// nothing is left.
+/// A broadcast of 70,000 bytes passes: what it gives, how many datagrams go at the answer and in the turn after that,
+/// and whether nothing is left.
 fn pass_long(
     alloc: Global,
     zero: &mut Engine,
@@ -229,7 +229,8 @@ fn with_first_changed(alloc: Global, bytes: &[u8], place: usize, value: u8) -> O
     Vec::from_slice(alloc, bytes).ok()
 }
 
-/// How a datagram is refused, if it is, and when it comes again; the first piece of a payload with another byte at a place.
+/// How a datagram is refused, if it is, and when it comes again; the first piece of a payload with another byte at a
+/// place.
 fn refused_again(
     alloc: Global,
     to: &mut Engine,
@@ -244,8 +245,8 @@ fn refused_again(
     }
 }
 
-/// What an engine emitted comes to another one, the first piece of a payload with another byte at a place: how many datagrams are
-/// taken, and how the last one is refused that is, and when it comes again.
+/// What an engine emitted comes to another one, the first piece of a payload with another byte at a place: how many
+/// datagrams are taken, and how the last one is refused that is, and when it comes again.
 fn hear_changed(
     alloc: Global,
     from: &mut Engine,
@@ -291,7 +292,8 @@ fn unreadable(alloc: Global, place: usize, value: u8) -> Option<(usize, [Option<
 
 #[test]
 fn a_payload_that_can_not_be_read_is_refused_at_its_last_piece(rt: HostRuntime) {
-    // Its record has the kind 9; or it has 1,999 elements, before 2,000 bytes. The acknowledgement and the first piece are taken.
+    // Its record has the kind 9; or it has 1,999 elements, before 2,000 bytes. The acknowledgement and the first piece
+    // are taken.
     for (place, value) in [(44, 9), (55, 207)] {
         assert_eq!(rt;
             unreadable(rt.alloc(), place, value),

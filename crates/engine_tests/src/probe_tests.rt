@@ -1,5 +1,5 @@
-//! Synchronous sends and probes of one rank and of two. Helpers take engines by `&mut` and answer plain values, or nothing where a
-//! step failed; a test makes the engines, calls one helper and compares.
+//! Synchronous sends and probes of one rank and of two. Helpers take engines by `&mut` and answer plain values, or
+//! nothing where a step failed; a test makes the engines, calls one helper and compares.
 
 use crate::steps::{copies, deliver, rank_of_two, two_ranks};
 use datatypes::Buffer;
@@ -154,7 +154,8 @@ fn test(engine: &mut Engine, request: Request) -> Said {
     ask(engine, Call::Test(Some(request)))
 }
 
-/// A synchronous send of one byte: what its test is answered where its message lies at the other rank, and where a receive has it.
+/// A synchronous send of one byte: what its test is answered where its message lies at the other rank, and where a
+/// receive has it.
 fn wait_for_match(alloc: Global, sender: &mut Engine, receiver: &mut Engine) -> Option<[Said; 3]> {
     let sent = started(ask(sender, synchronous(alloc, 1, 1)?))?;
     deliver(sender, receiver)?;
@@ -215,8 +216,8 @@ fn a_probe_tells_of_a_message_and_leaves_it(rt: HostRuntime) {
     );
 }
 
-/// A message of one byte is taken out: what a further matching probe, a test of its send, its receive, what that is told once its data
-/// have come, a test of its send then, and a further receive of it are answered.
+/// A message of one byte is taken out: what a further matching probe, a test of its send, its receive, what that is
+/// told once its data have come, a test of its send then, and a further receive of it are answered.
 fn take_out_and_receive(
     alloc: Global,
     sender: &mut Engine,
@@ -260,8 +261,8 @@ fn a_message_that_is_taken_out_is_received_once(rt: HostRuntime) {
     );
 }
 
-/// A synchronous send of the rank to itself: what its test is answered, what is emitted by it, and what it is told once its message is
-/// received that was taken out.
+/// A synchronous send of the rank to itself: what its test is answered, what is emitted by it, and what it is told once
+/// its message is received that was taken out.
 fn send_to_itself(alloc: Global, engine: &mut Engine) -> Option<(Said, usize, Said, Said)> {
     let sent = started(ask(engine, synchronous(alloc, 0, 1)?))?;
     let before = test(engine, sent);
@@ -326,8 +327,8 @@ fn receive_copies(
     Some(ask(engine, Call::Mrecv(message, into)))
 }
 
-/// How the receive of a message is refused that breaks the rules 6, 2 and 1, then 2 and 1, and then 1 alone, and what it is answered
-/// where it breaks none: the message is none there is, and then that of the null process.
+/// How the receive of a message is refused that breaks the rules 6, 2 and 1, then 2 and 1, and then 1 alone, and what
+/// it is answered where it breaks none: the message is none there is, and then that of the null process.
 fn faults_of_receives(alloc: Global, engine: &mut Engine) -> Option<[Said; 4]> {
     let none = Some(Request { key: 0, serial: 0 });
     Some([
@@ -338,8 +339,8 @@ fn faults_of_receives(alloc: Global, engine: &mut Engine) -> Option<[Said; 4]> {
     ])
 }
 
-/// The same, and how a synchronous send is refused that names no communicator, has too many bytes and the wildcard for its tag, and one
-/// without the first; and both probes while an earlier call is blocked.
+/// The same, and how a synchronous send is refused that names no communicator, has too many bytes and the wildcard for
+/// its tag, and one without the first; and both probes while an earlier call is blocked.
 fn faults_in_order(
     alloc: Global,
     engine: &mut Engine,
@@ -416,8 +417,8 @@ fn fill(alloc: Global, engine: &mut Engine, count: u32) -> Option<()> {
     Some(())
 }
 
-/// What both probes are answered where 65,536 requests are there: a matching one that finds nothing, one that finds a message, and
-/// a look at that.
+/// What both probes are answered where 65,536 requests are there: a matching one that finds nothing, one that finds a
+/// message, and a look at that.
 fn probe_when_full(alloc: Global, engine: &mut Engine) -> Option<[Said; 3]> {
     fill(alloc, engine, 65_536)?;
     let other = Probe {

@@ -1,5 +1,5 @@
-//! What the tests have in common. Helpers take engines by `&mut` and answer plain values, or nothing where a step failed; what
-//! owns memory is dropped in generic code, since each drop in place is followed anew.
+//! What the tests have in common. Helpers take engines by `&mut` and answer plain values, or nothing where a step
+//! failed; what owns memory is dropped in generic code, since each drop in place is followed anew.
 
 use datatypes::Buffer;
 use engine::{Block, Call, Ending, Engine, Entry, Place, Refusal, Reply};

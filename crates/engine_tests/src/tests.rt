@@ -196,8 +196,8 @@ fn number_of_refusal(said: Said) -> Option<u8> {
     }
 }
 
-/// The serial of the last request that there is room for, how one more is refused, whether the last one ends, and the serial
-/// of the next one then.
+/// The serial of the last request that there is room for, how one more is refused, whether the last one ends, and the
+/// serial of the next one then.
 fn reach_the_limit(alloc: Global, engine: &mut Engine) -> Option<(u64, Option<u8>, bool, u64)> {
     let last = start_sends_to_itself(alloc, engine, 65_536)?;
     let refused = number_of_refusal(ask(engine, send_to_itself(alloc)));
@@ -300,7 +300,8 @@ fn acknowledged(engine: &mut Engine) -> Option<(u64, u64, usize)> {
     }
 }
 
-/// What is acknowledged where data of no transfer come before their turn, then the message before them, and then another one.
+/// What is acknowledged where data of no transfer come before their turn, then the message before them, and then
+/// another one.
 fn give_up(
     alloc: Global,
     sender: &mut Engine,
@@ -335,8 +336,8 @@ fn a_held_frame_that_is_not_due_in_its_turn_is_given_up(rt: HostRuntime) {
     );
 }
 
-/// How a frame that comes 64 numbers early is refused, one that comes 63 early is acknowledged, and how acknowledgements of what wasn't sent
-/// are refused, by their number and by their bits.
+/// How a frame that comes 64 numbers early is refused, one that comes 63 early is acknowledged, and how
+/// acknowledgements of what wasn't sent are refused, by their number and by their bits.
 fn out_of_window(
     engine: &mut Engine,
 ) -> Option<(Option<u8>, (u64, u64, usize), Option<u8>, Option<u8>)> {

@@ -1,5 +1,7 @@
 -- Bytes in hexadecimal digits: reading and the grammar agree; and reading them by pairs, as a loop does.
-use Rattle.std.proofs.Common.{◌≡◌, ℕ, zero, suc, ◌+◌, ◌-◌, ◌*◌, ◌<◌, ◌≤◌, Bool, true, false, leb, List, [], ◌∷◌, ◌++◌, length, get_or, drop, Option, Some, None, refl, sym, ap, ◌∙◌, arith, inl, inr, append_assoc}
+use Rattle.std.proofs.Common.{◌≡◌, ℕ, zero, suc, ◌+◌, ◌-◌, ◌*◌, ◌<◌, ◌≤◌, Bool, true, false, leb, List, [], ◌∷◌, ◌++◌}
+use Rattle.std.proofs.Common.{length, get_or, drop, Option, Some, None, refl, sym, ap, ◌∙◌, arith, inl, inr}
+use Rattle.std.proofs.Common.{append_assoc}
 use Rattle.std.specs.Prelude.{◌&&◌}
 use Rattle.std.proofs.lemmas.Bool.{leb-true, le-leb}
 use Rattle.std.proofs.lemmas.List.{append-nil, at_drop_more, at_drop_all}
@@ -48,7 +50,14 @@ bytes_take (a ∷ b ∷ word) bytes e =
     let h = bind_ok (digit_of a) (λ high. digit_of b >>= λ low. bytes_of word >>= λ rest. Some ((16 * high + low) ∷ rest)) bytes e in
     let l = bind_ok (digit_of b) (λ low. bytes_of word >>= λ rest. Some ((16 * h.0 + low) ∷ rest)) bytes h.2 in
     let r = bind_ok (bytes_of word) (λ rest. Some ((16 * h.0 + l.0) ∷ rest)) bytes l.2 in
-    made (AreBytes (a ∷ b ∷ word)) ((16 * h.0 + l.0) ∷ r.0) bytes (h.0, l.0, digit_takes a h.0 h.1, digit_takes b l.0 l.1, refl, bytes_take word r.0 r.1) r.2
+    made (AreBytes (a ∷ b ∷ word)) ((16 * h.0 + l.0) ∷ r.0) bytes (
+      h.0,
+      l.0,
+      digit_takes a h.0 h.1,
+      digit_takes b l.0 l.1,
+      refl,
+      bytes_take word r.0 r.1,
+    ) r.2
 
 pub bytes_again : (word : Word) (bytes : List ℕ) → AreBytes word bytes → bytes_of word ≡ Some bytes
 unfolding bytes_of
@@ -64,7 +73,8 @@ bytes_again (a ∷ b ∷ word) (x ∷ xs) h =
 
 -- ---- by pairs
 
-nothing : (h l : Option ℕ) (read : Option (List ℕ)) → read ≡ None → (h >>= λ high. l >>= λ low. read >>= λ rest. Some ((16 * high + low) ∷ rest)) ≡ None
+nothing : (h l : Option ℕ) (read : Option (List ℕ)) → read ≡ None →
+    (h >>= λ high. l >>= λ low. read >>= λ rest. Some ((16 * high + low) ∷ rest)) ≡ None
 nothing None l read e = refl
 nothing (Some x) None read e = refl
 nothing (Some x) (Some y) read e = rw e refl
@@ -83,12 +93,14 @@ odd (a ∷ b ∷ word) (suc k) e =
 abbrev pub with_bytes : List ℕ → Option (List ℕ) → Option (List ℕ)
 with_bytes front read = read >>= λ rest. Some (front ++ rest)
 
-regroup : (front : List ℕ) (x : ℕ) (read : Option (List ℕ)) → with_bytes (front ++ x ∷ []) read ≡ with_bytes front (read >>= λ rest. Some (x ∷ rest))
+regroup : (front : List ℕ) (x : ℕ) (read : Option (List ℕ)) → with_bytes (front ++ x ∷ []) read ≡
+    with_bytes front (read >>= λ rest. Some (x ∷ rest))
 regroup front x (Some xs) = ap (λ (ys : List ℕ). Some ys) (simp append_assoc)
 regroup front x None = refl
 
 -- the digits at a place
-pair_here : (word : Word) (i : ℕ) → 2 * i + 1 < length word → drop (2 * i) word ≡ get_or word (2 * i) 0 ∷ get_or word (2 * i + 1) 0 ∷ drop (2 * (i + 1)) word
+pair_here : (word : Word) (i : ℕ) → 2 * i + 1 < length word → drop (2 * i) word ≡ get_or word (2 * i) 0 ∷
+    get_or word (2 * i + 1) 0 ∷ drop (2 * (i + 1)) word
 pair_here word i lt =
     let first : 2 * i < length word = omega (arith, lt) in
     let next : 2 * i + 1 + 1 ≡ 2 * (i + 1) = omega arith in
@@ -96,48 +108,61 @@ pair_here word i lt =
     ∙ ap (λ (ws : Word). get_or word (2 * i) 0 ∷ ws) (at_drop_more (λ (ws : Word). ws) word (2 * i + 1) 0 lt)
     ∙ ap (λ (n : ℕ). get_or word (2 * i) 0 ∷ get_or word (2 * i + 1) 0 ∷ drop n word) next
 
-pair_read : (front : List ℕ) (a b high low : ℕ) (word : Word) → digit_of a ≡ Some high → digit_of b ≡ Some low → with_bytes (front ++ (16 * high + low) ∷ []) (bytes_of word) ≡ with_bytes front (bytes_of (a ∷ b ∷ word))
+pair_read : (front : List ℕ) (a b high low : ℕ) (word : Word) → digit_of a ≡ Some high → digit_of b ≡ Some low →
+    with_bytes (front ++ (16 * high + low) ∷ []) (bytes_of word) ≡ with_bytes front (bytes_of (a ∷ b ∷ word))
 unfolding bytes_of
 pair_read front a b high low word ea eb = rw (ea, eb) (regroup front (16 * high + low) (bytes_of word))
 
-pub pair_goes_on : (front : List ℕ) (high low : ℕ) (word : Word) (i : ℕ) → 2 * i + 1 < length word → digit_of (get_or word (2 * i) 0) ≡ Some high → digit_of (get_or word (2 * i + 1) 0) ≡ Some low
-    → with_bytes front (bytes_of (drop (2 * i) word)) ≡ bytes_of word → with_bytes (front ++ (16 * high + low) ∷ []) (bytes_of (drop (2 * (i + 1)) word)) ≡ bytes_of word
+pub pair_goes_on : (front : List ℕ) (high low : ℕ) (word : Word) (i : ℕ) → 2 * i + 1 < length word →
+    digit_of (get_or word (2 * i) 0) ≡ Some high → digit_of (get_or word (2 * i + 1) 0) ≡ Some low
+    → with_bytes front (bytes_of (drop (2 * i) word)) ≡ bytes_of word →
+    with_bytes (front ++ (16 * high + low) ∷ []) (bytes_of (drop (2 * (i + 1)) word)) ≡ bytes_of word
 pair_goes_on front high low word i lt ea eb so_far =
     pair_read front (get_or word (2 * i) 0) (get_or word (2 * i + 1) 0) high low (drop (2 * (i + 1)) word) ea eb
     ∙ ap (λ (ws : Word). with_bytes front (bytes_of ws)) (sym (pair_here word i lt)) ∙ so_far
 
-no_first : (front : List ℕ) (a b : ℕ) (word : Word) → digit_of a ≡ None → with_bytes front (bytes_of (a ∷ b ∷ word)) ≡ None
+no_first : (front : List ℕ) (a b : ℕ) (word : Word) → digit_of a ≡ None → with_bytes front (bytes_of (a ∷ b ∷ word)) ≡
+    None
 unfolding bytes_of
 no_first front a b word e = rw e refl
 
-no_next : (h l : Option ℕ) (read : Option (List ℕ)) → l ≡ None → (h >>= λ high. l >>= λ low. read >>= λ rest. Some ((16 * high + low) ∷ rest)) ≡ None
+no_next : (h l : Option ℕ) (read : Option (List ℕ)) → l ≡ None →
+    (h >>= λ high. l >>= λ low. read >>= λ rest. Some ((16 * high + low) ∷ rest)) ≡ None
 no_next None l read e = refl
 no_next (Some x) l read e = rw e refl
 
-no_second : (front : List ℕ) (a b : ℕ) (word : Word) → digit_of b ≡ None → with_bytes front (bytes_of (a ∷ b ∷ word)) ≡ None
+no_second : (front : List ℕ) (a b : ℕ) (word : Word) → digit_of b ≡ None → with_bytes front (bytes_of (a ∷ b ∷ word)) ≡
+    None
 unfolding bytes_of
 no_second front a b word e = ap (with_bytes front) (no_next (digit_of a) (digit_of b) (bytes_of word) e)
 
-fails_on : {Y Z : Type 0} (e : LineError) (read : Option Y) (next : Option Z) → (read ≡ None → next ≡ None) → Fails e read → Fails e next
+fails_on : {Y Z : Type 0} (e : LineError) (read : Option Y) (next : Option Z) → (read ≡ None → next ≡ None) →
+    Fails e read → Fails e next
 fails_on errors.OutOfMemory read next go h = tt
 fails_on errors.Faulty read next go h = go h
 
-pub first_ends : (e : LineError) (front : List ℕ) (word : Word) (i : ℕ) → 2 * i + 1 < length word → Fails e (digit_of (get_or word (2 * i) 0))
+pub first_ends : (e : LineError) (front : List ℕ) (word : Word) (i : ℕ) → 2 * i + 1 < length word →
+    Fails e (digit_of (get_or word (2 * i) 0))
     → with_bytes front (bytes_of (drop (2 * i) word)) ≡ bytes_of word → Fails e (bytes_of word)
 first_ends e front word i lt fails so_far =
     fails_on e (digit_of (get_or word (2 * i) 0)) (bytes_of word)
-    (λ h. sym so_far ∙ ap (λ (ws : Word). with_bytes front (bytes_of ws)) (pair_here word i lt) ∙ no_first front (get_or word (2 * i) 0) (get_or word (2 * i + 1) 0) (drop (2 * (i + 1)) word) h) fails
+    (λ h. sym so_far ∙ ap (λ (ws : Word). with_bytes front (bytes_of ws)) (pair_here word i lt) ∙
+    no_first front (get_or word (2 * i) 0) (get_or word (2 * i + 1) 0) (drop (2 * (i + 1)) word) h) fails
 
-pub second_ends : (e : LineError) (front : List ℕ) (word : Word) (i : ℕ) → 2 * i + 1 < length word → Fails e (digit_of (get_or word (2 * i + 1) 0))
+pub second_ends : (e : LineError) (front : List ℕ) (word : Word) (i : ℕ) → 2 * i + 1 < length word →
+    Fails e (digit_of (get_or word (2 * i + 1) 0))
     → with_bytes front (bytes_of (drop (2 * i) word)) ≡ bytes_of word → Fails e (bytes_of word)
 second_ends e front word i lt fails so_far =
     fails_on e (digit_of (get_or word (2 * i + 1) 0)) (bytes_of word)
-    (λ h. sym so_far ∙ ap (λ (ws : Word). with_bytes front (bytes_of ws)) (pair_here word i lt) ∙ no_second front (get_or word (2 * i) 0) (get_or word (2 * i + 1) 0) (drop (2 * (i + 1)) word) h) fails
+    (λ h. sym so_far ∙ ap (λ (ws : Word). with_bytes front (bytes_of ws)) (pair_here word i lt) ∙
+    no_second front (get_or word (2 * i) 0) (get_or word (2 * i + 1) 0) (drop (2 * (i + 1)) word) h) fails
 
 nothing_left : (front : List ℕ) → with_bytes front (bytes_of []) ≡ Some front
 unfolding bytes_of
 nothing_left front = ap (λ (xs : List ℕ). Some xs) (append-nil front)
 
-pub pairs_done : (front : List ℕ) (word : Word) (i : ℕ) → length word ≤ 2 * i → with_bytes front (bytes_of (drop (2 * i) word)) ≡ bytes_of word → bytes_of word ≡ Some front
+pub pairs_done : (front : List ℕ) (word : Word) (i : ℕ) → length word ≤ 2 * i →
+    with_bytes front (bytes_of (drop (2 * i) word)) ≡ bytes_of word → bytes_of word ≡ Some front
 pairs_done front word i le so_far =
-    sym so_far ∙ ap (λ (ws : Word). with_bytes front (bytes_of ws)) (at_drop_all (λ (ws : Word). ws) word (2 * i) le) ∙ nothing_left front
+    sym so_far ∙ ap (λ (ws : Word). with_bytes front (bytes_of ws)) (at_drop_all (λ (ws : Word). ws) word (2 * i) le) ∙
+    nothing_left front

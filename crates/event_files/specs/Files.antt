@@ -24,8 +24,8 @@ FileSays number (line ∷ lines) file =
     (LineSays SaysSize number line [] × FileSays (number + 1) lines file)
     ⊎ (LineSays SaysSize number line (file.size ∷ []) × LinesSay Says (number + 1) lines file.lines)
 
--- The first faulty line, from this number on: one that is neither skipped nor `world N` before there was such a line; one
--- behind it that asks for nothing in the language; or the line after the last, where no line is `world N`.
+-- The first faulty line, from this number on: one that is neither skipped nor `world N` before there was such a line;
+-- one behind it that asks for nothing in the language; or the line after the last, where no line is `world N`.
 abbrev pub IsFirstFaultOfFile : ℕ → List (List ℕ) → ℕ → Type 0
 IsFirstFaultOfFile number [] faulty = faulty ≡ number
 IsFirstFaultOfFile number (line ∷ lines) faulty =

@@ -31,10 +31,13 @@ digit_of byte =
 unfoldable pub bytes_of : Word → Option (List ℕ)
 bytes_of [] = Some []
 bytes_of (a ∷ []) = None
-bytes_of (a ∷ b ∷ word) = digit_of a >>= λ high. digit_of b >>= λ low. bytes_of word >>= λ bytes. Some ((16 * high + low) ∷ bytes)
+bytes_of (a ∷ b ∷ word) =
+    digit_of a >>= λ high. digit_of b >>= λ low. bytes_of word >>= λ bytes. Some ((16 * high + low) ∷ bytes)
 
 unfoldable pub delivery_of : List Word → Option EventStatement
-delivery_of words = first words >>= λ datagram. end_of_line datagram.1 >>= λ end. number_or 18446744073709551615 datagram.0 >>= λ d. Some (statements.Deliver d)
+delivery_of words =
+    first words >>= λ datagram. end_of_line datagram.1 >>= λ end. number_or 18446744073709551615 datagram.0 >>= λ d.
+    Some (statements.Deliver d)
 
 unfoldable pub tick_of : List Word → Option EventStatement
 tick_of words = do
@@ -55,7 +58,8 @@ stray_of words = do
   Some (statements.Stray r b)
 
 unfoldable pub restart_of : List Word → Option EventStatement
-restart_of words = first words >>= λ rank. end_of_line rank.1 >>= λ end. rank_of rank.0 >>= λ r. Some (statements.Restart r)
+restart_of words =
+    first words >>= λ rank. end_of_line rank.1 >>= λ end. rank_of rank.0 >>= λ r. Some (statements.Restart r)
 
 -- what the rank of this word does
 unfoldable pub act_of : Word → List Word → Option EventStatement

@@ -7,14 +7,14 @@ use statements::Action;
 use std::alloc::{AllocFailed, Global};
 use std::marker::Model;
 
-/// What a line asks for. The ranks that it names may be beyond the world's; a rank that 16 bits don't hold stands as the
-/// greatest number that they hold.
+/// What a line asks for. The ranks that it names may be beyond the world's; a rank that 16 bits don't hold stands as
+/// the greatest number that they hold.
 #[derive(Drop)]
 pub enum EventStatement {
     /// `R ..`: a rank does something.
     Rank(u16, Action),
-    /// `deliver D`: the datagram of this number is delivered. A number that 64 bits don't hold stands as the greatest that
-    /// they hold.
+    /// `deliver D`: the datagram of this number is delivered. A number that 64 bits don't hold stands as the greatest
+    /// that they hold.
     Deliver(usize),
     /// `tick R NOW`: a rank's clock says so many milliseconds.
     Tick(u16, u64),

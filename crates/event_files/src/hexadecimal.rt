@@ -5,8 +5,8 @@ ghost use Rattle.tokens.specs.Results.{Gives};
 ghost use Rattle.event_files.specs.Reading.{digit_of, bytes_of};
 
 use datagram::Bytes;
-use tokens::{LineError, require};
 use std::alloc::Global;
+use tokens::{LineError, require};
 
 /// The value of a lower-case hexadecimal digit.
 #[tactic(auto, unfolding(crate::specs::Reading::digit_of))]

@@ -10,10 +10,10 @@ mod reading;
 mod verb;
 
 pub use file::{EventFile, EventLine, EventLines, EventStatement};
-pub use tokens::{Name, ParseError};
 pub use parsing::parse;
 pub use statements::{
-    Action, Blocks, Broadcasting, BufferLine, CommunicatorName, Gathering, LayoutForm, LayoutLine,
-    OldLayout, Operation, Receiving, Reducing, ReducingToAll, RequestName, RequestNames, Scattering,
-    Sending, Splitting, Stripes, LayoutClause,
+    Action, Blocks, Broadcasting, BufferLine, CommunicatorName, Gathering, LayoutClause,
+    LayoutForm, LayoutLine, OldLayout, Operation, Receiving, Reducing, ReducingToAll, RequestName,
+    RequestNames, Scattering, Sending, Splitting, Stripes,
 };
+pub use tokens::{Name, ParseError};

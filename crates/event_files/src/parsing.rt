@@ -10,8 +10,8 @@ ghost use Rattle.event_files.specs.declared.file.EventFile.{EventFile};
 
 use crate::file::{EventFile, EventLine, EventLines, EventStatement};
 use crate::reading::{size_of, statement_of};
-use tokens::{LineError, ParseError, lines_of, said_in};
 use std::alloc::Global;
+use tokens::{LineError, ParseError, lines_of, said_in};
 
 /// What a line asks for, if it isn't skipped.
 #[tactic(auto, unfolding(tokens::specs::Lines::line_of))]
@@ -51,10 +51,17 @@ fn start_of(alloc: Global, lines: &[&[u8]]) -> Result<(u16, usize), ParseError>
 }
 
 /// Takes one more line.
-fn take_line(alloc: Global, lines: &mut EventLines, number: usize, line: &[u8]) -> Result<(), ParseError>
+fn take_line(
+    alloc: Global,
+    lines: &mut EventLines,
+    number: usize,
+    line: &[u8],
+) -> Result<(), ParseError>
     ensures ok { OnOk result ((rest : List (List ℕ)) →
-        with_front lines.new (lines_from line_read (number + 1) rest) ≡ with_front lines.old (lines_from line_read number (line.now ∷ rest))) }
-    ensures err { IfErr result (λ e. (rest : List (List ℕ)) → LineFails e (with_front lines.old (lines_from line_read number (line.now ∷ rest)))) }
+        with_front lines.new (lines_from line_read (number + 1) rest) ≡
+        with_front lines.old (lines_from line_read number (line.now ∷ rest))) }
+    ensures err { IfErr result (λ e. (rest : List (List ℕ)) →
+        LineFails e (with_front lines.old (lines_from line_read number (line.now ∷ rest)))) }
 {
     match statement_in(alloc, line) {
         Err(LineError::Faulty) => Err(ParseError::Line(number)),
@@ -70,7 +77,8 @@ fn take_line(alloc: Global, lines: &mut EventLines, number: usize, line: &[u8]) 
 /// What the lines from this place on ask for.
 fn lines_behind(alloc: Global, lines: &[&[u8]], from: usize) -> Result<EventLines, ParseError>
     requires { from ≤ length lines.now }
-    ensures { GivesLines (λ x. x) result (lines_from line_read (from + 1) (drop from (map (λ line. line.now) lines.now))) }
+    ensures { GivesLines (λ x. x) result
+        (lines_from line_read (from + 1) (drop from (map (λ line. line.now) lines.now))) }
 {
     let mut read = EventLines::new(alloc);
     for place in from..lines.len() {
@@ -88,11 +96,12 @@ fn file_of(alloc: Global, text: &[u8]) -> Result<EventFile, ParseError>
     Ok(EventFile { size, lines })
 }
 
-/// Reads a file of events whole: what it says, or its first faulty line. Its first line that isn't skipped is `world N`,
+/// Reads a file of events whole: what it says, or its first faulty line. Its first line that isn't skipped is `world
+/// N`,
 /// N from 1 to 1,024; empty lines and those whose first word begins with `#` are skipped.
 ///
-/// Answers the number of the first faulty line, which is refusal number 51 (the one after the last where there is no line
-/// `world N`), or that a growth was refused.
+/// Answers the number of the first faulty line, which is refusal number 51 (the one after the last where there is no
+/// line `world N`), or that a growth was refused.
 pub fn parse(alloc: Global, text: &[u8]) -> Result<EventFile, ParseError>
     // What is answered is what the text says, or its first faulty line.
     ensures found { Answers text.now result }

@@ -7,9 +7,9 @@ ghost use Rattle.event_files.specs.Reading.{delivery_of, tick_of, stray_of, rest
 use crate::file::EventStatement;
 use crate::hexadecimal::bytes_of;
 use crate::verb::{EventVerb, verb_of};
-use tokens::{LineError, Token, end_of_line, first, is, number_or, number_up_to, rank_of, require};
 use statements::action_of;
 use std::alloc::Global;
+use tokens::{LineError, Token, end_of_line, first, is, number_or, number_up_to, rank_of, require};
 
 /// `D`
 #[tactic(auto, unfolding(crate::specs::Reading::delivery_of))]

@@ -1,5 +1,6 @@
 -- What it is to drive a rank: turn after turn, until it ends.
-use Rattle.std.specs.Prelude.{◌≡◌, ℕ, ◌-◌, ◌⊎◌, ◌↔◌, ◌==◌, nat_le, List, [], ◌∷◌, ◌++◌, Bool, true, ◌&&◌, All, IsTrue, Option, Some, None, Result, Ok, Err, if◌then◌else◌}
+use Rattle.std.specs.Prelude.{◌≡◌, ℕ, ◌-◌, ◌⊎◌, ◌↔◌, ◌==◌, nat_le, List, [], ◌∷◌, ◌++◌, Bool, true, ◌&&◌, All, IsTrue}
+use Rattle.std.specs.Prelude.{Option, Some, None, Result, Ok, Err, if◌then◌else◌}
 use Rattle.engine_calls.specs.declared.reply.Reply.{Reply}
 use Rattle.engine_calls.specs.EngineState.{EngineState}
 use Rattle.sessions.specs.Peers.{IsIdlePeer}
@@ -24,19 +25,22 @@ abbrev pub status_of : Ended → ℕ
 status_of (ends.Runner status line) = status
 status_of ends.Patience = 4
 
--- Whether a rank ends, where no datagram came for `quiet` and nothing moved for `still` milliseconds. Where its script came to
--- its end it stays until nothing is unacknowledged and no datagram came for 100 ms; any other end of the runner is at once.
+-- Whether a rank ends, where no datagram came for `quiet` and nothing moved for `still` milliseconds. Where its script
+-- came to its end it stays until nothing is unacknowledged and no datagram came for 100 ms; any other end of the runner
+-- is at once.
 abbrev pub ending_of : RunnerState → (idle : Bool) → (patience quiet still : ℕ) → Option Ended
 ending_of (Ready reply) idle patience quiet still = patience_ends patience still
 ending_of Blocked idle patience quiet still = patience_ends patience still
 ending_of (Over status line) idle patience quiet still =
-    if status == 0 then (if idle && nat_le 100 quiet then Some (ends.Runner status line) else patience_ends patience still)
+    if status == 0 then
+    (if idle && nat_le 100 quiet then Some (ends.Runner status line) else patience_ends patience still)
     else Some (ends.Runner status line)
 
 -- by whether no frame of the engine waits or is unacknowledged
 abbrev pub EndsAs : (patience : ℕ) → EngineState → LoopState → (now : ℕ) → Option Ended → Type 0
 EndsAs patience e s now ended =
-    (idle : Bool) × (IsTrue idle ↔ All IsIdlePeer e.sessions.peers) × (ending_of s.stage idle patience (now - s.heard) (now - s.moved) ≡ ended)
+    (idle : Bool) × (IsTrue idle ↔ All IsIdlePeer e.sessions.peers) ×
+    (ending_of s.stage idle patience (now - s.heard) (now - s.moved) ≡ ended)
 
 -- a rank between two turns
 pub record Course (P T : Type 0) : Type 0 where
@@ -46,22 +50,26 @@ pub record Course (P T : Type 0) : Type 0 where
   pub transport : T
 
 -- a rank makes a turn at this time
-pub record MakesTurn {P T : Type 0} (does : P → Option Reply → RunnerStep → P → Type 0) (passed : T → List Exchange → T → Type 0)
+pub record MakesTurn {P T : Type 0} (does : P → Option Reply → RunnerStep → P → Type 0) (passed : T → List Exchange →
+    T → Type 0)
     (a : Course P T) (now : ℕ) (b : Course P T) : Type 0 where
   pub turned : TurnResult
-  pub turn : IsTurn does passed a.engine a.runner a.standing.stage a.transport now turned b.engine b.runner b.standing.stage b.transport
+  pub turn : IsTurn does passed a.engine a.runner a.standing.stage a.transport now turned b.engine b.runner
+      b.standing.stage b.transport
   pub heard : b.standing.heard ≡ (if turned.came then now else a.standing.heard)
   pub moved : b.standing.moved ≡ (if turned.moved then now else a.standing.moved)
 
--- A turn, after which the rank ends, or goes on: at once where its runner may, and else once it has waited for a datagram. A fault of the
--- transport stops the turn short, or comes in the wait.
+-- A turn, after which the rank ends, or goes on: at once where its runner may, and else once it has waited for a
+-- datagram. A fault of the transport stops the turn short, or comes in the wait.
 abbrev pub RoundGives : {P T : Type 0} → (P → Option Reply → RunnerStep → P → Type 0) → (T → List Exchange → T → Type 0)
-    → (patience : ℕ) → Course P T → (now : ℕ) → Result (Option Ended) TransportFault → EngineState → P → LoopState → T → Type 0
+    → (patience : ℕ) → Course P T → (now : ℕ) → Result (Option Ended) TransportFault → EngineState → P → LoopState → T →
+    Type 0
 RoundGives {T = T} does passed patience a now (Ok None) e p s t =
     (mid : T) × MakesTurn does passed a now (record { engine = e; runner = p; standing = s; transport = mid })
     × EndsAs patience e s now None × passed mid [] t × (is_ready s.stage ≡ true → t ≡ mid)
 RoundGives does passed patience a now (Ok (Some ended)) e p s t =
-    MakesTurn does passed a now (record { engine = e; runner = p; standing = s; transport = t }) × EndsAs patience e s now (Some ended)
+    MakesTurn does passed a now (record { engine = e; runner = p; standing = s; transport = t }) ×
+    EndsAs patience e s now (Some ended)
 RoundGives {T = T} does passed patience a now (Err f) e p s t =
     (TurnGives does passed a.engine a.runner a.standing.stage a.transport now (Err f) e p s.stage t
     × (s.heard ≡ a.standing.heard) × (s.moved ≡ a.standing.moved)) ⊎
@@ -78,12 +86,14 @@ abbrev pub Rounds : {P T : Type 0} → (P → Option Reply → RunnerStep → P 
     → ℕ → Course P T → List ℕ → Course P T → Type 0
 Rounds does passed patience a [] b = b ≡ a
 Rounds {P = P} {T = T} does passed patience a (now ∷ nows) b =
-    (mid : Course P T) × RoundGives does passed patience a now (Ok None) mid.engine mid.runner mid.standing mid.transport
+    (mid : Course P T) ×
+    RoundGives does passed patience a now (Ok None) mid.engine mid.runner mid.standing mid.transport
     × Rounds does passed patience mid nows b
 
 -- a rank at its start, at this time
 abbrev pub course_at : {P T : Type 0} → ℕ → EngineState → P → T → Course P T
-course_at now e p t = record { engine = e; runner = p; standing = record { stage = Ready None; heard = now; moved = now }; transport = t }
+course_at now e p t =
+    record { engine = e; runner = p; standing = record { stage = Ready None; heard = now; moved = now }; transport = t }
 
 -- what the last round gave
 abbrev pub last_of : Result Ended TransportFault → Result (Option Ended) TransportFault
@@ -91,7 +101,8 @@ last_of (Ok ended) = Ok (Some ended)
 last_of (Err f) = Err f
 
 -- From this course on the clock tells the time of each round; there are rounds that go on, and a last one.
-pub record DrivesOn {P T C : Type 0} (does : P → Option Reply → RunnerStep → P → Type 0) (passed : T → List Exchange → T → Type 0)
+pub record DrivesOn {P T C : Type 0} (does : P → Option Reply → RunnerStep → P → Type 0) (passed : T → List Exchange →
+    T → Type 0)
     (told : C → ℕ → C → Type 0) (patience : ℕ) (from : Course P T) (c : C) (result : Result Ended TransportFault)
     (e' : EngineState) (p' : P) (s' : LoopState) (t' : T) (c' : C) : Type 0 where
   pub times : List ℕ
@@ -102,8 +113,10 @@ pub record DrivesOn {P T C : Type 0} (does : P → Option Reply → RunnerStep �
   pub last : RoundGives does passed patience course now (last_of result) e' p' s' t'
 
 -- The clock tells the time of the start and of each round; there are rounds that go on, and a last one.
-pub record Drives {P T C : Type 0} (does : P → Option Reply → RunnerStep → P → Type 0) (passed : T → List Exchange → T → Type 0)
-    (told : C → ℕ → C → Type 0) (patience : ℕ) (e : EngineState) (p : P) (t : T) (c : C) (result : Result Ended TransportFault)
+pub record Drives {P T C : Type 0} (does : P → Option Reply → RunnerStep → P → Type 0) (passed : T → List Exchange → T →
+    Type 0)
+    (told : C → ℕ → C → Type 0) (patience : ℕ) (e : EngineState) (p : P) (t : T) (c : C)
+    (result : Result Ended TransportFault)
     (e' : EngineState) (p' : P) (t' : T) (c' : C) : Type 0 where
   pub start : ℕ
   pub times : List ℕ

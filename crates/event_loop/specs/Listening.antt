@@ -37,11 +37,14 @@ abbrev pub received : Word → Exchange
 received w = Received w.0
 
 -- the transport gave these datagrams and then this, and the engine took the datagrams in
-pub record Hears {T : Type 0} (passed : T → List Exchange → T → Type 0) (e : EngineState) (t : T) (words : List Word) (last : Exchange) (e' : EngineState) (t' : T) : Type 0 where
+pub record Hears {T : Type 0} (passed : T → List Exchange → T → Type 0) (e : EngineState) (t : T) (words : List Word)
+    (last : Exchange) (e' : EngineState) (t' : T) : Type 0 where
   pub takes : TakesIn e words e'
   pub passes : passed t (map received words ++ last ∷ []) t'
 
 -- All datagrams that are there are taken in, until there is none, or a receive fails
-abbrev pub ListensTo : {T : Type 0} → (T → List Exchange → T → Type 0) → EngineState → T → Result Input TransportFault → EngineState → T → Type 0
-ListensTo passed e t (Ok h) e' t' = (words : List Word) × Hears passed e t words Nothing e' t' × (h ≡ after_all nothing_heard words)
+abbrev pub ListensTo : {T : Type 0} → (T → List Exchange → T → Type 0) → EngineState → T → Result Input TransportFault →
+    EngineState → T → Type 0
+ListensTo passed e t (Ok h) e' t' = (words : List Word) × Hears passed e t words Nothing e' t' ×
+    (h ≡ after_all nothing_heard words)
 ListensTo passed e t (Err f) e' t' = (words : List Word) × Hears passed e t words Failed e' t'

@@ -30,4 +30,5 @@ comes_joined a b c (Failed ∷ xs) ys p q = comes_joined a b c xs ys p q
 
 -- one more behind those that are alike
 pub one_more : {A : Type 0} (xs : List A) (n : ℕ) (x : A) → xs ++ replicate (n + 1) x ≡ (xs ++ replicate n x) ++ x ∷ []
-one_more xs n x = ap (λ l. xs ++ l) (sym (replicate-append-replicate n 1 x)) ∙ sym (append_assoc xs (replicate n x) (x ∷ []))
+one_more xs n x = ap (λ l. xs ++ l) (sym (replicate-append-replicate n 1 x)) ∙
+    sym (append_assoc xs (replicate n x) (x ∷ []))

@@ -8,9 +8,11 @@ use Rattle.event_loop.specs.declared.runner.RunnerStep.TheVariants as steps
 use Rattle.event_loop.specs.declared.transport.TransportFault.{TransportFault}
 
 -- told a reply or none, a runner printed these lines and then did this
-abbrev pub Speaks : {P : Type 0} → (P → Option Reply → RunnerStep → P → Type 0) → P → Option Reply → List (List ℕ) → RunnerStep → P → Type 0
+abbrev pub Speaks : {P : Type 0} → (P → Option Reply → RunnerStep → P → Type 0) → P → Option Reply → List (List ℕ) →
+    RunnerStep → P → Type 0
 Speaks does old reply [] step new = does old reply step new
-Speaks {P = P} does old reply (line ∷ lines) step new = (mid : P) × does old reply (steps.Print line) mid × Speaks does mid None lines step new
+Speaks {P = P} does old reply (line ∷ lines) step new =
+    (mid : P) × does old reply (steps.Print line) mid × Speaks does mid None lines step new
 
 abbrev pub IsNoLine : RunnerStep → Type 0
 IsNoLine (steps.Call c) = Unit {0}
@@ -23,4 +25,5 @@ abbrev pub SpeaksTo : {P T : Type 0} → (P → Option Reply → RunnerStep → 
 SpeaksTo does passed p t reply (Ok step) p' t' =
     (lines : List (List ℕ)) × Speaks does p reply lines step p' × IsNoLine step × passed t (map Printed lines) t'
 SpeaksTo does passed p t reply (Err f) p' t' =
-    (lines : List (List ℕ)) × ((line : List ℕ) × Speaks does p reply lines (steps.Print line) p') × passed t (map Printed lines ++ Failed ∷ []) t'
+    (lines : List (List ℕ)) × ((line : List ℕ) × Speaks does p reply lines (steps.Print line) p') ×
+    passed t (map Printed lines ++ Failed ∷ []) t'

@@ -1,5 +1,6 @@
 -- What a turn of a rank is.
-use Rattle.std.specs.Prelude.{◌≡◌, ℕ, ◌<◌, ◌⊎◌, List, [], ◌∷◌, ◌++◌, map, take, length, Bool, true, false, ◌||◌, is_some, Option, Some, None, Result, Ok, Err}
+use Rattle.std.specs.Prelude.{◌≡◌, ℕ, ◌<◌, ◌⊎◌, List, [], ◌∷◌, ◌++◌, map, take, length, Bool, true, false, ◌||◌}
+use Rattle.std.specs.Prelude.{is_some, Option, Some, None, Result, Ok, Err}
 use Rattle.point_to_point_calls.specs.declared.refusal.Refusal.{Refusal}
 use Rattle.engine_calls.specs.declared.reply.Reply.{Reply}
 use Rattle.engine_calls.specs.declared.reply.Reply.TheVariants as replies
@@ -60,13 +61,16 @@ TakesStep old (steps.Print line) stage new = ⊥
 TakesStep old (steps.End status line) stage new = (stage ≡ Over status line) × (new ≡ old)
 
 -- where a call is blocked, or the runner has ended, nothing is done; else its lines come, and its next call or its end
-abbrev pub GoesOn : {P : Type 0} → (P → Option Reply → RunnerStep → P → Type 0) → P → RunnerState → List (List ℕ) → EngineState → RunnerState → P → EngineState → Type 0
-GoesOn does p (Ready reply) lines e stage p' e' = (step : RunnerStep) × Speaks does p reply lines step p' × TakesStep e step stage e'
+abbrev pub GoesOn : {P : Type 0} → (P → Option Reply → RunnerStep → P → Type 0) → P → RunnerState → List (List ℕ) →
+    EngineState → RunnerState → P → EngineState → Type 0
+GoesOn does p (Ready reply) lines e stage p' e' = (step : RunnerStep) × Speaks does p reply lines step p' ×
+    TakesStep e step stage e'
 GoesOn does p Blocked lines e stage p' e' = (lines ≡ []) × (stage ≡ Blocked) × (p' ≡ p) × (e' ≡ e)
 GoesOn does p (Over status line) lines e stage p' e' = (lines ≡ []) × (stage ≡ Over status line) × (p' ≡ p) × (e' ≡ e)
 
 -- A line of a runner that goes on can't be printed
-abbrev pub StopsAtLine : {P : Type 0} → (P → Option Reply → RunnerStep → P → Type 0) → P → RunnerState → List (List ℕ) → P → Type 0
+abbrev pub StopsAtLine : {P : Type 0} → (P → Option Reply → RunnerStep → P → Type 0) → P → RunnerState → List (List ℕ) →
+    P → Type 0
 StopsAtLine does p (Ready reply) lines p' = (line : List ℕ) × Speaks does p reply lines (steps.Print line) p'
 StopsAtLine does p Blocked lines p' = ⊥
 StopsAtLine does p (Over status line) lines p' = ⊥
@@ -76,7 +80,8 @@ abbrev pub GoesOnTo : {P T : Type 0} → (P → Option Reply → RunnerStep → 
 GoesOnTo does passed e p stage t (Ok x) e' p' stage' t' =
     (lines : List (List ℕ)) × GoesOn does p stage lines e stage' p' e' × passed t (map Printed lines) t'
 GoesOnTo does passed e p stage t (Err f) e' p' stage' t' =
-    (lines : List (List ℕ)) × StopsAtLine does p stage lines p' × (e' ≡ e) × (stage' ≡ Ready None) × passed t (map Printed lines ++ Failed ∷ []) t'
+    (lines : List (List ℕ)) × StopsAtLine does p stage lines p' × (e' ≡ e) × (stage' ≡ Ready None) ×
+    passed t (map Printed lines ++ Failed ∷ []) t'
 
 -- The engine up to its next call: its clock ticked, and it took in these datagrams.
 pub record Listened (e : EngineState) (now : ℕ) (words : List Word) (e' : EngineState) : Type 0 where
@@ -86,8 +91,10 @@ pub record Listened (e : EngineState) (now : ℕ) (words : List Word) (e' : Engi
 
 -- A turn: the clock ticks; the datagrams that are there are taken in; the runner goes on, unless its call is blocked;
 -- what the engine emitted is sent.
-pub record IsTurn {P T : Type 0} (does : P → Option Reply → RunnerStep → P → Type 0) (passed : T → List Exchange → T → Type 0)
-    (e : EngineState) (p : P) (stage : RunnerState) (t : T) (now : ℕ) (turned : TurnResult) (e' : EngineState) (p' : P) (stage' : RunnerState) (t' : T) : Type 0 where
+pub record IsTurn {P T : Type 0} (does : P → Option Reply → RunnerStep → P → Type 0) (passed : T → List Exchange → T →
+    Type 0)
+    (e : EngineState) (p : P) (stage : RunnerState) (t : T) (now : ℕ) (turned : TurnResult) (e' : EngineState) (p' : P)
+    (stage' : RunnerState) (t' : T) : Type 0 where
   pub words : List Word
   pub heard : EngineState
   pub lines : List (List ℕ)
@@ -97,11 +104,13 @@ pub record IsTurn {P T : Type 0} (does : P → Option Reply → RunnerStep → P
   pub state : e' ≡ without_out called
   pub passes : passed t ((map received words ++ Nothing ∷ []) ++ map Printed lines ++ map sent called.sessions.out) t'
   pub came : turned.came ≡ (after_all nothing_heard words).any
-  pub moved : turned.moved ≡ ((after_all nothing_heard words).accepted || is_some (completion_of heard) || is_ready stage')
+  pub moved : turned.moved ≡
+      ((after_all nothing_heard words).accepted || is_some (completion_of heard) || is_ready stage')
 
 -- a turn that stops short: a receive failed
 pub record StopsListening {P T : Type 0} (passed : T → List Exchange → T → Type 0)
-    (e : EngineState) (p : P) (stage : RunnerState) (t : T) (now : ℕ) (e' : EngineState) (p' : P) (stage' : RunnerState) (t' : T) : Type 0 where
+    (e : EngineState) (p : P) (stage : RunnerState) (t : T) (now : ℕ) (e' : EngineState) (p' : P) (stage' : RunnerState)
+    (t' : T) : Type 0 where
   pub words : List Word
   pub listened : Listened e now words e'
   pub runner : p' ≡ p
@@ -109,8 +118,10 @@ pub record StopsListening {P T : Type 0} (passed : T → List Exchange → T →
   pub passes : passed t (map received words ++ Failed ∷ []) t'
 
 -- a line can't be printed; its runner was told what it waited for
-pub record StopsSpeaking {P T : Type 0} (does : P → Option Reply → RunnerStep → P → Type 0) (passed : T → List Exchange → T → Type 0)
-    (e : EngineState) (p : P) (stage : RunnerState) (t : T) (now : ℕ) (e' : EngineState) (p' : P) (stage' : RunnerState) (t' : T) : Type 0 where
+pub record StopsSpeaking {P T : Type 0} (does : P → Option Reply → RunnerStep → P → Type 0) (passed : T →
+    List Exchange → T → Type 0)
+    (e : EngineState) (p : P) (stage : RunnerState) (t : T) (now : ℕ) (e' : EngineState) (p' : P) (stage' : RunnerState)
+    (t' : T) : Type 0 where
   pub words : List Word
   pub heard : EngineState
   pub lines : List (List ℕ)
@@ -121,8 +132,10 @@ pub record StopsSpeaking {P T : Type 0} (does : P → Option Reply → RunnerSte
   pub passes : passed t ((map received words ++ Nothing ∷ []) ++ map Printed lines ++ Failed ∷ []) t'
 
 -- a datagram can't be sent
-pub record StopsSending {P T : Type 0} (does : P → Option Reply → RunnerStep → P → Type 0) (passed : T → List Exchange → T → Type 0)
-    (e : EngineState) (p : P) (stage : RunnerState) (t : T) (now : ℕ) (e' : EngineState) (p' : P) (stage' : RunnerState) (t' : T) : Type 0 where
+pub record StopsSending {P T : Type 0} (does : P → Option Reply → RunnerStep → P → Type 0) (passed : T → List Exchange →
+    T → Type 0)
+    (e : EngineState) (p : P) (stage : RunnerState) (t : T) (now : ℕ) (e' : EngineState) (p' : P) (stage' : RunnerState)
+    (t' : T) : Type 0 where
   pub words : List Word
   pub heard : EngineState
   pub lines : List (List ℕ)
@@ -132,12 +145,16 @@ pub record StopsSending {P T : Type 0} (does : P → Option Reply → RunnerStep
   pub goes : GoesOn does p (stage_with stage (completion_of heard)) lines (without_completion heard) stage' p' called
   pub state : e' ≡ without_out called
   pub rest : gone < length called.sessions.out
-  pub passes : passed t ((map received words ++ Nothing ∷ []) ++ map Printed lines ++ map sent (take gone called.sessions.out) ++ Failed ∷ []) t'
+  pub passes : passed t ((map received words ++ Nothing ∷ []) ++ map Printed lines ++
+      map sent (take gone called.sessions.out) ++ Failed ∷ []) t'
 
 -- what a turn gives: a whole one, or one that a fault stops short
 abbrev pub TurnGives : {P T : Type 0} → (P → Option Reply → RunnerStep → P → Type 0) → (T → List Exchange → T → Type 0)
-    → EngineState → P → RunnerState → T → ℕ → Result TurnResult TransportFault → EngineState → P → RunnerState → T → Type 0
-TurnGives does passed e p stage t now (Ok turned) e' p' stage' t' = IsTurn does passed e p stage t now turned e' p' stage' t'
+    → EngineState → P → RunnerState → T → ℕ → Result TurnResult TransportFault → EngineState → P → RunnerState → T →
+    Type 0
+TurnGives does passed e p stage t now (Ok turned) e' p' stage' t' =
+    IsTurn does passed e p stage t now turned e' p' stage' t'
 TurnGives does passed e p stage t now (Err f) e' p' stage' t' =
     StopsListening passed e p stage t now e' p' stage' t' ⊎
-    (StopsSpeaking does passed e p stage t now e' p' stage' t' ⊎ StopsSending does passed e p stage t now e' p' stage' t')
+    (StopsSpeaking does passed e p stage t now e' p' stage' t' ⊎
+    StopsSending does passed e p stage t now e' p' stage' t')

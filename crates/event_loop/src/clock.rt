@@ -1,6 +1,7 @@
 //! The clock of a rank.
 
-/// A clock that counts milliseconds. It may stand still or go back: an engine drops a tick that is below an earlier one.
+/// A clock that counts milliseconds. It may stand still or go back: an engine drops a tick that is below an earlier
+/// one.
 pub trait Clock {
     ghost use Rattle.std.specs.Prelude.{ℕ};
 

@@ -6,9 +6,9 @@ ghost use Rattle.event_loop.specs.Drives.{Drives, DrivesOn};
 
 use crate::clock::Clock;
 use crate::input::LONGEST;
+use crate::loop_state::{LoopState, RunnerState};
 use crate::round::{Ended, make_round};
 use crate::runner::Runner;
-use crate::loop_state::{RunnerState, LoopState};
 use crate::transport::{Transport, TransportFault};
 use engine::Engine;
 use std::sync::Wait;
@@ -50,16 +50,17 @@ fn make_rounds<R: Wait, P: Runner, T: Transport, C: Clock>(
     unreachable!()
 }
 
-/// Drives a rank, turn after turn, until its runner has ended and nothing more is wanted of it, or its patience is over. A fault of the
-/// transport ends it at once.
+/// Drives a rank, turn after turn, until its runner has ended and nothing more is wanted of it, or its patience is
+/// over. A fault of the transport ends it at once.
 ///
-/// A turn ticks (a tick that is refused is dropped), takes in all datagrams that are there (refused ones are dropped), writes
-/// the runner's lines, hands its next call to the engine unless one is blocked, and sends what the engine emitted. Behind a turn
-/// that leaves nothing to do the rank waits for a datagram, up to the time when something of its own is due.
+/// A turn ticks (a tick that is refused is dropped), takes in all datagrams that are there (refused ones are dropped),
+/// writes the runner's lines, hands its next call to the engine unless one is blocked, and sends what the engine
+/// emitted. Behind a turn that leaves nothing to do the rank waits for a datagram, up to the time when something of its
+/// own is due.
 ///
-/// A runner that ends with status 0 is done once no frame is unacknowledged and no datagram came for 100 ms; one that ends with
-/// another status is done at once. The patience, in milliseconds, is over where for so long no call was answered and no
-/// datagram was accepted.
+/// A runner that ends with status 0 is done once no frame is unacknowledged and no datagram came for 100 ms; one that
+/// ends with another status is done at once. The patience, in milliseconds, is over where for so long no call was
+/// answered and no datagram was accepted.
 pub fn drive<R: Wait, P: Runner, T: Transport, C: Clock>(
     rt: &R,
     engine: &mut Engine,

@@ -10,8 +10,8 @@ use crate::transport::{Transport, TransportFault};
 use engine::Engine;
 use std::sync::Wait;
 
-/// The room that a receive is given, in bytes: the longest datagram, and one byte more, so that a longer one is seen to be
-/// too long.
+/// The room that a receive is given, in bytes: the longest datagram, and one byte more, so that a longer one is seen to
+/// be too long.
 pub const LONGEST: usize = 1_233;
 
 /// What came in a turn so far.
@@ -52,7 +52,8 @@ pub(crate) fn listen<R: Wait, T: Transport>(
 
 /// The engine takes a datagram in, or refuses it.
 fn on_datagram(engine: &mut Engine, heard: Input, bytes: &[u8]) -> Input
-    ensures { (r : Result (Unit {0}) Refusal) × DatagramGives engine.old bytes.now r engine.new × (result ≡ after_one heard r) }
+    ensures { (r : Result (Unit {0}) Refusal) × DatagramGives engine.old bytes.now r engine.new ×
+        (result ≡ after_one heard r) }
 {
     let accepted = engine.on_datagram(bytes).is_ok();
     Input {

@@ -1,8 +1,8 @@
-//! The loop of a running rank. It hands the rank's engine what the clock, the transport and the runner of its script give,
-//! and hands the transport what the engine emits and the lines that the runner prints, each in order.
+//! The loop of a running rank. It hands the rank's engine what the clock, the transport and the runner of its script
+//! give, and hands the transport what the engine emits and the lines that the runner prints, each in order.
 //!
-//! The loop is the same over every transport, clock and runner: the rank's program runs it over a socket, a test over one
-//! in memory that fails when it is told to.
+//! The loop is the same over every transport, clock and runner: the rank's program runs it over a socket, a test over
+//! one in memory that fails when it is told to.
 #![tactic(auto)]
 
 mod clock;

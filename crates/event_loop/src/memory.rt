@@ -1,6 +1,7 @@
 //! A transport and a clock in memory.
 
-ghost use Rattle.std.specs.Prelude.{◌≡◌, ◌+◌, ◌<◌, ◌≤◌, ◌^◌, min, [], ◌∷◌, ◌++◌, length, take, true, false, OnOk, OnErr};
+ghost use Rattle.std.specs.Prelude.{◌≡◌, ◌+◌, ◌<◌, ◌≤◌, ◌^◌, min, [], ◌∷◌, ◌++◌, length, take, true, false, OnOk};
+ghost use Rattle.std.specs.Prelude.{OnErr};
 ghost use Rattle.event_loop.specs.Memories.{HasFailed, HasPassed};
 
 use crate::clock::Clock;
@@ -11,8 +12,8 @@ use std::alloc::Global;
 use std::collections::VecDeque;
 use std::marker::Model;
 
-/// A transport in memory. It gives the datagrams that were put into it, in their order, and keeps what passed. So many of its
-/// calls succeed, and each later one fails; so does one, and each later one, for which memory is wanting.
+/// A transport in memory. It gives the datagrams that were put into it, in their order, and keeps what passed. So many
+/// of its calls succeed, and each later one fails; so does one, and each later one, for which memory is wanting.
 #[derive(Drop)]
 pub struct Memory {
     alloc: Global,
@@ -167,7 +168,10 @@ impl Transport for Memory {
 
     ghost none = { λ t. (nothing_more t.log, none_came t.waiting) };
 
-    ghost joined = { λ s t u xs ys p q. (two_steps s.log t.log u.log xs ys p.0 q.0, comes_joined s.waiting t.waiting u.waiting xs ys p.1 q.1) };
+    ghost joined = { λ s t u xs ys p q. (
+      two_steps s.log t.log u.log xs ys p.0 q.0,
+      comes_joined s.waiting t.waiting u.waiting xs ys p.1 q.1,
+    ) };
 }
 
 /// A clock that rises by a millisecond at each reading, and stands still once 64 bits hold no later one.

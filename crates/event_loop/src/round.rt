@@ -4,8 +4,8 @@ ghost use Rattle.std.specs.Prelude.{◌≡◌, ◌≤◌, ◌+◌, ◌-◌, ◌<
 ghost use Rattle.event_loop.specs.Exchanges.{FailsWith, waited};
 ghost use Rattle.event_loop.specs.Drives.{RoundGives, ending_of, patience_ends, status_of};
 
+use crate::loop_state::{LoopState, RunnerState};
 use crate::runner::Runner;
-use crate::loop_state::{RunnerState, LoopState};
 use crate::transport::{Transport, TransportFault};
 use crate::turn::{is_ready, turn};
 use engine::Engine;
@@ -49,7 +49,13 @@ fn patience_ends(patience: u64, still: u64) -> Option<Ended>
 }
 
 /// Whether a rank ends, where no datagram came for `quiet` milliseconds, and nothing moved for `still`.
-fn ending_of(stage: &RunnerState, idle: bool, patience: u64, quiet: u64, still: u64) -> Option<Ended>
+fn ending_of(
+    stage: &RunnerState,
+    idle: bool,
+    patience: u64,
+    quiet: u64,
+    still: u64,
+) -> Option<Ended>
     ensures { result ≡ ending_of stage.now idle patience quiet still }
 {
     match stage {
@@ -104,8 +110,8 @@ fn rest<T: Transport>(transport: &mut T, ready: bool, most: u64) -> Result<(), T
     transport.wait(most)
 }
 
-/// One turn at this time, and a wait for a datagram behind it where the rank goes on and has nothing to do. Answers how the rank
-/// ended, if it has.
+/// One turn at this time, and a wait for a datagram behind it where the rank goes on and has nothing to do. Answers how
+/// the rank ended, if it has.
 pub(crate) fn make_round<R: Wait, P: Runner, T: Transport>(
     rt: &R,
     engine: &mut Engine,

@@ -8,8 +8,8 @@ pub struct TransportFault;
 
 /// What carries the datagrams of a rank to others and from them, and its lines to whoever reads them.
 ///
-/// A datagram that was sent may be lost, come late, or come more than once. A receive gives a beginning of its buffer. The number
-/// of failures rises exactly where a call answers a fault.
+/// A datagram that was sent may be lost, come late, or come more than once. A receive gives a beginning of its buffer.
+/// The number of failures rises exactly where a call answers a fault.
 pub trait Transport {
     ghost use Rattle.event_loop.specs.declared.exchange.Exchange.{Exchange};
     ghost use Rattle.event_loop.specs.declared.exchange.Exchange.TheVariants.{Sent, Printed};

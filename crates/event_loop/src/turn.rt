@@ -6,10 +6,10 @@ ghost use Rattle.event_loop.specs.Speaking.{IsNoLine};
 ghost use Rattle.event_loop.specs.Turns.{TakesStep, GoesOnTo, TurnGives, stage_after, stage_with, reply_of, is_ready};
 
 use crate::input::listen;
-use crate::runner::{Runner, RunnerStep};
-use crate::output::send_all;
-use crate::runner_turn::speak;
 use crate::loop_state::{RunnerState, TurnResult};
+use crate::output::send_all;
+use crate::runner::{Runner, RunnerStep};
+use crate::runner_turn::speak;
 use crate::transport::{Transport, TransportFault};
 use engine::{Completion, Engine, Reply};
 use std::sync::Wait;
@@ -77,7 +77,8 @@ fn go_on_behind<R: Wait, P: Runner, T: Transport>(
     requires room { T.failed transport.old + 1 < 2 ^ 64 }
     requires ready { stage.old ≡ RunnerState.Ready None }
     ensures exact { (before : P) (reply : Option Reply) → P.does before reply (RunnerStep.Print line.now) runner.old →
-        GoesOnTo P.does T.passed engine.old before (RunnerState.Ready reply) transport.old result engine.new runner.new stage.new transport.new }
+        GoesOnTo P.does T.passed engine.old before (RunnerState.Ready reply) transport.old result engine.new runner.new
+        stage.new transport.new }
     ensures failures { FailsWith result (T.failed transport.old) (T.failed transport.new) }
 {
     let Ok(_) = transport.print(line) else {
@@ -99,7 +100,8 @@ fn go_on<R: Wait, P: Runner, T: Transport>(
     transport: &mut T,
 ) -> Result<(), TransportFault>
     requires { T.failed transport.old + 1 < 2 ^ 64 }
-    ensures exact { GoesOnTo P.does T.passed engine.old runner.old stage.old transport.old result engine.new runner.new stage.new transport.new }
+    ensures exact { GoesOnTo P.does T.passed engine.old runner.old stage.old transport.old result engine.new runner.new stage.new
+        transport.new }
     ensures failures { FailsWith result (T.failed transport.old) (T.failed transport.new) }
 {
     let reply = match stage {

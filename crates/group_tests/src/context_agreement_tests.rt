@@ -56,7 +56,8 @@ fn at(contexts: &Contexts, place: usize, ranks: &[u16]) -> Option<(u64, bool)> {
     Some((own.context.number(), own.group.ranks() == ranks))
 }
 
-/// How many communicators there are, whether there is no room for more, and whether world and self are as they should be.
+/// How many communicators there are, whether there is no room for more, and whether world and self are as they should
+/// be.
 fn first_two(contexts: &Contexts) -> (usize, bool, bool, Option<(u64, bool)>) {
     (
         contexts.communicator_count(),

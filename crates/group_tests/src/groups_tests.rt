@@ -1,6 +1,6 @@
 //! The worked groups, and each call with ample memory.
 
-use groups::{GroupComparison, Group, GroupRefusal};
+use groups::{Group, GroupComparison, GroupRefusal};
 use std::alloc::Global;
 use std::process::Abort;
 
@@ -73,7 +73,11 @@ fn groups_are_compared(rt: HostRuntime) {
     ];
     assert_eq!(rt;
         answers,
-        [GroupComparison::Ident, GroupComparison::Similar, GroupComparison::Unequal]
+        [
+            GroupComparison::Ident,
+            GroupComparison::Similar,
+            GroupComparison::Unequal
+        ]
     );
 }
 
@@ -152,5 +156,8 @@ fn turned(last: &Group, world: &Group) -> Option<(usize, GroupComparison)> {
 fn a_thousand_members_need_an_allocation(rt: HostRuntime) {
     let world = Group::of_first_ranks(rt.alloc(), 1024).expect(&rt, "a group");
     let last = Group::of_rank(rt.alloc(), 1023);
-    assert_eq!(rt; turned(&last, &world), Some((1024, GroupComparison::Similar)));
+    assert_eq!(rt;
+        turned(&last, &world),
+        Some((1024, GroupComparison::Similar))
+    );
 }

@@ -1,5 +1,6 @@
 -- Lemmas on groups with the same members.
-use Rattle.std.proofs.Common.{◌≡◌, ℕ, ◌+◌, ◌<◌, ◌≤◌, Bool, true, false, List, [], ◌∷◌, length, get_or, nat_eq, refl, sym, ◌∙◌, subst, arith, inl, inr}
+use Rattle.std.proofs.Common.{◌≡◌, ℕ, ◌+◌, ◌<◌, ◌≤◌, Bool, true, false, List, [], ◌∷◌, length, get_or, nat_eq, refl}
+use Rattle.std.proofs.Common.{sym, ◌∙◌, subst, arith, inl, inr}
 use Rattle.std.specs.List.{All, list_all, AllByRecursion, list_any}
 use Rattle.std.specs.Cmp.{nat_eq_equiv}
 use Rattle.std.proofs.lemmas.Bool.{eqb-true, eq-eqb, cases_Bool, false_from_ne_true, or_cases, or_parts}
@@ -16,16 +17,21 @@ use Rattle.groups.specs.Comparisons.{HaveSameMembers}
 pub included : (first second : List ℕ) → list_all (is_member first) second ≡ true → (rank : ℕ)
     → is_member second rank ≡ true → is_member first rank ≡ true
 included first second all rank here =
-    All-contains (λ member. is_member first member ≡ true) second rank (AllPass-from_list_all (is_member first) second all)
+    All-contains (λ member. is_member first member ≡ true) second rank
+    (AllPass-from_list_all (is_member first) second all)
     (Contains-from_any {eq = nat_eq} eqb-true rank second here)
 
 -- a rank that a list lacks, put before it
-HasNoRepeats-cons : (rank : ℕ) (ranks : List ℕ) → HasNoRepeats ranks → is_member ranks rank ≡ false → HasNoRepeats (rank ∷ ranks)
+HasNoRepeats-cons : (rank : ℕ) (ranks : List ℕ) → HasNoRepeats ranks → is_member ranks rank ≡ false →
+    HasNoRepeats (rank ∷ ranks)
 HasNoRepeats-cons rank ranks apart absent = IsDistinct-cons nat_eq rank ranks (all_differ ranks absent) apart
   where
     all_differ : (xs : List ℕ) → is_member xs rank ≡ false → AllByRecursion (λ y. nat_eq rank y ≡ false) xs
     all_differ [] h = tt
-    all_differ (x ∷ xs) h = ((or_parts (nat_eq rank x) (is_member xs rank) h).0, all_differ xs (or_parts (nat_eq rank x) (is_member xs rank) h).1)
+    all_differ (x ∷ xs) h = (
+      (or_parts (nat_eq rank x) (is_member xs rank) h).0,
+      all_differ xs (or_parts (nat_eq rank x) (is_member xs rank) h).1,
+    )
 
 -- as many, and each of the second in the first: the same members
 pub HaveSameMembers-included : (first second : List ℕ) → HasNoRepeats first → HasNoRepeats second
@@ -35,7 +41,8 @@ HaveSameMembers-included first second one other long all rank =
       | inl here ↦ included first second all rank here ∙ sym here
       | inr absent ↦ false_from_ne_true (is_member first rank) (λ there.
           let more : length (rank ∷ second) ≤ length first = length-le_from_is_member nat_eq_equiv (rank ∷ second) first
-          (HasNoRepeats-cons rank second other absent) (λ q among. elim (or_cases (nat_eq q rank) (is_member second q) among) [
+          (HasNoRepeats-cons rank second other absent)
+          (λ q among. elim (or_cases (nat_eq q rank) (is_member second q) among) [
             | inl same ↦ subst (λ (r : ℕ). is_member first r ≡ true) (sym (eqb-true q rank same)) there
             | inr behind ↦ included first second all q behind
           ]) in
@@ -46,7 +53,8 @@ HaveSameMembers-included first second one other long all rank =
 pub list_all-same : (first second : List ℕ) → HaveSameMembers first second → list_all (is_member first) second ≡ true
 list_all-same first second same =
     list_all-from_AllPass (is_member first) second
-    (All-weaker (λ rank. is_member second rank ≡ true) (λ rank. is_member first rank ≡ true) (λ rank here. same rank ∙ here) second
+    (All-weaker (λ rank. is_member second rank ≡ true) (λ rank. is_member first rank ≡ true) (λ rank here. same rank ∙
+    here) second
     (All-is_member nat_eq_equiv second))
 
 -- with the same members, they are as many

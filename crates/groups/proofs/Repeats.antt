@@ -1,13 +1,16 @@
 -- Lemmas on lists that name nothing twice.
-use Rattle.std.proofs.Common.{◌≡◌, ℕ, ◌+◌, ◌<◌, Bool, true, false, List, [], ◌∷◌, ◌++◌, length, get_or, take, nat_eq, refl, sym, ◌∙◌, ap, subst, arith, not, cond, ◌^◌, ◌≤◌, Fits, w16, inl, inr}
+use Rattle.std.proofs.Common.{◌≡◌, ℕ, ◌+◌, ◌<◌, Bool, true, false, List, [], ◌∷◌, ◌++◌, length, get_or, take, nat_eq}
+use Rattle.std.proofs.Common.{refl, sym, ◌∙◌, ap, subst, arith, not, cond, ◌^◌, ◌≤◌, Fits, w16, inl, inr}
 use Rattle.std.specs.Cmp.{nat_eq_equiv}
 use Rattle.std.specs.List.{IsDistinct, AllByRecursion, All, filter, range_with_len, list_any}
 use Rattle.std.proofs.lemmas.Bool.{eqb-true, eqb-false, eq-eqb, ne_eqb, not-true, or_parts, cases_lt}
 use Rattle.std.proofs.lemmas.List.{take_more, get_or-take, length-take-le}
 use Rattle.std.proofs.lemmas.Grind.{get_or_default_zero}
-use Rattle.std.proofs.lemmas.Map.Keys.{IsDistinct-push, IsDistinct-cons, IsDistinct-head, IsDistinct-tail, IsDistinct-from_apart, apart_from_distinct}
+use Rattle.std.proofs.lemmas.Map.Keys.{IsDistinct-push, IsDistinct-cons, IsDistinct-head, IsDistinct-tail}
+use Rattle.std.proofs.lemmas.Map.Keys.{IsDistinct-from_apart, apart_from_distinct}
 use Rattle.std.proofs.lemmas.Map.Steps.{length-le_from_distinct_below}
-use Rattle.std.proofs.lemmas.List.Elements.{All-append, All-weaker, All-filter, All-from_recursion, recursion_from_All, filter_passes}
+use Rattle.std.proofs.lemmas.List.Elements.{All-append, All-weaker, All-filter, All-from_recursion, recursion_from_All}
+use Rattle.std.proofs.lemmas.List.Elements.{filter_passes}
 use Rattle.std.proofs.lemmas.List.FromFn.{get_or-range_with_len, length-range_with_len}
 use Rattle.std.proofs.lemmas.Map.Views.{Contains-from_any}
 use Rattle.groups.specs.RankSets.{is_marked}
@@ -33,7 +36,8 @@ repeated ranks i within here apart =
     let same : get_or ranks found.0 (get_or ranks i 0) ≡ get_or ranks i 0 =
     sym (get_or-take i ranks found.0 (get_or ranks i 0) early) ∙ found.2 in
     let here_too : get_or ranks i (get_or ranks i 0) ≡ get_or ranks i 0 = get_or_default_zero ranks i (get_or ranks i 0) within in
-    eqb-false _ _ (apart_from_distinct nat_eq ranks found.0 i (get_or ranks i 0) apart early within) (same ∙ sym here_too)
+    eqb-false _ _ (apart_from_distinct nat_eq ranks found.0 i (get_or ranks i 0) apart early within)
+    (same ∙ sym here_too)
 
 -- no rank comes twice among none
 pub nothing_seen : (words : List ℕ) → ((rank : ℕ) → is_marked words rank ≡ false) → AreSeen words []
@@ -45,7 +49,8 @@ pub HasNoRepeats-filter : (p : ℕ → Bool) (xs : List ℕ) → HasNoRepeats xs
 HasNoRepeats-filter p [] apart = apart
 HasNoRepeats-filter p (x ∷ xs) apart = kept (p x)
     (recursion_from_All (λ y. nat_eq x y ≡ false) (filter p xs)
-    (All-filter p (λ y. nat_eq x y ≡ false) xs (All-from_recursion (λ y. nat_eq x y ≡ false) xs (IsDistinct-head nat_eq x xs apart))))
+    (All-filter p (λ y. nat_eq x y ≡ false) xs
+    (All-from_recursion (λ y. nat_eq x y ≡ false) xs (IsDistinct-head nat_eq x xs apart))))
     (HasNoRepeats-filter p xs (IsDistinct-tail nat_eq x xs apart))
   where
     kept : (b : Bool) → AllByRecursion (λ y. nat_eq x y ≡ false) (filter p xs) → HasNoRepeats (filter p xs)
@@ -60,9 +65,11 @@ HasNoRepeats-append [] ys first second out = second
 HasNoRepeats-append (x ∷ xs) ys first second out =
     IsDistinct-cons nat_eq x (xs ++ ys)
     (recursion_from_All (λ y. nat_eq x y ≡ false) (xs ++ ys)
-    (All-append (λ y. nat_eq x y ≡ false) xs ys (All-from_recursion (λ y. nat_eq x y ≡ false) xs (IsDistinct-head nat_eq x xs first))
+    (All-append (λ y. nat_eq x y ≡ false) xs ys
+    (All-from_recursion (λ y. nat_eq x y ≡ false) xs (IsDistinct-head nat_eq x xs first))
     (All-weaker (λ y. is_member (x ∷ xs) y ≡ false) (λ y. nat_eq x y ≡ false)
-    (λ y absent. ne_eqb x y (λ same. eqb-false y x (or_parts (nat_eq y x) (is_member xs y) absent).0 (sym same))) ys out)))
+    (λ y absent. ne_eqb x y (λ same. eqb-false y x (or_parts (nat_eq y x) (is_member xs y) absent).0 (sym same))) ys
+    out)))
     (HasNoRepeats-append xs ys (IsDistinct-tail nat_eq x xs first) second
     (All-weaker (λ y. is_member (x ∷ xs) y ≡ false) (λ y. is_member xs y ≡ false)
     (λ y absent. (or_parts (nat_eq y x) (is_member xs y) absent).1) ys out))

@@ -1,5 +1,6 @@
 -- Lemmas on the members at positions.
-use Rattle.std.proofs.Common.{◌≡◌, ℕ, ◌+◌, ◌<◌, ◌≤◌, Bool, true, false, cond, not, List, [], ◌∷◌, ◌++◌, length, get_or, nat_eq, zero, suc, refl, sym, ◌∙◌, ap, arith, map, filter, add-one, append-nil}
+use Rattle.std.proofs.Common.{◌≡◌, ℕ, ◌+◌, ◌<◌, ◌≤◌, Bool, true, false, cond, not, List, [], ◌∷◌, ◌++◌, length, get_or}
+use Rattle.std.proofs.Common.{nat_eq, zero, suc, refl, sym, ◌∙◌, ap, arith, map, filter, add-one, append-nil}
 use Rattle.std.specs.List.{All, range_with_len}
 use Rattle.std.proofs.lemmas.Bool.{eqb-true, eqb-false, ne_eqb}
 use Rattle.std.proofs.lemmas.List.{get_or-map, length-map, map-append}
@@ -25,7 +26,8 @@ HasNoRepeats-members_at group positions apart there once =
 -- the positions that aren't listed are there
 ArePositions-other_positions : (group positions : List ℕ) → ArePositions group (other_positions group positions)
 ArePositions-other_positions group positions =
-    All-filter (λ position. not (is_member positions position)) (λ position. position < length group) (range_with_len 0 (length group))
+    All-filter (λ position. not (is_member positions position)) (λ position. position < length group)
+    (range_with_len 0 (length group))
     (λ k d k<len.
     let within : k < length group = omega (arith, k<len, length-range_with_len 0 (length group)) in
     rw (get_or-range_with_len 0 (length group) k d within) (omega arith))
@@ -57,14 +59,16 @@ unlisted positions n = filter (λ position. not (is_member positions position)) 
 
 -- one more position, which is listed or isn't
 elsewhere_more : (ranks : List ℕ) (p : ℕ → Bool) (i : ℕ)
-    → members_at ranks (filter p (range_with_len 0 (i + 1))) ≡ members_at ranks (filter p (range_with_len 0 i)) ++ cond (p i) (get_or ranks i 0 ∷ []) []
+    → members_at ranks (filter p (range_with_len 0 (i + 1))) ≡ members_at ranks (filter p (range_with_len 0 i)) ++
+    cond (p i) (get_or ranks i 0 ∷ []) []
 elsewhere_more ranks p i =
     ap (λ positions. members_at ranks (filter p positions)) (range_with_len-more i)
     ∙ ap (members_at ranks) (filter-append p (range_with_len 0 i) (i ∷ []))
     ∙ map-append (λ position. get_or ranks position 0) (filter p (range_with_len 0 i)) (filter p (i ∷ []))
     ∙ ap (λ last. members_at ranks (filter p (range_with_len 0 i)) ++ last) (one (p i))
   where
-    one : (b : Bool) → map (λ position. get_or ranks position 0) (cond b (i ∷ []) []) ≡ cond b (get_or ranks i 0 ∷ []) []
+    one : (b : Bool) → map (λ position. get_or ranks position 0) (cond b (i ∷ []) []) ≡
+        cond b (get_or ranks i 0 ∷ []) []
     one true = refl
     one false = refl
 

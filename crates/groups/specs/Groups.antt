@@ -1,5 +1,6 @@
 -- What groups hold, and the groups that are made of them: filters and positions (MPI 3.1, 6.3).
-use Rattle.std.specs.Prelude.{ℕ, ◌==◌, ◌<◌, nat_eq, Bool, not, Option, List, ◌++◌, All, map, filter, position, slice_get, slice_index, length, option_and_then}
+use Rattle.std.specs.Prelude.{ℕ, ◌==◌, ◌<◌, nat_eq, Bool, not, Option, List, ◌++◌, All, map, filter, position}
+use Rattle.std.specs.Prelude.{slice_get, slice_index, length, option_and_then}
 use Rattle.std.specs.List.{list_any, IsDistinct, range_with_len}
 
 -- a rank is among the ranks of a list

@@ -3,15 +3,16 @@
 ghost use Rattle.std.specs.Prelude.{◌≡◌, ◌≤◌, ◌^◌, ◌↔◌, ◌∷◌, [], length, slice_get, IsTrue, IfOk, IsOkUnless};
 ghost use Rattle.std.specs.List.{range_with_len};
 ghost use Rattle.groups.specs.Comparisons.{ComparesAs};
-ghost use Rattle.groups.specs.Groups.{HasNoRepeats, is_member, union_of, intersection_of, difference_of, members_at, members_elsewhere, position_of, translation};
+ghost use Rattle.groups.specs.Groups.{HasNoRepeats, is_member, union_of, intersection_of, difference_of, members_at};
+ghost use Rattle.groups.specs.Groups.{members_elsewhere, position_of, translation};
 ghost use Rattle.groups.specs.Makings.{MakesGroup, SelectsGroup};
 
 use crate::comparison::GroupComparison;
 use crate::distinct::has_no_repeats;
 use crate::refusal::GroupRefusal;
 use crate::selection::{
-    INLINE, append_selected, at_positions, count, other_positions, first_fault, first_ranks, holds_all,
-    is_among, place_of,
+    INLINE, append_selected, at_positions, count, first_fault, first_ranks, holds_all, is_among,
+    other_positions, place_of,
 };
 use smallvec::SmallVec;
 use std::alloc::Global;

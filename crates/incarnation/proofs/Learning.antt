@@ -19,14 +19,19 @@ none_falls (x ∷ xs) (suc i) zero y h = omega arith
 none_falls (x ∷ xs) (suc i) (suc j) y h = none_falls xs i j y h
 
 -- one learn lets no rank fall
-none_falls_once : (k : Knowledge) (rank incarnation other : ℕ) → known_at k other ≤ known_at (after_learn k rank incarnation) other
+none_falls_once : (k : Knowledge) (rank incarnation other : ℕ) →
+    known_at k other ≤ known_at (after_learn k rank incarnation) other
 none_falls_once k rank incarnation other =
     none_falls k.known rank other (max (known_at k rank) incarnation) (omega arith)
 
 pub known_never_falls : KnownNeverFalls
 known_never_falls k [] rank = omega arith
 known_never_falls k (l ∷ ls) rank =
-    omega (arith, none_falls_once k l.rank l.incarnation rank, known_never_falls (after_learn k l.rank l.incarnation) ls rank)
+    omega (
+      arith,
+      none_falls_once k l.rank l.incarnation rank,
+      known_never_falls (after_learn k l.rank l.incarnation) ls rank,
+    )
 
 -- one learn leaves a former source a former source
 stale_once : (k : Knowledge) (rank incarnation : ℕ) (h : Header)
@@ -42,7 +47,8 @@ stale_sources_stay_stale k (l ∷ ls) h stale =
     stale_sources_stay_stale (after_learn k l.rank l.incarnation) ls h (stale_once k l.rank l.incarnation h stale)
 
 -- a datagram that teaches nothing comes from where its rank is known
-current_is_known : (k : Knowledge) (h : Header) → judgement k h ≡ Ok Current → known_at k h.source.rank ≡ h.source.incarnation
+current_is_known : (k : Knowledge) (h : Header) → judgement k h ≡ Ok Current →
+    known_at k h.source.rank ≡ h.source.incarnation
 unfolding judgement
 current_is_known k h current = grind (arith, common_steps, current)
 
@@ -52,7 +58,8 @@ record Teaches (k : Knowledge) (h : Header) (incarnation : ℕ) : Type 0 where
   taught : h.source.incarnation ≡ incarnation
   above : known_at k h.source.rank < incarnation
 
-teaches : (k : Knowledge) (h : Header) (incarnation : ℕ) → judgement k h ≡ Ok (Learn incarnation) → Teaches k h incarnation
+teaches : (k : Knowledge) (h : Header) (incarnation : ℕ) → judgement k h ≡ Ok (Learn incarnation) →
+    Teaches k h incarnation
 unfolding judgement
 teaches k h incarnation learn = record {
   there = grind (arith, common_steps, learn);
@@ -61,11 +68,13 @@ teaches k h incarnation learn = record {
 }
 
 -- what was learnt is known
-learnt_is_known : (k : Knowledge) (h : Header) (incarnation : ℕ) → length k.known ≡ k.place.size → Teaches k h incarnation
+learnt_is_known : (k : Knowledge) (h : Header) (incarnation : ℕ) → length k.known ≡ k.place.size →
+    Teaches k h incarnation
     → known_at (after_learn k h.source.rank incarnation) h.source.rank ≡ h.source.incarnation
 learnt_is_known k h incarnation fits teaches =
     let is : known_at (after_learn k h.source.rank incarnation) h.source.rank ≡ max (known_at k h.source.rank) incarnation =
-    get_or-set_same k.known h.source.rank (max (known_at k h.source.rank) incarnation) 0 (omega (arith, fits, teaches.there)) in
+    get_or-set_same k.known h.source.rank (max (known_at k h.source.rank) incarnation) 0
+    (omega (arith, fits, teaches.there)) in
     omega (arith, is, teaches.taught, teaches.above)
 
 -- a datagram that taught what is known now teaches nothing more

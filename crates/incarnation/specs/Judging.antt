@@ -3,7 +3,8 @@ use Rattle.std.specs.Prelude.{◌≡◌, ◌≢◌, ℕ, ◌<◌, ◌≤◌, Boo
 use Rattle.datagram.specs.declared.datagram.Header.{Header}
 use Rattle.incarnation.specs.declared.place.Place.{Place}
 use Rattle.incarnation.specs.declared.refusal.IncarnationRefusal.{IncarnationRefusal}
-use Rattle.incarnation.specs.declared.refusal.IncarnationRefusal.TheVariants.{Limit, OutOfMemory, ForeignJob, NotForMe, StaleSource, StaleTarget}
+use Rattle.incarnation.specs.declared.refusal.IncarnationRefusal.TheVariants.{Limit, OutOfMemory, ForeignJob, NotForMe}
+use Rattle.incarnation.specs.declared.refusal.IncarnationRefusal.TheVariants.{StaleSource, StaleTarget}
 use Rattle.incarnation.specs.declared.judgement.Judgement.{Judgement}
 use Rattle.incarnation.specs.declared.judgement.Judgement.TheVariants.{Current, Learn}
 use Rattle.incarnation.specs.Knowing.{Knowledge, known_at}

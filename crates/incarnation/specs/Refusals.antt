@@ -1,7 +1,8 @@
 -- The number of each refusal.
 use Rattle.std.specs.Prelude.{ℕ}
 use Rattle.incarnation.specs.declared.refusal.IncarnationRefusal.{IncarnationRefusal}
-use Rattle.incarnation.specs.declared.refusal.IncarnationRefusal.TheVariants.{Limit, OutOfMemory, ForeignJob, NotForMe, StaleSource, StaleTarget}
+use Rattle.incarnation.specs.declared.refusal.IncarnationRefusal.TheVariants.{Limit, OutOfMemory, ForeignJob, NotForMe}
+use Rattle.incarnation.specs.declared.refusal.IncarnationRefusal.TheVariants.{StaleSource, StaleTarget}
 
 -- the number that a call answers
 abbrev pub number_of_refusal : IncarnationRefusal → ℕ

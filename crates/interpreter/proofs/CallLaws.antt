@@ -11,12 +11,15 @@ use Rattle.statements.specs.declared.collective_line.Scattering.{Scattering}
 use Rattle.script_calls.specs.Entries.{entry_with}
 use Rattle.script_calls.specs.declared.pending.Pending.{Pending}
 use Rattle.script_calls.specs.declared.pending.Pending.TheVariants as pendings
-use Rattle.interpreter.specs.Acting.{Acts, asked_by, block_for, faulty, hands_in, hands_in_to, LendsFor, receives_into, scatter_call, scatters_from, send_call, sends_from}
+use Rattle.interpreter.specs.Acting.{Acts, asked_by, block_for, faulty, hands_in, hands_in_to, LendsFor, receives_into}
+use Rattle.interpreter.specs.Acting.{scatter_call, scatters_from, send_call, sends_from}
 use Rattle.interpreter.specs.NamesState.{NamesState}
 
 -- a send that has its call is made
-pub send_made : (mode : Mode) (pending : Pending) (x : Sending) (comm : Option (Option ℕ)) (named : Option Places) (buffer : Option Contents)
-    (s : NamesState) → sends_from mode pending x comm named buffer s ≡ (asked_by (send_call mode x comm named buffer) pending, s)
+pub send_made : (mode : Mode) (pending : Pending) (x : Sending) (comm : Option (Option ℕ)) (named : Option Places)
+    (buffer : Option Contents)
+    (s : NamesState) → sends_from mode pending x comm named buffer s ≡
+    (asked_by (send_call mode x comm named buffer) pending, s)
 send_made mode pending x None named buffer s = refl
 send_made mode pending x (Some comm) None buffer s = refl
 send_made mode pending x (Some comm) (Some named) None s = refl
@@ -24,7 +27,8 @@ send_made mode pending x (Some comm) (Some named) (Some buffer) s = refl
 
 -- a receive that has its call is made
 pub receive_made : (x : Receiving) (comm : Option (Option ℕ)) (named : Option Places) (buffer : Option Contents)
-    (s : NamesState) (pending : Pending) (call : Option Call) (new : NamesState) → LendsFor x comm named buffer s call new →
+    (s : NamesState) (pending : Pending) (call : Option Call) (new : NamesState) →
+    LendsFor x comm named buffer s call new →
     receives_into pending x comm named buffer s ≡ (asked_by call pending, new)
 receive_made x None named buffer s pending call new lent =
     rw (lent.0, lent.1) refl
@@ -36,8 +40,10 @@ receive_made x (Some comm) (Some named) (Some buffer) s pending call new lent =
     rw (lent.0, lent.1) refl
 
 -- a scatter that has its call is made
-pub scatter_made : (x : Scattering) (comm : Option (Option ℕ)) (into : Option Contents) (blocks : Option (Option Contents))
-    (s : NamesState) → scatters_from x comm into blocks s ≡ (asked_by (scatter_call x comm into blocks) (pendings.Entering (Some x.into)), s)
+pub scatter_made : (x : Scattering) (comm : Option (Option ℕ)) (into : Option Contents)
+    (blocks : Option (Option Contents))
+    (s : NamesState) → scatters_from x comm into blocks s ≡
+    (asked_by (scatter_call x comm into blocks) (pendings.Entering (Some x.into)), s)
 scatter_made x None into blocks s = refl
 scatter_made x (Some comm) None blocks s = refl
 scatter_made x (Some comm) (Some into) None s = refl
@@ -48,7 +54,8 @@ abbrev pub handed_in : Option (List ℕ) → (Contents → Entry) → NamesState
 handed_in name entry s None = faulty s
 handed_in name entry s (Some found) = hands_in_to found.0 name (entry_with entry found.1) s
 
-pub handed_by : (comm : Option (Option ℕ)) (lent : Bool) (name : Option (List ℕ)) (block : Option Contents) (entry : Contents → Entry)
+pub handed_by : (comm : Option (Option ℕ)) (lent : Bool) (name : Option (List ℕ)) (block : Option Contents)
+    (entry : Contents → Entry)
     (s : NamesState) → hands_in comm lent name block entry s ≡ handed_in name entry s (block_for comm lent block)
 handed_by None lent name block entry s = refl
 handed_by (Some comm) true name block entry s = refl
@@ -57,7 +64,8 @@ handed_by (Some comm) false name (Some block) entry s = refl
 
 -- a block that is found is handed in
 pub block_handed_in : (comm : Option (Option ℕ)) (lent : Bool) (name : Option (List ℕ)) (block : Option Contents)
-    (entry : Contents → Entry) (s : NamesState) (found : Option (Option ℕ × Contents)) → found ≡ block_for comm lent block →
+    (entry : Contents → Entry) (s : NamesState) (found : Option (Option ℕ × Contents)) →
+    found ≡ block_for comm lent block →
     hands_in comm lent name block entry s ≡ handed_in name entry s found
 block_handed_in comm lent name block entry s found is =
     handed_by comm lent name block entry s ∙ sym (ap (handed_in name entry s) is)

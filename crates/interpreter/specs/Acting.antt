@@ -1,5 +1,6 @@
 -- What a statement asks of its rank's engine.
-use Rattle.std.specs.Prelude.{◌≡◌, ℕ, Bool, true, false, Option, Some, None, List, [], ◌∷◌, length, if◌then◌else◌, option_map, option_and_then}
+use Rattle.std.specs.Prelude.{◌≡◌, ℕ, Bool, true, false, Option, Some, None, List, [], ◌∷◌, length, if◌then◌else◌}
+use Rattle.std.specs.Prelude.{option_map, option_and_then}
 use Rattle.std.specs.Global.{Vec}
 use Rattle.layouts.specs.Layouts.{Shape}
 use Rattle.datatypes.specs.Contents.{Contents}
@@ -42,7 +43,8 @@ use Rattle.script_calls.specs.declared.pending.Pending.TheVariants as pendings
 use Rattle.script_calls.specs.Entries.{elements_like, entry_with, split_by}
 use Rattle.interpreter.specs.declared.steps.StatementCall.{StatementCall}
 use Rattle.interpreter.specs.declared.steps.StatementCall.TheVariants as askeds
-use Rattle.interpreter.specs.NamesState.{NamesState, here, is_lent, is_root, message_at, place_named, request_at, with_buffer, with_layout}
+use Rattle.interpreter.specs.NamesState.{NamesState, here, is_lent, is_root, message_at, place_named, request_at}
+use Rattle.interpreter.specs.NamesState.{with_buffer, with_layout}
 use Rattle.script_calls.specs.Tables.{value_at}
 
 -- what a statement asks for, and what the names then stand for
@@ -100,20 +102,31 @@ sets_layout line s = sets_layout_of line (old_layout s line.made_of) s
 -- the places that a send or a receive names: all of the buffer, or so many copies of a layout, if that is set
 abbrev pub places_named : NamesState → Option LayoutClause → Option Places
 places_named s None = Some places.All
-places_named s (Some through) = option_map (λ layout. places.Copies layout through.copies) (value_at s.layouts through.layout)
+places_named s (Some through) =
+    option_map (λ layout. places.Copies layout through.copies) (value_at s.layouts through.layout)
 
 -- ---- sends and receives
 
 -- a send of this mode in this communicator from these places of a buffer
-abbrev pub sends_from : Mode → Pending → Sending → (comm : Option (Option ℕ)) → Option Places → Option Contents → NamesState → Acts
+abbrev pub sends_from : Mode → Pending → Sending → (comm : Option (Option ℕ)) → Option Places → Option Contents →
+    NamesState → Acts
 sends_from mode pending x None named buffer s = faulty s
 sends_from mode pending x (Some comm) None buffer s = faulty s
 sends_from mode pending x (Some comm) (Some named) None s = faulty s
 sends_from mode pending x (Some comm) (Some named) (Some buffer) s =
-    asks (calls.Isend (record { mode = mode; comm = comm; target = x.target; tag = x.tag; from = record { buffer = buffer; places = named } })) pending s
+    asks (calls.Isend
+    (record {
+      mode = mode;
+      comm = comm;
+      target = x.target;
+      tag = x.tag;
+      from =
+          record { buffer = buffer; places = named };
+    })) pending s
 
 abbrev pub sends : Mode → Pending → Sending → NamesState → Acts
-sends mode pending x s = sends_from mode pending x (place_named s x.communicator) (places_named s x.through) (here s x.buffer) s
+sends mode pending x s =
+    sends_from mode pending x (place_named s x.communicator) (places_named s x.through) (here s x.buffer) s
 
 -- the call of a send, if its communicator and its layout are set and its buffer is here
 abbrev pub send_call : Mode → Sending → (comm : Option (Option ℕ)) → Option Places → Option Contents → Option Call
@@ -121,7 +134,15 @@ send_call mode x None named buffer = None
 send_call mode x (Some comm) None buffer = None
 send_call mode x (Some comm) (Some named) None = None
 send_call mode x (Some comm) (Some named) (Some buffer) =
-    Some (calls.Isend (record { mode = mode; comm = comm; target = x.target; tag = x.tag; from = record { buffer = buffer; places = named } }))
+    Some (calls.Isend
+    (record {
+      mode = mode;
+      comm = comm;
+      target = x.target;
+      tag = x.tag;
+      from =
+          record { buffer = buffer; places = named };
+    }))
 
 -- a buffer that is here is lent; else nothing changes
 abbrev pub LendGives : NamesState → List ℕ → Option Contents → NamesState → Type 0
@@ -129,24 +150,32 @@ LendGives old name None new = (here old name ≡ None) × (new ≡ old)
 LendGives old name (Some buffer) new = (here old name ≡ Some buffer) × (new ≡ with_buffer old name None)
 
 -- a receive in this communicator into these places of a buffer, which is lent to it
-abbrev pub receives_into : Pending → Receiving → (comm : Option (Option ℕ)) → Option Places → Option Contents → NamesState → Acts
+abbrev pub receives_into : Pending → Receiving → (comm : Option (Option ℕ)) → Option Places → Option Contents →
+    NamesState → Acts
 receives_into pending x None named buffer s = faulty s
 receives_into pending x (Some comm) None buffer s = faulty s
 receives_into pending x (Some comm) (Some named) None s = faulty s
 receives_into pending x (Some comm) (Some named) (Some buffer) s =
-    asks (calls.Irecv (record { comm = comm; source = x.source; tag = x.tag; into = record { buffer = buffer; places = named } })) pending
+    asks (calls.Irecv
+    (record { comm = comm; source = x.source; tag = x.tag; into = record { buffer = buffer; places = named } }))
+    pending
     (with_buffer s x.buffer None)
 
 abbrev pub receives : Pending → Receiving → NamesState → Acts
-receives pending x s = receives_into pending x (place_named s x.communicator) (places_named s x.through) (here s x.buffer) s
+receives pending x s =
+    receives_into pending x (place_named s x.communicator) (places_named s x.through) (here s x.buffer) s
 
--- the call of a receive, if its communicator and its layout are set and its buffer is here, which is lent then; else nothing changes
-abbrev pub LendsFor : Receiving → (comm : Option (Option ℕ)) → Option Places → Option Contents → NamesState → Option Call → NamesState → Type 0
+-- the call of a receive, if its communicator and its layout are set and its buffer is here, which is lent then; else
+-- nothing changes
+abbrev pub LendsFor : Receiving → (comm : Option (Option ℕ)) → Option Places → Option Contents → NamesState →
+    Option Call → NamesState → Type 0
 LendsFor x None named buffer old call new = (call ≡ None) × (new ≡ old)
 LendsFor x (Some comm) None buffer old call new = (call ≡ None) × (new ≡ old)
 LendsFor x (Some comm) (Some named) None old call new = (call ≡ None) × (new ≡ old)
 LendsFor x (Some comm) (Some named) (Some buffer) old call new =
-    (call ≡ Some (calls.Irecv (record { comm = comm; source = x.source; tag = x.tag; into = record { buffer = buffer; places = named } })))
+    (call ≡ Some
+    (calls.Irecv
+    (record { comm = comm; source = x.source; tag = x.tag; into = record { buffer = buffer; places = named } })))
     × (new ≡ with_buffer old x.buffer None)
 
 -- ---- probes and the messages that they find (MPI 3.1, 3.8)
@@ -170,17 +199,20 @@ abbrev pub receives_ended : Option Contents → StatementCall
 receives_ended None = askeds.Faulty
 receives_ended (Some buffer) = askeds.Refused 6
 
--- the receive of a message that was taken out, of this name, into these places of the buffer of that name, which is lent to it
+-- the receive of a message that was taken out, of this name, into these places of the buffer of that name, which is
+-- lent to it
 abbrev pub receives_taken : Option Request → Places → (name buffer : List ℕ) → Option Contents → NamesState → Acts
 receives_taken message named name buffer None s = faulty s
 receives_taken message named name buffer (Some contents) s =
-    asks (calls.Mrecv message (record { buffer = contents; places = named })) (pendings.Receiving name buffer) (with_buffer s buffer None)
+    asks (calls.Mrecv message (record { buffer = contents; places = named })) (pendings.Receiving name buffer)
+    (with_buffer s buffer None)
 
 abbrev pub receives_by : List ℕ → Landing → Option NamedMessage → Option Places → NamesState → Acts
 receives_by name x None named s = faulty s
 receives_by name x (Some message) None s = faulty s
 receives_by name x (Some messages.Ended) (Some named) s = (receives_ended (here s x.buffer), s)
-receives_by name x (Some (messages.TakenOut message)) (Some named) s = receives_taken message named name x.buffer (here s x.buffer) s
+receives_by name x (Some (messages.TakenOut message)) (Some named) s =
+    receives_taken message named name x.buffer (here s x.buffer) s
 
 -- `mrecv`
 abbrev pub receives_message : List ℕ → Landing → NamesState → Acts
@@ -225,7 +257,8 @@ abbrev pub listed_named : NamesState → List RequestName → Option (List (Opti
 listed_named s rs = requests_named s rs
 
 -- a wait for any or for all of several
-abbrev pub waits_for_several : (List (Option Request) → Call) → List RequestName → Option (List (Option Request)) → NamesState → Acts
+abbrev pub waits_for_several : (List (Option Request) → Call) → List RequestName → Option (List (Option Request)) →
+    NamesState → Acts
 waits_for_several call rs None s = faulty s
 waits_for_several call rs (Some requests) s = asks (call requests) (pendings.WaitingForSeveral rs) s
 
@@ -248,14 +281,15 @@ abbrev pub waits_for_all : (comm : Option (Option ℕ)) → NamesState → Acts
 waits_for_all None s = faulty s
 waits_for_all (Some comm) s = asks (calls.Enter comm entries.Barrier) (pendings.Entering None) s
 
--- A collective is entered, which may set a buffer. A block of 2^32 elements or more is above the limit of a block, 1; the rules on the
--- caller and its communicator come before, so the rank in it is asked for.
+-- A collective is entered, which may set a buffer. A block of 2^32 elements or more is above the limit of a block, 1;
+-- the rules on the caller and its communicator come before, so the rank in it is asked for.
 abbrev pub hands_in_to : (comm : Option ℕ) → Option (List ℕ) → Option Entry → NamesState → Acts
 hands_in_to comm name None s = asks (calls.Ask comm questions.Rank) pendings.Oversized s
 hands_in_to comm name (Some entry) s = asks (calls.Enter comm entry) (pendings.Entering name) s
 
 -- the same on a communicator that is set, of a buffer that is here; what is to be set isn't lent
-abbrev pub hands_in : (comm : Option (Option ℕ)) → (lent : Bool) → (name : Option (List ℕ)) → Option Contents → (Contents → Entry) → NamesState → Acts
+abbrev pub hands_in : (comm : Option (Option ℕ)) → (lent : Bool) → (name : Option (List ℕ)) → Option Contents →
+    (Contents → Entry) → NamesState → Acts
 hands_in None lent name block entry s = faulty s
 hands_in (Some comm) true name block entry s = faulty s
 hands_in (Some comm) false name None entry s = faulty s
@@ -270,7 +304,9 @@ block_for (Some comm) false (Some block) = Some (comm, block)
 
 -- `bcast`: the root's elements are those of the others from then on
 abbrev pub broadcasts : Broadcasting → NamesState → Acts
-broadcasts x s = hands_in (place_named s x.communicator) false (Some x.buffer) (here s x.buffer) (λ block. entries.Bcast x.root block) s
+broadcasts x s =
+    hands_in (place_named s x.communicator) false (Some x.buffer) (here s x.buffer)
+    (λ block. entries.Bcast x.root block) s
 
 -- whether the root is to set a buffer that is lent; elsewhere that isn't looked at
 abbrev pub is_lent_at_root : NamesState → Bool → List ℕ → Bool
@@ -280,18 +316,21 @@ is_lent_at_root s false name = false
 -- `gather`, `reduce`: the root has the blocks of all, or what they make, from then on
 abbrev pub gathers : Gathering → NamesState → Acts
 gathers x s =
-    hands_in (place_named s x.communicator) (is_lent_at_root s (is_root s x.communicator x.root) x.into) (Some x.into) (here s x.buffer)
+    hands_in (place_named s x.communicator) (is_lent_at_root s (is_root s x.communicator x.root) x.into) (Some x.into)
+    (here s x.buffer)
     (λ block. entries.Gather x.root block) s
 
 abbrev pub reduces : Reducing → NamesState → Acts
 reduces x s =
-    hands_in (place_named s x.communicator) (is_lent_at_root s (is_root s x.communicator x.root) x.into) (Some x.into) (here s x.buffer)
+    hands_in (place_named s x.communicator) (is_lent_at_root s (is_root s x.communicator x.root) x.into) (Some x.into)
+    (here s x.buffer)
     (λ block. entries.Reduce x.operation x.root block) s
 
 -- `allreduce`: all have what the blocks of all make
 abbrev pub reduces_to_all : ReducingToAll → NamesState → Acts
 reduces_to_all x s =
-    hands_in (place_named s x.communicator) (is_lent s x.into) (Some x.into) (here s x.buffer) (λ block. entries.Allreduce x.operation block) s
+    hands_in (place_named s x.communicator) (is_lent s x.into) (Some x.into) (here s x.buffer)
+    (λ block. entries.Allreduce x.operation block) s
 
 -- what a scatter hands in: at the root a buffer that is here, elsewhere nothing
 abbrev pub blocks_named : NamesState → Bool → Option (List ℕ) → Option (Option Contents)
@@ -300,15 +339,18 @@ blocks_named s true None = None
 blocks_named s true (Some name) = option_map (λ blocks. Some blocks) (here s name)
 
 -- `scatter`: each has its block of the root's elements from then on
-abbrev pub scatters_from : Scattering → (comm : Option (Option ℕ)) → Option Contents → Option (Option Contents) → NamesState → Acts
+abbrev pub scatters_from : Scattering → (comm : Option (Option ℕ)) → Option Contents → Option (Option Contents) →
+    NamesState → Acts
 scatters_from x None into blocks s = faulty s
 scatters_from x (Some comm) None blocks s = faulty s
 scatters_from x (Some comm) (Some into) None s = faulty s
 scatters_from x (Some comm) (Some into) (Some blocks) s =
-    asks (calls.Enter comm (entries.Scatter (record { elements = elements_like into; root = x.root }) blocks)) (pendings.Entering (Some x.into)) s
+    asks (calls.Enter comm (entries.Scatter (record { elements = elements_like into; root = x.root }) blocks))
+    (pendings.Entering (Some x.into)) s
 
 -- the call of a scatter, if its communicator is set and its buffers are here
-abbrev pub scatter_call : Scattering → (comm : Option (Option ℕ)) → Option Contents → Option (Option Contents) → Option Call
+abbrev pub scatter_call : Scattering → (comm : Option (Option ℕ)) → Option Contents → Option (Option Contents) →
+    Option Call
 scatter_call x None into blocks = None
 scatter_call x (Some comm) None blocks = None
 scatter_call x (Some comm) (Some into) None = None
@@ -317,11 +359,13 @@ scatter_call x (Some comm) (Some into) (Some blocks) =
 
 abbrev pub scatters : Scattering → NamesState → Acts
 scatters x s =
-    scatters_from x (place_named s x.communicator) (here s x.into) (blocks_named s (is_root s x.communicator x.root) x.buffer) s
+    scatters_from x (place_named s x.communicator) (here s x.into)
+    (blocks_named s (is_root s x.communicator x.root) x.buffer) s
 
 -- ---- questions
 
--- a question about a communicator that is set (MPI 3.1, 6.4.1); for its rank in it and its size a rank asks one after the other
+-- a question about a communicator that is set (MPI 3.1, 6.4.1); for its rank in it and its size a rank asks one after
+-- the other
 abbrev pub asks_rank : (comm : Option (Option ℕ)) → NamesState → Acts
 asks_rank None s = faulty s
 asks_rank (Some comm) s = asks (calls.Ask comm questions.Rank) (pendings.AskingRank comm) s
@@ -339,7 +383,8 @@ compares (Some comm) (Some other) s = asks (calls.Ask comm (questions.Compare ot
 
 -- how many whole copies of a layout the last status counts, if that layout is set (MPI 3.1, 3.2.5)
 abbrev pub count_of : NamesState → List ℕ → Option (Option ℕ)
-count_of s name = option_map (λ (layout : Shape). whole_copies s.last.count (length layout.offsets)) (value_at s.layouts name)
+count_of s name =
+    option_map (λ (layout : Shape). whole_copies s.last.count (length layout.offsets)) (value_at s.layouts name)
 
 -- ---- statements
 

@@ -53,8 +53,10 @@ tells told s = (heards.Told told, s)
 -- the operation has started: its request has its name, or it is waited for
 abbrev pub starts : Pending → Request → NamesState → Hears
 starts pendings.Nothing request s = goes_on s
-starts (pendings.Starting name buffer) request s = goes_on (with_request s name (record { request = Some request; buffer = buffer }))
-starts (pendings.StartingToWait buffer) request s = calls_next (calls.Wait (Some request)) (pendings.WaitingUnnamed buffer) s
+starts (pendings.Starting name buffer) request s =
+    goes_on (with_request s name (record { request = Some request; buffer = buffer }))
+starts (pendings.StartingToWait buffer) request s =
+    calls_next (calls.Wait (Some request)) (pendings.WaitingUnnamed buffer) s
 starts (pendings.Waiting r) request s = goes_on s
 starts (pendings.WaitingUnnamed buffer) request s = goes_on s
 starts (pendings.WaitingForSeveral several) request s = goes_on s
@@ -162,7 +164,8 @@ errors_told (number ∷ numbers) = heards.Told (tolds.Errors (number ∷ numbers
 
 -- the outcome of the one operation that was waited for or tested
 abbrev pub ends_with : Option (List ℕ) → Outcome → NamesState → Hears
-ends_with name outcome s = (error_told (error_of outcome), record (returned name outcome s) { last = status_after s.last outcome })
+ends_with name outcome s =
+    (error_told (error_of outcome), record (returned name outcome s) { last = status_after s.last outcome })
 
 -- a request's name is null after its outcome
 abbrev pub ends_requested : RequestName → Outcome → NamesState → Hears
@@ -244,7 +247,8 @@ ends_all (pendings.Starting name buffer) os s = goes_on s
 ends_all (pendings.StartingToWait buffer) os s = goes_on s
 ends_all (pendings.Waiting r) os s = goes_on s
 ends_all (pendings.WaitingUnnamed buffer) os s = goes_on s
-ends_all (pendings.WaitingForSeveral several) os s = (errors_told (ended_each several os s).0, (ended_each several os s).1)
+ends_all (pendings.WaitingForSeveral several) os s =
+    (errors_told (ended_each several os s).0, (ended_each several os s).1)
 ends_all (pendings.Searching name) os s = goes_on s
 ends_all (pendings.Receiving name buffer) os s = goes_on s
 ends_all (pendings.Making name) os s = goes_on s
@@ -284,7 +288,8 @@ takes_elements (pendings.AskingRank comm) elements s = goes_on s
 takes_elements (pendings.AskingSize rank) elements s = goes_on s
 takes_elements pendings.Oversized elements s = goes_on s
 
--- a communicator was made: the rank in it is asked for, and then it has its name; or none was, and the name stands for that
+-- a communicator was made: the rank in it is asked for, and then it has its name; or none was, and the name stands for
+-- that
 abbrev pub seat_taken : List ℕ → (place : Option ℕ) → NamesState → Hears
 seat_taken name None s = goes_on (with_communicator s name None)
 seat_taken name (Some place) s = calls_next (calls.Ask (Some place) questions.Rank) (pendings.Seating name place) s
@@ -312,8 +317,8 @@ leaves pending (endings.Comm place) s = takes_seat pending place s
 leaves pending endings.Replaced s = tells (tolds.Error 11) s
 leaves pending endings.Mismatch s = tells (tolds.Error 12) s
 
--- a number was asked for: behind the rank the size is asked for, and with the size both are told; with the rank in a communicator that
--- was made, that has its name; and a collective with a block above all limits is refused with 1
+-- a number was asked for: behind the rank the size is asked for, and with the size both are told; with the rank in a
+-- communicator that was made, that has its name; and a collective with a block above all limits is refused with 1
 abbrev pub counts : Pending → ℕ → NamesState → Hears
 counts pendings.Nothing n s = goes_on s
 counts (pendings.Starting name buffer) n s = goes_on s
@@ -324,7 +329,8 @@ counts (pendings.WaitingForSeveral several) n s = goes_on s
 counts (pendings.Searching name) n s = goes_on s
 counts (pendings.Receiving name buffer) n s = goes_on s
 counts (pendings.Making name) n s = goes_on s
-counts (pendings.Seating name place) n s = goes_on (with_communicator s name (Some (record { place = place; rank = n })))
+counts (pendings.Seating name place) n s =
+    goes_on (with_communicator s name (Some (record { place = place; rank = n })))
 counts (pendings.Entering name) n s = goes_on s
 counts (pendings.AskingRank comm) n s = calls_next (calls.Ask comm questions.Size) (pendings.AskingSize n) s
 counts (pendings.AskingSize rank) n s = tells (tolds.Position rank n) s

@@ -1,5 +1,6 @@
 -- What the names of a rank stand for.
-use Rattle.std.specs.Prelude.{ℕ, ◌==◌, Bool, true, false, List, [], Option, Some, None, is_some, option_and_then, option_map}
+use Rattle.std.specs.Prelude.{ℕ, ◌==◌, Bool, true, false, List, [], Option, Some, None, is_some, option_and_then}
+use Rattle.std.specs.Prelude.{option_map}
 use Rattle.vocabulary.specs.declared.envelope.Status.{Status}
 use Rattle.layouts.specs.Layouts.{Shape}
 use Rattle.datatypes.specs.Contents.{Contents}
@@ -15,9 +16,9 @@ use Rattle.line_diagnostics.specs.Lacks.{Holdings}
 use Rattle.line_diagnostics.specs.declared.holder.Slot.{Slot}
 use Rattle.line_diagnostics.specs.declared.holder.Slot.TheVariants as slots
 
--- The rank in world, or none where world has no such rank; the buffers that were set, where none is one that is lent; the layouts; the
--- requests that were started; the messages that were taken out; the communicators that were made, where none is MPI_COMM_NULL; and the
--- status of the last receive or probe.
+-- The rank in world, or none where world has no such rank; the buffers that were set, where none is one that is lent;
+-- the layouts; the requests that were started; the messages that were taken out; the communicators that were made,
+-- where none is MPI_COMM_NULL; and the status of the last receive or probe.
 pub record NamesState : Type 0 where
   pub rank : Option ℕ
   pub buffers : List (Entry (Option Contents))
@@ -29,7 +30,16 @@ pub record NamesState : Type 0 where
 
 -- the names at the start, of this rank
 abbrev pub no_names : Option ℕ → NamesState
-no_names own = record { rank = own; buffers = []; layouts = []; requests = []; messages = []; communicators = []; last = empty_status }
+no_names own = record {
+  rank = own;
+  buffers = [];
+  layouts = [];
+  requests = [];
+  messages = [];
+  communicators =
+      [];
+  last = empty_status;
+}
 
 -- the buffer of a name, unless it is lent or isn't set
 abbrev pub here : NamesState → List ℕ → Option Contents
@@ -53,12 +63,14 @@ request_at s name = option_map (λ h. h.request) (value_at s.requests name)
 abbrev pub message_at : NamesState → List ℕ → Option NamedMessage
 message_at s name = value_at s.messages name
 
--- the place among the rank's communicators of the one that a line names, if it is set: world has place 0, self place 1, and none is
+-- the place among the rank's communicators of the one that a line names, if it is set: world has place 0, self place 1,
+-- and none is
 -- MPI_COMM_NULL
 abbrev pub place_named : NamesState → CommunicatorName → Option (Option ℕ)
 place_named s communicators.World = Some (Some 0)
 place_named s communicators.Own = Some (Some 1)
-place_named s (communicators.Named name) = option_map (λ held. option_map (λ seat. seat.place) held) (value_at s.communicators name)
+place_named s (communicators.Named name) =
+    option_map (λ held. option_map (λ seat. seat.place) held) (value_at s.communicators name)
 
 -- whether this is the rank's rank in a communicator that was made
 abbrev pub has_rank : ℕ → Option (Option NamedCommunicator) → Bool
@@ -72,8 +84,8 @@ is_root_at s (Some own) communicators.World root = own == root
 is_root_at s (Some own) communicators.Own root = root == 0
 is_root_at s (Some own) (communicators.Named name) root = has_rank root (value_at s.communicators name)
 
--- whether the rank, which world has, is the member with this rank of the communicator that a line names; where there is no such
--- member, nobody is
+-- whether the rank, which world has, is the member with this rank of the communicator that a line names; where there is
+-- no such member, nobody is
 abbrev pub is_root : NamesState → CommunicatorName → ℕ → Bool
 is_root s communicator root = is_root_at s s.rank communicator root
 

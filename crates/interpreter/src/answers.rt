@@ -2,7 +2,8 @@
 
 ghost use Rattle.std.specs.Prelude.{◌≡◌, IfOk, OnOk};
 ghost use Rattle.interpreter.specs.NamesState.{given_back};
-ghost use Rattle.interpreter.specs.Hearing.{counts, found_named, lent_by, hears, hears_match, hears_probe, leaves, learns, refuses_call, starts, taken_back, takes_elements, takes_seat};
+ghost use Rattle.interpreter.specs.Hearing.{counts, found_named, lent_by, hears, hears_match, hears_probe, leaves};
+ghost use Rattle.interpreter.specs.Hearing.{learns, refuses_call, starts, taken_back, takes_elements, takes_seat};
 
 use crate::names::Names;
 use crate::steps::{AnswerEffect, Told};
@@ -12,7 +13,7 @@ use datatypes::Buffer;
 use engine_calls::{Call, Fact, Reply};
 use point_to_point_calls::Refusal;
 use requests::Request;
-use script_calls::{NamedRequest, NamedMessage, Pending, NamedCommunicator};
+use script_calls::{NamedCommunicator, NamedMessage, NamedRequest, Pending};
 use std::alloc::AllocError;
 use vocabulary::Status;
 
@@ -56,8 +57,8 @@ impl Names {
         }
     }
 
-    /// A refused call comes back, whose answer was for this: a buffer that was lent to it is here again. The only error is want of
-    /// memory.
+    /// A refused call comes back, whose answer was for this: a buffer that was lent to it is here again. The only error
+    /// is want of memory.
     pub fn take_back(&mut self, pending: &Pending, call: Call) -> Result<(), AllocError>
         ensures { OnOk result (self.new ≡ taken_back pending.now call self.old) }
     {
@@ -155,9 +156,13 @@ impl Names {
         }
     }
 
-    /// A communicator was made: behind it the rank in it is asked for, and then it has its name. Or none was made for this rank, and the
-    /// name stands for that.
-    fn take_seat(&mut self, pending: Pending, place: Option<usize>) -> Result<AnswerEffect, AllocError>
+    /// A communicator was made: behind it the rank in it is asked for, and then it has its name. Or none was made for
+    /// this rank, and the name stands for that.
+    fn take_seat(
+        &mut self,
+        pending: Pending,
+        place: Option<usize>,
+    ) -> Result<AnswerEffect, AllocError>
         ensures { IfOk result (λ heard. takes_seat pending place self.old ≡ (heard, self.new)) }
     {
         match pending {
@@ -196,8 +201,8 @@ impl Names {
         }
     }
 
-    /// A number that was asked for: behind the rank the size is asked for, and with the size both are told; with the rank in a
-    /// communicator that was made, that has its name.
+    /// A number that was asked for: behind the rank the size is asked for, and with the size both are told; with the
+    /// rank in a communicator that was made, that has its name.
     fn count(&mut self, pending: Pending, number: usize) -> Result<AnswerEffect, AllocError>
         ensures { IfOk result (λ heard. counts pending number self.old ≡ (heard, self.new)) }
     {
@@ -240,8 +245,8 @@ impl Names {
         }
     }
 
-    /// What is made of the answer to a call that was for this: what the names then stand for, and what follows. The only error is want of
-    /// memory.
+    /// What is made of the answer to a call that was for this: what the names then stand for, and what follows. The
+    /// only error is want of memory.
     pub fn hear(&mut self, pending: Pending, reply: Reply) -> Result<AnswerEffect, AllocError>
         ensures { IfOk result (λ heard. hears pending reply self.old ≡ (heard, self.new)) }
     {

@@ -6,7 +6,12 @@ ghost use Rattle.statements.specs.Meanings.{offsets_made};
 ghost use Rattle.line_diagnostics.specs.Lacks.{lack_of_action};
 ghost use Rattle.interpreter.specs.Faults.{FaultyWhere};
 ghost use Rattle.interpreter.specs.NamesState.{here, holdings, message_at, place_named};
-ghost use Rattle.interpreter.specs.Acting.{acts_on, AreListed, asked_by, asks_group, asks_rank, cancels_for, compares, count_of, IsTogether, LendGives, LendsFor, listed_named, looks, old_layout, places_named, probe_in, receives, receives_by, receives_ended, receives_message, receives_taken, receives_to_wait, request_named, requests_named, searches, send_call, sends, sends_to_wait, sets, sets_layout, sets_layout_unless, tests_for, waits_for, waits_for_several};
+ghost use Rattle.interpreter.specs.Acting.{acts_on, AreListed, asked_by, asks_group, asks_rank, cancels_for, compares};
+ghost use Rattle.interpreter.specs.Acting.{count_of, IsTogether, LendGives, LendsFor, listed_named, looks, old_layout};
+ghost use Rattle.interpreter.specs.Acting.{places_named, probe_in, receives, receives_by, receives_ended};
+ghost use Rattle.interpreter.specs.Acting.{receives_message, receives_taken, receives_to_wait, request_named};
+ghost use Rattle.interpreter.specs.Acting.{requests_named, searches, send_call, sends, sends_to_wait, sets};
+ghost use Rattle.interpreter.specs.Acting.{sets_layout, sets_layout_unless, tests_for, waits_for, waits_for_several};
 
 use crate::names::Names;
 use crate::steps::StatementCall;
@@ -18,8 +23,8 @@ use line_diagnostics::{LineFault, lack_of_action};
 use requests::{Places, Region, Request, RequestList};
 use script_calls::{NamedMessage, Pending, split_by};
 use statements::{
-    Action, BufferLine, CommunicatorName, Landing, LayoutLine, Name, OldLayout, Probing, Receiving,
-    RequestName, RequestNames, Sending, LayoutClause,
+    Action, BufferLine, CommunicatorName, Landing, LayoutClause, LayoutLine, Name, OldLayout,
+    Probing, Receiving, RequestName, RequestNames, Sending,
 };
 use std::alloc::AllocError;
 use vocabulary::Mode;
@@ -78,10 +83,15 @@ impl Names {
     }
 
     /// The layout that a line makes of another one is set, unless it passes a limit.
-    fn set_layout_made(&mut self, line: &LayoutLine, old: &Layout) -> Result<StatementCall, AllocError>
+    fn set_layout_made(
+        &mut self,
+        line: &LayoutLine,
+        old: &Layout,
+    ) -> Result<StatementCall, AllocError>
         ensures { IfOk result (λ asked.
             sets_layout_unless (is_beyond (offsets_made line.now.form old.now.offsets)) line.now.name
-            (record { basic = old.now.basic; offsets = offsets_made line.now.form old.now.offsets }) self.old ≡ (asked, self.new)) }
+            (record { basic = old.now.basic; offsets = offsets_made line.now.form old.now.offsets }) self.old ≡
+            (asked, self.new)) }
     {
         match line.form.layout_made(self.alloc, old) {
             Ok(layout) => {
@@ -118,7 +128,8 @@ impl Names {
     /// The call of a send of this mode, if its communicator and its layout are set and its buffer is here.
     fn send_call(&self, mode: Mode, sending: &Sending) -> Result<Option<Call>, AllocError>
         ensures { IfOk result (λ call.
-            call ≡ send_call mode sending.now (place_named self.now sending.now.communicator) (places_named self.now sending.now.through)
+            call ≡ send_call mode sending.now (place_named self.now sending.now.communicator)
+            (places_named self.now sending.now.through)
             (here self.now sending.now.buffer)) }
     {
         let Some(comm) = self.place_named(&sending.communicator) else {
@@ -139,17 +150,24 @@ impl Names {
         }
     }
 
-    fn send(&self, mode: Mode, pending: Pending, sending: &Sending) -> Result<StatementCall, AllocError>
+    fn send(
+        &self,
+        mode: Mode,
+        pending: Pending,
+        sending: &Sending,
+    ) -> Result<StatementCall, AllocError>
         ensures { IfOk result (λ asked. sends mode pending sending.now self.now ≡ (asked, self.now)) }
     {
         let call = self.send_call(mode, sending)?;
         Ok(asked_by(call, pending))
     }
 
-    /// The call of a receive, if its communicator and its layout are set and its buffer is here, which is lent from now on.
+    /// The call of a receive, if its communicator and its layout are set and its buffer is here, which is lent from now
+    /// on.
     fn lend_for(&mut self, receiving: &Receiving) -> Result<Option<Call>, AllocError>
         ensures { IfOk result (λ call.
-            LendsFor receiving.now (place_named self.old receiving.now.communicator) (places_named self.old receiving.now.through)
+            LendsFor receiving.now (place_named self.old receiving.now.communicator)
+            (places_named self.old receiving.now.through)
             (here self.old receiving.now.buffer) self.old call self.new) }
     {
         let Some(comm) = self.place_named(&receiving.communicator) else {
@@ -182,13 +200,16 @@ impl Names {
         ensures { looks probing.now (place_named self.now probing.now.communicator) self.now ≡ (result, self.now) }
     {
         match self.place_named(&probing.communicator) {
-            Some(comm) => { StatementCall::Call(Call::Iprobe(probe_in(comm, probing)), Pending::Nothing) }
+            Some(comm) => {
+                StatementCall::Call(Call::Iprobe(probe_in(comm, probing)), Pending::Nothing)
+            }
             None => StatementCall::Faulty,
         }
     }
 
     fn search(&self, message: Name, probing: &Probing) -> StatementCall
-        ensures { searches message probing.now (place_named self.now probing.now.communicator) self.now ≡ (result, self.now) }
+        ensures { searches message probing.now (place_named self.now probing.now.communicator) self.now ≡
+            (result, self.now) }
     {
         match self.place_named(&probing.communicator) {
             Some(comm) => {
@@ -333,7 +354,10 @@ impl Names {
             waits_for_several Call.Waitany several (requests_named self.now several) self.now ≡ (asked, self.now)) }
     {
         match self.listed_named(&several)? {
-            Some(list) => Ok(StatementCall::Call(Call::Waitany(list), Pending::WaitingForSeveral(several))),
+            Some(list) => Ok(StatementCall::Call(
+                Call::Waitany(list),
+                Pending::WaitingForSeveral(several),
+            )),
             None => Ok(StatementCall::Faulty),
         }
     }
@@ -343,7 +367,10 @@ impl Names {
             waits_for_several Call.Waitall several (requests_named self.now several) self.now ≡ (asked, self.now)) }
     {
         match self.listed_named(&several)? {
-            Some(list) => Ok(StatementCall::Call(Call::Waitall(list), Pending::WaitingForSeveral(several))),
+            Some(list) => Ok(StatementCall::Call(
+                Call::Waitall(list),
+                Pending::WaitingForSeveral(several),
+            )),
             None => Ok(StatementCall::Faulty),
         }
     }
@@ -370,7 +397,8 @@ impl Names {
     }
 
     fn compare(&self, one: &CommunicatorName, other: &CommunicatorName) -> StatementCall
-        ensures { compares (place_named self.now one.now) (place_named self.now other.now) self.now ≡ (result, self.now) }
+        ensures { compares (place_named self.now one.now) (place_named self.now other.now) self.now ≡
+            (result, self.now) }
     {
         let (Some(comm), Some(other)) = (self.place_named(one), self.place_named(other)) else {
             return StatementCall::Faulty;
@@ -407,10 +435,10 @@ impl Names {
         }
     }
 
-    /// What a statement asks for. Where it uses a name that isn't set, or a buffer that is lent, it is faulty, and nothing changes. The
-    /// only error is want of memory.
-    // What concerns a communicator stands apart: a function pays at its entry for the locals of all its cases, and most statements are
-    // sends, receives and waits.
+    /// What a statement asks for. Where it uses a name that isn't set, or a buffer that is lent, it is faulty, and
+    /// nothing changes. The only error is want of memory.
+    // What concerns a communicator stands apart: a function pays at its entry for the locals of all its cases, and most
+    // statements are sends, receives and waits.
     pub fn act(&mut self, action: Action) -> Result<StatementCall, AllocError>
         ensures { IfOk result (λ asked. acts_on action self.old ≡ (asked, self.new)) }
     {
@@ -436,8 +464,8 @@ impl Names {
         }
     }
 
-    /// Why a statement can't be followed by what the names stand for now: the first of the names that it uses that isn't set, or whose
-    /// buffer is lent. None where it can be followed. The only error is want of memory.
+    /// Why a statement can't be followed by what the names stand for now: the first of the names that it uses that
+    /// isn't set, or whose buffer is lent. None where it can be followed. The only error is want of memory.
     #[tactic(auto, using(crate::proofs::FaultLaws::action_faults))]
     pub fn lack_of(&self, action: &Action) -> Result<Option<LineFault>, AllocError>
         ensures exact { IfOk result (λ fault. fault ≡ lack_of_action (holdings self.now) action.now) }
@@ -462,8 +490,8 @@ impl Names {
         Ok(asked_by(call, pending))
     }
 
-    /// How many whole copies of the layout of this name the last status counts, if that layout is set; none where what came is no whole
-    /// number of them (MPI 3.1, 3.2.5).
+    /// How many whole copies of the layout of this name the last status counts, if that layout is set; none where what
+    /// came is no whole number of them (MPI 3.1, 3.2.5).
     pub fn count_of(&self, name: &Name) -> Option<Option<u64>>
         ensures { result ≡ count_of self.now name.now }
     {

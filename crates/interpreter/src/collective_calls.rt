@@ -2,7 +2,8 @@
 
 ghost use Rattle.std.specs.Prelude.{◌≡◌, IfOk, Some};
 ghost use Rattle.interpreter.specs.NamesState.{here, is_root, place_named};
-ghost use Rattle.interpreter.specs.Acting.{block_for, blocks_named, broadcasts, enters, gathers, hands_in_to, is_lent_at_root, reduces, reduces_to_all, scatter_call, scatters};
+ghost use Rattle.interpreter.specs.Acting.{block_for, blocks_named, broadcasts, enters, gathers, hands_in_to};
+ghost use Rattle.interpreter.specs.Acting.{is_lent_at_root, reduces, reduces_to_all, scatter_call, scatters};
 
 use crate::calls::asked_by;
 use crate::names::Names;
@@ -21,8 +22,14 @@ use statements::{
 use std::alloc::AllocError;
 
 impl Names {
-    /// Hands a block in to a collective on the communicator, which may set a buffer; none is one of 2^32 elements or more.
-    fn hand_in_to(&self, comm: Option<usize>, name: Option<Name>, entry: Option<Entry>) -> StatementCall
+    /// Hands a block in to a collective on the communicator, which may set a buffer; none is one of 2^32 elements or
+    /// more.
+    fn hand_in_to(
+        &self,
+        comm: Option<usize>,
+        name: Option<Name>,
+        entry: Option<Entry>,
+    ) -> StatementCall
         ensures { hands_in_to comm name entry self.now ≡ (result, self.now) }
     {
         match entry {
@@ -39,7 +46,12 @@ impl Names {
     }
 
     /// Enters a collective that hands no block in, if the communicator is set.
-    pub(crate) fn enter(&self, communicator: &CommunicatorName, entry: Entry, pending: Pending) -> StatementCall
+    pub(crate) fn enter(
+        &self,
+        communicator: &CommunicatorName,
+        entry: Entry,
+        pending: Pending,
+    ) -> StatementCall
         ensures { enters (place_named self.now communicator.now) entry pending self.now ≡ (result, self.now) }
     {
         match self.place_named(communicator) {
@@ -69,7 +81,8 @@ impl Names {
         lent: bool,
         buffer: &Name,
     ) -> Result<Option<(Option<usize>, Buffer)>, AllocError>
-        ensures { IfOk result (λ found. found ≡ block_for (place_named self.now communicator.now) lent (here self.now buffer.now)) }
+        ensures { IfOk result
+            (λ found. found ≡ block_for (place_named self.now communicator.now) lent (here self.now buffer.now)) }
     {
         let Some(comm) = self.place_named(communicator) else {
             return Ok(None);

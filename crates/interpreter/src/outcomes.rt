@@ -3,12 +3,14 @@
 ghost use Rattle.std.specs.Prelude.{◌≡◌, IfOk, OnOk, slice_get};
 ghost use Rattle.script_calls.specs.Awaited.{null};
 ghost use Rattle.interpreter.specs.NamesState.{with_request};
-ghost use Rattle.interpreter.specs.Hearing.{ended_each, ended_named, ends_all, ends_at, ends_by, ends_message, ends_named_one, ends_one, ends_requested, ends_with, EndsNext, error_told, errors_told, held_buffer, returned};
+ghost use Rattle.interpreter.specs.Hearing.{ended_each, ended_named, ends_all, ends_at, ends_by, ends_message};
+ghost use Rattle.interpreter.specs.Hearing.{ends_named_one, ends_one, ends_requested, ends_with, EndsNext, error_told};
+ghost use Rattle.interpreter.specs.Hearing.{errors_told, held_buffer, returned};
 
 use crate::names::Names;
-use crate::steps::{ErrorNumbers, AnswerEffect, Told};
+use crate::steps::{AnswerEffect, ErrorNumbers, Told};
 use requests::{Answer, Outcome};
-use script_calls::{NamedRequest, NamedMessage, Pending, error_of, status_after};
+use script_calls::{NamedMessage, NamedRequest, Pending, error_of, status_after};
 use statements::{Name, RequestName, RequestNames};
 use std::alloc::{AllocError, Global};
 
@@ -78,7 +80,11 @@ impl Names {
     }
 
     /// The one operation that was waited for or tested has ended so, and its buffer comes back to this name.
-    fn end_with(&mut self, name: &Option<Name>, outcome: Outcome) -> Result<AnswerEffect, AllocError>
+    fn end_with(
+        &mut self,
+        name: &Option<Name>,
+        outcome: Outcome,
+    ) -> Result<AnswerEffect, AllocError>
         ensures { IfOk result (λ heard. ends_with name.now outcome self.old ≡ (heard, self.new)) }
     {
         let error = error_of(&outcome);
@@ -89,7 +95,11 @@ impl Names {
     }
 
     /// The request that a line names has ended so.
-    fn end_requested(&mut self, requested: RequestName, outcome: Outcome) -> Result<AnswerEffect, AllocError>
+    fn end_requested(
+        &mut self,
+        requested: RequestName,
+        outcome: Outcome,
+    ) -> Result<AnswerEffect, AllocError>
         ensures { IfOk result (λ heard. ends_requested requested outcome self.old ≡ (heard, self.new)) }
     {
         match requested {
@@ -224,8 +234,8 @@ impl Names {
         Ok(errors)
     }
 
-    /// The operations that were waited for together have ended so, in the order in which the statement names them. The only error is
-    /// want of memory.
+    /// The operations that were waited for together have ended so, in the order in which the statement names them. The
+    /// only error is want of memory.
     pub fn hear_all(
         &mut self,
         pending: Pending,
@@ -247,7 +257,11 @@ impl Names {
     }
 
     /// What was waited for is answered so.
-    pub(crate) fn end(&mut self, pending: Pending, answer: Answer) -> Result<AnswerEffect, AllocError>
+    pub(crate) fn end(
+        &mut self,
+        pending: Pending,
+        answer: Answer,
+    ) -> Result<AnswerEffect, AllocError>
         ensures { IfOk result (λ heard. ends_by pending answer self.old ≡ (heard, self.new)) }
     {
         match answer {

@@ -40,6 +40,9 @@ no_name : (found : Option Word) (name : Word) → found ≡ None → found ≡ S
 no_name found name none some = let clash : None ≡ Some name = sym none ∙ some in absurd cc
 
 -- where no file's name is found, the words that settle the refusal name none
-pub unnamed_place : (words : List Word) (refused : LaunchRefusal) (settled place : ℕ) (found : Option Word) → found ≡ None → ((name : Word) → ReachesFile (take settled words) name → found ≡ Some name) → place ≡ place_by refused settled
+pub unnamed_place : (words : List Word) (refused : LaunchRefusal) (settled place : ℕ) (found : Option Word) →
+    found ≡ None → ((name : Word) → ReachesFile (take settled words) name → found ≡ Some name) →
+    place ≡ place_by refused settled
     → IsPlaced words refused settled place
-unnamed_place words refused settled place found none only is = record { named = λ name reaches. absurd (no_name found name none (only name reaches)); unnamed = λ _. is }
+unnamed_place words refused settled place found none only is =
+    record { named = λ name reaches. absurd (no_name found name none (only name reaches)); unnamed = λ _. is }

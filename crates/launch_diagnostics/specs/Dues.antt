@@ -1,5 +1,6 @@
 -- What may stand at a place of the launcher's words: what the words in front of it lack.
-use Rattle.std.specs.Prelude.{ℕ, ◌-◌, ◌==◌, List, [], ◌++◌, take, slice_get, unwrap_or, codes, Option, Some, None, if◌then◌else◌}
+use Rattle.std.specs.Prelude.{ℕ, ◌-◌, ◌==◌, List, [], ◌++◌, take, slice_get, unwrap_or, codes, Option, Some, None}
+use Rattle.std.specs.Prelude.{if◌then◌else◌}
 use Rattle.std.specs.Str.{bytes_eq}
 use Rattle.std.specs.Fmt.{decimal}
 use Rattle.launch_plan.specs.declared.refusal.LaunchRefusal.{LaunchRefusal}
@@ -51,7 +52,8 @@ due_at words config place = due_by (refusal_of (take place words) config) (word_
 
 -- what is due, as it is told
 abbrev pub due_text : Due → List ℕ
-due_text dues.OptionOrSet = codes "a set (-n N PROGRAM ..) or an option not yet given (-job, -baseport, -restart, -patience, -configfile)"
+due_text dues.OptionOrSet =
+    codes "a set (-n N PROGRAM ..) or an option not yet given (-job, -baseport, -restart, -patience, -configfile)"
 due_text dues.Set = codes "a set (-n N PROGRAM ..)"
 due_text (dues.Number least greatest) = codes "a number from " ++ decimal least ++ codes " to " ++ decimal greatest
 due_text dues.File = codes "the name of a file with one set (-n N PROGRAM ..) a line"

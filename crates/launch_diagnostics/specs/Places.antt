@@ -35,13 +35,14 @@ StaysFrom words config refused settled =
     (count : ℕ) → settled ≤ count → count ≤ length words → refusal_of (take count words) config ≡ Some refused
 
 -- So many words settle this refusal: each front of the words from there on has it, and the one before has not.
-pub record IsSettled (words : List Word) (config : Option (List ℕ)) (refused : LaunchRefusal) (settled : ℕ) : Type 0 where
+pub record IsSettled (words : List Word) (config : Option (List ℕ)) (refused : LaunchRefusal)
+    (settled : ℕ) : Type 0 where
   pub within : settled ≤ length words
   pub stays : StaysFrom words config refused settled
   pub first : (settled ≡ 0) ⊎ (refusal_of (take (settled - 1) words) config ≢ Some refused)
 
--- Where no file is named, a set, a value or a program that is missing is so behind the words that settle the refusal, or what
--- stands there is at fault; any other fault is that of the last of them.
+-- Where no file is named, a set, a value or a program that is missing is so behind the words that settle the refusal,
+-- or what stands there is at fault; any other fault is that of the last of them.
 abbrev pub place_by : LaunchRefusal → ℕ → ℕ
 place_by refusals.NoSet settled = settled
 place_by refusals.WrongValue settled = settled

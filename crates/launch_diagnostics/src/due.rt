@@ -44,7 +44,8 @@ fn set_due(before: Option<&[u8]>) -> Due
     }
 }
 
-/// The value that is due behind this option (MPI 3.1, 8.8 has `-n` and `-configfile`; the others are the launcher's own).
+/// The value that is due behind this option (MPI 3.1, 8.8 has `-n` and `-configfile`; the others are the launcher's
+/// own).
 fn value_due(option: &[u8]) -> Due
     ensures { result ≡ value_due option.now }
 {

@@ -14,7 +14,8 @@ use shown_words::Shown;
 use std::alloc::Global;
 use std::fmt;
 
-/// What is told of refused words behind the refusal's number: a line, or the page of usage, without the last line's end.
+/// What is told of refused words behind the refusal's number: a line, or the page of usage, without the last line's
+/// end.
 #[derive(Clone, Copy)]
 pub enum Explanation<'a> {
     /// How the launcher is used.
@@ -68,8 +69,8 @@ fn told_at(refused: LaunchRefusal, words: &[Word], place: usize, due: Due) -> Ex
     }
 }
 
-/// What is told of refused words; `None` where `plan` refuses them by no rule. `config` is what the configuration file holds that they
-/// name, or `None` where it can't be read.
+/// What is told of refused words; `None` where `plan` refuses them by no rule. `config` is what the configuration file
+/// holds that they name, or `None` where it can't be read.
 pub fn explain<'a>(
     alloc: Global,
     words: &'a [Word],

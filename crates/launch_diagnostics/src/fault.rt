@@ -16,8 +16,8 @@ pub struct LaunchFault {
     pub refused: LaunchRefusal,
     /// The least number of words from which on all longer fronts of the words are refused so too.
     pub settled: usize,
-    /// How many words stand in front of the word at fault; all of them where a word is missing behind them. Where the limits are
-    /// exceeded (57), those in front of the word with which they are.
+    /// How many words stand in front of the word at fault; all of them where a word is missing behind them. Where the
+    /// limits are exceeded (57), those in front of the word with which they are.
     pub place: usize,
 }
 
@@ -33,7 +33,11 @@ fn rule_of(refused: LaunchRefusal) -> Option<LaunchRefusal>
 
 /// The rule by which `plan` refuses these words.
 #[tactic(auto, using(crate::proofs::PlaceLaws::rule_broken, crate::proofs::PlaceLaws::no_rule_broken))]
-pub(crate) fn refusal_of(alloc: Global, words: &[Word], config: Option<&[u8]>) -> Option<LaunchRefusal>
+pub(crate) fn refusal_of(
+    alloc: Global,
+    words: &[Word],
+    config: Option<&[u8]>,
+) -> Option<LaunchRefusal>
     ensures { result ≡ refusal_of words.now (option_copied config.entry) }
 {
     match plan(alloc, words, config) {
@@ -43,7 +47,12 @@ pub(crate) fn refusal_of(alloc: Global, words: &[Word], config: Option<&[u8]>) -
 }
 
 /// The least number of words from which on all longer fronts of the words have this refusal.
-fn settling_length(alloc: Global, words: &[Word], config: Option<&[u8]>, refused: LaunchRefusal) -> usize
+fn settling_length(
+    alloc: Global,
+    words: &[Word],
+    config: Option<&[u8]>,
+    refused: LaunchRefusal,
+) -> usize
     requires { refusal_of words.now (option_copied config) ≡ Some refused }
     ensures { IsSettled words.now (option_copied config.entry) refused result }
 {
@@ -57,8 +66,8 @@ fn settling_length(alloc: Global, words: &[Word], config: Option<&[u8]>, refused
     settled
 }
 
-/// How many words stand in front of the word at fault, where so many words settle the refusal and name no file. A missing word is
-/// missing behind those that settle it; any other fault is that of the last of them.
+/// How many words stand in front of the word at fault, where so many words settle the refusal and name no file. A
+/// missing word is missing behind those that settle it; any other fault is that of the last of them.
 fn place_by(refused: LaunchRefusal, settled: usize) -> usize
     ensures exact { result ≡ place_by refused settled }
     ensures within { result ≤ settled }
@@ -69,8 +78,8 @@ fn place_by(refused: LaunchRefusal, settled: usize) -> usize
     }
 }
 
-/// How many words stand in front of the word at fault, where so many words settle the refusal. A fault of a configuration file is one
-/// of its name.
+/// How many words stand in front of the word at fault, where so many words settle the refusal. A fault of a
+/// configuration file is one of its name.
 fn place(words: &[Word], refused: LaunchRefusal, settled: usize) -> usize
     requires { settled ≤ length words.now }
     ensures exact { IsPlaced words.now refused settled result }
@@ -82,11 +91,12 @@ fn place(words: &[Word], refused: LaunchRefusal, settled: usize) -> usize
     }
 }
 
-/// Where the words of a launch are at fault; `None` where `plan` refuses them by no rule. `config` is what the configuration file holds
-/// that they name, or `None` where it can't be read.
+/// Where the words of a launch are at fault; `None` where `plan` refuses them by no rule. `config` is what the
+/// configuration file holds that they name, or `None` where it can't be read.
 ///
-/// A front of the words is judged as if it were all of them, so what is told is of `plan` itself: from the word at fault on, whatever
-/// of the words stands behind, the refusal is the same. The time grows with the words behind the fault times those in front.
+/// A front of the words is judged as if it were all of them, so what is told is of `plan` itself: from the word at
+/// fault on, whatever of the words stands behind, the refusal is the same. The time grows with the words behind the
+/// fault times those in front.
 pub fn fault_place(alloc: Global, words: &[Word], config: Option<&[u8]>) -> Option<LaunchFault>
     // It is the word from which on the refusal stays.
     ensures exact { MatchOption result (refusal_of words.now (option_copied config.entry) ≡ None)

@@ -29,4 +29,5 @@ kept_by (Some rank) words = Some (record { rank = rank; words = words })
 unfoldable pub kept_of : List Word → Option KeptText
 kept_of [] = None
 kept_of (first ∷ []) = None
-kept_of (first ∷ number ∷ rest) = if bytes_eq first (codes "-keeper") then kept_by (number_between number 0 1023) rest else None
+kept_of (first ∷ number ∷ rest) = if bytes_eq first (codes "-keeper") then
+    kept_by (number_between number 0 1023) rest else None

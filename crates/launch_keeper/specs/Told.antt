@@ -11,7 +11,8 @@ use Rattle.shown_words.specs.Shown.{shown}
 
 -- the part of the name behind its last `/` is `rank_main`
 abbrev pub is_rank_main : Word → Bool
-is_rank_main program = bytes_eq program (codes "rank_main") || bytes_eq (drop (length program - 10) program) (codes "/rank_main")
+is_rank_main program = bytes_eq program (codes "rank_main") ||
+    bytes_eq (drop (length program - 10) program) (codes "/rank_main")
 
 -- what a status of rank_main means
 abbrev pub meaning : ℕ → List ℕ
@@ -52,8 +53,10 @@ lost_keeper_line rank = codes "mpiexec: the keeper of rank " ++ decimal rank ++ 
 -- another launch has the base port
 abbrev pub taken_ports_line : ℕ → List ℕ
 taken_ports_line base_port =
-    codes "mpiexec: another job may use the ports from " ++ decimal base_port ++ codes " on: give each job its own -baseport and -job"
+    codes "mpiexec: another job may use the ports from " ++ decimal base_port ++
+    codes " on: give each job its own -baseport and -job"
 
 -- the line of a keeper that couldn't be started
 abbrev pub unstarted_keeper_line : ℕ → List ℕ
-unstarted_keeper_line rank = codes "mpiexec: the keeper of rank " ++ decimal rank ++ codes " can't be started; it takes two more open files (ulimit -n)"
+unstarted_keeper_line rank = codes "mpiexec: the keeper of rank " ++ decimal rank ++
+    codes " can't be started; it takes two more open files (ulimit -n)"

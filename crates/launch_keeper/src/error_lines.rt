@@ -167,7 +167,8 @@ impl fmt::Display for LostKeeperLine {
     }
 }
 
-/// The line of a keeper that couldn't be started: for want of open files, most likely, since the launcher has two for each.
+/// The line of a keeper that couldn't be started: for want of open files, most likely, since the launcher has two for
+/// each.
 #[derive(Clone, Copy)]
 pub struct UnstartedKeeperLine {
     /// The rank that it was to keep.

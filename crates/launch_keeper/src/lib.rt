@@ -12,10 +12,10 @@ mod word;
 mod words;
 
 pub use ending::{ProgramEnding, launch_status};
+pub use error_lines::{EndingLine, LostKeeperLine, TakenPortsLine, UnstartedKeeperLine};
 pub use joined::{join, join_from};
 pub use keeper::{After, Keeper};
 pub use report::Report;
 pub use role::{KeeperRole, keeper_words, kept_rank};
-pub use error_lines::{EndingLine, LostKeeperLine, TakenPortsLine, UnstartedKeeperLine};
 pub use word::Word;
 pub use words::Words;

@@ -1,5 +1,6 @@
 -- What is read is in the grammar, and what is in the grammar is read: sets.
-use Rattle.std.proofs.Common.{◌≡◌, ◌≢◌, ℕ, ◌≤◌, Bool, true, false, cond, List, [], ◌∷◌, Option, Some, None, Result, Ok, Err, refl, sym, ap, subst, ◌∙◌, arith}
+use Rattle.std.proofs.Common.{◌≡◌, ◌≢◌, ℕ, ◌≤◌, Bool, true, false, cond, List, [], ◌∷◌, Option, Some, None, Result, Ok}
+use Rattle.std.proofs.Common.{Err, refl, sym, ap, subst, ◌∙◌, arith}
 use Rattle.std.specs.Prelude.{codes, ◌||◌}
 use Rattle.std.specs.List.{list_any, AllByRecursion}
 use Rattle.std.specs.Fmt.{decimal}
@@ -20,7 +21,8 @@ use Rattle.launch_plan.proofs.SymbolLaws.{other_word, differs, Means, means, pro
 
 -- ---- steps that did not fail
 
-pub bind_ok : {A B : Type 0} (r : Result A LaunchRefusal) (f : A → Result B LaunchRefusal) (y : B) → (r >>= f) ≡ Ok y → (x : A) × (r ≡ Ok x) × (f x ≡ Ok y)
+pub bind_ok : {A B : Type 0} (r : Result A LaunchRefusal) (f : A → Result B LaunchRefusal) (y : B) → (r >>= f) ≡ Ok y →
+    (x : A) × (r ≡ Ok x) × (f x ≡ Ok y)
 bind_ok (Ok x) f y e = (x, refl, e)
 bind_ok (Err d) f y e = absurd cc
 
@@ -59,7 +61,8 @@ guard_ok : {A : Type 0} (b : Bool) (d : LaunchRefusal) (x y : A) → cond b (Err
 guard_ok true d x y e = absurd cc
 guard_ok false d x y e = (refl, cc)
 
-program_takes_at : (symbol : Symbol) (count : ℕ) (word : Word) (rest : List Word) (set : ProcessSet) → Means symbol word → where_program symbol count word rest ≡ Ok set
+program_takes_at : (symbol : Symbol) (count : ℕ) (word : Word) (rest : List Word) (set : ProcessSet) →
+    Means symbol word → where_program symbol count word rest ≡ Ok set
     → IsProgram word × HasNoColon rest × (record { count = count; program = word; arguments = rest } ≡ set)
 program_takes_at symbols.Program count word rest set is e = let g = guard_ok (list_any is_separator rest) refusals.WrongOption (record { count = count; program = word; arguments = rest }) set e in (is, no_colon rest g.0, g.1)
 program_takes_at symbols.LeftOut count word rest set is e = absurd cc
@@ -76,7 +79,8 @@ record IsRun (count : ℕ) (words : List Word) (set : ProcessSet) : Type 0 where
   program : IsProgram set.program
   arguments : HasNoColon set.arguments
 
-program_takes : (count : ℕ) (words : List Word) (set : ProcessSet) → program_of count words ≡ Ok set → IsRun count words set
+program_takes : (count : ℕ) (words : List Word) (set : ProcessSet) → program_of count words ≡ Ok set →
+    IsRun count words set
 unfolding program_of
 program_takes count [] set e = absurd cc
 program_takes count (word ∷ rest) set e =
@@ -94,15 +98,19 @@ counted_takes (value ∷ rest) set e =
     let p = program_takes b.0 rest set b.2 in
     let value_is : value ≡ decimal set.count = n.spelled ∙ ap decimal p.count_is in
     record {
-      spelled = ap (λ (w : List Word). codes "-n" ∷ w) (ap (λ (v : Word). v ∷ rest) value_is ∙ ap (λ (r : List Word). decimal set.count ∷ r) p.spelled);
+      spelled =
+          ap (λ (w : List Word). codes "-n" ∷ w) (ap (λ (v : Word). v ∷ rest) value_is ∙
+          ap (λ (r : List Word). decimal set.count ∷ r) p.spelled);
       least = subst (λ (c : ℕ). 1 ≤ c) p.count_is n.least;
       most = subst (λ (c : ℕ). c ≤ 1024) p.count_is n.most;
       program = p.program;
       arguments = p.arguments;
     }
 
-set_takes_at : (symbol : Symbol) (word : Word) (rest : List Word) (set : ProcessSet) → Means symbol word → where_set symbol rest ≡ Ok set → IsSet (word ∷ rest) set
-set_takes_at symbols.Count word rest set is e = subst (λ (w : Word). IsSet (w ∷ rest) set) (sym is) (counted_takes rest set e)
+set_takes_at : (symbol : Symbol) (word : Word) (rest : List Word) (set : ProcessSet) → Means symbol word →
+    where_set symbol rest ≡ Ok set → IsSet (word ∷ rest) set
+set_takes_at symbols.Count word rest set is e =
+    subst (λ (w : Word). IsSet (w ∷ rest) set) (sym is) (counted_takes rest set e)
 set_takes_at symbols.LeftOut word rest set is e = absurd cc
 set_takes_at symbols.Program word rest set is e = absurd cc
 set_takes_at symbols.File word rest set is e = absurd cc
@@ -115,11 +123,14 @@ unfolding set_of
 set_takes [] set e = absurd cc
 set_takes (word ∷ rest) set e = set_takes_at (symbol_of word) word rest set (means word) e
 
-program_from : (count : ℕ) (program : Word) (arguments : List Word) → IsProgram program → HasNoColon arguments → program_of count (program ∷ arguments) ≡ Ok (record { count = count; program = program; arguments = arguments })
+program_from : (count : ℕ) (program : Word) (arguments : List Word) → IsProgram program → HasNoColon arguments →
+    program_of count (program ∷ arguments) ≡ Ok (record { count = count; program = program; arguments = arguments })
 unfolding program_of
 program_from count program arguments is plain = rw (program_again program is, any_colon arguments plain) refl
 
-counted_from : (set : ProcessSet) (n : ℕ) → number_between (decimal set.count) 1 1024 ≡ Some set.count → program_of set.count (set.program ∷ set.arguments) ≡ Ok set → counted (decimal set.count ∷ set.program ∷ set.arguments) ≡ Ok set
+counted_from : (set : ProcessSet) (n : ℕ) → number_between (decimal set.count) 1 1024 ≡ Some set.count →
+    program_of set.count (set.program ∷ set.arguments) ≡ Ok set →
+    counted (decimal set.count ∷ set.program ∷ set.arguments) ≡ Ok set
 unfolding counted
 counted_from set n number program = rw (number, program) refl
 
@@ -142,9 +153,13 @@ lines_take [] (set ∷ sets) e = absurd cc
 lines_take (line ∷ lines) sets e =
     let a = bind_ok (set_of line) (λ set. each_set lines >>= λ others. Ok (set ∷ others)) sets e in
     let b = bind_ok (each_set lines) (λ others. Ok (a.0 ∷ others)) sets a.2 in
-    subst (λ (s : List ProcessSet). AreLineSets (line ∷ lines) s) (ok_is (a.0 ∷ b.0) sets b.2) (set_takes line a.0 a.1, lines_take lines b.0 b.1)
+    subst (λ (s : List ProcessSet). AreLineSets (line ∷ lines) s) (ok_is (a.0 ∷ b.0) sets b.2) (
+      set_takes line a.0 a.1,
+      lines_take lines b.0 b.1,
+    )
 
-pub lines_again : (lines : List (List Word)) (sets : List ProcessSet) → AreLineSets lines sets → each_set lines ≡ Ok sets
+pub lines_again : (lines : List (List Word)) (sets : List ProcessSet) → AreLineSets lines sets →
+    each_set lines ≡ Ok sets
 unfolding each_set
 lines_again [] [] are = refl
 lines_again [] (set ∷ sets) are = absurd are

@@ -1,5 +1,6 @@
 -- The words with the sets of a file in place of its name ask for the same launch.
-use Rattle.std.proofs.Common.{◌≡◌, ◌≢◌, ℕ, ◌-◌, List, [], ◌∷◌, ◌++◌, length, take, Option, Some, Ok, refl, sym, ap, subst, ◌∙◌, inl, inr, arith}
+use Rattle.std.proofs.Common.{◌≡◌, ◌≢◌, ℕ, ◌-◌, List, [], ◌∷◌, ◌++◌, length, take, Option, Some, Ok, refl, sym, ap}
+use Rattle.std.proofs.Common.{subst, ◌∙◌, inl, inr, arith}
 use Rattle.std.proofs.Math.Seq.{take-append_seam}
 use Rattle.std.proofs.lemmas.List.{append-nil, length-append}
 use Rattle.launch_plan.specs.declared.process_set.ProcessSet.{ProcessSet}
@@ -15,11 +16,13 @@ use Rattle.launch_plan.proofs.OptionLaws.{options_again, file_opens, sets_open}
 
 -- ---- the lines of a file as sets of words
 
-one_set : (line : List Word) (lines : List (List Word)) (set : ProcessSet) → IsSet line set → AreLineSets lines [] → IsSet (sets_joined (line ∷ lines)) set
+one_set : (line : List Word) (lines : List (List Word)) (set : ProcessSet) → IsSet line set → AreLineSets lines [] →
+    IsSet (sets_joined (line ∷ lines)) set
 one_set line [] set is are = subst (λ (w : List Word). IsSet w set) (sym (append-nil line)) is
 one_set line (next ∷ lines) set is are = absurd are
 
-joined_sets : (lines : List (List Word)) (sets : List ProcessSet) → sets ≢ [] → AreLineSets lines sets → AreSets (sets_joined lines) sets
+joined_sets : (lines : List (List Word)) (sets : List ProcessSet) → sets ≢ [] → AreLineSets lines sets →
+    AreSets (sets_joined lines) sets
 joined_sets lines [] some are = absurd (some refl)
 joined_sets [] (set ∷ sets) some are = absurd are
 joined_sets (line ∷ lines) (set ∷ []) some are = one_set line lines set are.0 are.1
@@ -29,13 +32,15 @@ joined_sets (line ∷ other ∷ lines) (set ∷ next ∷ sets) some are =
 
 -- ---- what stands in front of the file's name
 
-own_words : (own : List Word) (name : Word) → take (length (own ++ file_option ∷ name ∷ []) - 2) (own ++ file_option ∷ name ∷ []) ≡ own
+own_words : (own : List Word) (name : Word) →
+    take (length (own ++ file_option ∷ name ∷ []) - 2) (own ++ file_option ∷ name ∷ []) ≡ own
 own_words own name =
     let len = length-append own (file_option ∷ name ∷ []) in
     let two : length (own ++ file_option ∷ name ∷ []) - 2 ≡ length own = omega (arith, len) in
     ap (λ (n : ℕ). take n (own ++ file_option ∷ name ∷ [])) two ∙ take-append_seam own (file_option ∷ name ∷ [])
 
-pub spelled_same : (words : List Word) (config other : Option (List ℕ)) (launch : Launch) → AskFor words config launch → AskFor (spelled_out words config) other launch
+pub spelled_same : (words : List Word) (config other : Option (List ℕ)) (launch : Launch) → AskFor words config launch →
+    AskFor (spelled_out words config) other launch
 spelled_same words config other launch ask =
     let start : opening_of nothing_given words ≡ opening_of ask.given ask.rest = ap (opening_of nothing_given) ask.spelled ∙ options_again nothing_given ask.own ask.given ask.rest ask.options in
     elim ask.sets [

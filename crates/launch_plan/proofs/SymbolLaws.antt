@@ -38,7 +38,8 @@ Means symbols.Unknown word = Unit {0}
 Means symbols.Separator word = Unit {0}
 Means symbols.Program word = IsProgram word
 
-step : (b : Bool) (x y : Symbol) (word : Word) → (b ≡ true → Means x word) → (b ≡ false → Means y word) → Means (cond b x y) word
+step : (b : Bool) (x y : Symbol) (word : Word) → (b ≡ true → Means x word) → (b ≡ false → Means y word) →
+    Means (cond b x y) word
 step true x y word taken passed = taken refl
 step false x y word taken passed = passed refl
 
@@ -54,11 +55,16 @@ means word =
     step (is_left_out word) _ _ word (λ _. tt) (λ _.
     step (is_dashed word) _ _ word (λ _. tt) (λ dashed.
     step (is_separator word) _ _ word (λ _. tt) (λ separator.
-    record { plain = λ e. false≢true (sym dashed ∙ eq-eqb (get_or word 0 0) 45 e); apart = differs word colon separator })))))))))
+    record {
+      plain = λ e. false≢true (sym dashed ∙ eq-eqb (get_or word 0 0) 45 e);
+      apart =
+          differs word colon separator;
+    })))))))))
 
 -- a program is none of the words that begin with `-`
 dashless : (word name : Word) → IsProgram word → get_or name 0 0 ≡ 45 → bytes_eq word name ≡ false
-dashless word name program dashed = other_word word name (λ e. program.plain (ap (λ (w : Word). get_or w 0 0) e ∙ dashed))
+dashless word name program dashed =
+    other_word word name (λ e. program.plain (ap (λ (w : Word). get_or w 0 0) e ∙ dashed))
 
 or_false : (a b : Bool) → a ≡ false → b ≡ false → (a || b) ≡ false
 or_false true b e f = absurd (false≢true (sym e))

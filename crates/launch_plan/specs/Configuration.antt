@@ -1,5 +1,6 @@
 -- The configuration file's form: one set a line.
-use Rattle.std.specs.Prelude.{ℕ, ◌-◌, Bool, true, false, not, ◌&&◌, ◌||◌, ◌==◌, List, [], ◌∷◌, ◌++◌, length, take, map, filter, slice_index, Option, Some, None, Result, Err, if◌then◌else◌}
+use Rattle.std.specs.Prelude.{ℕ, ◌-◌, Bool, true, false, not, ◌&&◌, ◌||◌, ◌==◌, List, [], ◌∷◌, ◌++◌, length, take, map}
+use Rattle.std.specs.Prelude.{filter, slice_index, Option, Some, None, Result, Err, if◌then◌else◌}
 use Rattle.std.specs.List.{slice_split}
 use Rattle.launch_plan.specs.declared.refusal.LaunchRefusal.{LaunchRefusal}
 use Rattle.launch_plan.specs.declared.refusal.LaunchRefusal.TheVariants as refusals

@@ -20,4 +20,5 @@ IsOfAWord refusals.OverLimit = ⊥
 -- Such a fault of the words in front is the fault of the words, whatever stands behind.
 abbrev pub FaultsStay : Type 0
 FaultsStay =
-    (front rest : List Word) (config : Option (List ℕ)) (fault : LaunchRefusal) → IsOfAWord fault → launch_of front config ≡ Err fault → launch_of (front ++ rest) config ≡ Err fault
+    (front rest : List Word) (config : Option (List ℕ)) (fault : LaunchRefusal) → IsOfAWord fault →
+    launch_of front config ≡ Err fault → launch_of (front ++ rest) config ≡ Err fault

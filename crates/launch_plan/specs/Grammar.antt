@@ -36,7 +36,8 @@ abbrev pub AreSets : List Word → List ProcessSet → Type 0
 AreSets words [] = ⊥
 AreSets words (set ∷ []) = IsSet words set
 AreSets words (set ∷ next ∷ sets) =
-    (first : List Word) × (rest : List Word) × (words ≡ first ++ colon ∷ rest) × IsSet first set × AreSets rest (next ∷ sets)
+    (first : List Word) × (rest : List Word) × (words ≡ first ++ colon ∷ rest) × IsSet first set ×
+    AreSets rest (next ∷ sets)
 
 -- a set a line
 abbrev pub AreLineSets : List (List Word) → List ProcessSet → Type 0
@@ -71,7 +72,8 @@ abbrev pub AreOptions : GivenOptions → List Word → GivenOptions → Type 0
 AreOptions before [] after = before ≡ after
 AreOptions before (name ∷ []) after = ⊥
 AreOptions before (name ∷ value ∷ words) after =
-    (option : OwnOption) × (number : ℕ) × IsOption option number name value × (given_of option before ≡ None) × AreOptions (with_number option before number) words after
+    (option : OwnOption) × (number : ℕ) × IsOption option number name value × (given_of option before ≡ None) ×
+    AreOptions (with_number option before number) words after
 
 -- the word in front of the configuration file's name (MPI 3.1, 8.8)
 abbrev pub file_option : Word
@@ -90,7 +92,9 @@ pub record ReachesFile (words : List Word) (name : Word) : Type 0 where
 -- behind the own options stand the sets, or the name of a file that has them
 abbrev pub Names : List Word → Option (List ℕ) → List ProcessSet → Type 0
 Names words config sets =
-    AreSets words sets ⊎ ((name : Word) × (bytes : List ℕ) × (words ≡ file_option ∷ name ∷ []) × (config ≡ Some bytes) × IsFile bytes sets)
+    AreSets words sets ⊎
+    ((name : Word) × (bytes : List ℕ) × (words ≡ file_option ∷ name ∷ []) × (config ≡ Some bytes) ×
+    IsFile bytes sets)
 
 -- these words, and what the configuration file holds, ask for this launch
 pub record AskFor (words : List Word) (config : Option (List ℕ)) (launch : Launch) : Type 0 where

@@ -1,6 +1,7 @@
 -- Judging the words of sets one after the other, without keeping any: the first fault, or how many
 -- ranks there are.
-use Rattle.std.specs.Prelude.{ℕ, ◌+◌, ◌-◌, min, true, false, not, ◌&&◌, ◌≡◌, ◌≤◌, length, take, drop, get_or, List, [], ◌∷◌, Option, Result, Ok, Err, if◌then◌else◌}
+use Rattle.std.specs.Prelude.{ℕ, ◌+◌, ◌-◌, min, true, false, not, ◌&&◌, ◌≡◌, ◌≤◌, length, take, drop, get_or, List, []}
+use Rattle.std.specs.Prelude.{◌∷◌, Option, Result, Ok, Err, if◌then◌else◌}
 use Rattle.launch_plan.specs.declared.refusal.LaunchRefusal.{LaunchRefusal}
 use Rattle.launch_plan.specs.declared.refusal.LaunchRefusal.TheVariants as refusals
 use Rattle.launch_plan.specs.declared.symbol.Symbol.{Symbol}
@@ -58,9 +59,11 @@ stage_after_program count (symbols.Own option) = Err refusals.WrongOption
 -- one more word of a set
 unfoldable pub stage_after : Stage → Word → Result Stage LaunchRefusal
 stage_after stages.Empty word = stage_after_first (symbol_of word)
-stage_after stages.Count word = required (number_between word 1 1024) refusals.WrongValue >>= λ count. Ok (stages.Program count)
+stage_after stages.Count word =
+    required (number_between word 1 1024) refusals.WrongValue >>= λ count. Ok (stages.Program count)
 stage_after (stages.Program count) word = stage_after_program count (symbol_of word)
-stage_after (stages.Arguments count) word = if is_separator word then Err refusals.WrongOption else Ok (stages.Arguments count)
+stage_after (stages.Arguments count) word = if is_separator word then Err refusals.WrongOption else
+    Ok (stages.Arguments count)
 
 -- more words of a set
 abbrev pub stage_behind : Stage → List Word → Result Stage LaunchRefusal
@@ -110,12 +113,14 @@ count_ranks ranks stage (word ∷ words) =
 -- a line that goes on in the next, without its last byte
 abbrev pub tally_on : Tally → List ℕ → Result Tally LaunchRefusal
 tally_on tally front =
-    stage_behind tally.stage (words_of front) >>= λ stage. Ok (record { ranks = tally.ranks; stage = stage; begun = true })
+    stage_behind tally.stage (words_of front) >>= λ stage. Ok
+    (record { ranks = tally.ranks; stage = stage; begun = true })
 
 -- a line that ends
 abbrev pub tally_end : Tally → List ℕ → Result Tally LaunchRefusal
 tally_end tally line =
-    stage_behind tally.stage (words_of line) >>= λ stage. total_or_none tally.ranks stage >>= λ ranks. Ok (record { ranks = ranks; stage = stages.Empty; begun = false })
+    stage_behind tally.stage (words_of line) >>= λ stage. total_or_none tally.ranks stage >>= λ ranks. Ok
+    (record { ranks = ranks; stage = stages.Empty; begun = false })
 
 -- one more line of a file
 unfoldable pub tally_line : Tally → List ℕ → Result Tally LaunchRefusal
@@ -142,4 +147,5 @@ ranks_of ranks read = read >>= λ sets. Ok (total_with ranks (rank_count sets))
 -- how many ranks a launch has, if it is within the limits
 abbrev pub size_behind : Opening → Option (List ℕ) → Result ℕ LaunchRefusal
 size_behind opening config =
-    sets_behind opening config >>= λ sets. limited (launch_with opening.given sets) >>= λ launch. Ok (rank_count launch.sets)
+    sets_behind opening config >>= λ sets. limited (launch_with opening.given sets) >>= λ launch. Ok
+    (rank_count launch.sets)

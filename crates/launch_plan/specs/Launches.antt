@@ -1,5 +1,6 @@
 -- What the words ask for: which processes, as which ranks, with which words.
-use Rattle.std.specs.Prelude.{ℕ, ◌+◌, ◌≤◌, List, [], ◌∷◌, ◌++◌, replicate, sum_by, unwrap_or, codes, slice_get, option_map, Option, Some, None, Result, Ok, Err, Bool, ◌&&◌, nat_le, if◌then◌else◌}
+use Rattle.std.specs.Prelude.{ℕ, ◌+◌, ◌≤◌, List, [], ◌∷◌, ◌++◌, replicate, sum_by, unwrap_or, codes, slice_get}
+use Rattle.std.specs.Prelude.{option_map, Option, Some, None, Result, Ok, Err, Bool, ◌&&◌, nat_le, if◌then◌else◌}
 use Rattle.std.specs.List.{flat_map}
 use Rattle.std.specs.Fmt.{decimal}
 use Rattle.launch_plan.specs.declared.refusal.LaunchRefusal.{LaunchRefusal}
@@ -46,7 +47,8 @@ words_of_process launch rank incarnation process =
 
 -- the words of a rank, which is the rank-th process through the sets, from 0
 abbrev pub words_of_rank : Launch → ℕ → ℕ → Option (List Word)
-words_of_rank launch rank incarnation = option_map (words_of_process launch rank incarnation) (slice_get (processes launch.sets) rank)
+words_of_rank launch rank incarnation =
+    option_map (words_of_process launch rank incarnation) (slice_get (processes launch.sets) rank)
 
 -- the launch of these sets, with the defaults of the options that were not given
 abbrev pub launch_with : GivenOptions → List ProcessSet → Launch
@@ -65,7 +67,8 @@ pub record IsWithinLimits (launch : Launch) : Type 0 where
 
 -- whether a launch has at most 1,024 ranks and no port above 65,535
 abbrev pub is_within_limits : Launch → Bool
-is_within_limits launch = nat_le (rank_count launch.sets) 1024 && nat_le (launch.base_port + rank_count launch.sets) 65536
+is_within_limits launch = nat_le (rank_count launch.sets) 1024 &&
+    nat_le (launch.base_port + rank_count launch.sets) 65536
 
 -- the launch, if it is within the limits
 unfoldable pub limited : Launch → Result Launch LaunchRefusal

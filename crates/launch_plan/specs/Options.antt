@@ -37,7 +37,8 @@ with_number Patience given n = record given { patience = Some n }
 -- a word where an option's value is due
 unfoldable pub with_value : OwnOption → GivenOptions → Word → Result GivenOptions LaunchRefusal
 with_value option given word =
-    required (number_between word (least_of option) (greatest_of option)) refusals.WrongValue >>= λ n. Ok (with_number option given n)
+    required (number_between word (least_of option) (greatest_of option)) refusals.WrongValue >>= λ n. Ok
+    (with_number option given n)
 
 -- The own options, and what stands behind them: the name of a configuration file with the words after
 -- it, or the words of the sets.
@@ -56,7 +57,8 @@ at_file given name rest = record { given = given; file = Some name; rest = rest 
 
 -- a last word: an option there lacks its value
 abbrev pub where_last : Symbol → GivenOptions → Word → Result Opening LaunchRefusal
-where_last (symbols.Own option) given word = if is_given option given then Err refusals.WrongOption else Err refusals.WrongValue
+where_last (symbols.Own option) given word = if is_given option given then Err refusals.WrongOption else
+    Err refusals.WrongValue
 where_last symbols.File given word = Err refusals.WrongValue
 where_last symbols.Count given word = Ok (at_sets given (word ∷ []))
 where_last symbols.LeftOut given word = Ok (at_sets given (word ∷ []))
@@ -65,7 +67,8 @@ where_last symbols.Separator given word = Ok (at_sets given (word ∷ []))
 where_last symbols.Program given word = Ok (at_sets given (word ∷ []))
 
 -- a word with others behind it; next reads on behind an option and its value
-abbrev pub where_option : Symbol → GivenOptions → Word → Word → List Word → (GivenOptions → Result Opening LaunchRefusal) → Result Opening LaunchRefusal
+abbrev pub where_option : Symbol → GivenOptions → Word → Word → List Word →
+    (GivenOptions → Result Opening LaunchRefusal) → Result Opening LaunchRefusal
 where_option (symbols.Own option) given word value rest next =
     if is_given option given then Err refusals.WrongOption else (with_value option given value >>= next)
 where_option symbols.File given word value rest next = Ok (at_file given value rest)
@@ -79,7 +82,8 @@ where_option symbols.Program given word value rest next = Ok (at_sets given (wor
 unfoldable pub opening_of : GivenOptions → List Word → Result Opening LaunchRefusal
 opening_of given [] = Ok (at_sets given [])
 opening_of given (word ∷ []) = where_last (symbol_of word) given word
-opening_of given (word ∷ value ∷ rest) = where_option (symbol_of word) given word value rest (λ next. opening_of next rest)
+opening_of given (word ∷ value ∷ rest) =
+    where_option (symbol_of word) given word value rest (λ next. opening_of next rest)
 
 -- the configuration file's name, where the words reach one
 abbrev pub name_in : Result Opening LaunchRefusal → Option Word

@@ -1,7 +1,9 @@
 -- The number of each refusal.
 use Rattle.std.specs.Prelude.{ℕ}
 use Rattle.launch_plan.specs.declared.refusal.LaunchRefusal.{LaunchRefusal}
-use Rattle.launch_plan.specs.declared.refusal.LaunchRefusal.TheVariants.{OutOfMemory, NoSet, WrongOption, WrongValue, NoCount, NoProgram, OverLimit, LeftOut, UnreadableFile}
+use Rattle.launch_plan.specs.declared.refusal.LaunchRefusal.TheVariants.{OutOfMemory, NoSet, WrongOption, WrongValue}
+use Rattle.launch_plan.specs.declared.refusal.LaunchRefusal.TheVariants.{NoCount, NoProgram, OverLimit, LeftOut}
+use Rattle.launch_plan.specs.declared.refusal.LaunchRefusal.TheVariants.{UnreadableFile}
 
 -- the number that is printed of a refusal
 abbrev pub number_of_refusal : LaunchRefusal → ℕ

@@ -1,9 +1,11 @@
 //! The configuration file: one set a line.
 
-ghost use Rattle.std.specs.Prelude.{◌≡◌, ◌-◌, ◌∷◌, [], ◌++◌, length, take, map, filter, true, false, not, ◌&&◌, List, ℕ, IfOk, OnOk, MatchOption};
+ghost use Rattle.std.specs.Prelude.{◌≡◌, ◌-◌, ◌∷◌, [], ◌++◌, length, take, map, filter, true, false, not, ◌&&◌, List};
+ghost use Rattle.std.specs.Prelude.{ℕ, IfOk, OnOk, MatchOption};
 ghost use Rattle.std.specs.Option.{option_copied};
 ghost use Rattle.std.specs.List.{slice_split};
-ghost use Rattle.launch_plan.specs.Configuration.{is_line_end, is_blank, is_comment, goes_on, is_nonempty, words_of, pending, lines_of, sets_of_file};
+ghost use Rattle.launch_plan.specs.Configuration.{is_line_end, is_blank, is_comment, goes_on, is_nonempty, words_of};
+ghost use Rattle.launch_plan.specs.Configuration.{pending, lines_of, sets_of_file};
 ghost use Rattle.launch_plan.specs.Results.{Gives, HasNoFault};
 
 use crate::copies::push_bytes;
@@ -144,7 +146,10 @@ fn slices(alloc: Global, lines: &[Words]) -> Result<Vec<&[Word]>, AllocError>
 
 /// What the sets of the configuration file ask for, one set a line, where it has no fault. A file
 /// that can't be read is `None`.
-pub(crate) fn sets_of_file(alloc: Global, config: Option<&[u8]>) -> Result<Vec<ProcessSet>, LaunchRefusal>
+pub(crate) fn sets_of_file(
+    alloc: Global,
+    config: Option<&[u8]>,
+) -> Result<Vec<ProcessSet>, LaunchRefusal>
     requires { HasNoFault (sets_of_file (option_copied config)) }
     ensures { Gives (λ sets. sets.items) result (sets_of_file (option_copied config.entry)) }
 {

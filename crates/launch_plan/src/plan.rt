@@ -2,7 +2,8 @@
 
 ghost use Rattle.std.specs.Prelude.{◌≡◌, ◌≤◌, ◌+◌, [], ◌∷◌, ◌++◌, slice_get, codes, IfOk, OnOk};
 ghost use Rattle.std.specs.Option.{option_copied};
-ghost use Rattle.launch_plan.specs.Launches.{processes, rank_count, launch_with, IsWithinLimits, option_words, optional_words, words_of_rank};
+ghost use Rattle.launch_plan.specs.Launches.{processes, rank_count, launch_with, IsWithinLimits, option_words};
+ghost use Rattle.launch_plan.specs.Launches.{optional_words, words_of_rank};
 
 use crate::copies::push_bytes;
 use crate::given_options::{BASE_PORT, GivenOptions};

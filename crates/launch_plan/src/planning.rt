@@ -10,12 +10,12 @@ ghost use Rattle.launch_plan.specs.Faults.{FaultsStay};
 ghost use Rattle.launch_plan.specs.Results.{Gives, HasNoFault};
 
 use crate::configuration::sets_of_file;
-use crate::validation::size_behind;
 use crate::opening::{Opening, opening_of};
 use crate::plan::Plan;
 use crate::process_set::ProcessSet;
 use crate::refusal::LaunchRefusal;
 use crate::sets::sets_of;
+use crate::validation::size_behind;
 use launch_keeper::Word;
 use std::alloc::Global;
 
@@ -42,8 +42,8 @@ fn sets_behind(
 }
 
 /// What the words of the launcher ask for, or the first fault from left to right: 52 to 59, and 14
-/// for want of memory, where there is no fault. `config` is what the configuration file that the words name holds, or `None`
-/// where it can't be read.
+/// for want of memory, where there is no fault. `config` is what the configuration file that the words name holds, or
+/// `None` where it can't be read.
 ///
 /// MPI 3.1, 8.8 has the two forms of the words. The faults of the configuration file come at its
 /// name, and 57 is judged last.

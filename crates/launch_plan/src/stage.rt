@@ -2,7 +2,8 @@
 
 ghost use Rattle.std.specs.Prelude.{◌≡◌};
 ghost use Rattle.launch_plan.specs.Results.{GivesExactly};
-ghost use Rattle.launch_plan.specs.Judging.{misplaced_fault, stage_after_first, stage_after_program, stage_after, count_at, total_or_none, total, total_with};
+ghost use Rattle.launch_plan.specs.Judging.{misplaced_fault, stage_after_first, stage_after_program, stage_after};
+ghost use Rattle.launch_plan.specs.Judging.{count_at, total_or_none, total, total_with};
 
 use crate::refusal::LaunchRefusal;
 use crate::symbol::{Symbol, is_separator, symbol_of};

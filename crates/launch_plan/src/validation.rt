@@ -10,7 +10,8 @@ ghost use Rattle.launch_plan.specs.Results.{GivesExactly};
 ghost use Rattle.launch_plan.specs.declared.stage.Stage.TheVariants.{Empty};
 ghost use Rattle.launch_plan.specs.Planning.{sets_behind};
 ghost use Rattle.launch_plan.specs.Openings.{opening_text};
-ghost use Rattle.launch_plan.specs.Judging.{stage_behind, count_ranks, tally_line, tally_lines, nothing_tallied, ranks_of, size_behind};
+ghost use Rattle.launch_plan.specs.Judging.{stage_behind, count_ranks, tally_line, tally_lines, nothing_tallied};
+ghost use Rattle.launch_plan.specs.Judging.{ranks_of, size_behind};
 
 use crate::configuration::{before_continuation, is_skipped};
 use crate::cut::{first_line, first_piece};

@@ -2,10 +2,10 @@
 
 use crate::keeper::keep;
 use crate::launcher::launch;
+use launch_diagnostics::explain;
 use launch_keeper::{Word, kept_rank};
 use launch_plan::planning::plan;
-use launch_plan::{LaunchOutcome, Plan, LaunchRefusal, config_name, spelled_out};
-use launch_diagnostics::explain;
+use launch_plan::{LaunchOutcome, LaunchRefusal, Plan, config_name, spelled_out};
 use std::alloc::AllocError;
 use std::net::Net;
 use std::os::fd::AsRawFd;
@@ -28,7 +28,10 @@ fn words_of(rt: &(impl Env + AllocGlobal)) -> io::Result<Vec<Word>> {
 
 /// What the configuration file holds that the words name; `None` where they name none, or where it
 /// can't be read.
-fn config_of(rt: &(impl Files + AllocGlobal), words: &[Word]) -> Result<Option<Vec<u8>>, LaunchRefusal> {
+fn config_of(
+    rt: &(impl Files + AllocGlobal),
+    words: &[Word],
+) -> Result<Option<Vec<u8>>, LaunchRefusal> {
     let Some(name) = config_name(words) else {
         return Ok(None);
     };
@@ -102,8 +105,8 @@ fn run_keeper<R: Print + Eprint + AllocGlobal + Processes<Started: OpenProcess<S
     }
 }
 
-/// Does what these words ask for, a launch or the keeping of one rank, tells a refusal on the standard error, and answers
-/// the status.
+/// Does what these words ask for, a launch or the keeping of one rank, tells a refusal on the standard error, and
+/// answers the status.
 pub fn run_words<
     R: Net
         + Env

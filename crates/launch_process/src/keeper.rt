@@ -3,10 +3,10 @@
 ghost use Rattle.std.specs.Prelude.{◌≡◌, IfOk};
 ghost use Rattle.launch_process.specs.Commands.{IsCommandOf};
 
+use crate::child::{await_end, collect};
 use crate::commands::add_arguments;
 use crate::text::text_of;
-use crate::child::{await_end, collect};
-use launch_keeper::{After, ProgramEnding, EndingLine, Keeper, Report, Words};
+use launch_keeper::{After, EndingLine, Keeper, ProgramEnding, Report, Words};
 use launch_plan::Plan;
 use std::alloc::Global;
 use std::io;

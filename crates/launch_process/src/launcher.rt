@@ -71,8 +71,8 @@ fn start_all<R: Env + Files + Eprint + AllocGlobal + Processes>(
     Ok(keepers)
 }
 
-/// Holds the TCP port that has the base port's number, so that a launch that begins meanwhile with the same one can tell so. The ranks
-/// use UDP alone. Where it is taken the launch goes on, and tells that.
+/// Holds the TCP port that has the base port's number, so that a launch that begins meanwhile with the same one can
+/// tell so. The ranks use UDP alone. Where it is taken the launch goes on, and tells that.
 fn hold_port<R: Net + Eprint>(rt: &R, base_port: u16) -> Option<R::Listener> {
     match TcpListener::bind(rt, SocketAddr::from((Ipv4Addr::LOCALHOST, base_port))) {
         Ok(held) => Some(held),
@@ -129,8 +129,8 @@ fn print_all<R: Print + Eprint + AllocGlobal, P: OpenProcess + Drop>(
     Ok(statuses)
 }
 
-/// Launches the ranks of a plan, which these words ask for, and prints what they wrote, by rising rank. Answers the status of the
-/// launch.
+/// Launches the ranks of a plan, which these words ask for, and prints what they wrote, by rising rank. Answers the
+/// status of the launch.
 pub fn launch<R: Net + Env + Files + Print + Eprint + AllocGlobal + Processes>(
     rt: &R,
     plan: &Plan,

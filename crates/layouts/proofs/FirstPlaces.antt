@@ -1,5 +1,6 @@
 -- Elements of a basic type take the first places of a buffer.
-use Rattle.std.proofs.Common.{◌≡◌, ℕ, zero, suc, ◌+◌, ◌*◌, ◌≤◌, max, List, [], ◌∷◌, ◌++◌, length, take, drop, nat_lt, slice_set, refl, sym, ap, ◌∙◌, arith, append_assoc}
+use Rattle.std.proofs.Common.{◌≡◌, ℕ, zero, suc, ◌+◌, ◌*◌, ◌≤◌, max, List, [], ◌∷◌, ◌++◌, length, take, drop, nat_lt}
+use Rattle.std.proofs.Common.{slice_set, refl, sym, ap, ◌∙◌, arith, append_assoc}
 use Rattle.std.specs.List.{range_with_len}
 use Rattle.std.proofs.Math.Seq.{get_or-append_seam}
 use Rattle.std.proofs.lemmas.List.{set_at, length-append, take_all}
@@ -30,15 +31,18 @@ room_up zero = refl
 room_up (suc n) = ap (λ (h : ℕ). h + 1) (highest_up 0 n) ∙ omega arith
 
 -- the elements behind a beginning
-elements_up : (front rest : List ℕ) (n : ℕ) → n ≤ length rest → elements_at (front ++ rest) (range_with_len (length front) n) ≡ take n rest
+elements_up : (front rest : List ℕ) (n : ℕ) → n ≤ length rest →
+    elements_at (front ++ rest) (range_with_len (length front) n) ≡ take n rest
 elements_up front [] zero h = refl
 elements_up front (y ∷ ys) zero h = refl
 elements_up front [] (suc n) h = absurd (omega arith)
 elements_up front (y ∷ ys) (suc n) h =
     let longer : length front + 1 ≡ length (front ++ y ∷ []) = omega (arith, length-append front (y ∷ [])) in
-    ap (λ (x : ℕ). x ∷ elements_at (front ++ y ∷ ys) (range_with_len (length front + 1) n)) (get_or-append_seam front y ys 0)
+    ap (λ (x : ℕ). x ∷ elements_at (front ++ y ∷ ys) (range_with_len (length front + 1) n))
+    (get_or-append_seam front y ys 0)
     ∙ ap (λ (i : ℕ). y ∷ elements_at (front ++ y ∷ ys) (range_with_len i n)) longer
-    ∙ ap (λ (b : List ℕ). y ∷ elements_at b (range_with_len (length (front ++ y ∷ [])) n)) (sym (append_assoc front (y ∷ []) ys))
+    ∙ ap (λ (b : List ℕ). y ∷ elements_at b (range_with_len (length (front ++ y ∷ [])) n))
+    (sym (append_assoc front (y ∷ []) ys))
     ∙ ap (λ (xs : List ℕ). y ∷ xs) (elements_up (front ++ y ∷ []) ys n (omega arith))
 
 drop_none : (xs : List ℕ) → drop 0 xs ≡ xs
@@ -62,11 +66,14 @@ pub first_places : BasicTypeTakesFirstPlaces
 first_places n buffer values =
     record {
       room = ap length (places_up n) ∙ length-range_with_len 0 n;
-      too_short = ap (λ (ps : List ℕ). nat_lt (length buffer) (room_for ps)) (places_up n) ∙ ap (λ (r : ℕ). nat_lt (length buffer) r) (room_up n);
+      too_short = ap (λ (ps : List ℕ). nat_lt (length buffer) (room_for ps)) (places_up n) ∙
+          ap (λ (r : ℕ). nat_lt (length buffer) r) (room_up n);
       sent = λ long. ap (elements_at buffer) (places_up n) ∙ elements_up [] buffer n long;
-      buffer_is = λ few long. ap (λ (ps : List ℕ). put_at buffer ps values) (places_up n) ∙ put_up [] buffer values n few (omega arith);
+      buffer_is = λ few long. ap (λ (ps : List ℕ). put_at buffer ps values) (places_up n) ∙
+          put_up [] buffer values n few (omega arith);
     }
 
 -- a buffer that is sent whole
 pub whole_sent : (buffer : List ℕ) → elements_at buffer (places (length buffer) (0 ∷ [])) ≡ buffer
-whole_sent buffer = (first_places (length buffer) buffer []).sent (omega arith) ∙ take_all (length buffer) buffer (omega arith)
+whole_sent buffer = (first_places (length buffer) buffer []).sent (omega arith) ∙
+    take_all (length buffer) buffer (omega arith)

@@ -1,5 +1,6 @@
 -- Where the copies of a layout stand.
-use Rattle.std.proofs.Common.{◌≡◌, ℕ, zero, suc, ◌+◌, ◌*◌, ◌<◌, List, [], ◌∷◌, ◌++◌, length, map, Some, slice_get, refl, sym, ap, ◌∙◌, arith}
+use Rattle.std.proofs.Common.{◌≡◌, ℕ, zero, suc, ◌+◌, ◌*◌, ◌<◌, List, [], ◌∷◌, ◌++◌, length, map, Some, slice_get, refl}
+use Rattle.std.proofs.Common.{sym, ap, ◌∙◌, arith}
 use Rattle.std.proofs.Math.Nat.{suc-mul, zero-mul}
 use Rattle.std.proofs.lemmas.List.{length-append, length-map}
 use Rattle.layouts.specs.Laws.{ElementsStandInOrder}
@@ -9,7 +10,8 @@ pub copies_at-none : (first : ℕ) (xs : List ℕ) → copies_at first 0 xs ≡ 
 unfolding copies_at
 copies_at-none first xs = refl
 
-pub copies_at-suc : (first count : ℕ) (xs : List ℕ) → copies_at first (suc count) xs ≡ moved (first * extent_of xs) xs ++ copies_at (first + 1) count xs
+pub copies_at-suc : (first count : ℕ) (xs : List ℕ) → copies_at first (suc count) xs ≡
+    moved (first * extent_of xs) xs ++ copies_at (first + 1) count xs
 unfolding copies_at
 copies_at-suc first count xs = refl
 
@@ -46,7 +48,8 @@ element_of_copies first (suc count) xs zero k o lt h =
     let same : first ≡ first + 0 = omega arith in
     ap (slice_get (copies_at first (suc count) xs)) at
     ∙ ap (λ (ps : List ℕ). slice_get ps k) (copies_at-suc first count xs)
-    ∙ get_append_left (moved (first * extent_of xs) xs) (copies_at (first + 1) count xs) k (first * extent_of xs + o) (get_map (λ x. first * extent_of xs + x) xs k o h)
+    ∙ get_append_left (moved (first * extent_of xs) xs) (copies_at (first + 1) count xs) k (first * extent_of xs + o)
+    (get_map (λ x. first * extent_of xs + x) xs k o h)
     ∙ ap (λ (n : ℕ). Some (n * extent_of xs + o)) same
 element_of_copies first (suc count) xs (suc i) k o lt h =
     let here : List ℕ = moved (first * extent_of xs) xs in

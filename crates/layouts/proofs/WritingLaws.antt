@@ -1,5 +1,6 @@
 -- What is put at places, and what stands there afterwards.
-use Rattle.std.proofs.Common.{◌≡◌, ◌≢◌, ℕ, zero, suc, ◌<◌, ◌≤◌, Bool, true, false, ◌||◌, List, [], ◌∷◌, length, take, Some, nat_eq, slice_get, slice_set, refl, ap, ap₂, ◌∙◌, subst, arith}
+use Rattle.std.proofs.Common.{◌≡◌, ◌≢◌, ℕ, zero, suc, ◌<◌, ◌≤◌, Bool, true, false, ◌||◌, List, [], ◌∷◌, length, take}
+use Rattle.std.proofs.Common.{Some, nat_eq, slice_get, slice_set, refl, ap, ap₂, ◌∙◌, subst, arith}
 use Rattle.std.specs.Set.{is_member}
 use Rattle.std.proofs.lemmas.Bool.{eqb-false}
 use Rattle.std.proofs.lemmas.List.{length-set}
@@ -57,7 +58,8 @@ put_first p ps buffer x xs d b =
     let n = neither (is_member nat_eq ps p) (has_repeats ps) d in
     put_others ps (slice_set buffer p x) xs p (none_of_first p (length xs) ps n.0) ∙ get_set buffer p x b
 
-put_own : (at buffer values : List ℕ) (j o x : ℕ) → has_repeats at ≡ false → o < length buffer → slice_get at j ≡ Some o →
+put_own : (at buffer values : List ℕ) (j o x : ℕ) → has_repeats at ≡ false → o < length buffer →
+    slice_get at j ≡ Some o →
     slice_get values j ≡ Some x → slice_get (put_at buffer at values) o ≡ Some x
 put_own [] buffer values j o x d b p v = absurd (grind arith)
 put_own (q ∷ qs) buffer [] j o x d b p v = absurd (grind arith)
@@ -65,7 +67,8 @@ put_own (q ∷ qs) buffer (y ∷ ys) zero o x d b p v =
     let e : q ≡ o = grind arith in
     let f : y ≡ x = grind arith in
     subst (λ (z : ℕ). slice_get (put_at buffer (q ∷ qs) (y ∷ ys)) o ≡ Some z) f
-    (subst (λ (z : ℕ). slice_get (put_at buffer (q ∷ qs) (y ∷ ys)) z ≡ Some y) e (put_first q qs buffer y ys d (omega arith)))
+    (subst (λ (z : ℕ). slice_get (put_at buffer (q ∷ qs) (y ∷ ys)) z ≡ Some y) e
+    (put_first q qs buffer y ys d (omega arith)))
 put_own (q ∷ qs) buffer (y ∷ ys) (suc j) o x d b p v =
     let n = neither (is_member nat_eq qs q) (has_repeats qs) d in
     let l : length (slice_set buffer q y) ≡ length buffer = length-set buffer q y in

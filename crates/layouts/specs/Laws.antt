@@ -1,10 +1,12 @@
 -- Laws that follow from the definitions of layouts, and show that they hold together.
-use Rattle.std.specs.Prelude.{◌≡◌, ℕ, ◌+◌, ◌*◌, ◌<◌, ◌≤◌, false, List, [], ◌∷◌, ◌++◌, length, take, drop, Some, nat_eq, nat_lt, slice_get}
+use Rattle.std.specs.Prelude.{◌≡◌, ℕ, ◌+◌, ◌*◌, ◌<◌, ◌≤◌, false, List, [], ◌∷◌, ◌++◌, length, take, drop, Some, nat_eq}
+use Rattle.std.specs.Prelude.{nat_lt, slice_get}
 use Rattle.std.specs.Set.{is_member}
 use Rattle.layouts.specs.Buffers.{elements_at, put_at, room_for}
 use Rattle.layouts.specs.Layouts.{extent_of, has_repeats, places}
 
--- Element k of copy i stands i extents behind its offset, and so many places are there as all copies have elements (4.1.2)
+-- Element k of copy i stands i extents behind its offset, and so many places are there as all copies have elements
+-- (4.1.2)
 pub record StandInOrder (copies : ℕ) (offsets : List ℕ) : Type 0 where
   pub size_is : length (places copies offsets) ≡ copies * length offsets
   pub element : (i k o : ℕ) → i < copies → slice_get offsets k ≡ Some o →
@@ -16,7 +18,8 @@ ElementsStandInOrder = (copies : ℕ) (offsets : List ℕ) → StandInOrder copi
 
 -- Copies of a layout that names no place twice don't meet: then no place of all copies is named twice (4.1.11)
 abbrev pub CopiesDontMeet : Type 0
-CopiesDontMeet = (copies : ℕ) (offsets : List ℕ) → has_repeats offsets ≡ false → has_repeats (places copies offsets) ≡ false
+CopiesDontMeet = (copies : ℕ) (offsets : List ℕ) → has_repeats offsets ≡ false → has_repeats (places copies offsets) ≡
+    false
 
 -- n elements of a basic type take the first n places: a buffer is too short for them where it has fewer elements, they
 -- are its first n, and once values were put there it begins with the values and goes on as it was

@@ -20,7 +20,8 @@ lowest_of [] = 0
 lowest_of (o ∷ []) = o
 lowest_of (o ∷ p ∷ os) = min o (lowest_of (p ∷ os))
 
--- how far one copy lies from the next: from the lowest offset to the highest, both counted; 0 where there is none (4.1.7)
+-- how far one copy lies from the next: from the lowest offset to the highest, both counted; 0 where there is none
+-- (4.1.7)
 abbrev pub extent_of : List ℕ → ℕ
 extent_of [] = 0
 extent_of (o ∷ os) = highest_of (o ∷ os) + 1 - lowest_of (o ∷ os)

@@ -1,8 +1,8 @@
 //! Calls of a rank, and what their answers print.
 
-use printed_lines::OutcomeText;
 use datatypes::Buffer;
 use engine::{Answer, Call, Mode, Outcome, Receive, Region, Send, Source};
+use printed_lines::OutcomeText;
 use std::alloc::{AllocError, Global};
 use std::io;
 use vocabulary::BasicType;

@@ -3,7 +3,7 @@
 use crate::calls::{print_received, receive, send};
 use anyhow::bail;
 use engine::{Call, Reply, Request};
-use world::{Event, WorldRefusal, Stepped, World};
+use world::{Event, Stepped, World, WorldRefusal};
 
 /// One event: the datagrams that it emitted, and its place in the history.
 fn step(world: &mut World, event: Event) -> Result<Stepped, WorldRefusal> {

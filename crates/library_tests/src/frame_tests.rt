@@ -307,8 +307,8 @@ fn are_spelled(alloc: Global) -> Option<bool> {
     Some(true)
 }
 
-/// Whether a datagram stays as it is while it has an owner, though its memory was to be kept; when it is gone, a shorter and a
-/// longer one are spelled there.
+/// Whether a datagram stays as it is while it has an owner, though its memory was to be kept; when it is gone, a
+/// shorter and a longer one are spelled there.
 fn memory_is_taken_over(alloc: Global) -> Option<bool> {
     let mut drafts = Drafts::new(alloc);
     let first = spelled(alloc, &mut drafts, &LONGER_DATA)?;
@@ -326,7 +326,8 @@ fn memory_is_taken_over(alloc: Global) -> Option<bool> {
     Some(is_whole)
 }
 
-/// Whether datagrams are spelled as they were read when the memory of more than 1,024 was to be kept, and short ones have none.
+/// Whether datagrams are spelled as they were read when the memory of more than 1,024 was to be kept, and short ones
+/// have none.
 fn many_are_kept(alloc: Global) -> Option<bool> {
     let mut drafts = Drafts::new(alloc);
     let mut all = Vec::new(alloc);

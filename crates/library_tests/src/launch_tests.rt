@@ -248,8 +248,8 @@ fn has_words(
     }
 }
 
-/// The words of ranks of lines: the line, the rank and its incarnation, and its words, of which a rank that the plan lacks has
-/// none.
+/// The words of ranks of lines: the line, the rank and its incarnation, and its words, of which a rank that the plan
+/// lacks has none.
 const RANKS_OF_LINES: [(&str, (u16, u16), &str); 4] = [
     (
         "-job 5 -n 1 echo hi : -n 1 echo ho",

@@ -1,9 +1,9 @@
 //! What the launcher tells on the standard error: the word at fault, and the lines.
 
-use launch_keeper::{
-    After, ProgramEnding, EndingLine, LostKeeperLine, TakenPortsLine, UnstartedKeeperLine, Word,
-};
 use launch_diagnostics::{explain, fault_place};
+use launch_keeper::{
+    After, EndingLine, LostKeeperLine, ProgramEnding, TakenPortsLine, UnstartedKeeperLine, Word,
+};
 use shown_words::Shown;
 use std::alloc::Global;
 

@@ -1,5 +1,6 @@
 -- Why a line isn't in its language.
-use Rattle.std.specs.Prelude.{ℕ, ◌-◌, ◌==◌, Bool, true, false, not, ◌&&◌, ◌||◌, nat_lt, List, [], ◌∷◌, drop, slice_get, slice_index, codes, Option, Some, None, is_some, if◌then◌else◌}
+use Rattle.std.specs.Prelude.{ℕ, ◌-◌, ◌==◌, Bool, true, false, not, ◌&&◌, ◌||◌, nat_lt, List, [], ◌∷◌, drop, slice_get}
+use Rattle.std.specs.Prelude.{slice_index, codes, Option, Some, None, is_some, if◌then◌else◌}
 use Rattle.std.specs.List.{list_any, position}
 use Rattle.std.specs.Str.{bytes_eq}
 use Rattle.vocabulary.specs.declared.basic_type.BasicType.{BasicType}
@@ -27,7 +28,8 @@ is_odd byte = not (is_text_byte byte)
 
 abbrev pub byte_fault_at : Option ℕ → List ℕ → Option LineFault
 byte_fault_at None line = None
-byte_fault_at (Some place) line = if nat_lt 127 (slice_index line place) then Some faults.NotAscii else Some faults.NotPrintable
+byte_fault_at (Some place) line = if nat_lt 127 (slice_index line place) then Some faults.NotAscii else
+    Some faults.NotPrintable
 
 -- the fault of the first byte that is none from space to `~`, if there is one
 unfoldable pub byte_fault : List ℕ → Option LineFault
@@ -116,12 +118,14 @@ fits false = faults.UnfitWords
 
 abbrev pub script_words_fault : List Word → LineFault
 script_words_fault [] = faults.NoStatement
-script_words_fault (verb ∷ words) = if is_script_verb verb then fits (has_action_outside verb words) else faults.NoStatement
+script_words_fault (verb ∷ words) = if is_script_verb verb then fits (has_action_outside verb words) else
+    faults.NoStatement
 
 -- the words behind a rank
 abbrev pub rank_words_fault : List Word → LineFault
 rank_words_fault [] = faults.UnfitWords
-rank_words_fault (verb ∷ words) = if is_action_verb verb then fits (has_action_outside verb words) else faults.NoStatement
+rank_words_fault (verb ∷ words) = if is_action_verb verb then fits (has_action_outside verb words) else
+    faults.NoStatement
 
 abbrev pub event_words_fault : List Word → LineFault
 event_words_fault [] = faults.NoStatement

@@ -1,5 +1,5 @@
--- What a line lacks now that it is reached: the first of the names that it uses, in their order of use, that isn't set or whose
--- buffer is lent.
+-- What a line lacks now that it is reached: the first of the names that it uses, in their order of use, that isn't set
+-- or whose buffer is lent.
 use Rattle.std.specs.Prelude.{ℕ, Bool, true, false, List, [], ◌∷◌, Option, Some, None, if◌then◌else◌}
 use Rattle.statements.specs.declared.action.Action.{Action}
 use Rattle.statements.specs.declared.action.Action.TheVariants as actions
@@ -19,8 +19,8 @@ use Rattle.line_diagnostics.specs.declared.fault.LineFault.TheVariants as faults
 use Rattle.line_diagnostics.specs.declared.holder.Slot.{Slot}
 use Rattle.line_diagnostics.specs.declared.holder.Slot.TheVariants as slots
 
--- What the names of a rank stand for, as far as a line can be followed by it: which of them are set, what those of buffers stand
--- for, and of which communicators the rank is the member with a rank.
+-- What the names of a rank stand for, as far as a line can be followed by it: which of them are set, what those of
+-- buffers stand for, and of which communicators the rank is the member with a rank.
 pub record Holdings : Type 0 where
   pub communicators : List ℕ → Bool
   pub layouts : List ℕ → Bool
@@ -118,7 +118,8 @@ lacks_block h true (Some name) = lacks_buffer h name
 
 abbrev pub lacks_scatter : Holdings → Scattering → Option LineFault
 lacks_scatter h x =
-    or_else (lacks_communicator h x.communicator) (or_else (lacks_buffer h x.into) (lacks_block h (h.members x.communicator x.root) x.buffer))
+    or_else (lacks_communicator h x.communicator)
+    (or_else (lacks_buffer h x.into) (lacks_block h (h.members x.communicator x.root) x.buffer))
 
 -- ---- lines
 

@@ -25,7 +25,8 @@ gave_up speaker patience = speaker ++ (codes " gave up after " ++ decimal patien
 
 -- `SPEAKER gave up after MS ms at line L: LINE`
 abbrev pub gave_up_at : List ℕ → (patience number : ℕ) → List ℕ → List ℕ
-gave_up_at speaker patience number line = gave_up speaker patience ++ (codes " at line " ++ decimal number ++ codes ": ") ++ shown line
+gave_up_at speaker patience number line = gave_up speaker patience ++
+    (codes " at line " ++ decimal number ++ codes ": ") ++ shown line
 
 -- behind the last line
 abbrev pub gave_up_behind : List ℕ → ℕ → List ℕ

@@ -1,7 +1,7 @@
 //! What the names of a rank stand for, as far as a line can be followed by it.
 
-use tokens::Name;
 use statements::CommunicatorName;
+use tokens::Name;
 
 /// What the name of a buffer stands for.
 #[derive(Clone, Copy, Debug, PartialEq, Eq)]

@@ -1,17 +1,20 @@
 //! What a line lacks now that it is reached.
 
 ghost use Rattle.std.specs.Prelude.{◌≡◌, IfOk, Some, true};
-ghost use Rattle.line_diagnostics.specs.Lacks.{lacks_buffer, lacks_communicator, lacks_gathering, lacks_layout, lacks_message, lacks_old, lacks_place, lacks_places, lacks_block, lacks_request, lacks_requests, lacks_scatter, lacks_setting, lacks_together, lacks_two, lack_of_action, lack_of_statement};
+ghost use Rattle.line_diagnostics.specs.Lacks.{lacks_buffer, lacks_communicator, lacks_gathering, lacks_layout};
+ghost use Rattle.line_diagnostics.specs.Lacks.{lacks_message, lacks_old, lacks_place, lacks_places, lacks_block};
+ghost use Rattle.line_diagnostics.specs.Lacks.{lacks_request, lacks_requests, lacks_scatter, lacks_setting};
+ghost use Rattle.line_diagnostics.specs.Lacks.{lacks_together, lacks_two, lack_of_action, lack_of_statement};
 
 use crate::fault::LineFault;
 use crate::holder::{Holder, Slot};
-use tokens::Name;
 use script_files::ScriptStatement;
 use statements::{
-    Action, CommunicatorName, Gathering, Landing, OldLayout, Reducing, ReducingToAll, RequestName,
-    Scattering, LayoutClause,
+    Action, CommunicatorName, Gathering, Landing, LayoutClause, OldLayout, Reducing, ReducingToAll,
+    RequestName, Scattering,
 };
 use std::alloc::{AllocError, Global};
+use tokens::Name;
 
 /// The name isn't set.
 fn unset_fault(alloc: Global, name: &Name) -> Result<Option<LineFault>, AllocError>
@@ -213,7 +216,8 @@ fn lacks_gathering<H: Holder>(
     into: &Name,
     buffer: &Name,
 ) -> Result<Option<LineFault>, AllocError>
-    ensures { IfOk result (λ fault. fault ≡ lacks_gathering (H.held names.now) communicator.now sets into.now buffer.now) }
+    ensures { IfOk result
+        (λ fault. fault ≡ lacks_gathering (H.held names.now) communicator.now sets into.now buffer.now) }
 {
     if let Some(fault) = lacks_communicator(alloc, names, communicator)? {
         return Ok(Some(fault));
@@ -268,7 +272,8 @@ fn lacks_gather<H: Holder>(
     said: &Gathering,
 ) -> Result<Option<LineFault>, AllocError>
     ensures { IfOk result (λ fault. fault ≡
-        lacks_gathering (H.held names.now) said.now.communicator ((H.held names.now).members said.now.communicator said.now.root) said.now.into said.now.buffer) }
+        lacks_gathering (H.held names.now) said.now.communicator
+        ((H.held names.now).members said.now.communicator said.now.root) said.now.into said.now.buffer) }
 {
     let sets = names.is_member(&said.communicator, said.root);
     lacks_gathering(
@@ -288,7 +293,8 @@ fn lacks_reduce<H: Holder>(
     said: &Reducing,
 ) -> Result<Option<LineFault>, AllocError>
     ensures { IfOk result (λ fault. fault ≡
-        lacks_gathering (H.held names.now) said.now.communicator ((H.held names.now).members said.now.communicator said.now.root) said.now.into said.now.buffer) }
+        lacks_gathering (H.held names.now) said.now.communicator
+        ((H.held names.now).members said.now.communicator said.now.root) said.now.into said.now.buffer) }
 {
     let sets = names.is_member(&said.communicator, said.root);
     lacks_gathering(
@@ -350,9 +356,9 @@ fn lacks_together<H: Holder>(
     }
 }
 
-/// Why a rank whose names stand for this can't do what a line of a file of events or of a script asks for: the first of the
-/// names that the line uses, in its order of use, that isn't set or whose buffer is lent. None where it can. The only error
-/// is want of memory.
+/// Why a rank whose names stand for this can't do what a line of a file of events or of a script asks for: the first of
+/// the names that the line uses, in its order of use, that isn't set or whose buffer is lent. None where it can. The
+/// only error is want of memory.
 pub fn lack_of_action<H: Holder>(
     alloc: Global,
     names: &H,

@@ -1,8 +1,8 @@
 //! What is told of a faulty line: why it is faulty, and the text of the line.
 //!
-//! A reader of files answers the number of its first faulty line, and a runner of statements the number of the line that can't be
-//! followed. Why that is so is found here, from the text and from what the names of the rank stand for. The messages are this
-//! project's own.
+//! A reader of files answers the number of its first faulty line, and a runner of statements the number of the line
+//! that can't be followed. Why that is so is found here, from the text and from what the names of the rank stand for.
+//! The messages are this project's own.
 #![tactic(auto)]
 
 mod fault;

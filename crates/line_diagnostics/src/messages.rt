@@ -8,7 +8,12 @@ use shown_words::Shown;
 use std::alloc::{AllocError, Global};
 
 /// The texts one behind the other.
-fn concatenate(alloc: Global, front: &[u8], middle: &[u8], back: &[u8]) -> Result<Vec<u8>, AllocError>
+fn concatenate(
+    alloc: Global,
+    front: &[u8],
+    middle: &[u8],
+    back: &[u8],
+) -> Result<Vec<u8>, AllocError>
     ensures { IfOk result (λ text. text.items ≡ front.now ++ middle.now ++ back.now) }
 {
     let mut text = Vec::from_slice(alloc, front)?;
@@ -63,8 +68,8 @@ fn gave_up(alloc: Global, speaker: &[u8], patience: u64) -> Result<Vec<u8>, Allo
     concatenate(alloc, speaker, time.as_bytes(), b"")
 }
 
-/// `SPEAKER gave up after MS ms at line L: LINE`: the patience of this many milliseconds is over at a line of this number. The
-/// only error is want of memory.
+/// `SPEAKER gave up after MS ms at line L: LINE`: the patience of this many milliseconds is over at a line of this
+/// number. The only error is want of memory.
 pub fn gave_up_at(
     alloc: Global,
     speaker: &[u8],

@@ -3,11 +3,13 @@
 ghost use Rattle.std.specs.Prelude.{◌≡◌, ◌||◌, is_some};
 ghost use Rattle.std.specs.List.{list_any, position};
 ghost use Rattle.statements.specs.Reading.{is_star, key_of, value_of};
-ghost use Rattle.line_diagnostics.specs.Faults.{element_in, has_action_outside, has_element_outside, has_split_outside, has_tick_outside, is_colour_outside, is_integer, is_key_outside, is_out_of_range};
+ghost use Rattle.line_diagnostics.specs.Faults.{element_in, has_action_outside, has_element_outside, has_split_outside};
+ghost use Rattle.line_diagnostics.specs.Faults.{has_tick_outside, is_colour_outside, is_integer, is_key_outside};
+ghost use Rattle.line_diagnostics.specs.Faults.{is_out_of_range};
 
 use datatypes::number_of;
-use tokens::{Token, basic_type_of, is, number_up_to};
 use numerals::is_numeral;
+use tokens::{Token, basic_type_of, is, number_up_to};
 use vocabulary::BasicType;
 
 /// The greatest colour of a split (MPI 3.1, 6.4.2), as a number of 32 bits.

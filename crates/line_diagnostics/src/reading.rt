@@ -3,17 +3,19 @@
 ghost use Rattle.std.specs.Prelude.{◌≡◌, ◌-◌, IfOk, option_map, slice_get};
 ghost use Rattle.std.specs.List.{position};
 ghost use Rattle.tokens.specs.Lines.{lines_of, said_in};
-ghost use Rattle.line_diagnostics.specs.Faults.{byte_fault, event_fault, event_words_fault, fits, is_odd, line_numbered, rank_words_fault, script_fault, script_words_fault, words_said};
+ghost use Rattle.line_diagnostics.specs.Faults.{byte_fault, event_fault, event_words_fault, fits, is_odd};
+ghost use Rattle.line_diagnostics.specs.Faults.{line_numbered, rank_words_fault, script_fault, script_words_fault};
+ghost use Rattle.line_diagnostics.specs.Faults.{words_said};
 
 use crate::fault::LineFault;
 use crate::out_of_range::{has_action_outside, has_tick_outside};
 use crate::verbs::{is_action_verb, is_event_verb, is_script_verb};
-use tokens::{LineError, Token, Tokens, is, lines_of, said_in};
 use numerals::is_numeral;
 use std::alloc::{AllocError, Global};
+use tokens::{LineError, Token, Tokens, is, lines_of, said_in};
 
-/// The text of the line of this number, of which the first line has 1; none where there is no such line. The only error is want
-/// of memory.
+/// The text of the line of this number, of which the first line has 1; none where there is no such line. The only error
+/// is want of memory.
 pub fn line_at(alloc: Global, text: &[u8], number: usize) -> Result<Option<&[u8]>, AllocError>
     ensures { IfOk result (λ line. option_map (λ found. found.now) line ≡ line_numbered number (lines_of text.now)) }
 {
@@ -113,9 +115,9 @@ fn words_in(alloc: Global, line: &[u8]) -> Result<Option<Tokens>, AllocError>
     }
 }
 
-/// Why this line of a script is faulty, where `parse` finds it so: a byte that isn't printable ASCII, where the line has one;
-/// no such statement, where its first word is no statement's verb; a value outside its type, where a number of a `buf` or a
-/// `split` is one; else words that don't fit the statement. The only error is want of memory.
+/// Why this line of a script is faulty, where `parse` finds it so: a byte that isn't printable ASCII, where the line
+/// has one; no such statement, where its first word is no statement's verb; a value outside its type, where a number of
+/// a `buf` or a `split` is one; else words that don't fit the statement. The only error is want of memory.
 pub fn script_fault(alloc: Global, line: &[u8]) -> Result<LineFault, AllocError>
     ensures { IfOk result (λ fault. fault ≡ script_fault line.now) }
 {
@@ -128,8 +130,8 @@ pub fn script_fault(alloc: Global, line: &[u8]) -> Result<LineFault, AllocError>
     }
 }
 
-/// Why this line of a file of events is faulty, by the rules of `script_fault`: the statement of a rank stands behind the rank, and
-/// the time of a `tick` is a number with a type too.
+/// Why this line of a file of events is faulty, by the rules of `script_fault`: the statement of a rank stands behind
+/// the rank, and the time of a `tick` is a number with a type too.
 pub fn event_fault(alloc: Global, line: &[u8]) -> Result<LineFault, AllocError>
     ensures { IfOk result (λ fault. fault ≡ event_fault line.now) }
 {

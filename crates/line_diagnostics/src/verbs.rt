@@ -1,7 +1,8 @@
 //! Which words are verbs of statements.
 
 ghost use Rattle.std.specs.Prelude.{◌≡◌};
-ghost use Rattle.line_diagnostics.specs.Faults.{is_action_verb, is_communicator_verb, is_event_verb, is_only_script_verb, is_script_verb};
+ghost use Rattle.line_diagnostics.specs.Faults.{is_action_verb, is_communicator_verb, is_event_verb};
+ghost use Rattle.line_diagnostics.specs.Faults.{is_only_script_verb, is_script_verb};
 
 use tokens::is;
 

@@ -16,8 +16,8 @@ const RESET: [u8; 32] = [
     0, 0, 0, 0,
 ];
 
-/// An acknowledgement of job 1 from rank 0 to a rank, of the frames below a number, which tells that those are held behind it
-/// which the bits of another number stand for.
+/// An acknowledgement of job 1 from rank 0 to a rank, of the frames below a number, which tells that those are held
+/// behind it which the bits of another number stand for.
 fn said(rank: u16, sequence: u64, held: u64) -> Acknowledgement {
     let target = Endpoint {
         rank,

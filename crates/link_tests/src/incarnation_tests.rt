@@ -43,8 +43,8 @@ fn judge_both(peers: &Peers) -> (Judged, Judged) {
     (peers.judge(former), peers.judge(later))
 }
 
-/// What is known of both ranks, and how datagrams of both incarnations of rank 1 are judged, before rank 1 is learnt at its
-/// later incarnation, then, and after a try to learn it at its former one.
+/// What is known of both ranks, and how datagrams of both incarnations of rank 1 are judged, before rank 1 is learnt at
+/// its later incarnation, then, and after a try to learn it at its former one.
 fn learn_later(alloc: Global) -> Option<([(Judged, Judged); 3], [(u16, u16); 3])> {
     let mut peers = Peers::new(alloc, place(endpoint(0, 0))).ok()?;
     let first = (peers.known(0), peers.known(1));
@@ -107,12 +107,27 @@ fn the_first_broken_rule_is_answered(rt: HostRuntime) {
     let foreign = Header { job: 2, ..stale };
     for (header, fault) in [
         (foreign, IncarnationRefusal::ForeignJob),
-        (header(endpoint(1, 0), endpoint(1, 0)), IncarnationRefusal::NotForMe),
-        (header(endpoint(1, 0), endpoint(0, 2)), IncarnationRefusal::NotForMe),
-        (header(endpoint(0, 0), endpoint(0, 0)), IncarnationRefusal::NotForMe),
-        (header(endpoint(2, 0), endpoint(0, 0)), IncarnationRefusal::NotForMe),
+        (
+            header(endpoint(1, 0), endpoint(1, 0)),
+            IncarnationRefusal::NotForMe,
+        ),
+        (
+            header(endpoint(1, 0), endpoint(0, 2)),
+            IncarnationRefusal::NotForMe,
+        ),
+        (
+            header(endpoint(0, 0), endpoint(0, 0)),
+            IncarnationRefusal::NotForMe,
+        ),
+        (
+            header(endpoint(2, 0), endpoint(0, 0)),
+            IncarnationRefusal::NotForMe,
+        ),
         (stale, IncarnationRefusal::StaleSource),
-        (header(endpoint(1, 2), endpoint(0, 0)), IncarnationRefusal::StaleTarget),
+        (
+            header(endpoint(1, 2), endpoint(0, 0)),
+            IncarnationRefusal::StaleTarget,
+        ),
     ] {
         assert_eq!(rt; judged(rt.alloc(), header), Some(Err(fault)));
     }

@@ -40,7 +40,8 @@ fn would_enter(sender: &Sender, number: u64) -> Option<(u64, u64)> {
     Some((entering.start, entering.end))
 }
 
-/// How many of 64 frames came into the window, what became of the 65th, whether there is a number left, and the next number.
+/// How many of 64 frames came into the window, what became of the 65th, whether there is a number left, and the next
+/// number.
 fn fill_beyond(alloc: Global, sender: &mut Sender) -> (u64, Option<Option<u64>>, bool, u64) {
     let entered = fill(alloc, sender);
     let last = accepted(alloc, sender, 64);
@@ -63,8 +64,8 @@ fn the_65th_frame_waits(rt: HostRuntime) {
 
 type Entered = Result<(u64, u64), LinkRefusal>;
 
-/// What an acknowledgement beyond the window, of the first frame, of it again and of all bring into the window, and whether
-/// nothing is left then.
+/// What an acknowledgement beyond the window, of the first frame, of it again and of all bring into the window, and
+/// whether nothing is left then.
 fn acknowledge(alloc: Global, sender: &mut Sender) -> ([Entered; 4], bool, u64) {
     let _filled = fill_beyond(alloc, sender);
     let entered = [
@@ -195,8 +196,9 @@ fn a_new_session_begins_with_number_0(rt: HostRuntime) {
     );
 }
 
-/// Whether just these frames are due at 20 ms: the one whose bit is clear where three were sent at 0 ms and the receiver holds two,
-/// none where it holds them all but the first and that one was acknowledged, and the next one where it is told that it isn't held.
+/// Whether just these frames are due at 20 ms: the one whose bit is clear where three were sent at 0 ms and the
+/// receiver holds two, none where it holds them all but the first and that one was acknowledged, and the next one where
+/// it is told that it isn't held.
 fn marked(alloc: Global, sender: &mut Sender) -> ([Option<LinkRefusal>; 3], [bool; 3]) {
     for number in 0..3u8 {
         let _entered = accepted(alloc, sender, number);
@@ -219,8 +221,8 @@ fn frames_that_are_held_are_not_sent_again(rt: HostRuntime) {
     );
 }
 
-/// The next session of a sender that has a frame, with its places: whether it is empty, its clock, and what comes into its
-/// window first.
+/// The next session of a sender that has a frame, with its places: whether it is empty, its clock, and what comes into
+/// its window first.
 fn renewed(alloc: Global, mut sender: Sender) -> (bool, u64, Option<Option<u64>>) {
     let _first = accepted(alloc, &mut sender, 0);
     let _clock = mark(&mut sender, 7);
@@ -302,7 +304,8 @@ fn is_ready(receiver: &Receiver, bytes: &[u8]) -> bool {
     }
 }
 
-/// What is told of the frames 1 and 2 that came early, once they came, once frame 0 came too, and once frame 1 is handed up.
+/// What is told of the frames 1 and 2 that came early, once they came, once frame 0 came too, and once frame 1 is
+/// handed up.
 fn told(receiver: &mut Receiver) -> [u64; 4] {
     let _second = receiver.on_frame(2, b"2");
     let _first = receiver.on_frame(1, b"1");

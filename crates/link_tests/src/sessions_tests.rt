@@ -341,8 +341,8 @@ fn following(sessions: &Sessions, source: Endpoint) -> Option<usize> {
     }
 }
 
-/// What two frames hand up that come in the wrong order, and how many bytes follow before the first one, behind it, and once
-/// what is held was given up.
+/// What two frames hand up that come in the wrong order, and how many bytes follow before the first one, behind it, and
+/// once what is held was given up.
 fn turned_round(ranks: &mut [Sessions]) -> Option<(HandedUp, [Option<usize>; 3])> {
     let [a, b] = ranks else {
         return None;
@@ -376,8 +376,8 @@ fn a_frame_that_comes_early_follows_in_its_turn(rt: HostRuntime) {
     );
 }
 
-/// How many datagrams go out three times in turn: the first list is given back when it was taken out, the second one when the
-/// next frames have gone out.
+/// How many datagrams go out three times in turn: the first list is given back when it was taken out, the second one
+/// when the next frames have gone out.
 fn emitted_in_turn(sessions: &mut Sessions) -> (usize, usize, usize) {
     let _sent = send_both(sessions, 1, 2, b"a");
     let first = sessions.take_out();

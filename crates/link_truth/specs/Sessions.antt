@@ -1,5 +1,6 @@
 -- What the sessions of a rank hold of the links.
-use Rattle.std.specs.Prelude.{◌≡◌, ℕ, ◌+◌, ◌<◌, ◌≤◌, ◌^◌, Bool, false, ◌&&◌, not, List, [], Some, map, drop, length, ◌==◌, nat_lt, slice_get, slice_index}
+use Rattle.std.specs.Prelude.{◌≡◌, ℕ, ◌+◌, ◌<◌, ◌≤◌, ◌^◌, Bool, false, ◌&&◌, not, List, [], Some, map, drop, length}
+use Rattle.std.specs.Prelude.{◌==◌, nat_lt, slice_get, slice_index}
 use Rattle.std.specs.List.{AllByRecursion}
 use Rattle.vocabulary.specs.declared.endpoint.Endpoint.{Endpoint}
 use Rattle.reliable_link.specs.declared.out_frame.OutFrame.{OutFrame}
@@ -38,7 +39,8 @@ pub record ReceiverTells (n : ℕ) (s d : Endpoint) (receiver : ReceiverState) (
   pub next : receiver.next ≡ link.handed
   pub few : length receiver.held ≤ 64
   pub held :
-      (place : ℕ) (bytes : List ℕ) → held_at receiver.held place ≡ Some bytes → IsHeldOf n s d (receiver.next + place) link bytes
+      (place : ℕ) (bytes : List ℕ) → held_at receiver.held place ≡ Some bytes →
+      IsHeldOf n s d (receiver.next + place) link bytes
 
 -- The session of an endpoint with rank x, which it knows at incarnation k; those with later incarnations of x have not
 -- begun

@@ -10,10 +10,11 @@ use Rattle.link_truth.specs.Wire.{place_of, wire}
 pub data Tells (n : ℕ) (s d : Endpoint) (links : Links) (bytes : List ℕ) : Type 0 where
   -- the frame that was accepted under this number
   TellsFrame :
-      (number : ℕ) (frame : FrameText) → slice_get (links s d).accepted number ≡ Some frame → bytes ≡ wire n s d number frame →
+      (number : ℕ) (frame : FrameText) → slice_get (links s d).accepted number ≡ Some frame →
+      bytes ≡ wire n s d number frame →
       Tells n s d links bytes
-  -- that so many were handed up; which of those behind them are held is forgotten again when a session starts anew, so of that
-  -- nothing is told for ever
+  -- that so many were handed up; which of those behind them are held is forgotten again when a session starts anew, so
+  -- of that nothing is told for ever
   TellsAck :
       (number held : ℕ) → number ≤ (links d s).handed → held % 2 ≡ 0 → held < 2 ^ 64 →
       bytes ≡ ack_bytes (place_of n s) d number held → Tells n s d links bytes

@@ -9,8 +9,10 @@ use Rattle.link_truth.specs.Sessions.{SessionsTell, IsLink, is_pair}
 use Rattle.link_truth.specs.Told.{IsTold}
 use Rattle.link_truth.specs.Witness.{AreHeldEmitted, IsWitnessed}
 
--- the sessions of each rank hold what the links carried, and datagrams tell of it; `current` is the incarnation of each rank
-pub record AreTrue (n : ℕ) (sessions : List SessionsState) (datagrams : List (ℕ × List ℕ)) (links : Links) (current : ℕ → ℕ)
+-- the sessions of each rank hold what the links carried, and datagrams tell of it; `current` is the incarnation of each
+-- rank
+pub record AreTrue (n : ℕ) (sessions : List SessionsState) (datagrams : List (ℕ × List ℕ)) (links : Links)
+    (current : ℕ → ℕ)
     : Type 0 where
   pub count : length sessions ≡ n
   pub few : n ≤ 1024

@@ -35,5 +35,6 @@ pub record IsWitnessed (n : ℕ) (datagrams : List (ℕ × List ℕ)) (s d : End
 -- whatever rank r holds of the frames of others, until its turn comes, was emitted to it
 abbrev pub AreHeldEmitted : (n : ℕ) → List (ℕ × List ℕ) → (r : ℕ) → SessionsState → Type 0
 AreHeldEmitted n datagrams r own =
-    (x place : ℕ) (bytes : List ℕ) → x < n → (x == r) ≡ false → held_at (peer_at own.peers x).receiver.held place ≡ Some bytes →
+    (x place : ℕ) (bytes : List ℕ) → x < n → (x == r) ≡ false → held_at (peer_at own.peers x).receiver.held place ≡
+    Some bytes →
     IsAmong datagrams (r, bytes)

@@ -1,2 +1,3 @@
-//! What datagrams and sessions tell of the links between endpoints: to be read and believed, since the headline's words stand on it.
+//! What datagrams and sessions tell of the links between endpoints: to be read and believed, since the headline's words
+//! stand on it.
 #![tactic(auto)]

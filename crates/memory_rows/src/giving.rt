@@ -1,4 +1,5 @@
-//! Gives the steps of a row to a world. An event that is refused with 14 is given again, once it was seen that nothing changed.
+//! Gives the steps of a row to a world. An event that is refused with 14 is given again, once it was seen that nothing
+//! changed.
 
 ghost use Rattle.std.specs.Prelude.{◌≡◌};
 ghost use Rattle.memory_rows.specs.declared.giving.Fault.TheVariants.{Output};
@@ -12,7 +13,7 @@ use simulation::{
 use std::alloc::Global;
 use std::io;
 use std::io::Write;
-use world::{HistoryEntry, Event, Failed, Stepped, World};
+use world::{Event, Failed, HistoryEntry, Stepped, World};
 
 /// How often a thing is tried for which memory was wanting.
 const TRIES: u8 = 3;

@@ -1,7 +1,7 @@
-//! Runs worked rows as lists of events, and prints what each event answers, as `mpisim` prints it. An event that is refused for want of
-//! memory (14) is told in a line that begins with `#`, all that can be seen of the world is compared with what it was before, and the
-//! event that came back is given again. So, whichever request for memory is refused (see tools/refused_memory), each event gives the
-//! answer that it gives with ample memory.
+//! Runs worked rows as lists of events, and prints what each event answers, as `mpisim` prints it. An event that is
+//! refused for want of memory (14) is told in a line that begins with `#`, all that can be seen of the world is
+//! compared with what it was before, and the event that came back is given again. So, whichever request for memory is
+//! refused (see tools/refused_memory), each event gives the answer that it gives with ample memory.
 //!
 //! Status 0; 1 where a refusal changed something, or memory was wanting three times in turn; 3 where the output fails.
 #![tactic(auto)]

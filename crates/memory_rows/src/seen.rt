@@ -1,7 +1,7 @@
 //! What can be seen of a world.
 
 use seen_sums::Sum;
-use world::{HistoryEntry, Event, World};
+use world::{Event, HistoryEntry, World};
 
 /// What can be seen of a world: its history, its datagrams, and whether it is quiet. It takes no memory.
 #[derive(Clone, Copy, Debug, PartialEq, Eq)]

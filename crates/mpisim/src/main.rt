@@ -49,7 +49,8 @@ fn tell_unread(rt: &impl Eprint, name: &str) -> u8 {
     status
 }
 
-/// Why the line of this number is faulty: as it was found when it was reached, or else since it is no line of a file of events.
+/// Why the line of this number is faulty: as it was found when it was reached, or else since it is no line of a file of
+/// events.
 fn told_of(alloc: Global, text: &[u8], number: usize, fault: Option<LineFault>) -> Option<Vec<u8>> {
     let line = line_at(alloc, text, number).ok()?.unwrap_or(b"");
     let fault = match fault {

@@ -1,5 +1,5 @@
-//! Three ranks in the middle of traffic: by chance one calls, a datagram comes to one, a clock goes on, or one is started anew. All that
-//! they emitted may come at any time, again and again, or never.
+//! Three ranks in the middle of traffic: by chance one calls, a datagram comes to one, a clock goes on, or one is
+//! started anew. All that they emitted may come at any time, again and again, or never.
 
 use crate::calls::call;
 use crate::chance::Chance;

@@ -1,10 +1,10 @@
-//! Datagrams that were mutated come to a rank in the middle of traffic: bits are flipped, two are spliced, lengths and fields are others,
-//! and all have the job's number, or had it. Each is taken or refused, and what is refused changes nothing: an engine beside it, which
-//! gets only what was taken, shows the same in all that follows.
+//! Datagrams that were mutated come to a rank in the middle of traffic: bits are flipped, two are spliced, lengths and
+//! fields are others, and all have the job's number, or had it. Each is taken or refused, and what is refused changes
+//! nothing: an engine beside it, which gets only what was taken, shows the same in all that follows.
 //!
-//! `mutated_datagrams COUNT SEED [counts]`: how many mutated datagrams come, and where chance begins. Prints whether some were taken and
-//! by which numbers some were refused, with `counts` how many. Status 0, 1 where an engine showed otherwise than it is to or memory was
-//! wanting, and 2 where the words aren't these.
+//! `mutated_datagrams COUNT SEED [counts]`: how many mutated datagrams come, and where chance begins. Prints whether
+//! some were taken and by which numbers some were refused, with `counts` how many. Status 0, 1 where an engine showed
+//! otherwise than it is to or memory was wanting, and 2 where the words aren't these.
 #![tactic(auto)]
 
 mod calls;

@@ -55,7 +55,8 @@ fn is_reset_for(reset: &[u8], struck: &[u8]) -> bool {
     }
 }
 
-/// Whether this may go out behind a refusal: a reset behind 29, but for one that was meant for a former incarnation, else nothing.
+/// Whether this may go out behind a refusal: a reset behind 29, but for one that was meant for a former incarnation,
+/// else nothing.
 fn may_go_out(number: u8, struck: &[u8], emitted: &[(u16, Bytes)]) -> bool {
     match emitted {
         [] => number != 29 || struck.get(5) == Some(&3),

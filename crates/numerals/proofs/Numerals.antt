@@ -1,5 +1,6 @@
 -- Numerals: what `decimal` writes, and what is read of it.
-use Rattle.std.proofs.Common.{◌≡◌, ℕ, zero, suc, ◌<◌, ◌≤◌, ◌^◌, Bool, true, false, cond, eqb, leb, ltb, List, length, get_or, Some, None, Result, Ok, Err, refl, sym, ap, subst, arith}
+use Rattle.std.proofs.Common.{◌≡◌, ℕ, zero, suc, ◌<◌, ◌≤◌, ◌^◌, Bool, true, false, cond, eqb, leb, ltb, List, length}
+use Rattle.std.proofs.Common.{get_or, Some, None, Result, Ok, Err, refl, sym, ap, subst, arith}
 use Rattle.std.specs.Prelude.{◌&&◌}
 use Rattle.std.specs.Option.{SomeIff}
 use Rattle.std.specs.Result.{OkIff, result_ok}
@@ -9,7 +10,8 @@ use Rattle.std.specs.Fmt.{decimal}
 use Rattle.std.proofs.lemmas.Bool.{eqb-true, eq-eqb, ltb-false, leb-true, le-leb, le-ltb, false≢true}
 use Rattle.std.proofs.lemmas.Str.{IsUtf8-from_ascii}
 use Rattle.std.proofs.lemmas.Str.Parse.{IsNumeralModel, numerals_by_value, tells_all_ascii_digits, parse_digits}
-use Rattle.std.proofs.lemmas.Fmt.{IsAscii-from_digits, decimal-digits_value, digits_decimal, digits_value-decimal, decimal_nonempty, first_decimal, decimal_digit}
+use Rattle.std.proofs.lemmas.Fmt.{IsAscii-from_digits, decimal-digits_value, digits_decimal, digits_value-decimal}
+use Rattle.std.proofs.lemmas.Fmt.{decimal_nonempty, first_decimal, decimal_digit}
 use Rattle.numerals.specs.Numbers.{is_numeral, number_between}
 
 pub own : IsNumeralModel (λ ds. all_ascii_digits ds ≡ true) (digits_value 10)
@@ -20,7 +22,8 @@ pub record HasDigits (word : List ℕ) : Type 0 where
   pub digits : all_ascii_digits word ≡ true
   pub plain : get_or word 0 0 ≡ 48 → length word ≡ 1
 
-chain : (empty lead rest : Bool) → cond empty false (cond lead false rest) ≡ true → (empty ≡ false) × (lead ≡ false) × (rest ≡ true)
+chain : (empty lead rest : Bool) → cond empty false (cond lead false rest) ≡ true → (empty ≡ false) × (lead ≡ false) ×
+    (rest ≡ true)
 chain true lead rest e = absurd cc
 chain false true rest e = absurd cc
 chain false false rest e = (refl, refl, e)
@@ -46,19 +49,23 @@ numeral_parts word e =
 pub is_text : (word : List ℕ) → is_numeral word ≡ true → IsUtf8 word
 is_text word e = IsUtf8-from_ascii word (IsAscii-from_digits word (own.to word (numeral_parts word e).digits))
 
-some_iff : {E : Type 0} (r : Result ℕ E) (long small : Type 0) (v : ℕ) → long → OkIff r (long × small) v → SomeIff (result_ok r) small v
+some_iff : {E : Type 0} (r : Result ℕ E) (long small : Type 0) (v : ℕ) → long → OkIff r (long × small) v →
+    SomeIff (result_ok r) small v
 some_iff (Ok x) long small v h p = (p.0.1, p.1)
 some_iff (Err e) long small v h p = λ s. p (h, s)
 
-pub parsed : {E : Type 0} (word text : List ℕ) (r : Result ℕ E) → is_numeral word ≡ true → text ≡ word → ParsesUnsigned 64 10 text r → SomeIff (result_ok r) (digits_value 10 word < 2 ^ 64) (digits_value 10 word)
+pub parsed : {E : Type 0} (word text : List ℕ) (r : Result ℕ E) → is_numeral word ≡ true → text ≡ word →
+    ParsesUnsigned 64 10 text r → SomeIff (result_ok r) (digits_value 10 word < 2 ^ 64) (digits_value 10 word)
 parsed word text r e same h =
     let p = numeral_parts word e in
     let there : ParsesUnsigned 64 10 word r = subst (λ (t : List ℕ). ParsesUnsigned 64 10 t r) same h in
-    some_iff r (0 < length word) (digits_value 10 word < 2 ^ 64) (digits_value 10 word) p.some (parse_digits own 64 word r there p.digits)
+    some_iff r (0 < length word) (digits_value 10 word < 2 ^ 64) (digits_value 10 word) p.some
+    (parse_digits own 64 word r there p.digits)
 
 -- ---- a number and its one word
 
-choose : {A : Type 0} (a b c : Bool) (v n : A) → cond (a && (b && c)) (Some v) None ≡ Some n → (a ≡ true) × (b ≡ true) × (c ≡ true) × (v ≡ n)
+choose : {A : Type 0} (a b c : Bool) (v n : A) → cond (a && (b && c)) (Some v) None ≡ Some n →
+    (a ≡ true) × (b ≡ true) × (c ≡ true) × (v ≡ n)
 choose true true true v n e = (refl, refl, refl, cc)
 choose true true false v n e = absurd cc
 choose true false c v n e = absurd cc
@@ -70,7 +77,8 @@ pub record Spells (word : List ℕ) (low high n : ℕ) : Type 0 where
   pub least : low ≤ n
   pub most : n ≤ high
 
-pub number_takes : (word : List ℕ) (low high n : ℕ) → high < 2 ^ 64 → number_between word low high ≡ Some n → Spells word low high n
+pub number_takes : (word : List ℕ) (low high n : ℕ) → high < 2 ^ 64 → number_between word low high ≡ Some n →
+    Spells word low high n
 unfolding number_between
 number_takes word low high n fits e =
     let v = digits_value 10 word in
@@ -81,7 +89,8 @@ number_takes word low high n fits e =
     let there : Spells word low high v = record { spelled = sym (decimal-digits_value own word h.digits h.some h.plain (omega arith)); least = least; most = most } in
     subst (λ (m : ℕ). Spells word low high m) p.3 there
 
-pass : (empty lead rest : Bool) → empty ≡ false → lead ≡ false → rest ≡ true → cond empty false (cond lead false rest) ≡ true
+pass : (empty lead rest : Bool) → empty ≡ false → lead ≡ false → rest ≡ true → cond empty false (cond lead false rest) ≡
+    true
 pass true lead rest e f h = absurd (false≢true (sym e))
 pass false true rest e f h = absurd (false≢true (sym f))
 pass false false rest e f h = h
@@ -99,14 +108,17 @@ no_lead first n false e plain = refl
 
 numeral_from : (word : List ℕ) → HasDigits word → is_numeral word ≡ true
 numeral_from word h =
-    pass (eqb (length word) 0) (eqb (get_or word 0 0) 48 && ltb 1 (length word)) (all_ascii_digits word) (nonzero (length word) h.some) (no_lead (get_or word 0 0) (length word) (eqb (get_or word 0 0) 48) refl h.plain) h.digits
+    pass (eqb (length word) 0) (eqb (get_or word 0 0) 48 && ltb 1 (length word)) (all_ascii_digits word)
+    (nonzero (length word) h.some) (no_lead (get_or word 0 0) (length word) (eqb (get_or word 0 0) 48) refl h.plain)
+    h.digits
 
 first_plain : (n : ℕ) → n < 2 ^ 64 → get_or (decimal n) 0 0 ≡ 48 → length (decimal n) ≡ 1
 first_plain zero fits e = ap length (decimal_digit 0 (omega arith))
 first_plain (suc n) fits e = absurd (omega (arith, first_decimal (suc n) (omega arith) fits))
 
 pub decimal_is : (n : ℕ) → n < 2 ^ 64 → HasDigits (decimal n)
-decimal_is n fits = record { some = decimal_nonempty n fits; digits = digits_decimal own n fits; plain = first_plain n fits }
+decimal_is n fits =
+    record { some = decimal_nonempty n fits; digits = digits_decimal own n fits; plain = first_plain n fits }
 
 pub number_again : (low high n : ℕ) → high < 2 ^ 64 → low ≤ n → n ≤ high → number_between (decimal n) low high ≡ Some n
 unfolding number_between

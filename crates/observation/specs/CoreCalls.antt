@@ -1,5 +1,6 @@
 -- What the machine of perfect queues sees of a rank's calls, replies and outcomes.
-use Rattle.std.specs.Prelude.{ℕ, Bool, false, not, ◌&&◌, List, [], ◌∷◌, Option, Some, None, if◌then◌else◌, ◌==◌, map, option_map}
+use Rattle.std.specs.Prelude.{ℕ, Bool, false, not, ◌&&◌, List, [], ◌∷◌, Option, Some, None, if◌then◌else◌, ◌==◌, map}
+use Rattle.std.specs.Prelude.{option_map}
 use Rattle.std.specs.List.{list_any}
 use Rattle.vocabulary.specs.declared.endpoint.Endpoint.{Endpoint}
 use Rattle.vocabulary.specs.declared.envelope.Status.{Status}
@@ -106,7 +107,8 @@ has_serial serial (Some t) = t.serial == serial
 abbrev pub is_foreign : (slots : List (Option table.TableEntry)) → Request → Bool
 is_foreign slots q = list_any (has_serial q.serial) slots && not (has_serial q.serial (slot_at slots q.key))
 
--- the serial that a request stands for at a rank: its own; that of another engine's is the next one, which no request has
+-- the serial that a request stands for at a rank: its own; that of another engine's is the next one, which no request
+-- has
 abbrev pub serial_meant : CoreState → Request → ℕ
 serial_meant c q = if is_foreign c.slots q then c.serial else q.serial
 
@@ -125,7 +127,8 @@ told_call e call (Some (replies.Started q)) = Called e (call_seen call) (machine
 told_call e call (Some (replies.Done a)) = Called e (call_seen call) (machine.Done (answer_seen a)) ∷ []
 told_call e call (Some replies.Pending) = Called e (call_seen call) machine.Pending ∷ []
 told_call e call (Some replies.Accepted) = Called e (call_seen call) machine.Accepted ∷ []
-told_call e call (Some (replies.Matched found)) = Called e (call_seen call) (machine.Done (completions.ForMatch (match_seen found))) ∷ []
+told_call e call (Some (replies.Matched found)) =
+    Called e (call_seen call) (machine.Done (completions.ForMatch (match_seen found))) ∷ []
 told_call e call (Some replies.Blocked) = Called e (call_seen call) machine.Blocked ∷ []
 told_call e call (Some (replies.Refused why back)) = []
 

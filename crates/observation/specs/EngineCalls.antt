@@ -10,7 +10,8 @@ use Rattle.engine_calls.specs.declared.reply.Completion.{Completion}
 use Rattle.engine_calls.specs.declared.reply.Completion.TheVariants as completions
 use Rattle.engine_calls.specs.declared.reply.Reply as engine_replies
 use Rattle.engine_calls.specs.declared.reply.Reply.TheVariants as replies
-use Rattle.perfect_groups.specs.Calls.{ByCollective, ByRequests, Call, Cancel, Enter, Improbe, Inquire, Iprobe, Irecv, Isend, Mrecv, OfCollective, OfFact, OfRequests, Test, Wait}
+use Rattle.perfect_groups.specs.Calls.{ByCollective, ByRequests, Call, Cancel, Enter, Improbe, Inquire, Iprobe, Irecv}
+use Rattle.perfect_groups.specs.Calls.{Isend, Mrecv, OfCollective, OfFact, OfRequests, Test, Wait}
 use Rattle.perfect_groups.specs.Events.{Called, Completed, Entry}
 use Rattle.perfect_queues.specs.Calls as queues
 use Rattle.perfect_queues.specs.Completions.{ForMatch, ForProbe}
@@ -51,8 +52,10 @@ told_call e call (Some (replies.Started q)) = Called e (call_seen call) (OfReque
 told_call e call (Some (replies.Done a)) = Called e (call_seen call) (OfRequests (queues.Done (answer_seen a))) ∷ []
 told_call e call (Some replies.Pending) = Called e (call_seen call) (OfRequests queues.Pending) ∷ []
 told_call e call (Some replies.Accepted) = Called e (call_seen call) (OfRequests queues.Accepted) ∷ []
-told_call e call (Some (replies.Probed found)) = Called e (call_seen call) (OfRequests (queues.Done (ForProbe found))) ∷ []
-told_call e call (Some (replies.Matched found)) = Called e (call_seen call) (OfRequests (queues.Done (ForMatch (match_seen found)))) ∷ []
+told_call e call (Some (replies.Probed found)) = Called e (call_seen call) (OfRequests (queues.Done (ForProbe found))) ∷
+    []
+told_call e call (Some (replies.Matched found)) =
+    Called e (call_seen call) (OfRequests (queues.Done (ForMatch (match_seen found)))) ∷ []
 told_call e call (Some replies.Blocked) = Called e (call_seen call) (OfRequests queues.Blocked) ∷ []
 told_call e call (Some (replies.Left o)) = Called e (call_seen call) (OfCollective (ending_is o)) ∷ []
 told_call e call (Some (replies.Fact f)) = Called e (call_seen call) (OfFact (fact_said f)) ∷ []

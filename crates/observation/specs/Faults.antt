@@ -26,7 +26,8 @@ pub record IsFaultless (found : Option ℕ) (c : CoreState) (call : Call) : Type
   pub own : call_meant c call ≡ call_seen call
   pub none : found ≡ None
 
--- the engine at an endpoint answers a probe, which is this one in the machine, with none: one that looks, or one that takes out
+-- the engine at an endpoint answers a probe, which is this one in the machine, with none: one that looks, or one that
+-- takes out
 pub data AnswersNone (engines : List EngineState) (x : Endpoint) (q : receives.Probe) : Type 0 where
   LooksInVain :
       (r : ℕ) (e mid : EngineState) (p : Probe) → slice_get engines r ≡ Some e → e.sessions.place.endpoint ≡ x →

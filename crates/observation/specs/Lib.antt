@@ -1,4 +1,5 @@
--- To be read and believed: what a call, a reply and a completion of an engine are to the machine, and why a call is refused.
+-- To be read and believed: what a call, a reply and a completion of an engine are to the machine, and why a call is
+-- refused.
 pub mod CoreCalls
 pub mod EngineCalls
 pub mod Endings

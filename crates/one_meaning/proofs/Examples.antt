@@ -1,5 +1,6 @@
 -- The one meaning of small scripts, by one way that their ranks may go.
-use Rattle.std.proofs.Common.{◌≡◌, ℕ, zero, suc, ◌<◌, Bool, true, false, List, [], ◌∷◌, length, map, Option, Some, None, if◌then◌else◌, ◌==◌, refl, sym, ap, subst, arith}
+use Rattle.std.proofs.Common.{◌≡◌, ℕ, zero, suc, ◌<◌, Bool, true, false, List, [], ◌∷◌, length, map, Option, Some, None}
+use Rattle.std.proofs.Common.{if◌then◌else◌, ◌==◌, refl, sym, ap, subst, arith}
 use Rattle.std.proofs.lemmas.Bool.{eqb-true, le-leb}
 use Rattle.layouts.specs.Layouts.{copies_at}
 use Rattle.perfect_groups.specs.Calls.{OfCollective, OfRequests, receive_on}
@@ -18,8 +19,11 @@ use Rattle.reductions.specs.declared.operation.Op.TheVariants.{Sum}
 use Rattle.vocabulary.specs.declared.basic_type.BasicType.TheVariants.{Int32}
 use Rattle.vocabulary.specs.declared.envelope.Source.TheVariants.{Rank}
 use Rattle.one_meaning.specs.Accounts.{Account, ForRequests, InCollective, opened}
-use Rattle.one_meaning.specs.Courses.{AreDone, AreMeant, Course, Courses, Lead, Refused, Replied, Told, at_start, goes_on, with_course}
-use Rattle.one_meaning.specs.Examples.{Script, by_rank, by_tags, deadlock, in_order, meaning, next_of, numbers, on_copies, ping_pong, printed, prints, receives, receives_on, refused, sends, sends_on, sums, waits}
+use Rattle.one_meaning.specs.Courses.{AreDone, AreMeant, Course, Courses, Lead, Refused, Replied, Told, at_start}
+use Rattle.one_meaning.specs.Courses.{goes_on, with_course}
+use Rattle.one_meaning.specs.Examples.{Script, by_rank, by_tags, deadlock, in_order, meaning, next_of, numbers}
+use Rattle.one_meaning.specs.Examples.{on_copies, ping_pong, printed, prints, receives, receives_on, refused, sends}
+use Rattle.one_meaning.specs.Examples.{sends_on, sums, waits}
 use Rattle.one_meaning.specs.Turns.{Falls, one_meaning}
 use Rattle.one_meaning.proofs.Courses.{Leads, ends_are_one}
 use Rattle.one_meaning.proofs.Turning.{comes_to_the_end}
@@ -30,10 +34,12 @@ falls : Falls next_of length
 falls [] t h = absurd (h 0 refl)
 falls (f ∷ fs) t h = omega arith
 
-by_way : (scripts : List Script) (end : Courses Script) → AreMeant next_of (length scripts) (by_rank scripts) end → meaning scripts ≡ printed (length scripts) end
+by_way : (scripts : List Script) (end : Courses Script) → AreMeant next_of (length scripts) (by_rank scripts) end →
+    meaning scripts ≡ printed (length scripts) end
 by_way scripts end meant =
     ap (printed (length scripts))
-    (ends_are_one next_of (length scripts) (by_rank scripts) (one_meaning next_of length (length scripts) (by_rank scripts)) end
+    (ends_are_one next_of (length scripts) (by_rank scripts)
+    (one_meaning next_of length (length scripts) (by_rank scripts)) end
     (comes_to_the_end next_of length falls (length scripts) (by_rank scripts)) meant)
 
 -- TWO RANKS
@@ -48,13 +54,16 @@ two a b zero = a
 two a b (suc zero) = b
 two a b (suc (suc r)) = beyond (suc (suc r))
 
-two_start : (a b : Script) → at_start 2 (by_rank (a ∷ b ∷ [])) ≡ two (at_start 2 (by_rank (a ∷ b ∷ [])) 0) (at_start 2 (by_rank (a ∷ b ∷ [])) 1)
+two_start : (a b : Script) → at_start 2 (by_rank (a ∷ b ∷ [])) ≡
+    two (at_start 2 (by_rank (a ∷ b ∷ [])) 0) (at_start 2 (by_rank (a ∷ b ∷ [])) 1)
 two_start a b = λ i r. at_rank r i
   where
-    at_rank : (r : ℕ) → at_start 2 (by_rank (a ∷ b ∷ [])) r ≡ two (at_start 2 (by_rank (a ∷ b ∷ [])) 0) (at_start 2 (by_rank (a ∷ b ∷ [])) 1) r
+    at_rank : (r : ℕ) → at_start 2 (by_rank (a ∷ b ∷ [])) r ≡
+        two (at_start 2 (by_rank (a ∷ b ∷ [])) 0) (at_start 2 (by_rank (a ∷ b ∷ [])) 1) r
     at_rank zero = refl
     at_rank (suc zero) = refl
-    at_rank (suc (suc r)) = ap (λ (e : Bool). record (beyond (suc (suc r))) { ended = e }) (le-leb 2 (suc (suc r)) (omega arith))
+    at_rank (suc (suc r)) =
+        ap (λ (e : Bool). record (beyond (suc (suc r))) { ended = e }) (le-leb 2 (suc (suc r)) (omega arith))
 
 -- a rank behind another one isn't that
 behind : (x y : ℕ) → y < x → (x == y) ≡ false
@@ -70,7 +79,8 @@ first_went a b c = λ i r. at_rank r i
     at_rank : (r : ℕ) → with_course (two a b) 0 c r ≡ two c b r
     at_rank zero = refl
     at_rank (suc zero) = refl
-    at_rank (suc (suc r)) = ap (λ (t : Bool). if t then c else beyond (suc (suc r))) (behind (suc (suc r)) 0 (omega arith))
+    at_rank (suc (suc r)) =
+        ap (λ (t : Bool). if t then c else beyond (suc (suc r))) (behind (suc (suc r)) 0 (omega arith))
 
 second_went : (a b c : Course Script) → with_course (two a b) 1 c ≡ two a c
 second_went a b c = λ i r. at_rank r i
@@ -78,23 +88,35 @@ second_went a b c = λ i r. at_rank r i
     at_rank : (r : ℕ) → with_course (two a b) 1 c r ≡ two a c r
     at_rank zero = refl
     at_rank (suc zero) = refl
-    at_rank (suc (suc r)) = ap (λ (t : Bool). if t then c else beyond (suc (suc r))) (behind (suc (suc r)) 1 (omega arith))
+    at_rank (suc (suc r)) =
+        ap (λ (t : Bool). if t then c else beyond (suc (suc r))) (behind (suc (suc r)) 1 (omega arith))
 
-first_goes : (a b c : Course Script) (end : Courses Script) → goes_on next_of (two a b) 0 ≡ Some c → Leads next_of (two c b) end → Leads next_of (two a b) end
-first_goes a b c end u l = (0 ∷ l.0, (c, u, subst (λ (x : Courses Script). Lead next_of x l.0 end) (sym (first_went a b c)) l.1))
+first_goes : (a b c : Course Script) (end : Courses Script) → goes_on next_of (two a b) 0 ≡ Some c →
+    Leads next_of (two c b) end → Leads next_of (two a b) end
+first_goes a b c end u l =
+    (0 ∷ l.0, (c, u, subst (λ (x : Courses Script). Lead next_of x l.0 end) (sym (first_went a b c)) l.1))
 
-second_goes : (a b c : Course Script) (end : Courses Script) → goes_on next_of (two a b) 1 ≡ Some c → Leads next_of (two a c) end → Leads next_of (two a b) end
-second_goes a b c end u l = (1 ∷ l.0, (c, u, subst (λ (x : Courses Script). Lead next_of x l.0 end) (sym (second_went a b c)) l.1))
+second_goes : (a b c : Course Script) (end : Courses Script) → goes_on next_of (two a b) 1 ≡ Some c →
+    Leads next_of (two a c) end → Leads next_of (two a b) end
+second_goes a b c end u l =
+    (1 ∷ l.0, (c, u, subst (λ (x : Courses Script). Lead next_of x l.0 end) (sym (second_went a b c)) l.1))
 
-two_meant : (a b : Script) (end : Courses Script) → Leads next_of (two (at_start 2 (by_rank (a ∷ b ∷ [])) 0) (at_start 2 (by_rank (a ∷ b ∷ [])) 1)) end → AreDone next_of end →
+two_meant : (a b : Script) (end : Courses Script) →
+    Leads next_of (two (at_start 2 (by_rank (a ∷ b ∷ [])) 0) (at_start 2 (by_rank (a ∷ b ∷ [])) 1)) end →
+    AreDone next_of end →
     AreMeant next_of 2 (by_rank (a ∷ b ∷ [])) end
 two_meant a b end l done =
-    record { ranks = l.0; lead = subst (λ (x : Courses Script). Lead next_of x l.0 end) (sym (two_start a b)) l.1; done = done }
+    record {
+      ranks = l.0;
+      lead = subst (λ (x : Courses Script). Lead next_of x l.0 end) (sym (two_start a b)) l.1;
+      done = done;
+    }
 
 -- STATES ON THE WAY
 
 abbrev running : Script → Option Told → Account → List (List ℕ) → Course Script
-running script told account lines = record { process = script; told = told; account = account; lines = lines; ended = false }
+running script told account lines =
+    record { process = script; told = told; account = account; lines = lines; ended = false }
 
 abbrev over : Account → List (List ℕ) → Course Script
 over account lines = record { process = []; told = None; account = account; lines = lines; ended = true }
@@ -116,7 +138,8 @@ receive source tag = receive_on (world_of 2) (Rank source) (Some tag) (whole (nu
 
 -- a message of one element on world, and what its receive tells
 abbrev message : (sender tag value : ℕ) → Message
-message r tag value = record { sender = first_endpoint r; context = 0; tag = tag; basic = Int32; values = value ∷ []; request = None }
+message r tag value =
+    record { sender = first_endpoint r; context = 0; tag = tag; basic = Int32; values = value ∷ []; request = None }
 
 abbrev received : (sender tag value : ℕ) → Outcome
 received r tag value = Received (record { source = Rank r; tag = Some tag; count = 1 }) (numbers (value ∷ []))
@@ -137,7 +160,8 @@ deadlock_leads =
     first_goes _ _ (running (waits 0 ∷ prints ∷ sends 1 0 (1 ∷ []) ∷ []) (started 0) (receiver 0 1) []) stuck refl
     (first_goes _ _ (running (prints ∷ sends 1 0 (1 ∷ []) ∷ []) None (waiting_for 0 (receiver 0 1)) []) stuck refl
     (second_goes _ _ (running (waits 0 ∷ prints ∷ sends 0 0 (2 ∷ []) ∷ []) (started 0) (receiver 1 0) []) stuck refl
-    (second_goes _ _ (running (prints ∷ sends 0 0 (2 ∷ []) ∷ []) None (waiting_for 0 (receiver 1 0)) []) stuck refl ([], refl))))
+    (second_goes _ _ (running (prints ∷ sends 0 0 (2 ∷ []) ∷ []) None (waiting_for 0 (receiver 1 0)) []) stuck refl
+    ([], refl))))
 
 stuck_done : AreDone next_of stuck
 stuck_done zero = refl
@@ -145,7 +169,8 @@ stuck_done (suc zero) = refl
 stuck_done (suc (suc r)) = refl
 
 pub deadlock_waits : meaning deadlock ≡ ([], false) ∷ ([], false) ∷ []
-deadlock_waits = by_way deadlock stuck (two_meant (by_rank deadlock 0) (by_rank deadlock 1) stuck deadlock_leads stuck_done)
+deadlock_waits =
+    by_way deadlock stuck (two_meant (by_rank deadlock 0) (by_rank deadlock 1) stuck deadlock_leads stuck_done)
 
 -- ONE SERVES, THE OTHER ANSWERS
 
@@ -168,7 +193,11 @@ abbrev has_serve : Account
 has_serve = record awaits_serve { used = 0 ∷ [] }
 
 abbrev answered : Account
-answered = record has_serve { started = Posted (receive 0 1) ∷ Finished Sent ∷ []; sent = (first_endpoint 0, message 1 2 2) ∷ [] }
+answered = record has_serve {
+  started = Posted (receive 0 1) ∷ Finished Sent ∷ [];
+  sent =
+      (first_endpoint 0, message 1 2 2) ∷ [];
+}
 
 abbrev has_answered : Account
 has_answered = record answered { used = 0 ∷ 1 ∷ [] }
@@ -184,9 +213,12 @@ ping_pong_leads =
     (first_goes _ _ (running (receives 1 (Some 2) ∷ waits 1 ∷ prints ∷ []) (done_with Sent) has_served []) played refl
     (first_goes _ _ (running (waits 1 ∷ prints ∷ []) (started 1) awaits_answer []) played refl
     (first_goes _ _ (running (prints ∷ []) None (waiting_for 1 awaits_answer) []) played refl
-    (second_goes _ _ (running (waits 0 ∷ prints ∷ sends 0 2 (2 ∷ []) ∷ waits 1 ∷ []) (started 0) awaits_serve []) played refl
-    (second_goes _ _ (running (prints ∷ sends 0 2 (2 ∷ []) ∷ waits 1 ∷ []) None (waiting_for 0 awaits_serve) []) played refl
-    (second_goes _ _ (running (prints ∷ sends 0 2 (2 ∷ []) ∷ waits 1 ∷ []) (done_with (received 0 1 1)) has_serve []) played refl
+    (second_goes _ _ (running (waits 0 ∷ prints ∷ sends 0 2 (2 ∷ []) ∷ waits 1 ∷ []) (started 0) awaits_serve []) played
+    refl
+    (second_goes _ _ (running (prints ∷ sends 0 2 (2 ∷ []) ∷ waits 1 ∷ []) None (waiting_for 0 awaits_serve) []) played
+    refl
+    (second_goes _ _ (running (prints ∷ sends 0 2 (2 ∷ []) ∷ waits 1 ∷ []) (done_with (received 0 1 1)) has_serve [])
+    played refl
     (second_goes _ _ (running (sends 0 2 (2 ∷ []) ∷ waits 1 ∷ []) None has_serve ((1 ∷ []) ∷ [])) played refl
     (second_goes _ _ (running (waits 1 ∷ []) (started 1) answered ((1 ∷ []) ∷ [])) played refl
     (second_goes _ _ (running [] None (waiting_for 1 answered) ((1 ∷ []) ∷ [])) played refl
@@ -202,7 +234,8 @@ played_done (suc zero) = refl
 played_done (suc (suc r)) = refl
 
 pub ping_pong_ends : meaning ping_pong ≡ ((2 ∷ []) ∷ [], true) ∷ ((1 ∷ []) ∷ [], true) ∷ []
-ping_pong_ends = by_way ping_pong played (two_meant (by_rank ping_pong 0) (by_rank ping_pong 1) played ping_pong_leads played_done)
+ping_pong_ends =
+    by_way ping_pong played (two_meant (by_rank ping_pong 0) (by_rank ping_pong 1) played ping_pong_leads played_done)
 
 -- A SUM
 
@@ -262,8 +295,10 @@ abbrev received_by : List Receive → List ℕ → Account
 received_by ps used = record (opened 2 1) { started = map Posted ps; used = used }
 
 two_sent : (b : Course Script) (end : Courses Script) → Leads next_of (two (over sent_two []) b) end →
-    goes_on next_of (two (running (sends 1 5 (1 ∷ []) ∷ sends 1 6 (2 ∷ []) ∷ []) None (opened 2 0) []) b) 0 ≡ Some (running (sends 1 6 (2 ∷ []) ∷ []) (started 0) sent_one []) →
-    goes_on next_of (two (running (sends 1 6 (2 ∷ []) ∷ []) (started 0) sent_one []) b) 0 ≡ Some (running [] (started 1) sent_two []) →
+    goes_on next_of (two (running (sends 1 5 (1 ∷ []) ∷ sends 1 6 (2 ∷ []) ∷ []) None (opened 2 0) []) b) 0 ≡
+    Some (running (sends 1 6 (2 ∷ []) ∷ []) (started 0) sent_one []) →
+    goes_on next_of (two (running (sends 1 6 (2 ∷ []) ∷ []) (started 0) sent_one []) b) 0 ≡
+    Some (running [] (started 1) sent_two []) →
     Leads next_of (two (running (sends 1 5 (1 ∷ []) ∷ sends 1 6 (2 ∷ []) ∷ []) None (opened 2 0) []) b) end
 two_sent b end l u v =
     first_goes _ b (running (sends 1 6 (2 ∷ []) ∷ []) (started 0) sent_one []) end u
@@ -271,21 +306,36 @@ two_sent b end l u v =
     (first_goes _ b (over sent_two []) end refl l))
 
 abbrev tags_received : Courses Script
-tags_received = two (over sent_two []) (over (received_by (receive 0 6 ∷ any_receive ∷ []) (0 ∷ 1 ∷ [])) ((2 ∷ []) ∷ (1 ∷ []) ∷ []))
+tags_received =
+    two (over sent_two []) (over (received_by (receive 0 6 ∷ any_receive ∷ []) (0 ∷ 1 ∷ [])) ((2 ∷ []) ∷ (1 ∷ []) ∷ []))
 
 tags_lead : Leads next_of (two (at_start 2 (by_rank by_tags) 0) (at_start 2 (by_rank by_tags) 1)) tags_received
 unfolding copies_at
 tags_lead =
     two_sent (at_start 2 (by_rank by_tags) 1) tags_received
-    (second_goes _ _ (running (waits 0 ∷ prints ∷ receives 0 None ∷ waits 1 ∷ prints ∷ []) (started 0) (received_by (receive 0 6 ∷ []) []) []) tags_received refl
-    (second_goes _ _ (running (prints ∷ receives 0 None ∷ waits 1 ∷ prints ∷ []) None (waiting_for 0 (received_by (receive 0 6 ∷ []) [])) []) tags_received refl
-    (second_goes _ _ (running (prints ∷ receives 0 None ∷ waits 1 ∷ prints ∷ []) (done_with (received 0 6 2)) (received_by (receive 0 6 ∷ []) (0 ∷ [])) []) tags_received refl
-    (second_goes _ _ (running (receives 0 None ∷ waits 1 ∷ prints ∷ []) None (received_by (receive 0 6 ∷ []) (0 ∷ [])) ((2 ∷ []) ∷ [])) tags_received refl
-    (second_goes _ _ (running (waits 1 ∷ prints ∷ []) (started 1) (received_by (receive 0 6 ∷ any_receive ∷ []) (0 ∷ [])) ((2 ∷ []) ∷ [])) tags_received refl
-    (second_goes _ _ (running (prints ∷ []) None (waiting_for 1 (received_by (receive 0 6 ∷ any_receive ∷ []) (0 ∷ []))) ((2 ∷ []) ∷ [])) tags_received refl
-    (second_goes _ _ (running (prints ∷ []) (done_with (received 0 5 1)) (received_by (receive 0 6 ∷ any_receive ∷ []) (0 ∷ 1 ∷ [])) ((2 ∷ []) ∷ [])) tags_received refl
-    (second_goes _ _ (running [] None (received_by (receive 0 6 ∷ any_receive ∷ []) (0 ∷ 1 ∷ [])) ((2 ∷ []) ∷ (1 ∷ []) ∷ [])) tags_received refl
-    (second_goes _ _ (over (received_by (receive 0 6 ∷ any_receive ∷ []) (0 ∷ 1 ∷ [])) ((2 ∷ []) ∷ (1 ∷ []) ∷ [])) tags_received refl ([], refl)))))))))) refl refl
+    (second_goes _ _
+    (running (waits 0 ∷ prints ∷ receives 0 None ∷ waits 1 ∷ prints ∷ []) (started 0)
+    (received_by (receive 0 6 ∷ []) []) []) tags_received refl
+    (second_goes _ _
+    (running (prints ∷ receives 0 None ∷ waits 1 ∷ prints ∷ []) None
+    (waiting_for 0 (received_by (receive 0 6 ∷ []) [])) []) tags_received refl
+    (second_goes _ _
+    (running (prints ∷ receives 0 None ∷ waits 1 ∷ prints ∷ []) (done_with (received 0 6 2))
+    (received_by (receive 0 6 ∷ []) (0 ∷ [])) []) tags_received refl
+    (second_goes _ _ (running (receives 0 None ∷ waits 1 ∷ prints ∷ []) None (received_by (receive 0 6 ∷ []) (0 ∷ []))
+    ((2 ∷ []) ∷ [])) tags_received refl
+    (second_goes _ _
+    (running (waits 1 ∷ prints ∷ []) (started 1) (received_by (receive 0 6 ∷ any_receive ∷ []) (0 ∷ [])) ((2 ∷ []) ∷
+    [])) tags_received refl
+    (second_goes _ _ (running (prints ∷ []) None (waiting_for 1 (received_by (receive 0 6 ∷ any_receive ∷ []) (0 ∷ [])))
+    ((2 ∷ []) ∷ [])) tags_received refl
+    (second_goes _ _
+    (running (prints ∷ []) (done_with (received 0 5 1)) (received_by (receive 0 6 ∷ any_receive ∷ []) (0 ∷ 1 ∷ []))
+    ((2 ∷ []) ∷ [])) tags_received refl
+    (second_goes _ _ (running [] None (received_by (receive 0 6 ∷ any_receive ∷ []) (0 ∷ 1 ∷ [])) ((2 ∷ []) ∷ (1 ∷ []) ∷
+    [])) tags_received refl
+    (second_goes _ _ (over (received_by (receive 0 6 ∷ any_receive ∷ []) (0 ∷ 1 ∷ [])) ((2 ∷ []) ∷ (1 ∷ []) ∷ []))
+    tags_received refl ([], refl)))))))))) refl refl
 
 tags_done : AreDone next_of tags_received
 tags_done zero = refl
@@ -293,7 +343,8 @@ tags_done (suc zero) = refl
 tags_done (suc (suc r)) = refl
 
 pub later_message_is_received_by_tag : meaning by_tags ≡ ([], true) ∷ ((2 ∷ []) ∷ (1 ∷ []) ∷ [], true) ∷ []
-later_message_is_received_by_tag = by_way by_tags tags_received (two_meant (by_rank by_tags 0) (by_rank by_tags 1) tags_received tags_lead tags_done)
+later_message_is_received_by_tag =
+    by_way by_tags tags_received (two_meant (by_rank by_tags 0) (by_rank by_tags 1) tags_received tags_lead tags_done)
 
 abbrev two_receives : List Receive
 two_receives = any_receive ∷ any_receive ∷ []
@@ -305,15 +356,26 @@ order_leads : Leads next_of (two (at_start 2 (by_rank in_order) 0) (at_start 2 (
 unfolding copies_at
 order_leads =
     two_sent (at_start 2 (by_rank in_order) 1) order_received
-    (second_goes _ _ (running (receives 0 None ∷ waits 1 ∷ prints ∷ waits 0 ∷ prints ∷ []) (started 0) (received_by (any_receive ∷ []) []) []) order_received refl
-    (second_goes _ _ (running (waits 1 ∷ prints ∷ waits 0 ∷ prints ∷ []) (started 1) (received_by two_receives []) []) order_received refl
-    (second_goes _ _ (running (prints ∷ waits 0 ∷ prints ∷ []) None (waiting_for 1 (received_by two_receives [])) []) order_received refl
-    (second_goes _ _ (running (prints ∷ waits 0 ∷ prints ∷ []) (done_with (received 0 6 2)) (received_by two_receives (1 ∷ [])) []) order_received refl
-    (second_goes _ _ (running (waits 0 ∷ prints ∷ []) None (received_by two_receives (1 ∷ [])) ((2 ∷ []) ∷ [])) order_received refl
-    (second_goes _ _ (running (prints ∷ []) None (waiting_for 0 (received_by two_receives (1 ∷ []))) ((2 ∷ []) ∷ [])) order_received refl
-    (second_goes _ _ (running (prints ∷ []) (done_with (received 0 5 1)) (received_by two_receives (1 ∷ 0 ∷ [])) ((2 ∷ []) ∷ [])) order_received refl
-    (second_goes _ _ (running [] None (received_by two_receives (1 ∷ 0 ∷ [])) ((2 ∷ []) ∷ (1 ∷ []) ∷ [])) order_received refl
-    (second_goes _ _ (over (received_by two_receives (1 ∷ 0 ∷ [])) ((2 ∷ []) ∷ (1 ∷ []) ∷ [])) order_received refl ([], refl)))))))))) refl refl
+    (second_goes _ _
+    (running (receives 0 None ∷ waits 1 ∷ prints ∷ waits 0 ∷ prints ∷ []) (started 0)
+    (received_by (any_receive ∷ []) []) []) order_received refl
+    (second_goes _ _ (running (waits 1 ∷ prints ∷ waits 0 ∷ prints ∷ []) (started 1) (received_by two_receives []) [])
+    order_received refl
+    (second_goes _ _ (running (prints ∷ waits 0 ∷ prints ∷ []) None (waiting_for 1 (received_by two_receives [])) [])
+    order_received refl
+    (second_goes _ _
+    (running (prints ∷ waits 0 ∷ prints ∷ []) (done_with (received 0 6 2)) (received_by two_receives (1 ∷ [])) [])
+    order_received refl
+    (second_goes _ _ (running (waits 0 ∷ prints ∷ []) None (received_by two_receives (1 ∷ [])) ((2 ∷ []) ∷ []))
+    order_received refl
+    (second_goes _ _ (running (prints ∷ []) None (waiting_for 0 (received_by two_receives (1 ∷ []))) ((2 ∷ []) ∷ []))
+    order_received refl
+    (second_goes _ _ (running (prints ∷ []) (done_with (received 0 5 1)) (received_by two_receives (1 ∷ 0 ∷ []))
+    ((2 ∷ []) ∷ [])) order_received refl
+    (second_goes _ _ (running [] None (received_by two_receives (1 ∷ 0 ∷ [])) ((2 ∷ []) ∷ (1 ∷ []) ∷ [])) order_received
+    refl
+    (second_goes _ _ (over (received_by two_receives (1 ∷ 0 ∷ [])) ((2 ∷ []) ∷ (1 ∷ []) ∷ [])) order_received refl
+    ([], refl)))))))))) refl refl
 
 order_done : AreDone next_of order_received
 order_done zero = refl
@@ -321,7 +383,9 @@ order_done (suc zero) = refl
 order_done (suc (suc r)) = refl
 
 pub messages_are_received_in_order : meaning in_order ≡ ([], true) ∷ ((2 ∷ []) ∷ (1 ∷ []) ∷ [], true) ∷ []
-messages_are_received_in_order = by_way in_order order_received (two_meant (by_rank in_order 0) (by_rank in_order 1) order_received order_leads order_done)
+messages_are_received_in_order =
+    by_way in_order order_received
+    (two_meant (by_rank in_order 0) (by_rank in_order 1) order_received order_leads order_done)
 
 -- COPIES OF WORLD
 
@@ -372,7 +436,8 @@ copies_lead =
     (second_goes _ _ (running (receives_on 2 0 None ∷ waits 0 ∷ prints ∷ []) copy_told (has_copied 1 2) []) copied refl
     (second_goes _ _ (running (waits 0 ∷ prints ∷ []) (started 0) (copy_received_by []) []) copied refl
     (second_goes _ _ (running (prints ∷ []) None (waiting_for 0 (copy_received_by [])) []) copied refl
-    (first_goes _ _ (running (sends 1 5 (1 ∷ []) ∷ sends_on 2 1 5 (2 ∷ []) ∷ []) copy_told (has_copied 0 3) []) copied refl
+    (first_goes _ _ (running (sends 1 5 (1 ∷ []) ∷ sends_on 2 1 5 (2 ∷ []) ∷ []) copy_told (has_copied 0 3) []) copied
+    refl
     (first_goes _ _ (running (sends_on 2 1 5 (2 ∷ []) ∷ []) (started 0) copy_sent_one []) copied refl
     (first_goes _ _ (running [] (started 1) copy_sent_two []) copied refl
     (first_goes _ _ (over copy_sent_two []) copied refl
@@ -386,7 +451,8 @@ copied_done (suc zero) = refl
 copied_done (suc (suc r)) = refl
 
 pub copies_are_apart : meaning on_copies ≡ ([], true) ∷ ((2 ∷ []) ∷ [], true) ∷ []
-copies_are_apart = by_way on_copies copied (two_meant (by_rank on_copies 0) (by_rank on_copies 1) copied copies_lead copied_done)
+copies_are_apart =
+    by_way on_copies copied (two_meant (by_rank on_copies 0) (by_rank on_copies 1) copied copies_lead copied_done)
 
 -- A CALL THAT IS REFUSED
 
@@ -407,4 +473,6 @@ refused_done (suc zero) = refl
 refused_done (suc (suc r)) = refl
 
 pub refusals_are_told : meaning refused ≡ ((5 ∷ []) ∷ [], true) ∷ ([], true) ∷ []
-refusals_are_told = by_way refused refused_end (two_meant (by_rank refused 0) (by_rank refused 1) refused_end refused_leads refused_done)
+refusals_are_told =
+    by_way refused refused_end
+    (two_meant (by_rank refused 0) (by_rank refused 1) refused_end refused_leads refused_done)

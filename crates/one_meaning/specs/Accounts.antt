@@ -1,7 +1,9 @@
--- Accounts: what a rank has called, and what it was answered (MPI 3.1, 3.7, 5 and 6.4). No rank is started anew. Whatever a rank does
--- changes its own account alone.
-use Rattle.std.specs.Prelude.{ℕ, ◌+◌, ◌&&◌, Bool, true, false, List, [], ◌∷◌, ◌++◌, length, Option, Some, None, if◌then◌else◌, ◌==◌, slice_get, option_map}
-use Rattle.perfect_groups.specs.Calls.{Answer, ByCollective, ByRequests, Call, Reply, entry_of, queue_call, reply_at_once}
+-- Accounts: what a rank has called, and what it was answered (MPI 3.1, 3.7, 5 and 6.4). No rank is started anew.
+-- Whatever a rank does changes its own account alone.
+use Rattle.std.specs.Prelude.{ℕ, ◌+◌, ◌&&◌, Bool, true, false, List, [], ◌∷◌, ◌++◌, length, Option, Some, None}
+use Rattle.std.specs.Prelude.{if◌then◌else◌, ◌==◌, slice_get, option_map}
+use Rattle.perfect_groups.specs.Calls.{Answer, ByCollective, ByRequests, Call, Reply, entry_of, queue_call}
+use Rattle.perfect_groups.specs.Calls.{reply_at_once}
 use Rattle.perfect_groups.specs.Collectives.{Part}
 use Rattle.perfect_groups.specs.Communicators.{Communicator, first_endpoint, self_of, world_of}
 use Rattle.perfect_groups.specs.Faults.{fault}
@@ -24,15 +26,17 @@ pub data Waiting : Type 0 where
   ForRequests : Awaited → Waiting
   InCollective : Communicator → (number : ℕ) → Part → Waiting
 
--- A collective that a rank has entered: its context, with what it was entered, and the serial that the rank's next new context had then
+-- A collective that a rank has entered: its context, with what it was entered, and the serial that the rank's next new
+-- context had then
 pub record Entered : Type 0 where
   pub context : ℕ
   pub part : Part
   pub serial : ℕ
 
--- The account of a rank: the communicators that it holds, in order; its requests as they were started, in order, of which a send is
--- finished at once; the serials of those whose outcomes were answered; the messages that it sent, in order, and to whom; the
--- collectives that it entered, in order; the serial of the next context that it makes; and what it waits for
+-- The account of a rank: the communicators that it holds, in order; its requests as they were started, in order, of
+-- which a send is finished at once; the serials of those whose outcomes were answered; the messages that it sent, in
+-- order, and to whom; the collectives that it entered, in order; the serial of the next context that it makes; and what
+-- it waits for
 pub record Account : Type 0 where
   pub held : List Communicator
   pub started : List Request
@@ -82,7 +86,8 @@ present_of None = None
 present_of (Some (ForRequests w)) = None
 present_of (Some (InCollective c k p)) = Some (Inside c k p)
 
--- a rank's own part of the machine's state, as far as calls depend on it: requests, of which those that were answered are gone (3.7.3)
+-- a rank's own part of the machine's state, as far as calls depend on it: requests, of which those that were answered
+-- are gone (3.7.3)
 abbrev pub local_of : (rank : ℕ) → Account → Local
 local_of r a =
     record {
@@ -111,9 +116,10 @@ abbrev pub with_sent : List (Endpoint × Message) → Option (Endpoint × Messag
 with_sent sent None = sent
 with_sent sent (Some x) = sent ++ x ∷ []
 
--- The account once a call of queues was taken. Every send is finished at once, whatever its mode and length: a rank that waits for ever
--- in a run, since no receive takes its message (3.4), has printed a beginning of what it prints here. A test, a cancel, a probe and the
--- receive of a message that a probe took out have no one meaning, and change nothing
+-- The account once a call of queues was taken. Every send is finished at once, whatever its mode and length: a rank
+-- that waits for ever in a run, since no receive takes its message (3.4), has printed a beginning of what it prints
+-- here. A test, a cancel, a probe and the receive of a message that a probe took out have no one meaning, and change
+-- nothing
 abbrev pub after_queue_call : (rank : ℕ) → Account → queues.Call → Account
 after_queue_call r a (queues.Isend mode c to tag from) =
     record a {
@@ -192,27 +198,37 @@ answered_wait a t = (ByRequests t.0, record a { used = a.used ++ t.1; waiting = 
 -- of a collective that makes communicators: the rank's own, if it is in one
 abbrev pub answered_making : Account → (drawn : ℕ) → Option Communicator → Answered
 answered_making a drawn None = (ByCollective (Comm None), record a { serial = a.serial + drawn; waiting = None })
-answered_making a drawn (Some c) =
-    (ByCollective (Comm (Some (length a.held))), record a { held = a.held ++ c ∷ []; serial = a.serial + drawn; waiting = None })
+answered_making a drawn (Some c) = (
+  ByCollective (Comm (Some (length a.held))),
+  record a { held = a.held ++ c ∷ []; serial = a.serial + drawn; waiting = None },
+)
 
 -- of a collective that makes communicators, by member 0's entry in it
-abbrev pub answered_made : (rank : ℕ) → Account → Communicator → Part → List Part → (entered : Option Entered) → Option Answered
+abbrev pub answered_made : (rank : ℕ) → Account → Communicator → Part → List Part → (entered : Option Entered) →
+    Option Answered
 answered_made r a c p ps None = None
 answered_made r a c p ps (Some x) =
-    Some (answered_making a (drawn_by (first_endpoint r) c (made_by (first_endpoint r) c x.serial p ps)) (mine (first_endpoint r) (made_by (first_endpoint r) c x.serial p ps)))
+    Some (answered_making a (drawn_by (first_endpoint r) c (made_by (first_endpoint r) c x.serial p ps))
+    (mine (first_endpoint r) (made_by (first_endpoint r) c x.serial p ps)))
 
 -- of a collective, once those have entered for whom the rank waits
-abbrev pub answered_leaving : Accounts → (rank : ℕ) → Account → Communicator → (number : ℕ) → Part → List Part → (making : Bool) → Option Answered
+abbrev pub answered_leaving : Accounts → (rank : ℕ) → Account → Communicator → (number : ℕ) → Part → List Part →
+    (making : Bool) → Option Answered
 answered_leaving all r a c k p ps false =
-    Some (ByCollective (Left (handed_to p.record_is (first_endpoint r) c.members ps p.record_is.kind)), record a { waiting = None })
-answered_leaving all r a c k p ps true = answered_made r a c p ps (entered_by all c.context k (first_of c.members (first_endpoint r)))
+    Some (
+      ByCollective (Left (handed_to p.record_is (first_endpoint r) c.members ps p.record_is.kind)),
+      record a { waiting = None },
+    )
+answered_leaving all r a c k p ps true =
+    answered_made r a c p ps (entered_by all c.context k (first_of c.members (first_endpoint r)))
 
 -- if their records agree
 abbrev pub leaves_if : (agreeing : Bool) → Option Answered → Option Answered
 leaves_if true x = x
 leaves_if false x = None
 
-abbrev pub leaves_with : Accounts → (rank : ℕ) → Account → Communicator → (number : ℕ) → Part → Option (List Part) → Option Answered
+abbrev pub leaves_with : Accounts → (rank : ℕ) → Account → Communicator → (number : ℕ) → Part → Option (List Part) →
+    Option Answered
 leaves_with all r a c k p None = None
 leaves_with all r a c k p (Some ps) =
     leaves_if (all_agree p.record_is ps) (answered_leaving all r a c k p ps (is_making p.record_is.kind))
@@ -223,9 +239,10 @@ wait_answer f (One q) = completion f (One q)
 wait_answer f (AnyOf qs) = None
 wait_answer f (AllOf qs) = completion f (AllOf qs)
 
--- The answer to what a rank waits for, as soon as it is ready: a wait once the requests are finished; a collective once all those have
--- entered it for whom the rank waits (5.1)
+-- The answer to what a rank waits for, as soon as it is ready: a wait once the requests are finished; a collective once
+-- all those have entered it for whom the rank waits (5.1)
 abbrev pub answer_to : Accounts → (rank : ℕ) → Account → Waiting → Option Answered
 answer_to all r a (ForRequests w) = option_map (answered_wait a) (wait_answer (outcome_at (requests_of all r a)) w)
 answer_to all r a (InCollective c k p) =
-    leaves_with all r a c k p (all_parts (part_by all c.context k) (awaited p.record_is.kind p.record_is.root (first_endpoint r) c.members))
+    leaves_with all r a c k p
+    (all_parts (part_by all c.context k) (awaited p.record_is.kind p.record_is.root (first_endpoint r) c.members))

@@ -18,7 +18,8 @@ pub record IsOnTheWay {P : Type 0} (c end : Course P) : Type 0 where
 abbrev pub EveryWayLeadsThere : Type 0
 EveryWayLeadsThere =
     (f : (rank : ℕ) → List (Option Told) → Step) (n : ℕ) (ranks : List ℕ) (now end : Courses Telling) →
-    Lead (by_telling f) (at_start n (λ r. (r, []))) ranks now → AreMeant (by_telling f) n (λ r. (r, [])) end → (r : ℕ) → IsOnTheWay (now r) (end r)
+    Lead (by_telling f) (at_start n (λ r. (r, []))) ranks now → AreMeant (by_telling f) n (λ r. (r, [])) end →
+    (r : ℕ) → IsOnTheWay (now r) (end r)
 
 -- there is one such end
 abbrev pub TheEndIsOne : Type 0

@@ -1,10 +1,12 @@
 -- Ranks that run by themselves: each goes on as far as its answers let it.
-use Rattle.std.specs.Prelude.{◌≡◌, ℕ, Bool, true, false, List, [], ◌∷◌, ◌++◌, Option, Some, None, if◌then◌else◌, ◌==◌, nat_le, option_map}
+use Rattle.std.specs.Prelude.{◌≡◌, ℕ, Bool, true, false, List, [], ◌∷◌, ◌++◌, Option, Some, None, if◌then◌else◌, ◌==◌}
+use Rattle.std.specs.Prelude.{nat_le, option_map}
 use Rattle.perfect_groups.specs.Calls.{Call, Reply}
 use Rattle.perfect_groups.specs.Collectives.{Part, agree}
 use Rattle.perfect_groups.specs.Events.{as_reply}
 use Rattle.vocabulary.specs.declared.endpoint.Endpoint.{Endpoint}
-use Rattle.one_meaning.specs.Accounts.{Account, Accounts, Answered, Waiting, after_call, answer_to, at_once, judged, opened, part_by}
+use Rattle.one_meaning.specs.Accounts.{Account, Accounts, Answered, Waiting, after_call, answer_to, at_once, judged}
+use Rattle.one_meaning.specs.Accounts.{opened, part_by}
 
 -- What a process is told of its last call: what was answered, at once or later; or the number by which it was refused
 pub data Told : Type 0 where
@@ -21,7 +23,8 @@ pub data Step : Type 0 where
 abbrev pub Process : Type 0 → Type 0
 Process P = P → Option Told → Step × P
 
--- A rank on its way: its process, what that is to be told, the rank's account, the lines so far, and whether it has ended
+-- A rank on its way: its process, what that is to be told, the rank's account, the lines so far, and whether it has
+-- ended
 pub record Course (P : Type 0) : Type 0 where
   pub process : P
   pub told : Option Told
@@ -46,24 +49,46 @@ abbrev pub called : {P : Type 0} → (rank : ℕ) → Course P → P → Call �
 called r c p call (Some number) =
     record { process = p; told = Some (Refused number); account = c.account; lines = c.lines; ended = false }
 called r c p call None =
-    record { process = p; told = option_map Replied (at_once r c.account call); account = after_call r c.account call; lines = c.lines; ended = false }
+    record {
+      process = p;
+      told = option_map Replied (at_once r c.account call);
+      account =
+          after_call r c.account call;
+      lines = c.lines;
+      ended = false;
+    }
 
 -- a rank whose process does this next
 abbrev pub does : {P : Type 0} → (rank : ℕ) → Course P → P → Step → Course P
 does r c p (Calls call) = called r c p call (judged r c.account call)
-does r c p (Prints line) = record { process = p; told = None; account = c.account; lines = c.lines ++ line ∷ []; ended = false }
+does r c p (Prints line) = record {
+  process = p;
+  told = None;
+  account = c.account;
+  lines = c.lines ++ line ∷ [];
+  ended =
+      false;
+}
 does r c p (Ends status) = record { process = p; told = None; account = c.account; lines = c.lines; ended = true }
 
 -- a rank that was answered
 abbrev pub hears : {P : Type 0} → Course P → Answered → Course P
-hears c t = record { process = c.process; told = Some (Replied (as_reply t.0)); account = t.1; lines = c.lines; ended = false }
+hears c t = record {
+  process = c.process;
+  told = Some (Replied (as_reply t.0));
+  account = t.1;
+  lines = c.lines;
+  ended =
+      false;
+}
 
 -- a rank that goes on, by what it waits for
 abbrev pub goes_by : {P : Type 0} → Process P → Accounts → (rank : ℕ) → Course P → Option Waiting → Option (Course P)
 goes_by next all r c None = Some (does r c (next c.process c.told).1 (next c.process c.told).0)
 goes_by next all r c (Some w) = option_map (hears c) (answer_to all r c.account w)
 
-abbrev pub goes_unless : {P : Type 0} → Process P → Accounts → (rank : ℕ) → Course P → (ended : Bool) → Option (Course P)
+abbrev pub goes_unless : {P : Type 0} → Process P → Accounts → (rank : ℕ) → Course P →
+    (ended : Bool) → Option (Course P)
 goes_unless next all r c true = None
 goes_unless next all r c false = goes_by next all r c c.account.waiting
 
@@ -74,7 +99,8 @@ goes_on next all r = goes_unless next (accounts all) r (all r) (all r).ended
 -- ranks go on, one after the other
 abbrev pub Lead : {P : Type 0} → Process P → Courses P → (ranks : List ℕ) → Courses P → Type 0
 Lead next all [] end = all ≡ end
-Lead {P = P} next all (r ∷ rs) end = (c : Course P) × (goes_on next all r ≡ Some c) × Lead next (with_course all r c) rs end
+Lead {P = P} next all (r ∷ rs) end =
+    (c : Course P) × (goes_on next all r ≡ Some c) × Lead next (with_course all r c) rs end
 
 -- none may go on
 abbrev pub AreDone : {P : Type 0} → Process P → Courses P → Type 0
@@ -82,7 +108,14 @@ AreDone next all = (r : ℕ) → goes_on next all r ≡ None
 
 -- n ranks at their start
 abbrev pub at_start : {P : Type 0} → (n : ℕ) → (processes : ℕ → P) → Courses P
-at_start n processes r = record { process = processes r; told = None; account = opened n r; lines = []; ended = nat_le n r }
+at_start n processes r = record {
+  process = processes r;
+  told = None;
+  account = opened n r;
+  lines =
+      [];
+  ended = nat_le n r;
+}
 
 -- The one meaning: where ranks come to that go on until none may any more, in whatever order
 pub record AreMeant {P : Type 0} (next : Process P) (n : ℕ) (processes : ℕ → P) (end : Courses P) : Type 0 where

@@ -111,7 +111,8 @@ deadlock =
 
 -- two ranks print the sum of a 1 and a 2 (5.9.6)
 abbrev pub sums : List Script
-sums = (enters 0 (Allreduce Sum (numbers (1 ∷ []))) ∷ prints ∷ []) ∷ (enters 0 (Allreduce Sum (numbers (2 ∷ []))) ∷ prints ∷ []) ∷ []
+sums = (enters 0 (Allreduce Sum (numbers (1 ∷ []))) ∷ prints ∷ []) ∷
+    (enters 0 (Allreduce Sum (numbers (2 ∷ []))) ∷ prints ∷ []) ∷ []
 
 -- rank 1 receives first what was sent last, by its tag, and then whatever there is (3.2.4, 3.5)
 abbrev pub by_tags : List Script
@@ -120,7 +121,8 @@ by_tags =
     ∷ (receives 0 (Some 6) ∷ waits 0 ∷ prints ∷ receives 0 None ∷ waits 1 ∷ prints ∷ [])
     ∷ []
 
--- rank 1 starts two receives of whatever comes, and waits for the second one first: messages are taken in the order of the receives (3.5)
+-- rank 1 starts two receives of whatever comes, and waits for the second one first: messages are taken in the order of
+-- the receives (3.5)
 abbrev pub in_order : List Script
 in_order =
     (sends 1 5 (1 ∷ []) ∷ sends 1 6 (2 ∷ []) ∷ [])

@@ -1,4 +1,5 @@
--- Which message each receive gets, where every pair is made at once (MPI 3.1, 3.5). Receives name a rank; none is from any.
+-- Which message each receive gets, where every pair is made at once (MPI 3.1, 3.5). Receives name a rank; none is from
+-- any.
 use Rattle.std.specs.Prelude.{ℕ, ◌&&◌, List, [], ◌∷◌, Option, Some, None, option_map, if◌then◌else◌, ◌==◌}
 use Rattle.perfect_queues.specs.Messages.{Message}
 use Rattle.perfect_queues.specs.Outcomes.{Sent, outcome}
@@ -46,8 +47,8 @@ abbrev pub became : Receive → Option (Message × List Message) → Request
 became p None = Posted p
 became p (Some t) = Finished (outcome p t.0)
 
--- What becomes of requests: each receive in turn takes the first message of its queue that it accepts, of those that the earlier
--- receives have left (3.5); what was matched is finished, and so is each send (3.4)
+-- What becomes of requests: each receive in turn takes the first message of its queue that it accepts, of those that
+-- the earlier receives have left (3.5); what was matched is finished, and so is each send (3.4)
 abbrev pub resolved : Queues → List Request → List Request
 resolved q [] = []
 resolved q (Posted p ∷ rs) =

@@ -2,7 +2,8 @@
 use Rattle.std.specs.Prelude.{◌≡◌, ℕ, zero, suc, ◌+◌, ◌<◌, List, [], Option, Some, None, if◌then◌else◌}
 use Rattle.one_meaning.specs.Accounts.{Waiting}
 use Rattle.one_meaning.specs.CourseLaws.{Telling, by_telling}
-use Rattle.one_meaning.specs.Courses.{AreMeant, Course, Courses, Ends, Process, Step, Told, at_start, goes_on, with_course}
+use Rattle.one_meaning.specs.Courses.{AreMeant, Course, Courses, Ends, Process, Step, Told, at_start, goes_on}
+use Rattle.one_meaning.specs.Courses.{with_course}
 
 -- a rank goes on, if it may
 abbrev pub stays_or : {P : Type 0} → Courses P → (rank : ℕ) → Option (Course P) → Courses P
@@ -41,12 +42,14 @@ total measure (suc m) all = total measure m all + weight measure (all m)
 
 -- each step of a process but an end is one of so many
 abbrev pub Falls : {P : Type 0} → Process P → (measure : P → ℕ) → Type 0
-Falls {P = P} next measure = (p : P) (t : Option Told) → ((s : ℕ) → (next p t).0 ≡ Ends s → ⊥) → measure (next p t).1 < measure p
+Falls {P = P} next measure = (p : P) (t : Option Told) → ((s : ℕ) → (next p t).0 ≡ Ends s → ⊥) →
+    measure (next p t).1 < measure p
 
 -- The one meaning of n processes: in turns, as many as there are steps
 abbrev pub one_meaning : {P : Type 0} → Process P → (measure : P → ℕ) → (n : ℕ) → (processes : ℕ → P) → Courses P
 one_meaning next measure n processes =
-    turns next (suc (total measure n (at_start n processes))) n (total measure n (at_start n processes)) (at_start n processes)
+    turns next (suc (total measure n (at_start n processes))) n (total measure n (at_start n processes))
+    (at_start n processes)
 
 -- it is where they come to
 abbrev pub TurnsComeToTheEnd : Type 0

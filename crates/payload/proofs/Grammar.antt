@@ -1,5 +1,7 @@
 -- What is read is spelled so, and what is spelled so is read.
-use Rattle.std.proofs.Common.{◌≡◌, ℕ, ◌*◌, ◌%◌, ◌^◌, ◌<◌, ◌≤◌, Bool, true, false, cond, eqb, leb, List, [], ◌∷◌, ◌++◌, length, get_or, drop, Option, Some, None, Result, Ok, Err, refl, sym, ap, subst, ◌∙◌, arith, inl, inr, ◌⊎◌, ℤ, pos, negsuc}
+use Rattle.std.proofs.Common.{◌≡◌, ℕ, ◌*◌, ◌%◌, ◌^◌, ◌<◌, ◌≤◌, Bool, true, false, cond, eqb, leb, List, [], ◌∷◌, ◌++◌}
+use Rattle.std.proofs.Common.{length, get_or, drop, Option, Some, None, Result, Ok, Err, refl, sym, ap, subst, ◌∙◌}
+use Rattle.std.proofs.Common.{arith, inl, inr, ◌⊎◌, ℤ, pos, negsuc}
 use Rattle.std.specs.Prelude.{IfOk, FitsSigned}
 use Rattle.std.specs.Int.{cast_unsigned, cast_signed, w32, int_wrap}
 use Rattle.std.proofs.Math.Nat.{mod-eq_of_lt}
@@ -28,9 +30,17 @@ use Rattle.payload.specs.declared.payload.Direction.TheVariants as directions
 use Rattle.payload.specs.declared.payload.Payload.{Payload}
 use Rattle.payload.specs.declared.reading.Fields.{Fields}
 use Rattle.payload.specs.Codes.{kind_code, kind_at, phase_code, phase_at, operation_code, operation_at}
-use Rattle.payload.specs.Spelling.{PartText, Differing, NothingMore, ElementsText, ContextText, ChoiceText, NullText, GroupText, PayloadText, payload_text, kind_of, elements_of, operation_field, root_field, type_code, count_field, way_phase, phase_of, AreElements, SaysNothing, AreRanks, PartFits, ColourIsWithin, PartIsWithin, RecordIsWithin, PayloadFits, colour_spelling, part_spelling, record_spelling, spelling}
-use Rattle.payload.specs.Reading.{Gives, given, number_at, fields_of, without_fields, elements_in, rooted_in, reduce_in, allreduce_in, record_in, elements_from, nothing_from, colour_from, choice_from, context_from, group_from, towards_root, from_root, part_in, head_of, payload_of}
-use Rattle.payload.proofs.Fields.{IsBytes, IsBytes-drop, bind_some, given_some, there, nothing, some_is, wide4, wide8, number_takes, byte_takes, number_fits, kind_back, phase_back, operation_back, basic_back}
+use Rattle.payload.specs.Spelling.{PartText, Differing, NothingMore, ElementsText, ContextText, ChoiceText, NullText}
+use Rattle.payload.specs.Spelling.{GroupText, PayloadText, payload_text, kind_of, elements_of, operation_field}
+use Rattle.payload.specs.Spelling.{root_field, type_code, count_field, way_phase, phase_of, AreElements, SaysNothing}
+use Rattle.payload.specs.Spelling.{AreRanks, PartFits, ColourIsWithin, PartIsWithin, RecordIsWithin, PayloadFits}
+use Rattle.payload.specs.Spelling.{colour_spelling, part_spelling, record_spelling, spelling}
+use Rattle.payload.specs.Reading.{Gives, given, number_at, fields_of, without_fields, elements_in, rooted_in, reduce_in}
+use Rattle.payload.specs.Reading.{allreduce_in, record_in, elements_from, nothing_from, colour_from, choice_from}
+use Rattle.payload.specs.Reading.{context_from, group_from, towards_root, from_root, part_in, head_of, payload_of}
+use Rattle.payload.proofs.Fields.{IsBytes, IsBytes-drop, bind_some, given_some, there, nothing, some_is, wide4, wide8}
+use Rattle.payload.proofs.Fields.{number_takes, byte_takes, number_fits, kind_back, phase_back, operation_back}
+use Rattle.payload.proofs.Fields.{basic_back}
 
 -- ---- the record
 
@@ -55,8 +65,16 @@ bare_takes f x r is =
     let a = given_some (eqb f.operation 0) _ r is in
     let b = given_some (eqb f.basic 0) _ r a.1 in
     let c = given_some (eqb f.root 0) _ r b.1 in
-    let d = given_some (eqb f.count 0) _ r c.1 in
-    (record { operation = sym (eqb-true _ _ a.0); basic = sym (eqb-true _ _ b.0); root = sym (eqb-true _ _ c.0); count = sym (eqb-true _ _ d.0) }, some_is x r d.1)
+    let d = given_some (eqb f.count 0) _ r c.1 in (
+      record {
+        operation = sym (eqb-true _ _ a.0);
+        basic = sym (eqb-true _ _ b.0);
+        root = sym (eqb-true _ _ c.0);
+        count =
+            sym (eqb-true _ _ d.0);
+      },
+      some_is x r d.1,
+    )
 
 -- elements that the fields name
 record AreNamed (f : Fields) (e : Elements) : Type 0 where
@@ -82,7 +100,8 @@ rooted_takes f r is =
     let a = given_some (eqb f.operation 0) _ r is in
     let b = bind_some (elements_in f) _ r a.1 in
     let made : Rooted = record { elements = b.0; root = f.root } in
-    subst (IsRooted f) (some_is made r b.2) (record { operation = sym (eqb-true _ _ a.0); elements = elements_takes f b.0 b.1; root = refl })
+    subst (IsRooted f) (some_is made r b.2)
+    (record { operation = sym (eqb-true _ _ a.0); elements = elements_takes f b.0 b.1; root = refl })
 
 reduce_takes : (f : Fields) (r : Record) → reduce_in f ≡ Some r → Says kinds.Reduce f r
 unfolding reduce_in
@@ -91,7 +110,14 @@ reduce_takes f r is =
     let b = bind_some (elements_in f) _ r a.2 in
     let e = elements_takes f b.0 b.1 in
     subst (Says kinds.Reduce f) (some_is (records.Reduce a.0 (record { elements = b.0; root = f.root })) r b.2)
-    (record { kind_is = refl; operation_is = operation_back f.operation a.0 a.1; type_is = e.basic; root_is = refl; count_is = e.count })
+    (record {
+      kind_is = refl;
+      operation_is = operation_back f.operation a.0 a.1;
+      type_is = e.basic;
+      root_is =
+          refl;
+      count_is = e.count;
+    })
 
 allreduce_takes : (f : Fields) (r : Record) → allreduce_in f ≡ Some r → Says kinds.Allreduce f r
 unfolding allreduce_in
@@ -101,31 +127,85 @@ allreduce_takes f r is =
     let d = given_some (eqb f.root 0) _ r b.2 in
     let e = elements_takes f b.0 b.1 in
     subst (Says kinds.Allreduce f) (some_is (records.Allreduce a.0 b.0) r d.1)
-    (record { kind_is = refl; operation_is = operation_back f.operation a.0 a.1; type_is = e.basic; root_is = sym (eqb-true _ _ d.0); count_is = e.count })
+    (record {
+      kind_is = refl;
+      operation_is = operation_back f.operation a.0 a.1;
+      type_is = e.basic;
+      root_is =
+          sym (eqb-true _ _ d.0);
+      count_is = e.count;
+    })
 
 record_takes : (k : CollectiveKind) (f : Fields) (r : Record) → record_in k f ≡ Some r → Says k f r
 unfolding record_in
 record_takes kinds.Barrier f r is =
     let a = bare_takes f records.Barrier r is in
-    subst (Says kinds.Barrier f) a.1 (record { kind_is = refl; operation_is = a.0.operation; type_is = a.0.basic; root_is = a.0.root; count_is = a.0.count })
+    subst (Says kinds.Barrier f) a.1
+    (record {
+      kind_is = refl;
+      operation_is = a.0.operation;
+      type_is = a.0.basic;
+      root_is = a.0.root;
+      count_is =
+          a.0.count;
+    })
 record_takes kinds.Dup f r is =
     let a = bare_takes f records.Dup r is in
-    subst (Says kinds.Dup f) a.1 (record { kind_is = refl; operation_is = a.0.operation; type_is = a.0.basic; root_is = a.0.root; count_is = a.0.count })
+    subst (Says kinds.Dup f) a.1 (record {
+      kind_is = refl;
+      operation_is = a.0.operation;
+      type_is = a.0.basic;
+      root_is =
+          a.0.root;
+      count_is = a.0.count;
+    })
 record_takes kinds.Split f r is =
     let a = bare_takes f records.Split r is in
-    subst (Says kinds.Split f) a.1 (record { kind_is = refl; operation_is = a.0.operation; type_is = a.0.basic; root_is = a.0.root; count_is = a.0.count })
+    subst (Says kinds.Split f) a.1
+    (record {
+      kind_is = refl;
+      operation_is = a.0.operation;
+      type_is = a.0.basic;
+      root_is = a.0.root;
+      count_is =
+          a.0.count;
+    })
 record_takes kinds.Bcast f r is =
     let a = bind_some (rooted_in f) _ r is in
     let t = rooted_takes f a.0 a.1 in
-    subst (Says kinds.Bcast f) (some_is (records.Bcast a.0) r a.2) (record { kind_is = refl; operation_is = t.operation; type_is = t.elements.basic; root_is = t.root; count_is = t.elements.count })
+    subst (Says kinds.Bcast f) (some_is (records.Bcast a.0) r a.2)
+    (record {
+      kind_is = refl;
+      operation_is = t.operation;
+      type_is = t.elements.basic;
+      root_is = t.root;
+      count_is =
+          t.elements.count;
+    })
 record_takes kinds.Gather f r is =
     let a = bind_some (rooted_in f) _ r is in
     let t = rooted_takes f a.0 a.1 in
-    subst (Says kinds.Gather f) (some_is (records.Gather a.0) r a.2) (record { kind_is = refl; operation_is = t.operation; type_is = t.elements.basic; root_is = t.root; count_is = t.elements.count })
+    subst (Says kinds.Gather f) (some_is (records.Gather a.0) r a.2)
+    (record {
+      kind_is = refl;
+      operation_is = t.operation;
+      type_is = t.elements.basic;
+      root_is = t.root;
+      count_is =
+          t.elements.count;
+    })
 record_takes kinds.Scatter f r is =
     let a = bind_some (rooted_in f) _ r is in
     let t = rooted_takes f a.0 a.1 in
-    subst (Says kinds.Scatter f) (some_is (records.Scatter a.0) r a.2) (record { kind_is = refl; operation_is = t.operation; type_is = t.elements.basic; root_is = t.root; count_is = t.elements.count })
+    subst (Says kinds.Scatter f) (some_is (records.Scatter a.0) r a.2)
+    (record {
+      kind_is = refl;
+      operation_is = t.operation;
+      type_is = t.elements.basic;
+      root_is = t.root;
+      count_is =
+          t.elements.count;
+    })
 record_takes kinds.Reduce f r is = reduce_takes f r is
 record_takes kinds.Allreduce f r is = allreduce_takes f r is
 
@@ -144,13 +224,21 @@ nothing_takes x p body is =
     let a = given_some (eqb (length body) 0) _ p is in
     (nil_from_length body (eqb-true _ _ a.0), some_is x p a.1)
 
-elements_back : (way : Direction) (e : Elements) (r : Record) (body : List ℕ) (p : PartText) → elements_of r ≡ Some e → elements_from way e body ≡ Some p → IsPart (way_phase way) r body p
+elements_back : (way : Direction) (e : Elements) (r : Record) (body : List ℕ) (p : PartText) → elements_of r ≡ Some e →
+    elements_from way e body ≡ Some p → IsPart (way_phase way) r body p
 unfolding elements_from
 elements_back way e r body p has is =
     let a = given_some (eqb (length body) (e.count * size_of e.basic)) _ p is in
-    subst (IsPart (way_phase way) r body) (some_is (ElementsText way body) p a.1) (record { width = tt; fits = subst (λ (o : Option Elements). AreElements o body) (sym has) (eqb-true _ _ a.0); spelled = refl; phase_is = refl })
+    subst (IsPart (way_phase way) r body) (some_is (ElementsText way body) p a.1)
+    (record {
+      width = tt;
+      fits = subst (λ (o : Option Elements). AreElements o body) (sym has) (eqb-true _ _ a.0);
+      spelled = refl;
+      phase_is = refl;
+    })
 
-colour_cases : (one zero none : Bool) (colour : ℕ) (c : Option ℕ) → cond one (Some (Some colour)) (cond zero (given none (Some None)) None) ≡ Some c
+colour_cases : (one zero none : Bool) (colour : ℕ) (c : Option ℕ) →
+    cond one (Some (Some colour)) (cond zero (given none (Some None)) None) ≡ Some c
     → ((one ≡ true) × (there colour ≡ c)) ⊎ ((zero ≡ true) × (none ≡ true) × (nothing ≡ c))
 colour_cases true zero none colour c is = inl (refl, some_is _ c is)
 colour_cases false true true colour c is = inr (refl, refl, some_is _ c is)
@@ -158,13 +246,18 @@ colour_cases false true false colour c is = absurd cc
 colour_cases false false none colour c is = absurd cc
 
 -- the byte in front of a colour, and the colour
-colour_back : (byte colour : ℕ) (c : Option ℕ) → colour < 2 ^ 32 → colour_from byte colour ≡ Some c → ColourIsWithin c × (byte ∷ big_bytes 4 colour ≡ colour_spelling c)
+colour_back : (byte colour : ℕ) (c : Option ℕ) → colour < 2 ^ 32 → colour_from byte colour ≡ Some c → ColourIsWithin c ×
+    (byte ∷ big_bytes 4 colour ≡ colour_spelling c)
 unfolding colour_from
 colour_back byte colour c fits is =
     elim (colour_cases (eqb byte 1) (eqb byte 0) (eqb colour 0) colour c is) [
-      | inl h ↦ subst (λ (o : Option ℕ). ColourIsWithin o × (byte ∷ big_bytes 4 colour ≡ colour_spelling o)) h.1 (fits, ap (λ (b : ℕ). b ∷ big_bytes 4 colour) (eqb-true _ _ h.0))
-      | inr h ↦ subst (λ (o : Option ℕ). ColourIsWithin o × (byte ∷ big_bytes 4 colour ≡ colour_spelling o)) h.2
-          (tt, ap (λ (b : ℕ). b ∷ big_bytes 4 colour) (eqb-true _ _ h.0) ∙ ap (λ (n : ℕ). 0 ∷ big_bytes 4 n) (eqb-true _ _ h.1))
+      | inl h ↦ subst (λ (o : Option ℕ). ColourIsWithin o × (byte ∷ big_bytes 4 colour ≡ colour_spelling o)) h.1
+          (fits, ap (λ (b : ℕ). b ∷ big_bytes 4 colour) (eqb-true _ _ h.0))
+      | inr h ↦ subst (λ (o : Option ℕ). ColourIsWithin o × (byte ∷ big_bytes 4 colour ≡ colour_spelling o)) h.2 (
+        tt,
+        ap (λ (b : ℕ). b ∷ big_bytes 4 colour) (eqb-true _ _ h.0) ∙
+            ap (λ (n : ℕ). 0 ∷ big_bytes 4 n) (eqb-true _ _ h.1),
+      )
     ]
 
 -- a number of four bytes, read as a signed one, is within four bytes
@@ -172,7 +265,8 @@ key_fits : (n : ℕ) → n < 2 ^ 32 → FitsSigned w32 (cast_signed w32 n)
 unfolding int_wrap
 key_fits n lt = subst (λ (k : ℕ). FitsSigned w32 (cast_signed w32 k)) (mod-eq_of_lt lt) (SFits-int_wrap w32 (pos n))
 
-choice_takes : (body : List ℕ) (p : PartText) → IsBytes body → choice_from body ≡ Some p → IsPart phases.TowardsRoot records.Split body p
+choice_takes : (body : List ℕ) (p : PartText) → IsBytes body → choice_from body ≡ Some p →
+    IsPart phases.TowardsRoot records.Split body p
 unfolding choice_from
 choice_takes body p bytes is =
     let a = given_some (eqb (length body) 9) _ p is in
@@ -188,13 +282,23 @@ choice_takes body p bytes is =
     let end : drop 9 body ≡ [] = drop_all 9 body (omega arith) in
     let whole : body ≡ part_spelling made =
     e0
-    ∙ ap (λ (t : List ℕ). get_or body 0 0 ∷ t) (e1 ∙ ap (λ (t : List ℕ). big_bytes 4 (number_at 1 4 body) ++ t) (e5 ∙ ap (λ (t : List ℕ). big_bytes 4 key ++ t) end ∙ append-nil (big_bytes 4 key)))
+    ∙ ap (λ (t : List ℕ). get_or body 0 0 ∷ t)
+    (e1 ∙ ap (λ (t : List ℕ). big_bytes 4 (number_at 1 4 body) ++ t)
+    (e5 ∙ ap (λ (t : List ℕ). big_bytes 4 key ++ t) end ∙ append-nil (big_bytes 4 key)))
     ∙ ap (λ (t : List ℕ). t ++ big_bytes 4 key) c.1
     ∙ ap (λ (n : ℕ). colour_spelling b.0 ++ big_bytes 4 n) (sym key_is)
     in
-    subst (IsPart phases.TowardsRoot records.Split body) (some_is made p b.2) (record { width = (c.0, key_fits key (number_fits 5 4 body bytes)); fits = refl; spelled = whole; phase_is = refl })
+    subst (IsPart phases.TowardsRoot records.Split body) (some_is made p b.2)
+    (record {
+      width = (c.0, key_fits key (number_fits 5 4 body bytes));
+      fits = refl;
+      spelled = whole;
+      phase_is =
+          refl;
+    })
 
-context_takes : (body : List ℕ) (p : PartText) → IsBytes body → context_from body ≡ Some p → IsPart phases.FromRoot records.Dup body p
+context_takes : (body : List ℕ) (p : PartText) → IsBytes body → context_from body ≡ Some p →
+    IsPart phases.FromRoot records.Dup body p
 unfolding context_from
 context_takes body p bytes is =
     let a = given_some (eqb (length body) 8) _ p is in
@@ -202,9 +306,11 @@ context_takes body p bytes is =
     let e0 = number_takes 8 0 wide8 body bytes (omega arith) in
     let end : drop 8 body ≡ [] = drop_all 8 body (omega arith) in
     let whole = e0 ∙ ap (λ (t : List ℕ). big_bytes 8 (number_at 0 8 body) ++ t) end ∙ append-nil (big_bytes 8 (number_at 0 8 body)) in
-    subst (IsPart phases.FromRoot records.Dup body) (some_is (ContextText (number_at 0 8 body)) p a.1) (record { width = number_fits 0 8 body bytes; fits = refl; spelled = whole; phase_is = refl })
+    subst (IsPart phases.FromRoot records.Dup body) (some_is (ContextText (number_at 0 8 body)) p a.1)
+    (record { width = number_fits 0 8 body bytes; fits = refl; spelled = whole; phase_is = refl })
 
-group_cases : (none a b : Bool) (x y p : PartText) → cond none (Some x) (given a (given b (Some y))) ≡ Some p → ((none ≡ true) × (x ≡ p)) ⊎ ((a ≡ true) × (b ≡ true) × (y ≡ p))
+group_cases : (none a b : Bool) (x y p : PartText) → cond none (Some x) (given a (given b (Some y))) ≡ Some p →
+    ((none ≡ true) × (x ≡ p)) ⊎ ((a ≡ true) × (b ≡ true) × (y ≡ p))
 group_cases true a b x y p is = inl (refl, some_is x p is)
 group_cases false true true x y p is = inr (refl, refl, some_is y p is)
 group_cases false true false x y p is = absurd cc
@@ -216,11 +322,13 @@ ranks_are body long even =
     let len = length-drop 8 body in
     record { some = omega arith; whole = omega arith }
 
-group_takes : (body : List ℕ) (p : PartText) → IsBytes body → group_from body ≡ Some p → IsPart phases.FromRoot records.Split body p
+group_takes : (body : List ℕ) (p : PartText) → IsBytes body → group_from body ≡ Some p →
+    IsPart phases.FromRoot records.Split body p
 unfolding group_from
 group_takes body p bytes is =
     elim (group_cases (eqb (length body) 0) (leb 10 (length body)) (eqb (length body % 2) 0) _ _ p is) [
-      | inl h ↦ subst (IsPart phases.FromRoot records.Split body) h.1 (record { width = tt; fits = refl; spelled = nil_from_length body (eqb-true _ _ h.0); phase_is = refl })
+      | inl h ↦ subst (IsPart phases.FromRoot records.Split body) h.1
+          (record { width = tt; fits = refl; spelled = nil_from_length body (eqb-true _ _ h.0); phase_is = refl })
       | inr h ↦ subst (IsPart phases.FromRoot records.Split body) h.2 (record {
         width = number_fits 0 8 body bytes;
         fits = (refl, ranks_are body (leb-true _ _ h.0) (eqb-true _ _ h.1));
@@ -229,35 +337,51 @@ group_takes body p bytes is =
       })
     ]
 
-towards_takes : (r : Record) (body : List ℕ) (p : PartText) → IsBytes body → towards_root r body ≡ Some p → IsPart phases.TowardsRoot r body p
+towards_takes : (r : Record) (body : List ℕ) (p : PartText) → IsBytes body → towards_root r body ≡ Some p →
+    IsPart phases.TowardsRoot r body p
 unfolding towards_root
 towards_takes records.Barrier body p bytes is =
     let a = nothing_takes (NothingMore directions.TowardsRoot) p body is in
-    subst (IsPart phases.TowardsRoot records.Barrier body) a.1 (record { width = tt; fits = tt; spelled = a.0; phase_is = refl })
+    subst (IsPart phases.TowardsRoot records.Barrier body) a.1
+    (record { width = tt; fits = tt; spelled = a.0; phase_is = refl })
 towards_takes records.Dup body p bytes is =
     let a = nothing_takes (NothingMore directions.TowardsRoot) p body is in
-    subst (IsPart phases.TowardsRoot records.Dup body) a.1 (record { width = tt; fits = refl; spelled = a.0; phase_is = refl })
-towards_takes (records.Bcast x) body p bytes is = elements_back directions.TowardsRoot x.elements (records.Bcast x) body p refl is
-towards_takes (records.Gather x) body p bytes is = elements_back directions.TowardsRoot x.elements (records.Gather x) body p refl is
-towards_takes (records.Scatter x) body p bytes is = elements_back directions.TowardsRoot x.elements (records.Scatter x) body p refl is
-towards_takes (records.Reduce o x) body p bytes is = elements_back directions.TowardsRoot x.elements (records.Reduce o x) body p refl is
-towards_takes (records.Allreduce o e) body p bytes is = elements_back directions.TowardsRoot e (records.Allreduce o e) body p refl is
+    subst (IsPart phases.TowardsRoot records.Dup body) a.1
+    (record { width = tt; fits = refl; spelled = a.0; phase_is = refl })
+towards_takes (records.Bcast x) body p bytes is =
+    elements_back directions.TowardsRoot x.elements (records.Bcast x) body p refl is
+towards_takes (records.Gather x) body p bytes is =
+    elements_back directions.TowardsRoot x.elements (records.Gather x) body p refl is
+towards_takes (records.Scatter x) body p bytes is =
+    elements_back directions.TowardsRoot x.elements (records.Scatter x) body p refl is
+towards_takes (records.Reduce o x) body p bytes is =
+    elements_back directions.TowardsRoot x.elements (records.Reduce o x) body p refl is
+towards_takes (records.Allreduce o e) body p bytes is =
+    elements_back directions.TowardsRoot e (records.Allreduce o e) body p refl is
 towards_takes records.Split body p bytes is = choice_takes body p bytes is
 
-from_takes : (r : Record) (body : List ℕ) (p : PartText) → IsBytes body → from_root r body ≡ Some p → IsPart phases.FromRoot r body p
+from_takes : (r : Record) (body : List ℕ) (p : PartText) → IsBytes body → from_root r body ≡ Some p →
+    IsPart phases.FromRoot r body p
 unfolding from_root
 from_takes records.Barrier body p bytes is =
     let a = nothing_takes (NothingMore directions.FromRoot) p body is in
-    subst (IsPart phases.FromRoot records.Barrier body) a.1 (record { width = tt; fits = tt; spelled = a.0; phase_is = refl })
-from_takes (records.Bcast x) body p bytes is = elements_back directions.FromRoot x.elements (records.Bcast x) body p refl is
-from_takes (records.Gather x) body p bytes is = elements_back directions.FromRoot x.elements (records.Gather x) body p refl is
-from_takes (records.Scatter x) body p bytes is = elements_back directions.FromRoot x.elements (records.Scatter x) body p refl is
-from_takes (records.Reduce o x) body p bytes is = elements_back directions.FromRoot x.elements (records.Reduce o x) body p refl is
-from_takes (records.Allreduce o e) body p bytes is = elements_back directions.FromRoot e (records.Allreduce o e) body p refl is
+    subst (IsPart phases.FromRoot records.Barrier body) a.1
+    (record { width = tt; fits = tt; spelled = a.0; phase_is = refl })
+from_takes (records.Bcast x) body p bytes is =
+    elements_back directions.FromRoot x.elements (records.Bcast x) body p refl is
+from_takes (records.Gather x) body p bytes is =
+    elements_back directions.FromRoot x.elements (records.Gather x) body p refl is
+from_takes (records.Scatter x) body p bytes is =
+    elements_back directions.FromRoot x.elements (records.Scatter x) body p refl is
+from_takes (records.Reduce o x) body p bytes is =
+    elements_back directions.FromRoot x.elements (records.Reduce o x) body p refl is
+from_takes (records.Allreduce o e) body p bytes is =
+    elements_back directions.FromRoot e (records.Allreduce o e) body p refl is
 from_takes records.Dup body p bytes is = context_takes body p bytes is
 from_takes records.Split body p bytes is = group_takes body p bytes is
 
-part_takes : (phase : Phase) (r : Record) (body : List ℕ) (p : PartText) → IsBytes body → part_in phase r body ≡ Some p → IsPart phase r body p
+part_takes : (phase : Phase) (r : Record) (body : List ℕ) (p : PartText) → IsBytes body →
+    part_in phase r body ≡ Some p → IsPart phase r body p
 unfolding part_in
 part_takes phases.TowardsRoot r body p bytes is = towards_takes r body p bytes is
 part_takes phases.FromRoot r body p bytes is = from_takes r body p bytes is
@@ -268,7 +392,8 @@ part_takes phases.RecordsDiffer r body p bytes is =
 -- ---- all of it
 
 -- the record's bytes, whatever the phase
-head_takes : (bytes : List ℕ) (phase : Phase) (r : Record) → IsBytes bytes → phase_code phase ≡ get_or bytes 3 0 → head_of bytes ≡ Some r
+head_takes : (bytes : List ℕ) (phase : Phase) (r : Record) → IsBytes bytes → phase_code phase ≡ get_or bytes 3 0 →
+    head_of bytes ≡ Some r
     → RecordIsWithin r × (bytes ≡ record_spelling r phase ++ drop 16 bytes)
 unfolding head_of record_spelling
 head_takes bytes phase r fits phase_is is =
@@ -293,13 +418,16 @@ head_takes bytes phase r fits phase_is is =
     e1 ∙ ap (λ (v : ℕ). v ∷ drop 2 bytes) (sym s.operation_is) ∙ ap (λ (t : List ℕ). operation_field r ∷ t) (
     e2 ∙ ap (λ (v : ℕ). v ∷ drop 3 bytes) (sym s.type_is) ∙ ap (λ (t : List ℕ). type_code (elements_of r) ∷ t) (
     e3 ∙ ap (λ (v : ℕ). v ∷ drop 4 bytes) (sym phase_is) ∙ ap (λ (t : List ℕ). phase_code phase ∷ t) (
-    e4 ∙ ap (λ (n : ℕ). big_bytes 4 n ++ drop 8 bytes) (sym s.root_is) ∙ ap (λ (t : List ℕ). big_bytes 4 (root_field r) ++ t) (
-    e8 ∙ ap (λ (n : ℕ). big_bytes 4 n ++ drop 12 bytes) (sym s.count_is) ∙ ap (λ (t : List ℕ). big_bytes 4 (count_field (elements_of r)) ++ t) (
+    e4 ∙ ap (λ (n : ℕ). big_bytes 4 n ++ drop 8 bytes) (sym s.root_is) ∙
+    ap (λ (t : List ℕ). big_bytes 4 (root_field r) ++ t) (
+    e8 ∙ ap (λ (n : ℕ). big_bytes 4 n ++ drop 12 bytes) (sym s.count_is) ∙
+    ap (λ (t : List ℕ). big_bytes 4 (count_field (elements_of r)) ++ t) (
     e12 ∙ ap (λ (n : ℕ). big_bytes 4 n ++ drop 16 bytes) (eqb-true _ _ b.0)))))))
     in
     (record { root = root; count = count }, whole)
 
-payload_takes : (bytes : List ℕ) (p : PayloadText) → IsBytes bytes → payload_of bytes ≡ Some p → PayloadFits p × (bytes ≡ spelling p)
+payload_takes : (bytes : List ℕ) (p : PayloadText) → IsBytes bytes → payload_of bytes ≡ Some p → PayloadFits p ×
+    (bytes ≡ spelling p)
 unfolding payload_of spelling
 payload_takes bytes p fits is =
     let a = bind_some (head_of bytes) _ p is in
@@ -313,7 +441,8 @@ payload_takes bytes p fits is =
     ∙ ap (λ (x : List ℕ). record_spelling a.0 b.0 ++ x) t.spelled
     ∙ ap (λ (k : Phase). record_spelling a.0 k ++ part_spelling c.0) t.phase_is
     in
-    subst (λ (x : PayloadText). PayloadFits x × (bytes ≡ spelling x)) (some_is made p c.2) (record { record_width = h.0; width = t.width; part = t.fits }, whole)
+    subst (λ (x : PayloadText). PayloadFits x × (bytes ≡ spelling x)) (some_is made p c.2)
+    (record { record_width = h.0; width = t.width; part = t.fits }, whole)
 
 -- ---- the other way round
 
@@ -358,7 +487,13 @@ phase_again phases.RecordsDiffer = refl
 
 -- the fields of a record
 abbrev fields_in : Record → Fields
-fields_in r = record { operation = operation_field r; basic = type_code (elements_of r); root = root_field r; count = count_field (elements_of r) }
+fields_in r = record {
+  operation = operation_field r;
+  basic = type_code (elements_of r);
+  root = root_field r;
+  count =
+      count_field (elements_of r);
+}
 
 record_again : (r : Record) → record_in (kind_of r) (fields_in r) ≡ Some r
 unfolding record_in without_fields elements_in rooted_in reduce_in allreduce_in
@@ -371,19 +506,22 @@ record_again (records.Scatter x) = rw (basic_again x.elements.basic) refl
 record_again (records.Reduce o x) = rw (operation_again o, basic_again x.elements.basic) refl
 record_again (records.Allreduce o e) = rw (operation_again o, basic_again e.basic) refl
 
-head_from : (bytes : List ℕ) (r : Record) → 16 ≤ length bytes → number_at 12 4 bytes ≡ 0 → kind_at (get_or bytes 0 0) ≡ Some (kind_of r) → fields_of bytes ≡ fields_in r → head_of bytes ≡ Some r
+head_from : (bytes : List ℕ) (r : Record) → 16 ≤ length bytes → number_at 12 4 bytes ≡ 0 →
+    kind_at (get_or bytes 0 0) ≡ Some (kind_of r) → fields_of bytes ≡ fields_in r → head_of bytes ≡ Some r
 unfolding head_of
 head_from bytes r long zeros kind fields =
     let t0 : leb 16 (length bytes) ≡ true = le-leb _ _ long in
     rw (t0, zeros, kind, fields) (record_again r)
 
-elements_again : (way : Direction) (e : Elements) (bytes : List ℕ) → length bytes ≡ e.count * size_of e.basic → elements_from way e bytes ≡ Some (ElementsText way bytes)
+elements_again : (way : Direction) (e : Elements) (bytes : List ℕ) → length bytes ≡ e.count * size_of e.basic →
+    elements_from way e bytes ≡ Some (ElementsText way bytes)
 unfolding elements_from
 elements_again way e bytes len =
     let t0 : eqb (length bytes) (e.count * size_of e.basic) ≡ true = eq-eqb _ _ len in
     rw t0 refl
 
-towards_elements : (r : Record) (bytes : List ℕ) → AreElements (elements_of r) bytes → towards_root r bytes ≡ Some (ElementsText directions.TowardsRoot bytes)
+towards_elements : (r : Record) (bytes : List ℕ) → AreElements (elements_of r) bytes →
+    towards_root r bytes ≡ Some (ElementsText directions.TowardsRoot bytes)
 unfolding towards_root
 towards_elements records.Barrier bytes fits = absurd fits
 towards_elements records.Dup bytes fits = absurd fits
@@ -394,7 +532,8 @@ towards_elements (records.Scatter x) bytes fits = elements_again directions.Towa
 towards_elements (records.Reduce o x) bytes fits = elements_again directions.TowardsRoot x.elements bytes fits
 towards_elements (records.Allreduce o e) bytes fits = elements_again directions.TowardsRoot e bytes fits
 
-from_elements : (r : Record) (bytes : List ℕ) → AreElements (elements_of r) bytes → from_root r bytes ≡ Some (ElementsText directions.FromRoot bytes)
+from_elements : (r : Record) (bytes : List ℕ) → AreElements (elements_of r) bytes →
+    from_root r bytes ≡ Some (ElementsText directions.FromRoot bytes)
 unfolding from_root
 from_elements records.Barrier bytes fits = absurd fits
 from_elements records.Dup bytes fits = absurd fits
@@ -405,7 +544,8 @@ from_elements (records.Scatter x) bytes fits = elements_again directions.FromRoo
 from_elements (records.Reduce o x) bytes fits = elements_again directions.FromRoot x.elements bytes fits
 from_elements (records.Allreduce o e) bytes fits = elements_again directions.FromRoot e bytes fits
 
-nothing_again : (r : Record) (way : Direction) → SaysNothing r way → part_in (way_phase way) r [] ≡ Some (NothingMore way)
+nothing_again : (r : Record) (way : Direction) → SaysNothing r way → part_in (way_phase way) r [] ≡
+    Some (NothingMore way)
 unfolding part_in towards_root from_root nothing_from
 nothing_again records.Barrier directions.TowardsRoot fits = refl
 nothing_again records.Barrier directions.FromRoot fits = refl
@@ -430,8 +570,10 @@ key_small (pos n) fits = let s : n < 2 ^ 31 = fits.sfits in omega arith
 key_small (negsuc n) fits = omega arith
 
 -- a choice, by the byte in front of its colour and the four behind it
-choice_from_parts : (byte number : ℕ) (colour : Option ℕ) (key : ℤ) → number < 2 ^ 32 → FitsSigned w32 key → colour_from byte number ≡ Some colour
-    → choice_from ((byte ∷ big_bytes 4 number) ++ big_bytes 4 (cast_unsigned w32 key)) ≡ Some (ChoiceText (record { colour = colour; key = key }))
+choice_from_parts : (byte number : ℕ) (colour : Option ℕ) (key : ℤ) → number < 2 ^ 32 → FitsSigned w32 key →
+    colour_from byte number ≡ Some colour
+    → choice_from ((byte ∷ big_bytes 4 number) ++ big_bytes 4 (cast_unsigned w32 key)) ≡
+    Some (ChoiceText (record { colour = colour; key = key }))
 unfolding choice_from
 choice_from_parts byte number colour key small fits is =
     let body = (byte ∷ big_bytes 4 number) ++ big_bytes 4 (cast_unsigned w32 key) in
@@ -440,7 +582,9 @@ choice_from_parts byte number colour key small fits is =
     let back : cast_signed w32 (cast_unsigned w32 key) ≡ key = to_z-of_z w32 key fits in
     rw (first, is, last, back) refl
 
-choice_again : (colour : Option ℕ) (key : ℤ) → ColourIsWithin colour → FitsSigned w32 key → choice_from (colour_spelling colour ++ big_bytes 4 (cast_unsigned w32 key)) ≡ Some (ChoiceText (record { colour = colour; key = key }))
+choice_again : (colour : Option ℕ) (key : ℤ) → ColourIsWithin colour → FitsSigned w32 key →
+    choice_from (colour_spelling colour ++ big_bytes 4 (cast_unsigned w32 key)) ≡
+    Some (ChoiceText (record { colour = colour; key = key }))
 unfolding colour_from
 choice_again None key width fits = choice_from_parts 0 0 nothing key (omega arith) fits refl
 choice_again (Some colour) key width fits = choice_from_parts 1 colour (there colour) key width fits refl
@@ -449,7 +593,8 @@ null_again : group_from [] ≡ Some NullText
 unfolding group_from
 null_again = refl
 
-group_again : (context : ℕ) (ranks : List ℕ) → context < 2 ^ 64 → AreRanks ranks → group_from (big_bytes 8 context ++ ranks) ≡ Some (GroupText context ranks)
+group_again : (context : ℕ) (ranks : List ℕ) → context < 2 ^ 64 → AreRanks ranks →
+    group_from (big_bytes 8 context ++ ranks) ≡ Some (GroupText context ranks)
 unfolding group_from
 group_again context ranks fits are =
     let body = big_bytes 8 context ++ ranks in
@@ -461,24 +606,32 @@ group_again context ranks fits are =
     let there_is : eqb (length body) 0 ≡ false = ne_eqb (length body) 0 (λ (e : length body ≡ 0). absurd (omega arith)) in
     rw (there_is, long, even, back) refl
 
-part_again : (r : Record) (p : PartText) → PartIsWithin p → PartFits r p → part_in (phase_of p) r (part_spelling p) ≡ Some p
+part_again : (r : Record) (p : PartText) → PartIsWithin p → PartFits r p → part_in (phase_of p) r (part_spelling p) ≡
+    Some p
 unfolding part_in towards_root from_root nothing_from
 part_again r Differing width fits = refl
 part_again r (NothingMore way) width fits = nothing_again r way fits
 part_again r (ElementsText directions.TowardsRoot bytes) width fits = towards_elements r bytes fits
 part_again r (ElementsText directions.FromRoot bytes) width fits = from_elements r bytes fits
-part_again r (ContextText context) width fits = subst (λ (x : Record). from_root x (big_bytes 8 context) ≡ Some (ContextText context)) (sym fits) (context_again context width)
+part_again r (ContextText context) width fits =
+    subst (λ (x : Record). from_root x (big_bytes 8 context) ≡ Some (ContextText context)) (sym fits)
+    (context_again context width)
 part_again r (ChoiceText choice) width fits =
-    subst (λ (x : Record). towards_root x (part_spelling (ChoiceText choice)) ≡ Some (ChoiceText choice)) (sym fits) (choice_again choice.colour choice.key width.0 width.1)
+    subst (λ (x : Record). towards_root x (part_spelling (ChoiceText choice)) ≡ Some (ChoiceText choice)) (sym fits)
+    (choice_again choice.colour choice.key width.0 width.1)
 part_again r NullText width fits = subst (λ (x : Record). from_root x [] ≡ Some NullText) (sym fits) null_again
 part_again r (GroupText context ranks) width fits =
-    subst (λ (x : Record). from_root x (big_bytes 8 context ++ ranks) ≡ Some (GroupText context ranks)) (sym fits.0) (group_again context ranks width fits.1)
+    subst (λ (x : Record). from_root x (big_bytes 8 context ++ ranks) ≡ Some (GroupText context ranks)) (sym fits.0)
+    (group_again context ranks width fits.1)
 
-fields_from : (bytes : List ℕ) (r : Record) → get_or bytes 1 0 ≡ operation_field r → get_or bytes 2 0 ≡ type_code (elements_of r) → number_at 4 4 bytes ≡ root_field r → number_at 8 4 bytes ≡ count_field (elements_of r) → fields_of bytes ≡ fields_in r
+fields_from : (bytes : List ℕ) (r : Record) → get_or bytes 1 0 ≡ operation_field r →
+    get_or bytes 2 0 ≡ type_code (elements_of r) → number_at 4 4 bytes ≡ root_field r →
+    number_at 8 4 bytes ≡ count_field (elements_of r) → fields_of bytes ≡ fields_in r
 fields_from bytes r operation basic root count = rw (operation, basic, root, count) refl
 
 head_again : (r : Record) (phase : Phase) (body : List ℕ) → RecordIsWithin r
-    → let bytes : List ℕ = record_spelling r phase ++ body in (head_of bytes ≡ Some r) × (get_or bytes 3 0 ≡ phase_code phase) × (drop 16 bytes ≡ body)
+    → let bytes : List ℕ = record_spelling r phase ++ body in (head_of bytes ≡ Some r) ×
+    (get_or bytes 3 0 ≡ phase_code phase) × (drop 16 bytes ≡ body)
 unfolding record_spelling
 head_again r phase body fits =
     let bytes : List ℕ = record_spelling r phase ++ body in
@@ -493,7 +646,9 @@ head_again r phase body fits =
       refl,
     )
 
-payload_from : (bytes body : List ℕ) (p : PayloadText) (phase : Phase) → head_of bytes ≡ Some p.record_is → phase_at (get_or bytes 3 0) ≡ Some phase → drop 16 bytes ≡ body → part_in phase p.record_is body ≡ Some p.part → payload_of bytes ≡ Some p
+payload_from : (bytes body : List ℕ) (p : PayloadText) (phase : Phase) → head_of bytes ≡ Some p.record_is →
+    phase_at (get_or bytes 3 0) ≡ Some phase → drop 16 bytes ≡ body → part_in phase p.record_is body ≡ Some p.part →
+    payload_of bytes ≡ Some p
 unfolding payload_of
 payload_from bytes body p phase head phase_is rest part = rw (head, phase_is, rest, part) refl
 
@@ -502,13 +657,17 @@ unfolding spelling
 payload_again p fits =
     let phase = phase_of p.part in
     let h = head_again p.record_is phase (part_spelling p.part) fits.record_width in
-    payload_from (spelling p) (part_spelling p.part) p phase h.0 (ap phase_at h.1 ∙ phase_again phase) h.2 (part_again p.record_is p.part fits.width fits.part)
+    payload_from (spelling p) (part_spelling p.part) p phase h.0 (ap phase_at h.1 ∙ phase_again phase) h.2
+    (part_again p.record_is p.part fits.width fits.part)
 
-pub is_found : (bytes : List ℕ) (r : Result Payload PayloadRefusal) → IsBytes bytes → Gives payload_text r (payload_of bytes) → IfOk r (λ p. PayloadFits (payload_text p) × (bytes ≡ spelling (payload_text p)))
+pub is_found : (bytes : List ℕ) (r : Result Payload PayloadRefusal) → IsBytes bytes →
+    Gives payload_text r (payload_of bytes) →
+    IfOk r (λ p. PayloadFits (payload_text p) × (bytes ≡ spelling (payload_text p)))
 is_found bytes (Ok p) fits gives = payload_takes bytes (payload_text p) fits gives
 is_found bytes (Err e) fits gives = tt
 
-pub is_only : (bytes : List ℕ) (r : Result Payload PayloadRefusal) → Gives payload_text r (payload_of bytes) → (p : PayloadText) → PayloadFits p → bytes ≡ spelling p → Gives payload_text r (Some p)
+pub is_only : (bytes : List ℕ) (r : Result Payload PayloadRefusal) → Gives payload_text r (payload_of bytes) →
+    (p : PayloadText) → PayloadFits p → bytes ≡ spelling p → Gives payload_text r (Some p)
 is_only bytes (Ok x) gives p fits is = sym (ap payload_of is ∙ payload_again p fits) ∙ gives
 is_only bytes (Err BadFrame) gives p fits is = sym (ap payload_of is ∙ payload_again p fits) ∙ gives
 is_only bytes (Err OutOfMemory) gives p fits is = absurd gives

@@ -10,4 +10,5 @@ is_same_record a b =
     (kind_code (kind_of a) == kind_code (kind_of b)) &&
     ((root_field a == root_field b) &&
     ((operation_field a == operation_field b) &&
-    ((type_code (elements_of a) == type_code (elements_of b)) && (count_field (elements_of a) == count_field (elements_of b)))))
+    ((type_code (elements_of a) == type_code (elements_of b)) &&
+    (count_field (elements_of a) == count_field (elements_of b)))))

@@ -1,5 +1,6 @@
 -- What bytes say, field by field; there is one fault.
-use Rattle.std.specs.Prelude.{◌≡◌, ℕ, ◌*◌, ◌%◌, ◌==◌, List, length, drop, slice_index, Option, Some, None, Result, Ok, Err, Bool, nat_le, if◌then◌else◌}
+use Rattle.std.specs.Prelude.{◌≡◌, ℕ, ◌*◌, ◌%◌, ◌==◌, List, length, drop, slice_index, Option, Some, None, Result, Ok}
+use Rattle.std.specs.Prelude.{Err, Bool, nat_le, if◌then◌else◌}
 use Rattle.std.specs.Int.{cast_signed, w32}
 use Rattle.byteorder.specs.Endian.{big_number}
 use Rattle.vocabulary.specs.BasicTypes.{size_of, type_at}
@@ -17,7 +18,8 @@ use Rattle.payload.specs.declared.payload.Direction.{Direction}
 use Rattle.payload.specs.declared.payload.Direction.TheVariants as directions
 use Rattle.payload.specs.declared.reading.Fields.{Fields}
 use Rattle.payload.specs.Codes.{kind_at, phase_at, operation_at}
-use Rattle.payload.specs.Spelling.{PartText, Differing, NothingMore, ElementsText, ContextText, ChoiceText, NullText, GroupText, PayloadText}
+use Rattle.payload.specs.Spelling.{PartText, Differing, NothingMore, ElementsText, ContextText, ChoiceText, NullText}
+use Rattle.payload.specs.Spelling.{GroupText, PayloadText}
 
 infixl 10 ◌>>=◌
 -- a step after a step that gave something
@@ -52,7 +54,8 @@ fields_of bytes = record {
 
 -- a record of a kind that has no fields
 unfoldable pub without_fields : Record → Fields → Option Record
-without_fields r f = given (f.operation == 0) (given (f.basic == 0) (given (f.root == 0) (given (f.count == 0) (Some r))))
+without_fields r f =
+    given (f.operation == 0) (given (f.basic == 0) (given (f.root == 0) (given (f.count == 0) (Some r))))
 
 -- the elements that the fields name
 unfoldable pub elements_in : Fields → Option Elements
@@ -118,7 +121,8 @@ context_from body = given (length body == 8) (Some (ContextText (number_at 0 8 b
 unfoldable pub group_from : List ℕ → Option PartText
 group_from body =
     if length body == 0 then Some NullText
-    else given (nat_le 10 (length body)) (given (length body % 2 == 0) (Some (GroupText (number_at 0 8 body) (drop 8 body))))
+    else given (nat_le 10 (length body))
+    (given (length body % 2 == 0) (Some (GroupText (number_at 0 8 body) (drop 8 body))))
 
 -- what goes towards the root
 unfoldable pub towards_root : Record → List ℕ → Option PartText

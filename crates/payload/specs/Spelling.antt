@@ -1,5 +1,6 @@
 -- What a message of a collective says, apart from where it lies in memory, and its one spelling (our own format).
-use Rattle.std.specs.Prelude.{◌≡◌, ℕ, ◌*◌, ◌%◌, ◌<◌, ◌≤◌, ◌^◌, List, [], ◌∷◌, ◌++◌, length, Option, Some, None, FitsSigned}
+use Rattle.std.specs.Prelude.{◌≡◌, ℕ, ◌*◌, ◌%◌, ◌<◌, ◌≤◌, ◌^◌, List, [], ◌∷◌, ◌++◌, length, Option, Some, None}
+use Rattle.std.specs.Prelude.{FitsSigned}
 use Rattle.std.specs.Int.{cast_unsigned, w32}
 use Rattle.byteorder.specs.Endian.{big_bytes}
 use Rattle.vocabulary.specs.BasicTypes.{code_of, size_of}
@@ -198,7 +199,8 @@ part_spelling (ChoiceText choice) = colour_spelling choice.colour ++ big_bytes 4
 part_spelling NullText = []
 part_spelling (GroupText context ranks) = big_bytes 8 context ++ ranks
 
--- the 16 bytes of a record in a message of this phase: kind, operation, basic type, phase, root, count, and four bytes 0
+-- the 16 bytes of a record in a message of this phase: kind, operation, basic type, phase, root, count, and four bytes
+-- 0
 unfoldable pub record_spelling : Record → Phase → List ℕ
 record_spelling r phase =
     kind_code (kind_of r) ∷ operation_field r ∷ type_code (elements_of r) ∷ phase_code phase

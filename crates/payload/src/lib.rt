@@ -10,7 +10,7 @@ mod refusal;
 mod writing;
 
 pub use operation::Operation;
-pub use payload::{Choice, Direction, NewGroup, PayloadContent, Payload};
+pub use payload::{Choice, Direction, NewGroup, Payload, PayloadContent};
 pub use reading::read_payload;
 pub use record::{Elements, Record, Rooted};
 pub use refusal::PayloadRefusal;

@@ -2,7 +2,8 @@
 
 ghost use Rattle.std.specs.Prelude.{◌≡◌, ◌*◌, ◌+◌, ◌/◌, ◌↔◌, length, drop, IsTrue, nat_lt, Some, None, if◌then◌else◌};
 ghost use Rattle.byteorder.specs.Endian.{big_number};
-ghost use Rattle.payload.specs.Spelling.{part_text, part_spelling, phase_of, way_phase, elements_of, SaysNothing, AreElements, AreRanks, PartFits};
+ghost use Rattle.payload.specs.Spelling.{part_text, part_spelling, phase_of, way_phase, elements_of, SaysNothing};
+ghost use Rattle.payload.specs.Spelling.{AreElements, AreRanks, PartFits};
 
 use crate::kind::Phase;
 use crate::record::Record;
@@ -106,7 +107,9 @@ impl PayloadContent<'_> {
             PayloadContent::RecordsDiffer => Phase::RecordsDiffer,
             PayloadContent::Nothing(way) | PayloadContent::Elements(way, _) => way.phase(),
             PayloadContent::Choice(_) => Phase::TowardsRoot,
-            PayloadContent::Context(_) | PayloadContent::NullCommunicator | PayloadContent::NewGroup(_) => Phase::FromRoot,
+            PayloadContent::Context(_)
+            | PayloadContent::NullCommunicator
+            | PayloadContent::NewGroup(_) => Phase::FromRoot,
         }
     }
 
@@ -115,7 +118,9 @@ impl PayloadContent<'_> {
         ensures { result ≡ length (part_spelling (part_text self.entry)) }
     {
         match self {
-            PayloadContent::RecordsDiffer | PayloadContent::Nothing(_) | PayloadContent::NullCommunicator => 0,
+            PayloadContent::RecordsDiffer
+            | PayloadContent::Nothing(_)
+            | PayloadContent::NullCommunicator => 0,
             PayloadContent::Elements(_, bytes) => bytes.len(),
             PayloadContent::Context(_) => 8,
             PayloadContent::Choice(_) => 9,
@@ -137,8 +142,10 @@ impl Payload<'_> {
             PayloadContent::Nothing(way) => says_nothing(self.entered, way),
             PayloadContent::Elements(_, bytes) => are_elements(self.entered, bytes),
             PayloadContent::Context(_) => self.entered == Record::Dup,
-            PayloadContent::Choice(_) | PayloadContent::NullCommunicator => self.entered == Record::Split,
-            PayloadContent::NewGroup(group) => self.entered == Record::Split && are_ranks(group.ranks),
+            PayloadContent::Choice(_) | PayloadContent::NullCommunicator => self.entered
+                == Record::Split,
+            PayloadContent::NewGroup(group) => self.entered == Record::Split
+                && are_ranks(group.ranks),
         }
     }
 }

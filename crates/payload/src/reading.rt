@@ -1,13 +1,16 @@
 //! Reading a payload.
 
 ghost use Rattle.std.specs.Prelude.{◌≡◌, ◌≤◌, length, slice_index, IfOk, OnOk, Some};
-ghost use Rattle.payload.specs.Spelling.{PartText, NothingMore, part_text, PayloadText, payload_text, PayloadFits, spelling};
+ghost use Rattle.payload.specs.Spelling.{PartText, NothingMore, part_text, PayloadText, payload_text, PayloadFits};
+ghost use Rattle.payload.specs.Spelling.{spelling};
 ghost use Rattle.payload.specs.Codes.{operation_at};
-ghost use Rattle.payload.specs.Reading.{Gives, without_fields, elements_in, rooted_in, reduce_in, allreduce_in, record_in, elements_from, nothing_from, colour_from, choice_from, context_from, group_from, towards_root, from_root, part_in, head_of, payload_of};
+ghost use Rattle.payload.specs.Reading.{Gives, without_fields, elements_in, rooted_in, reduce_in, allreduce_in};
+ghost use Rattle.payload.specs.Reading.{record_in, elements_from, nothing_from, colour_from, choice_from, context_from};
+ghost use Rattle.payload.specs.Reading.{group_from, towards_root, from_root, part_in, head_of, payload_of};
 
 use crate::kind::{CollectiveKind, Phase};
 use crate::operation::Operation;
-use crate::payload::{Choice, Direction, NewGroup, PayloadContent, Payload};
+use crate::payload::{Choice, Direction, NewGroup, Payload, PayloadContent};
 use crate::record::{Elements, Record, Rooted};
 use crate::refusal::PayloadRefusal;
 use byteorder::{BigEndian, ByteOrder};
@@ -121,7 +124,11 @@ fn record_in(kind: CollectiveKind, fields: Fields) -> Result<Record, PayloadRefu
 
 /// The elements, where they are as many bytes as the record says.
 #[tactic(auto, unfolding(crate::specs::Reading::elements_from))]
-fn elements_from(way: Direction, elements: Elements, body: &[u8]) -> Result<PayloadContent<'_>, PayloadRefusal>
+fn elements_from(
+    way: Direction,
+    elements: Elements,
+    body: &[u8],
+) -> Result<PayloadContent<'_>, PayloadRefusal>
     ensures { Gives part_text result (elements_from way elements body.now) }
 {
     let size = u64::from(elements.count) * u64::from(elements.basic.size());
@@ -133,7 +140,10 @@ fn elements_from(way: Direction, elements: Elements, body: &[u8]) -> Result<Payl
 
 /// The part that says nothing more, where nothing more is said.
 #[tactic(auto, unfolding(crate::specs::Reading::nothing_from))]
-fn nothing_from<'a>(part: PayloadContent<'a>, body: &[u8]) -> Result<PayloadContent<'a>, PayloadRefusal>
+fn nothing_from<'a>(
+    part: PayloadContent<'a>,
+    body: &[u8],
+) -> Result<PayloadContent<'a>, PayloadRefusal>
     ensures { Gives part_text result (nothing_from (part_text part.entry) body.now) }
 {
     if body.len() != 0 {

@@ -1,12 +1,15 @@
 //! Writing a payload.
 
-ghost use Rattle.std.specs.Prelude.{◌≡◌, ◌+◌, ◌≤◌, ◌++◌, [], ◌∷◌, OnOk, OnErr, IsOkUnless, length, vec_len, vec_capacity};
+ghost use Rattle.std.specs.Prelude.{◌≡◌, ◌+◌, ◌≤◌, ◌++◌, [], ◌∷◌, OnOk, OnErr, IsOkUnless, length, vec_len};
+ghost use Rattle.std.specs.Prelude.{vec_capacity};
 ghost use Rattle.std.specs.Int.{cast_unsigned, w32};
 ghost use Rattle.byteorder.specs.Endian.{big_bytes};
-ghost use Rattle.payload.specs.Spelling.{ChoiceText, part_text, part_spelling, phase_of, colour_spelling, payload_text, RecordIsWithin, ColourIsWithin, PartIsWithin, PartFits, PayloadFits, record_spelling, spelling};
+ghost use Rattle.payload.specs.Spelling.{ChoiceText, part_text, part_spelling, phase_of, colour_spelling, payload_text};
+ghost use Rattle.payload.specs.Spelling.{RecordIsWithin, ColourIsWithin, PartIsWithin, PartFits, PayloadFits};
+ghost use Rattle.payload.specs.Spelling.{record_spelling, spelling};
 
 use crate::kind::Phase;
-use crate::payload::{Choice, PayloadContent, Payload};
+use crate::payload::{Choice, Payload, PayloadContent};
 use crate::record::Record;
 use crate::refusal::PayloadRefusal;
 use byteorder::{BigEndian, ByteOrder};
@@ -100,7 +103,9 @@ fn put_part(out: &mut Vec<u8>, part: PayloadContent)
     ensures width { PartIsWithin (part_text part.entry) }
 {
     match part {
-        PayloadContent::RecordsDiffer | PayloadContent::Nothing(_) | PayloadContent::NullCommunicator => {}
+        PayloadContent::RecordsDiffer
+        | PayloadContent::Nothing(_)
+        | PayloadContent::NullCommunicator => {}
         PayloadContent::Elements(_, bytes) => out.extend_from_slice(bytes).unwrap(),
         PayloadContent::Context(context) => put_u64(out, context),
         PayloadContent::Choice(choice) => put_choice(out, choice),

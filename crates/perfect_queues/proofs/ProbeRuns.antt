@@ -1,5 +1,6 @@
 -- The runs of the histories that are twins of the counterexamples with probes and synchronous sends.
-use Rattle.std.proofs.Common.{◌≡◌, ◌≢◌, ℕ, zero, suc, ◌==◌, Bool, true, false, List, [], ◌∷◌, Option, Some, None, if◌then◌else◌, slice_get, refl, arith}
+use Rattle.std.proofs.Common.{◌≡◌, ◌≢◌, ℕ, zero, suc, ◌==◌, Bool, true, false, List, [], ◌∷◌, Option, Some, None}
+use Rattle.std.proofs.Common.{if◌then◌else◌, slice_get, refl, arith}
 use Rattle.std.specs.List.{AllByRecursion}
 use Rattle.perfect_queues.specs.Buffers.{Handed}
 use Rattle.perfect_queues.specs.Calls.{Blocked, Improbe, Iprobe, Irecv, Isend, Mrecv, Wait}
@@ -8,7 +9,9 @@ use Rattle.perfect_queues.specs.Events.{Event, At}
 use Rattle.perfect_queues.specs.Example.{numbers, rank_0, rank_1, three_from_0}
 use Rattle.perfect_queues.specs.Messages.{Message}
 use Rattle.vocabulary.specs.declared.mode.Mode.TheVariants.{Standard, Synchronous}
-use Rattle.perfect_queues.specs.ProbeExamples.{ProbesHaveHistories, finished_when_received, for_tag, looks_after_posting, receive_after_taking, sees_by_tag, send_answers, sends_synchronously}
+use Rattle.perfect_queues.specs.ProbeExamples.{ProbesHaveHistories, finished_when_received, for_tag}
+use Rattle.perfect_queues.specs.ProbeExamples.{looks_after_posting, receive_after_taking, sees_by_tag, send_answers}
+use Rattle.perfect_queues.specs.ProbeExamples.{sends_synchronously}
 use Rattle.perfect_queues.specs.Refusals.{world}
 use Rattle.perfect_queues.specs.Requests.{Gone, TakenOut, receive_of}
 use Rattle.perfect_queues.specs.Runs.{IsHistory}
@@ -45,7 +48,20 @@ receive_is_blocked = (
         inside = omega arith;
         current = refl;
         fit = refl;
-        steps = ((refl, record { stands = refl; accepted = refl; no_receive = λ j p h. absurd (grind arith); no_earlier_message = tt }), tt, tt);
+        steps = (
+          (
+            refl,
+            record {
+              stands = refl;
+              accepted = refl;
+              no_receive = λ j p h. absurd (grind arith);
+              no_earlier_message =
+                  tt;
+            },
+          ),
+          tt,
+          tt,
+        );
       },
       (
         record { inside = omega arith; current = refl; fit = refl; steps = tt },
@@ -67,7 +83,8 @@ send_is_blocked = (
   refl,
 )
 
-no_queue_has_it : (t : Bool) → AllByRecursion (λ (m : Message). m.request ≢ Some 0) (if t then [] else (if t then awaited ∷ [] else []))
+no_queue_has_it : (t : Bool) →
+    AllByRecursion (λ (m : Message). m.request ≢ Some 0) (if t then [] else (if t then awaited ∷ [] else []))
 no_queue_has_it true = tt
 no_queue_has_it false = tt
 
@@ -88,7 +105,20 @@ send_is_finished = (
         inside = omega arith;
         current = refl;
         fit = refl;
-        steps = ((refl, record { stands = refl; accepted = refl; no_receive = λ j p h. absurd (grind arith); no_earlier_message = tt }), tt, tt);
+        steps = (
+          (
+            refl,
+            record {
+              stands = refl;
+              accepted = refl;
+              no_receive = λ j p h. absurd (grind arith);
+              no_earlier_message =
+                  tt;
+            },
+          ),
+          tt,
+          tt,
+        );
       },
       (
         record { inside = omega arith; current = refl; fit = refl; steps = (refl, tt, tt) },
@@ -99,7 +129,11 @@ send_is_finished = (
             fit = refl;
             steps = (
               refl,
-              record { not_pending = λ c. no_queue_has_it (c == 0); not_taken_out = λ j g m h from. absurd (nothing_taken j g m h) },
+              record {
+                not_pending = λ c. no_queue_has_it (c == 0);
+                not_taken_out =
+                    λ j g m h from. absurd (nothing_taken j g m h);
+              },
               tt,
             );
           },
@@ -122,7 +156,20 @@ tag_is_its_own = (
         inside = omega arith;
         current = refl;
         fit = refl;
-        steps = ((refl, record { stands = refl; accepted = refl; no_receive = λ j p h. absurd (grind arith); no_earlier_message = tt }), tt, tt);
+        steps = (
+          (
+            refl,
+            record {
+              stands = refl;
+              accepted = refl;
+              no_receive = λ j p h. absurd (grind arith);
+              no_earlier_message =
+                  tt;
+            },
+          ),
+          tt,
+          tt,
+        );
       },
       tt,
     ),

@@ -1,5 +1,5 @@
--- Five histories that no run has: a message received twice, one that overtakes another, data that nobody sent, a buffer that
--- comes back as one of another basic type, and an operation that ends with 11 though no rank was started anew.
+-- Five histories that no run has: a message received twice, one that overtakes another, data that nobody sent, a buffer
+-- that comes back as one of another basic type, and an operation that ends with 11 though no rank was started anew.
 use Rattle.std.specs.Prelude.{ℕ, List, [], ◌∷◌, ◌++◌, Some}
 use Rattle.layouts.specs.Buffers.{Contents}
 use Rattle.perfect_queues.specs.Calls.{Reply, Isend, Irecv, Wait, Started, Done, Blocked}
@@ -77,8 +77,8 @@ abbrev pub IsNoHistory : List Entry → Type 0
 IsNoHistory history = (n : ℕ) → IsHistory n history → ⊥
 
 -- Each has a twin that is a history and differs from it in the forbidden part alone: the second wait is
--- blocked, the first message comes first, the data are those that were sent and the type is that of the buffer, the sender was
--- started anew
+-- blocked, the first message comes first, the data are those that were sent and the type is that of the buffer, the
+-- sender was started anew
 pub record AreHistories : Type 0 where
   pub second_is_blocked : IsHistory 2 (second_receive Blocked)
   pub first_comes_first : IsHistory 2 (first_of_two (1 ∷ 2 ∷ 3 ∷ []))

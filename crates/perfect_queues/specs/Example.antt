@@ -78,4 +78,5 @@ received_through_layouts =
     Called rank_0 (Isend Standard world (Rank 1) (Some 7) first_and_last) (Started 0) ∷
     Called rank_1 (Irecv blocks_from_0) (Started 0) ∷
     Called rank_1 (Wait (One (Some 0)))
-    (Done (ForOne (Received (record { source = Rank 0; tag = Some 7; count = 2 }) (holds (0 ∷ 1 ∷ 4 ∷ 0 ∷ 0 ∷ 0 ∷ []))))) ∷ []
+    (Done (ForOne
+    (Received (record { source = Rank 0; tag = Some 7; count = 2 }) (holds (0 ∷ 1 ∷ 4 ∷ 0 ∷ 0 ∷ 0 ∷ []))))) ∷ []

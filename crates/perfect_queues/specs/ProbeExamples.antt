@@ -1,6 +1,6 @@
--- Four histories that no run has: a message that is taken out and received too; a synchronous send that is finished though
--- nobody has its message, or somebody has only taken it out; a probe that sees a message of another tag, or one that a posted
--- receive is to have.
+-- Four histories that no run has: a message that is taken out and received too; a synchronous send that is finished
+-- though nobody has its message, or somebody has only taken it out; a probe that sees a message of another tag, or one
+-- that a posted receive is to have.
 use Rattle.std.specs.Prelude.{ℕ, List, [], ◌∷◌, Option, Some, None}
 use Rattle.perfect_queues.specs.Calls.{Reply, Blocked, Done, Improbe, Iprobe, Isend, Mrecv, Started, Wait}
 use Rattle.perfect_queues.specs.Completions.{ForMatch, ForOne, ForProbe, One}
@@ -70,8 +70,8 @@ abbrev pub looks_after_posting : Option Status → List Entry
 looks_after_posting seen =
     sends 0 (1 ∷ 2 ∷ 3 ∷ []) ∷ receives 0 ∷ Called rank_1 (Iprobe (for_tag None)) (Done (ForProbe seen)) ∷ []
 
--- Each has a twin that is a history and differs from it in the forbidden part alone: the wait is blocked; the send is finished
--- once its message is received; the tag is the message's; nothing is seen
+-- Each has a twin that is a history and differs from it in the forbidden part alone: the wait is blocked; the send is
+-- finished once its message is received; the tag is the message's; nothing is seen
 pub record ProbesHaveHistories : Type 0 where
   pub receive_is_blocked : IsHistory 2 (receive_after_taking Blocked)
   pub send_is_blocked : IsHistory 2 (sends_synchronously ∷ send_answers Blocked ∷ [])

@@ -1,11 +1,13 @@
 //! The queues as plain lists, which are searched from their oldest element on: what `Queues` does, said by a program.
 
 ghost use Rattle.std.specs.Option.{option_copied};
-ghost use Rattle.std.specs.Prelude.{◌≡◌, ◌&&◌, ◌≤◌, ◌<◌, not, filter, [], IfOk, OnOk, OnErr, position, Some, None, is_some};
+ghost use Rattle.std.specs.Prelude.{◌≡◌, ◌&&◌, ◌≤◌, ◌<◌, not, filter, [], IfOk, OnOk, OnErr, position, Some, None};
+ghost use Rattle.std.specs.Prelude.{is_some};
 ghost use Rattle.std.specs.VecDeque.{deque_len, deque_capacity};
 ghost use Rattle.vocabulary.specs.Endpoints.{is_former};
 ghost use Rattle.perfect_queues.specs.Receives.{names};
-ghost use Rattle.match_queues.specs.State.{message_at, receive_at, message_for, receive_for, posted_for, after_post, after_take, after_arrival, after_cancel, after_drop, keys_naming};
+ghost use Rattle.match_queues.specs.State.{message_at, receive_at, message_for, receive_for, posted_for, after_post};
+ghost use Rattle.match_queues.specs.State.{after_take, after_arrival, after_cancel, after_drop, keys_naming};
 ghost use Rattle.match_queues.specs.Accepts.{accepts};
 ghost use Rattle.match_queues.specs.Arrivals.{arrival_of};
 
@@ -82,7 +84,8 @@ fn drop_receives(posted: &mut VecDeque<PostedReceive>, rank: u16)
 
 /// Drops the messages from incarnations of the rank before this one.
 fn drop_messages(unexpected: &mut VecDeque<Message>, rank: u16, incarnation: u16)
-    ensures items { unexpected.new.items ≡ filter (λ m. not (is_former rank incarnation m.sender)) unexpected.old.items }
+    ensures items { unexpected.new.items ≡
+        filter (λ m. not (is_former rank incarnation m.sender)) unexpected.old.items }
     ensures bound { deque_len unexpected.new ≤ deque_len unexpected.old }
     ensures capacity { deque_capacity unexpected.new ≡ deque_capacity unexpected.old }
 {
@@ -120,7 +123,8 @@ impl PlainQueues {
         }
     }
 
-    /// Makes room for one more receive. Where there was none, it may find that there is no memory. Nothing else changes.
+    /// Makes room for one more receive. Where there was none, it may find that there is no memory. Nothing else
+    /// changes.
     pub fn reserve_receive(&mut self) -> Result<(), OutOfMemory>
         ensures room { OnOk result (0 < self.new.receives) }
         ensures full { OnErr result (self.old.receives ≡ 0) }
@@ -129,7 +133,8 @@ impl PlainQueues {
         self.posted.reserve(1).map_err(|_| OutOfMemory {})
     }
 
-    /// Makes room for one more message. Where there was none, it may find that there is no memory. Nothing else changes.
+    /// Makes room for one more message. Where there was none, it may find that there is no memory. Nothing else
+    /// changes.
     pub fn reserve_message(&mut self) -> Result<(), OutOfMemory>
         ensures room { OnOk result (0 < self.new.messages) }
         ensures full { OnErr result (self.old.messages ≡ 0) }
@@ -155,9 +160,11 @@ impl PlainQueues {
         receive_at(&self.posted, place_of_other(message, &self.posted, rank))
     }
 
-    /// The oldest unexpected message that the receive accepts, which stays where it is: what a probe finds (MPI 3.1, 3.8.1).
+    /// The oldest unexpected message that the receive accepts, which stays where it is: what a probe finds (MPI 3.1,
+    /// 3.8.1).
     pub fn message_for(&self, receive: &PostedReceive) -> Option<&Message>
-        ensures { option_copied result ≡ message_at self.now.state.unexpected (message_for receive.now self.now.state.unexpected) }
+        ensures { option_copied result ≡
+            message_at self.now.state.unexpected (message_for receive.now self.now.state.unexpected) }
     {
         match place_of_message(receive, &self.unexpected) {
             Some(place) => self.unexpected.get(place),
@@ -181,8 +188,8 @@ impl PlainQueues {
         }
     }
 
-    /// Takes the oldest unexpected message that the receive accepts out of matching: no receive finds it from now on. Where
-    /// none is accepted, nothing changes. No receive is posted, and it takes no memory (MPI 3.1, 3.8.2).
+    /// Takes the oldest unexpected message that the receive accepts out of matching: no receive finds it from now on.
+    /// Where none is accepted, nothing changes. No receive is posted, and it takes no memory (MPI 3.1, 3.8.2).
     pub fn take(&mut self, receive: &PostedReceive) -> Option<Message>
         ensures state { self.new.state ≡ after_take self.old.state receive.now }
         ensures found { result ≡ message_at self.old.state.unexpected (message_for receive.now self.old.state.unexpected) }
@@ -195,8 +202,8 @@ impl PlainQueues {
         }
     }
 
-    /// Gives the message to the oldest posted receive that accepts it, or keeps it behind the others, for which there is
-    /// room.
+    /// Gives the message to the oldest posted receive that accepts it, or keeps it behind the others, for which there
+    /// is room.
     pub fn arrive(&mut self, message: Message) -> Arrival
         requires { 0 < self.old.messages }
         ensures state { self.new.state ≡ after_arrival self.old.state message }
@@ -211,8 +218,8 @@ impl PlainQueues {
         }
     }
 
-    /// Removes the receive that was posted for this request, and no other, and tells whether one was. It takes no memory
-    /// (MPI 3.1, 3.8.4).
+    /// Removes the receive that was posted for this request, and no other, and tells whether one was. It takes no
+    /// memory (MPI 3.1, 3.8.4).
     pub fn cancel(&mut self, request: usize) -> bool
         ensures state { self.new.state ≡ after_cancel self.old.state request }
         ensures was_posted { result ≡ is_some (posted_for request self.old.state.posted) }

@@ -1,7 +1,7 @@
 //! The lines of a script, as text.
 
-use tokens::lines_of;
 use std::alloc::{AllocError, Global};
+use tokens::lines_of;
 
 /// The text of a script by lines. Their numbers count from 1.
 #[derive(Drop)]

@@ -7,7 +7,7 @@ use crate::ending::{Verdict, verdict_of};
 use script_files::Script;
 use script_plays::{Move, Played, play};
 use std::alloc::Global;
-use world::{WorldRefusal, World};
+use world::{World, WorldRefusal};
 
 /// What came of a play.
 #[derive(Drop)]

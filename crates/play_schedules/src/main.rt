@@ -1,11 +1,12 @@
 //! Plays a script by schedules, and prints what each rank printed in each play.
 //!
-//! `play_schedules FILE RANKS SCHEDULES`. Each line of the file SCHEDULES is a schedule: words with spaces between them. `gR`: the runner of
-//! rank R goes on; `dN`: datagram N is delivered; `tR`: the clock of rank R shows 100 milliseconds for each move before this one. `-` alone
-//! is the schedule of no moves.
+//! `play_schedules FILE RANKS SCHEDULES`. Each line of the file SCHEDULES is a schedule: words with spaces between
+//! them. `gR`: the runner of rank R goes on; `dN`: datagram N is delivered; `tR`: the clock of rank R shows 100
+//! milliseconds for each move before this one. `-` alone is the schedule of no moves.
 //!
-//! Of each play `play` with the number of datagrams is printed, and behind it for each rank its lines, the numbers of its refused calls, and
-//! `ended` where its script has ended. Status 0; 1 where a file can't be read or is faulty, or memory was wanting; 2 where the words aren't these.
+//! Of each play `play` with the number of datagrams is printed, and behind it for each rank its lines, the numbers of
+//! its refused calls, and `ended` where its script has ended. Status 0; 1 where a file can't be read or is faulty, or
+//! memory was wanting; 2 where the words aren't these.
 #![tactic(auto)]
 
 use script_files::{Script, parse};
@@ -106,7 +107,8 @@ fn emitted(world: &World) -> usize {
     65_536
 }
 
-/// Plays by the schedule of a line, if memory suffices and the files are sound; answers how many datagrams were emitted, too.
+/// Plays by the schedule of a line, if memory suffices and the files are sound; answers how many datagrams were
+/// emitted, too.
 fn played(alloc: Global, words: &Words, line: &[u8]) -> Option<(usize, Vec<Played>)> {
     let schedule = schedule_of(alloc, line)?;
     let scripts = scripts(alloc, &words.script, words.ranks)?;

@@ -7,7 +7,7 @@ use engine::{Call, Completion, Reply};
 use payload::Choice;
 use play_events::CallAt;
 use std::alloc::{AllocError, Global};
-use world::{HistoryEntry, Event};
+use world::{Event, HistoryEntry};
 
 /// The communicators of a play, and the collectives that were entered.
 #[derive(Drop)]

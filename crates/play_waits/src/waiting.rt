@@ -7,7 +7,7 @@ use engine::{Call, Receive, Reply, Request, Send};
 use script_plays::{Played, Stage};
 use std::alloc::{AllocError, Global};
 use vocabulary::Source;
-use world::{HistoryEntry, Event};
+use world::{Event, HistoryEntry};
 
 /// Whom a rank waits for, and for what.
 #[derive(Drop)]

@@ -22,7 +22,8 @@ use Rattle.point_to_point_calls.specs.Hearing.{first_of}
 use Rattle.requests.specs.declared.region.Region.{Region}
 use Rattle.requests.specs.declared.table.Request.{Request}
 use Rattle.rendezvous.specs.State.{State, is_full_to}
-use Rattle.point_to_point_calls.specs.Sending.{announced_to, destination, is_announced, or_worn_out, rank_to, send_fault}
+use Rattle.point_to_point_calls.specs.Sending.{announced_to, destination, is_announced, or_worn_out, rank_to}
+use Rattle.point_to_point_calls.specs.Sending.{send_fault}
 use Rattle.point_to_point.specs.Sending.{or_full}
 use Rattle.point_to_point_calls.proofs.Sends.{long_enough, rank_is_there, same_type, within_limit}
 
@@ -42,33 +43,41 @@ no_limit None rank t none = refl
 no_limit (Some fault) rank t none = absurd cc
 
 -- a transfer can begin, where one is needed
-left_to : (b : Bool) (rank : ℕ) (t : State) → is_full_to t.numbers rank ≡ b → or_worn_out None (Some rank) t ≡ None → b ≡ false
+left_to : (b : Bool) (rank : ℕ) (t : State) → is_full_to t.numbers rank ≡ b → or_worn_out None (Some rank) t ≡ None →
+    b ≡ false
 left_to false rank t is none = refl
 left_to true rank t is none = absurd (grind (arith, is, none))
 
 -- so it is of a send
-left_of : (fault : Option Refusal) (to : Option ℕ) (rank : ℕ) (t : State) → to ≡ Some rank → or_worn_out fault to t ≡ None → is_full_to t.numbers rank ≡ false
+left_of : (fault : Option Refusal) (to : Option ℕ) (rank : ℕ) (t : State) → to ≡ Some rank →
+    or_worn_out fault to t ≡ None → is_full_to t.numbers rank ≡ false
 left_of (Some fault) to rank t is none = absurd cc
 left_of None None rank t is none = absurd cc
 left_of None (Some other) rank t is none =
-    subst (λ (r : ℕ). is_full_to t.numbers r ≡ false) (same_some other rank is) (left_to (is_full_to t.numbers other) other t refl none)
+    subst (λ (r : ℕ). is_full_to t.numbers r ≡ false) (same_some other rank is)
+    (left_to (is_full_to t.numbers other) other t refl none)
   where
     same_some : (a b : ℕ) → Some a ≡ Some b → a ≡ b
     same_some a b e = cc
 
 -- a send breaks no rule
 free_send : (c : CoreState) (s : CoreSend) → free_fault c (Isend s) ≡ None → send_fault c.place s ≡ None
-free_send c s none = no_rule (send_fault c.place s) c (no_limit (or_full (send_fault c.place s) c) (announced_to c.place s) c.transfers none)
+free_send c s none =
+    no_rule (send_fault c.place s) c
+    (no_limit (or_full (send_fault c.place s) c) (announced_to c.place s) c.transfers none)
 
 -- the same of a call
 sendable : (c : CoreState) (s : CoreSend) → call_fault c (Isend s) ≡ None → send_fault c.place s ≡ None
 sendable c s none = free_send c s (unblocked c.blocked c (Isend s) none)
 
 -- a transfer can begin to the rank to which its message is announced
-pub announces : (c : CoreState) (s : CoreSend) (rank : ℕ) → free_fault c (Isend s) ≡ None → announced_to c.place s ≡ Some rank → is_full_to c.transfers.numbers rank ≡ false
-announces c s rank none is = left_of (or_full (send_fault c.place s) c) (announced_to c.place s) rank c.transfers is none
+pub announces : (c : CoreState) (s : CoreSend) (rank : ℕ) → free_fault c (Isend s) ≡ None →
+    announced_to c.place s ≡ Some rank → is_full_to c.transfers.numbers rank ≡ false
+announces c s rank none is =
+    left_of (or_full (send_fault c.place s) c) (announced_to c.place s) rank c.transfers is none
 
-there_if : (b : Bool) (o : Option ℕ) (n rank : ℕ) → (if b then o else None) ≡ Some rank → IfSome o (λ (r : ℕ). r < n) → rank < n
+there_if : (b : Bool) (o : Option ℕ) (n rank : ℕ) → (if b then o else None) ≡ Some rank → IfSome o (λ (r : ℕ). r < n) →
+    rank < n
 there_if true None n rank is there = absurd cc
 there_if true (Some r) n rank is there = subst (λ (k : ℕ). k < n) (same_some r rank is) there
   where
@@ -77,22 +86,27 @@ there_if true (Some r) n rank is there = subst (λ (k : ℕ). k < n) (same_some 
 there_if false o n rank is there = absurd cc
 
 -- what it offers goes to a rank of the job
-pub offer_is_there : (c : CoreState) (s : CoreSend) (rank : ℕ) → free_fault c (Isend s) ≡ None → announced_to c.place s ≡ Some rank → rank < c.place.size
+pub offer_is_there : (c : CoreState) (s : CoreSend) (rank : ℕ) → free_fault c (Isend s) ≡ None →
+    announced_to c.place s ≡ Some rank → rank < c.place.size
 offer_is_there c s rank none is =
-    there_if (is_announced s.mode (sent_from s.from)) (rank_to c.place (destination s.target s.tag s.context)) c.place.size rank is (rank_is_there c.place s (free_send c s none))
+    there_if (is_announced s.mode (sent_from s.from)) (rank_to c.place (destination s.target s.tag s.context))
+    c.place.size rank is (rank_is_there c.place s (free_send c s none))
 
 -- and is within the limit of a message
-pub offer_is_within : (c : CoreState) (s : CoreSend) (elements : Contents) → free_fault c (Isend s) ≡ None → elements ≡ sent_from s.from →
+pub offer_is_within : (c : CoreState) (s : CoreSend) (elements : Contents) → free_fault c (Isend s) ≡ None →
+    elements ≡ sent_from s.from →
     length elements.values * size_of elements.basic ≤ send_limit
 offer_is_within c s elements none same =
-    subst (λ (e : Contents). length e.values * size_of e.basic ≤ send_limit) (sym same) (within_limit c.place s (free_send c s none))
+    subst (λ (e : Contents). length e.values * size_of e.basic ≤ send_limit) (sym same)
+    (within_limit c.place s (free_send c s none))
 
 -- it breaks no other rule
 pub allowed_send : (c : CoreState) (s : CoreSend) → call_fault c (Isend s) ≡ None → free_fault c (Isend s) ≡ None
 allowed_send c s none = unblocked c.blocked c (Isend s) none
 
 -- a send's buffer and layout are of one basic type
-pub send_types : (c : CoreState) (s : CoreSend) → call_fault c (Isend s) ≡ None → differs_in_type (handed_of s.from) ≡ false
+pub send_types : (c : CoreState) (s : CoreSend) → call_fault c (Isend s) ≡ None → differs_in_type (handed_of s.from) ≡
+    false
 send_types c s none = same_type c.place s (sendable c s none)
 
 -- its buffer is long enough
@@ -126,7 +140,8 @@ receive_fits c v none =
     record { types = fit c v rules; room = enough c v rules }
 
 -- and into the region of the receive of a message
-pub message_fits : (c : CoreState) (q : Option Request) (into : Region) → call_fault c (Mrecv q into) ≡ None → CanReceive into
+pub message_fits : (c : CoreState) (q : Option Request) (into : Region) → call_fault c (Mrecv q into) ≡ None →
+    CanReceive into
 unfolding region_rule
 message_fits c q into none =
     let rules = unblocked c.blocked c (Mrecv q into) none in
@@ -138,5 +153,6 @@ message_fits c q into none =
     second (Some e) b h = absurd cc
 
 -- its request can be started
-pub receive_starts : (c : CoreState) (v : CoreReceive) → call_fault c (Irecv v) ≡ None → is_full c.slots c.serial ≡ false
+pub receive_starts : (c : CoreState) (v : CoreReceive) → call_fault c (Irecv v) ≡ None →
+    is_full c.slots c.serial ≡ false
 receive_starts c v none = free c v (unblocked c.blocked c (Irecv v) none)

@@ -13,7 +13,8 @@ use Rattle.point_to_point_calls.specs.declared.refusal.Refusal.{Refusal}
 use Rattle.point_to_point_calls.specs.declared.refusal.Refusal.TheVariants.{WrongType, Count, Tag, Rank, Limit}
 use Rattle.point_to_point_calls.specs.Hearing.{first_of}
 use Rattle.point_to_point_calls.specs.Sending.{announced_to, or_worn_out, send_fault}
-use Rattle.point_to_point.specs.Calls.{IsCutFault, argument_fault, call_fault, fault_at, free_fault, limit_fault, request_fault, request_fault_at}
+use Rattle.point_to_point.specs.Calls.{IsCutFault, argument_fault, call_fault, fault_at, free_fault, limit_fault}
+use Rattle.point_to_point.specs.Calls.{request_fault, request_fault_at}
 use Rattle.point_to_point.specs.CoreState.{CoreState}
 use Rattle.point_to_point.specs.Messages.{message_fault, region_rule}
 use Rattle.point_to_point.specs.Receiving.{receive_fault, receive_rule}
@@ -27,7 +28,8 @@ send_so (Some fault) c rank t = refl
 
 by_tests : (a b d e f : Bool) →
     cond a (Some WrongType) (cond b (Some Count) (cond d (Some Tag) (cond e (Some Rank) (cond f (Some Limit) None))))
-    ≡ first_of (cond a (Some WrongType) (cond b (Some Count) (cond d (Some Tag) (cond e (Some Rank) None)))) (cond f (Some Limit) None)
+    ≡ first_of (cond a (Some WrongType) (cond b (Some Count) (cond d (Some Tag) (cond e (Some Rank) None))))
+    (cond f (Some Limit) None)
 by_tests true b d e f = refl
 by_tests false true d e f = refl
 by_tests false false true e f = refl
@@ -35,10 +37,12 @@ by_tests false false false true f = refl
 by_tests false false false false f = refl
 
 -- so do a receive's
-receive_so : (c : CoreState) (v : CoreReceive) → receive_fault c v ≡ first_of (receive_rule c.place.size v) (or_full None c)
+receive_so : (c : CoreState) (v : CoreReceive) →
+    receive_fault c v ≡ first_of (receive_rule c.place.size v) (or_full None c)
 unfolding receive_fault receive_rule
 receive_so c v =
-    by_tests (is_unfit_to_receive (handed_of v.into)) (is_too_short (handed_of v.into)) (is_tag_above v.tag) (is_source_beyond c.place.size v.source)
+    by_tests (is_unfit_to_receive (handed_of v.into)) (is_too_short (handed_of v.into)) (is_tag_above v.tag)
+    (is_source_beyond c.place.size v.source)
     (is_full c.slots c.serial)
 
 last_none : (o : Option Refusal) → o ≡ first_of o None
@@ -46,7 +50,9 @@ last_none None = refl
 last_none (Some e) = refl
 
 -- while no earlier call is blocked
-free_so : (c : CoreState) (call : CoreCall) → free_fault c call ≡ first_of (request_fault_at None c call) (first_of (argument_fault c.place call) (limit_fault c call))
+free_so : (c : CoreState) (call : CoreCall) →
+    free_fault c call ≡
+    first_of (request_fault_at None c call) (first_of (argument_fault c.place call) (limit_fault c call))
 free_so c (calls.Isend s) = send_so (send_fault c.place s) c (announced_to c.place s) c.transfers
 free_so c (calls.Irecv v) = receive_so c v
 free_so c (calls.Wait q) = last_none _
@@ -55,10 +61,12 @@ free_so c (calls.Waitany qs) = last_none _
 free_so c (calls.Waitall qs) = last_none _
 free_so c (calls.Cancel q) = last_none _
 free_so c (calls.Improbe p) = refl
-free_so c (calls.Mrecv q into) = ap (λ (o : Option Refusal). first_of (message_fault c q) o) (last_none (region_rule into))
+free_so c (calls.Mrecv q into) =
+    ap (λ (o : Option Refusal). first_of (message_fault c q) o) (last_none (region_rule into))
 
 cut_at : (a : Option Awaited) (c : CoreState) (call : CoreCall) →
-    fault_at a c call ≡ first_of (request_fault_at a c call) (first_of (argument_fault c.place call) (limit_fault c call))
+    fault_at a c call ≡
+    first_of (request_fault_at a c call) (first_of (argument_fault c.place call) (limit_fault c call))
 cut_at None c call = free_so c call
 cut_at (Some a) c call = refl
 
@@ -68,10 +76,13 @@ cut c call = cut_at c.blocked c call
 
 rest_given : (c : CoreState) (call : CoreCall) (a : Option Refusal) → request_fault c call ≡ a →
     call_fault c call ≡ first_of a (first_of (argument_fault c.place call) (limit_fault c call))
-rest_given c call a is = cut c call ∙ ap (λ (o : Option Refusal). first_of o (first_of (argument_fault c.place call) (limit_fault c call))) is
+rest_given c call a is =
+    cut c call ∙ ap (λ (o : Option Refusal). first_of o (first_of (argument_fault c.place call) (limit_fault c call)))
+    is
 
 -- the rule on requests is the fault, where it is broken
-pub by_request : (c : CoreState) (call : CoreCall) (e : Refusal) → request_fault c call ≡ Some e → Some e ≡ call_fault c call
+pub by_request : (c : CoreState) (call : CoreCall) (e : Refusal) → request_fault c call ≡ Some e →
+    Some e ≡ call_fault c call
 by_request c call e is = sym (rest_given c call (Some e) is)
 
 -- and else what is found beyond

@@ -31,16 +31,19 @@ answer_at slots (Some r) m = refl
 pub collection_found : (c : CoreState) (m : Message) (f : Option Match) → f ≡ match_of c m →
     collection_by_match f m ≡ collection_on_arrival c.slots (arrival_of c.queues m)
 collection_found c m f is =
-    ap (λ (g : Option Match). collection_by_match g m) is ∙ collection_at c.slots (receive_at c.queues.posted (receive_for m c.queues.posted)) m
+    ap (λ (g : Option Match). collection_by_match g m) is ∙
+    collection_at c.slots (receive_at c.queues.posted (receive_for m c.queues.posted)) m
 
 -- what is answered
 pub answer_found : (c : CoreState) (m : Message) (f : Option Match) → f ≡ match_of c m →
     answer_by_match f m ≡ answer_on_arrival c.slots (arrival_of c.queues m)
 answer_found c m f is =
-    ap (λ (g : Option Match). answer_by_match g m) is ∙ answer_at c.slots (receive_at c.queues.posted (receive_for m c.queues.posted)) m
+    ap (λ (g : Option Match). answer_by_match g m) is ∙
+    answer_at c.slots (receive_at c.queues.posted (receive_for m c.queues.posted)) m
 
 -- the same of the message that was made of a frame
-pub collection_as : (r : Result (Option Collecting) Refusal) (c : CoreState) (m n : Message) (f : Option Match) → m ≡ n → f ≡ match_of c m →
+pub collection_as : (r : Result (Option Collecting) Refusal) (c : CoreState) (m n : Message) (f : Option Match) →
+    m ≡ n → f ≡ match_of c m →
     IfOk r (λ (x : Option Collecting). x ≡ collection_by_match f m) →
     IfOk r (λ (x : Option Collecting). x ≡ collection_on_arrival c.slots (arrival_of c.queues n))
 collection_as (Ok x) c m n f same is found =

@@ -1,5 +1,6 @@
 -- The frames that news call for can go, and are few.
-use Rattle.std.proofs.Common.{◌≡◌, ℕ, zero, suc, ◌+◌, ◌*◌, ◌%◌, ◌<◌, ◌≤◌, Bool, true, false, cond, List, [], ◌∷◌, length, Option, Some, None, refl, sym, ap, ◌∙◌, arith, subst}
+use Rattle.std.proofs.Common.{◌≡◌, ℕ, zero, suc, ◌+◌, ◌*◌, ◌%◌, ◌<◌, ◌≤◌, Bool, true, false, cond, List, [], ◌∷◌}
+use Rattle.std.proofs.Common.{length, Option, Some, None, refl, sym, ap, ◌∙◌, arith, subst}
 use Rattle.std.specs.Prelude.{◌==◌, IfSome, is_some, position, slice_index_or}
 use Rattle.std.specs.List.{AllByRecursion}
 use Rattle.std.proofs.lemmas.List.{length-append, length-map}
@@ -27,7 +28,8 @@ use Rattle.requests.specs.declared.table.TableEntry.{TableEntry}
 use Rattle.point_to_point.specs.CoreState.{CoreState, IsKept, IsOfferFor}
 use Rattle.point_to_point_calls.specs.Frames.{FrameFor, as_list}
 use Rattle.point_to_point_calls.specs.Receiving.{answer_on_arrival}
-use Rattle.point_to_point_calls.specs.Hearing.{CanGo, NewsText, announced_of, data_frame, data_frames, frame_fault, heard_fault, transfers_met, wanted_frames}
+use Rattle.point_to_point_calls.specs.Hearing.{CanGo, NewsText, announced_of, data_frame, data_frames, frame_fault}
+use Rattle.point_to_point_calls.specs.Hearing.{heard_fault, transfers_met, wanted_frames}
 use Rattle.point_to_point.specs.Arrivals.{called_for, news_fault, news_frames, after_lesson}
 use Rattle.point_to_point.proofs.Allowances.{second_of, next_is_there}
 use Rattle.point_to_point.proofs.Endings.{left_part, nothing_offered}
@@ -37,29 +39,42 @@ use Rattle.point_to_point.proofs.Endings.{left_part, nothing_offered}
 joined_length : (p : ℕ × List ℕ) (ps : List (ℕ × List ℕ)) → length (joined (p ∷ ps)) ≡ length p.1 + length (joined ps)
 joined_length p ps = length-append p.1 (joined ps)
 
-piece_fits : (n start len : ℕ) → start ≡ n * 1024 → 1 ≤ len → n * 1024 + len ≤ 1048576 → (start % 1024 ≡ 0) × (start + 1024 ≤ 1048576)
+piece_fits : (n start len : ℕ) → start ≡ n * 1024 → 1 ≤ len → n * 1024 + len ≤ 1048576 →
+    (start % 1024 ≡ 0) × (start + 1024 ≤ 1048576)
 piece_fits n start len at some within = (omega (arith, at), omega (arith, at, some, within))
 
 next_start : (n len rest : ℕ) → len ≡ 1024 → n * 1024 + (len + rest) ≤ 1048576 → suc n * 1024 + rest ≤ 1048576
 next_start n len rest full within = omega (arith, full, within)
 
 -- pieces from a number on, which go on to an end within the limit of a message
-can_go_from : (size rank transfer n : ℕ) (ps : List (ℕ × List ℕ)) → rank < size → AreCut 1024 n ps → n * 1024 + length (joined ps) ≤ 1048576 →
+can_go_from : (size rank transfer n : ℕ) (ps : List (ℕ × List ℕ)) → rank < size → AreCut 1024 n ps →
+    n * 1024 + length (joined ps) ≤ 1048576 →
     AllByRecursion (CanGo size) (data_frames rank transfer ps)
 can_go_from size rank transfer n [] there cut within = tt
 can_go_from size rank transfer n (p ∷ []) there cut within =
     let sized = joined_length p [] in
-    let fits = piece_fits n p.0 (length p.1) cut.0.offset cut.0.some (omega (arith, sized, within)) in
-    (record { fits = record { aligned = fits.0; within = fits.1; some = omega (arith, cut.0.some); limit = cut.0.most }; there = there }, tt)
+    let fits = piece_fits n p.0 (length p.1) cut.0.offset cut.0.some (omega (arith, sized, within)) in (
+      record {
+        fits = record { aligned = fits.0; within = fits.1; some = omega (arith, cut.0.some); limit = cut.0.most };
+        there = there;
+      },
+      tt,
+    )
 can_go_from size rank transfer n (p ∷ q ∷ ps) there cut within =
     let sized = joined_length p (q ∷ ps) in
     let fits = piece_fits n p.0 (length p.1) cut.0.offset cut.0.some (omega (arith, sized, within)) in
     let next = next_start n (length p.1) (length (joined (q ∷ ps))) cut.0.full (omega (arith, sized, within)) in (
-      record { fits = record { aligned = fits.0; within = fits.1; some = omega (arith, cut.0.some); limit = cut.0.most }; there = there },
+      record {
+        fits =
+            record { aligned = fits.0; within = fits.1; some = omega (arith, cut.0.some); limit = cut.0.most };
+        there =
+            there;
+      },
       can_go_from size rank transfer (suc n) (q ∷ ps) there cut.1 next,
     )
 
-few_from : (n : ℕ) (ps : List (ℕ × List ℕ)) → AreCut 1024 n ps → n * 1024 + length (joined ps) ≤ 1048576 → n + length ps ≤ 1024
+few_from : (n : ℕ) (ps : List (ℕ × List ℕ)) → AreCut 1024 n ps → n * 1024 + length (joined ps) ≤ 1048576 →
+    n + length ps ≤ 1024
 few_from n [] cut within = omega (arith, within)
 few_from n (p ∷ []) cut within = omega (arith, joined_length p [], cut.0.some, within)
 few_from n (p ∷ q ∷ ps) cut within =
@@ -73,15 +88,18 @@ bounded bytes limit = omega (arith, ap length ((pieces bytes).all), limit)
 -- the data of so many bytes can go
 pub data_go : (size rank transfer : ℕ) (bytes : List ℕ) → rank < size → length bytes ≤ 1048576 →
     AllByRecursion (CanGo size) (data_frames rank transfer (pieces_of bytes))
-data_go size rank transfer bytes there limit = can_go_from size rank transfer 0 (pieces_of bytes) there ((pieces bytes).cut) (bounded bytes limit)
+data_go size rank transfer bytes there limit =
+    can_go_from size rank transfer 0 (pieces_of bytes) there ((pieces bytes).cut) (bounded bytes limit)
 
 -- the bytes of an offer are within the limit
-offer_bytes : (size : ℕ) (o : Offer) → IsOfferFor size o → length (bytes_of (size_of o.elements.basic) o.elements.values) ≤ 1048576
+offer_bytes : (size : ℕ) (o : Offer) → IsOfferFor size o →
+    length (bytes_of (size_of o.elements.basic) o.elements.values) ≤ 1048576
 offer_bytes size o kept = omega (arith, length-bytes_of (size_of o.elements.basic) o.elements.values, kept.limit)
 
 -- ITS FRAMES
 
-wanted_go : (size rank : ℕ) (clearance : Clearance) (o : Option Offer) → IfSome o (λ (x : Offer). IsOfferFor size x × (rank < size)) →
+wanted_go : (size rank : ℕ) (clearance : Clearance) (o : Option Offer) →
+    IfSome o (λ (x : Offer). IsOfferFor size x × (rank < size)) →
     AllByRecursion (CanGo size) (wanted_frames rank clearance o)
 wanted_go size rank Drop o kept = tt
 wanted_go size rank Send None kept = tt
@@ -89,7 +107,8 @@ wanted_go size rank Send (Some o) kept =
     let bytes = bytes_of (size_of o.elements.basic) o.elements.values in
     data_go size rank o.transfer bytes kept.1 (offer_bytes size o kept.0)
 
-wanted_few : (size rank : ℕ) (clearance : Clearance) (o : Option Offer) → IfSome o (λ (x : Offer). IsOfferFor size x × (rank < size)) →
+wanted_few : (size rank : ℕ) (clearance : Clearance) (o : Option Offer) →
+    IfSome o (λ (x : Offer). IsOfferFor size x × (rank < size)) →
     length (wanted_frames rank clearance o) ≤ 1024
 wanted_few size rank Drop o kept = omega arith
 wanted_few size rank Send None kept = omega arith
@@ -100,12 +119,14 @@ wanted_few size rank Send (Some o) kept =
 
 -- THE OFFER THAT IS ANSWERED
 
-pub at_place : {A : Type 0} (P : A → Type 0) (xs : List A) (i : ℕ) (d : A) → AllByRecursion P xs → i < length xs → P (slice_index_or xs i d)
+pub at_place : {A : Type 0} (P : A → Type 0) (xs : List A) (i : ℕ) (d : A) → AllByRecursion P xs → i < length xs →
+    P (slice_index_or xs i d)
 at_place P [] i d all inside = absurd (omega (arith, inside))
 at_place P (x ∷ xs) zero d all inside = all.0
 at_place P (x ∷ xs) (suc i) d all inside = at_place P xs i d all.1 (omega (arith, inside))
 
-picked : (P : Offer → Type 0) (p : Offer → Bool) (os : List Offer) (o : Option ℕ) → position p os ≡ o → AllByRecursion P os →
+picked : (P : Offer → Type 0) (p : Offer → Bool) (os : List Offer) (o : Option ℕ) → position p os ≡ o →
+    AllByRecursion P os →
     IfSome (offer_at os o) (λ (x : Offer). P x × (p x ≡ true))
 picked P p os None at all = tt
 picked P p [] (Some i) at all = tt
@@ -114,11 +135,15 @@ picked P p (x ∷ xs) (Some i) at all =
     subst (λ (y : Option Offer). IfSome y (λ (z : Offer). P z × (p z ≡ true))) (sym (slice_get-get_or (x ∷ xs) i x h.0))
     (at_place P (x ∷ xs) i x all h.0, h.1)
 
-with_rank : (size rank transfer : ℕ) (o : Option Offer) → IfSome o (λ (x : Offer). IsOfferFor size x × (is_to rank transfer x ≡ true)) →
+with_rank : (size rank transfer : ℕ) (o : Option Offer) →
+    IfSome o (λ (x : Offer). IsOfferFor size x × (is_to rank transfer x ≡ true)) →
     IfSome o (λ (x : Offer). IsOfferFor size x × (rank < size))
 with_rank size rank transfer None h = tt
-with_rank size rank transfer (Some o) h =
-    (h.0, subst (λ (r : ℕ). r < size) (eqb-true o.target rank (left_part (o.target == rank) (o.transfer == transfer) h.1)) h.0.there)
+with_rank size rank transfer (Some o) h = (
+  h.0,
+  subst (λ (r : ℕ). r < size)
+      (eqb-true o.target rank (left_part (o.target == rank) (o.transfer == transfer) h.1)) h.0.there,
+)
 
 -- the offer that is found is one that is kept
 offered_is_kept : (size rank transfer : ℕ) (t : State) → AllByRecursion (IsOfferFor size) t.offers →
@@ -127,21 +152,25 @@ offered_is_kept size rank transfer t all =
     with_rank size rank transfer (offered t rank transfer)
     (picked (IsOfferFor size) (is_to rank transfer) t.offers (position (is_to rank transfer) t.offers) refl all)
 
-met_is_kept : (lesson : Bool) (c : CoreState) (s : Endpoint) (transfer : ℕ) → IsKept c.place c.queues c.transfers c.slots →
-    IfSome (offered (after_lesson lesson c s).transfers s.rank transfer) (λ (x : Offer). IsOfferFor c.place.size x × (s.rank < c.place.size))
+met_is_kept : (lesson : Bool) (c : CoreState) (s : Endpoint) (transfer : ℕ) →
+    IsKept c.place c.queues c.transfers c.slots →
+    IfSome (offered (after_lesson lesson c s).transfers s.rank transfer) (λ (x : Offer). IsOfferFor c.place.size x ×
+    (s.rank < c.place.size))
 met_is_kept false c s transfer kept = offered_is_kept c.place.size s.rank transfer c.transfers kept.offers
 met_is_kept true c s transfer kept =
     subst (λ (o : Option Offer). IfSome o (λ (x : Offer). IsOfferFor c.place.size x × (s.rank < c.place.size)))
     (sym (nothing_offered c.transfers s.rank transfer)) tt
 
 -- nothing is wanted of a rank that was started anew
-pub nothing_wanted : (t : State) (rank transfer : ℕ) (clearance : Clearance) → wanted_frames rank clearance (offered (after_drop t rank) rank transfer) ≡ []
+pub nothing_wanted : (t : State) (rank transfer : ℕ) (clearance : Clearance) →
+    wanted_frames rank clearance (offered (after_drop t rank) rank transfer) ≡ []
 nothing_wanted t rank transfer Drop = refl
 nothing_wanted t rank transfer Send = ap (wanted_frames rank Send) (nothing_offered t rank transfer)
 
 -- THE ANSWER TO AN ANNOUNCEMENT
 
-answer_goes : (size : ℕ) (slots : List (Option TableEntry)) (r : Option PostedReceive) (s : Endpoint) (t : RequestText) → s.rank < size →
+answer_goes : (size : ℕ) (slots : List (Option TableEntry)) (r : Option PostedReceive) (s : Endpoint)
+    (t : RequestText) → s.rank < size →
     AllByRecursion (CanGo size) (as_list (answer_on_arrival slots (arrival_at r (announced_of s t))))
 unfolding announced_of
 answer_goes size slots None s t there = tt
@@ -151,11 +180,13 @@ one_at_most : (o : Option FrameFor) → length (as_list o) ≤ 1024
 one_at_most None = omega arith
 one_at_most (Some f) = omega arith
 
-met_width : (lesson : Bool) (t : State) (rank size : ℕ) → length t.numbers ≡ size → length ((transfers_met lesson t rank).numbers) ≡ size
+met_width : (lesson : Bool) (t : State) (rank size : ℕ) → length t.numbers ≡ size →
+    length ((transfers_met lesson t rank).numbers) ≡ size
 met_width false t rank size width = width
 met_width true t rank size width = length-set t.numbers rank fresh ∙ width
 
-source_is_there : (lesson : Bool) (c : CoreState) (s : Endpoint) (t : RequestText) → IsKept c.place c.queues c.transfers c.slots →
+source_is_there : (lesson : Bool) (c : CoreState) (s : Endpoint) (t : RequestText) →
+    IsKept c.place c.queues c.transfers c.slots →
     frame_fault (transfers_met lesson c.transfers s.rank) s.rank (RequestFrame t) ≡ None → s.rank < c.place.size
 source_is_there lesson c s t kept none =
     let next = second_of _ (is_next (transfers_met lesson c.transfers s.rank).numbers s.rank t.transfer) none in
@@ -164,25 +195,31 @@ source_is_there lesson c s t kept none =
 
 -- ALL OF THEM
 
-go : (lesson : Bool) (c : CoreState) (s : Endpoint) (f : Option FrameText) → IsKept c.place c.queues c.transfers c.slots →
-    heard_fault (transfers_met lesson c.transfers s.rank) s.rank f ≡ None → AllByRecursion (CanGo c.place.size) (called_for (after_lesson lesson c s) s f)
+go : (lesson : Bool) (c : CoreState) (s : Endpoint) (f : Option FrameText) →
+    IsKept c.place c.queues c.transfers c.slots →
+    heard_fault (transfers_met lesson c.transfers s.rank) s.rank f ≡ None →
+    AllByRecursion (CanGo c.place.size) (called_for (after_lesson lesson c s) s f)
 go lesson c s None kept none = tt
 go lesson c s (Some (EagerFrame t)) kept none = tt
 go lesson c s (Some (RequestFrame t)) kept none =
     answer_goes c.place.size (after_lesson lesson c s).slots
-    (receive_at (after_lesson lesson c s).queues.posted (receive_for (announced_of s t) (after_lesson lesson c s).queues.posted))
+    (receive_at (after_lesson lesson c s).queues.posted
+    (receive_for (announced_of s t) (after_lesson lesson c s).queues.posted))
     s t (source_is_there lesson c s t kept none)
 go lesson c s (Some (ClearFrame t)) kept none =
-    wanted_go c.place.size s.rank t.clearance (offered (after_lesson lesson c s).transfers s.rank t.transfer) (met_is_kept lesson c s t.transfer kept)
+    wanted_go c.place.size s.rank t.clearance (offered (after_lesson lesson c s).transfers s.rank t.transfer)
+    (met_is_kept lesson c s t.transfer kept)
 go lesson c s (Some (DataFrame t)) kept none = tt
 
-few : (lesson : Bool) (c : CoreState) (s : Endpoint) (f : Option FrameText) → IsKept c.place c.queues c.transfers c.slots →
+few : (lesson : Bool) (c : CoreState) (s : Endpoint) (f : Option FrameText) →
+    IsKept c.place c.queues c.transfers c.slots →
     length (called_for (after_lesson lesson c s) s f) ≤ 1024
 few lesson c s None kept = omega arith
 few lesson c s (Some (EagerFrame t)) kept = omega arith
 few lesson c s (Some (RequestFrame t)) kept = one_at_most _
 few lesson c s (Some (ClearFrame t)) kept =
-    wanted_few c.place.size s.rank t.clearance (offered (after_lesson lesson c s).transfers s.rank t.transfer) (met_is_kept lesson c s t.transfer kept)
+    wanted_few c.place.size s.rank t.clearance (offered (after_lesson lesson c s).transfers s.rank t.transfer)
+    (met_is_kept lesson c s t.transfer kept)
 few lesson c s (Some (DataFrame t)) kept = omega arith
 
 -- the frames that news call for that break no rule can go
@@ -191,19 +228,24 @@ pub frames_go : (c : CoreState) (n : NewsText) → IsKept c.place c.queues c.tra
 frames_go c n kept none = go n.lesson c n.source n.frame kept none
 
 -- and are few
-pub frames_are_few : (c : CoreState) (n : NewsText) → IsKept c.place c.queues c.transfers c.slots → length (news_frames c n) ≤ 1024
+pub frames_are_few : (c : CoreState) (n : NewsText) → IsKept c.place c.queues c.transfers c.slots →
+    length (news_frames c n) ≤ 1024
 frames_are_few c n kept = few n.lesson c n.source n.frame kept
 
 -- HOW MANY THEY ARE
 
 -- of a rank that was started anew none
-pub no_many_wanted : (t : State) (rank transfer : ℕ) (clearance : Clearance) → 0 ≡ length (wanted_frames rank clearance (offered (after_drop t rank) rank transfer))
+pub no_many_wanted : (t : State) (rank transfer : ℕ) (clearance : Clearance) →
+    0 ≡ length (wanted_frames rank clearance (offered (after_drop t rank) rank transfer))
 no_many_wanted t rank transfer clearance = sym (ap length (nothing_wanted t rank transfer clearance))
 
 -- there is one for each piece of an offer that is wanted
-pub wanted_many : (rank : ℕ) (o : Offer) (n : ℕ) → n ≡ length (pieces_of (bytes_of (size_of o.elements.basic) o.elements.values)) →
+pub wanted_many : (rank : ℕ) (o : Offer) (n : ℕ) →
+    n ≡ length (pieces_of (bytes_of (size_of o.elements.basic) o.elements.values)) →
     n ≡ length (wanted_frames rank Send (Some o))
-wanted_many rank o n is = is ∙ sym (length-map (pieces_of (bytes_of (size_of o.elements.basic) o.elements.values)) (data_frame rank o.transfer))
+wanted_many rank o n is =
+    is ∙ sym (length-map (pieces_of (bytes_of (size_of o.elements.basic) o.elements.values))
+    (data_frame rank o.transfer))
 
 -- an announcement is answered by one frame where a receive waits for its message
 pub answers_are : (slots : List (Option TableEntry)) (r : Option PostedReceive) (s : Endpoint) (t : RequestText) →

@@ -17,7 +17,9 @@ use Rattle.point_to_point_calls.specs.declared.news.Match.{Match}
 use Rattle.point_to_point_calls.specs.declared.refusal.Refusal.{Refusal}
 use Rattle.point_to_point.specs.CoreState.{CoreState, Held}
 use Rattle.point_to_point.specs.Sending.{after_arrival}
-use Rattle.point_to_point_calls.specs.Hearing.{NewsText, heard_fault, transfers_met, message_of, announced_of, sent_by, delivered_by, match_by, asks_for_data, wanted_frames, message_from, needs_message_room}
+use Rattle.point_to_point_calls.specs.Hearing.{NewsText, heard_fault, transfers_met, message_of, announced_of, sent_by}
+use Rattle.point_to_point_calls.specs.Hearing.{delivered_by, match_by, asks_for_data, wanted_frames, message_from}
+use Rattle.point_to_point_calls.specs.Hearing.{needs_message_room}
 
 -- THE RULE
 
@@ -27,13 +29,15 @@ news_fault c n = heard_fault (transfers_met n.lesson c.transfers n.source.rank) 
 
 -- WHAT BECOMES OF IT
 
--- the keys of what ends when a rank was started anew: receives that name it, sends that offer to it, receives that collect from
--- it, and messages that its former incarnations sent and that were taken out
+-- the keys of what ends when a rank was started anew: receives that name it, sends that offer to it, receives that
+-- collect from it, and messages that its former incarnations sent and that were taken out
 abbrev pub keys_ending : CoreState → Endpoint → List ℕ
-keys_ending c s = keys_naming s.rank c.queues.posted ++ (keys_with c.transfers s.rank ++ keys_of_messages s.rank s.incarnation c.slots)
+keys_ending c s = keys_naming s.rank c.queues.posted ++
+    (keys_with c.transfers s.rank ++ keys_of_messages s.rank s.incarnation c.slots)
 
--- The rank was started anew: those requests end, their buffers as they were; messages from its former incarnations that were
--- not received are dropped, and nothing of a message of which some data came is left (MPI 3.1 has no restarts; this is our own)
+-- The rank was started anew: those requests end, their buffers as they were; messages from its former incarnations that
+-- were not received are dropped, and nothing of a message of which some data came is left (MPI 3.1 has no restarts;
+-- this is our own)
 abbrev pub replaced : CoreState → Endpoint → CoreState
 replaced c s = record c {
   slots = after_replaces c.slots (keys_ending c s);
@@ -96,8 +100,8 @@ match_of c m = match_by c.slots (receive_at c.queues.posted (receive_for m c.que
 abbrev pub answer_to_announced : CoreState → Endpoint → RequestText → Option FrameFor
 answer_to_announced c s t = answer_on_arrival c.slots (arrival_of c.queues (announced_of s t))
 
--- the frames that a frame of an endpoint calls for: the answer to an announcement that is matched, and the data of an offer
--- that are wanted
+-- the frames that a frame of an endpoint calls for: the answer to an announcement that is matched, and the data of an
+-- offer that are wanted
 abbrev pub frame_calls_for : CoreState → Endpoint → FrameText → List FrameFor
 frame_calls_for c s (EagerFrame t) = []
 frame_calls_for c s (RequestFrame t) = as_list (answer_to_announced c s t)
@@ -109,7 +113,8 @@ abbrev pub called_for : CoreState → Endpoint → Option FrameText → List Fra
 called_for c s None = []
 called_for c s (Some f) = frame_calls_for c s f
 
--- whether frames answer a frame of an endpoint: it announces a message that is matched, or asks for the data of an offer
+-- whether frames answer a frame of an endpoint: it announces a message that is matched, or asks for the data of an
+-- offer
 abbrev pub frame_is_answered : CoreState → Endpoint → FrameText → Bool
 frame_is_answered c s (EagerFrame t) = false
 frame_is_answered c s (RequestFrame t) = is_some (answer_to_announced c s t)

@@ -18,10 +18,12 @@ use Rattle.point_to_point_calls.specs.Receiving.{collection_on_post}
 use Rattle.point_to_point.specs.Receiving.{found_by, receive_fault, receive_frame, receive_rule, IsReceiving}
 use Rattle.incarnation.specs.declared.place.Place.{Place}
 use Rattle.point_to_point_calls.specs.Hearing.{first_of}
-use Rattle.point_to_point_calls.specs.Sending.{send_fault, destination, is_to_itself, announced_to, or_worn_out, rank_to}
+use Rattle.point_to_point_calls.specs.Sending.{send_fault, destination, is_to_itself, announced_to, or_worn_out}
+use Rattle.point_to_point_calls.specs.Sending.{rank_to}
 use Rattle.point_to_point.specs.Sending.{or_full, frame_of, IsSending}
 use Rattle.point_to_point_calls.specs.Frames.{FrameFor}
-use Rattle.point_to_point.specs.Messages.{Receives, Searches, collection_on_message, found_for, message_fault, message_frame, probe_rule, region_rule, search_limit}
+use Rattle.point_to_point.specs.Messages.{Receives, Searches, collection_on_message, found_for, message_fault}
+use Rattle.point_to_point.specs.Messages.{message_frame, probe_rule, region_rule, search_limit}
 use Rattle.point_to_point.specs.Waiting.{cancel_fault, wait_fault, Cancels, Tests, Waits}
 use Rattle.point_to_point_calls.specs.Calls.{IsPacked, HasOutcomeRoom, place_in, Starts}
 
@@ -95,7 +97,8 @@ limit_fault c (calls.Mrecv q into) = None
 
 -- A call meets its rules on requests, then those on what it hands in, and then the limits
 abbrev pub IsCutFault : CoreState → CoreCall → Type 0
-IsCutFault c call = call_fault c call ≡ first_of (request_fault c call) (first_of (argument_fault c.place call) (limit_fault c call))
+IsCutFault c call =
+    call_fault c call ≡ first_of (request_fault c call) (first_of (argument_fault c.place call) (limit_fault c call))
 
 -- ITS FRAME
 
@@ -153,7 +156,8 @@ abbrev pub CanAnswer : Held → CoreCall → PreparedCall → Type 0
 CanAnswer h (calls.Isend s) p =
     CanStart h × IsPacked s p × (is_to_itself h.state.place s ≡ true → 0 < h.messages)
     × (is_some (announced_to h.state.place s) ≡ true → 0 < h.offers)
-CanAnswer h (calls.Irecv v) p = CanStart h × CanPost v.source h × CanCollect (collection_on_receive v.source h.state h.vacant v) h p
+CanAnswer h (calls.Irecv v) p = CanStart h × CanPost v.source h ×
+    CanCollect (collection_on_receive v.source h.state h.vacant v) h p
 CanAnswer h (calls.Wait q) p = Unit {0}
 CanAnswer h (calls.Test q) p = Unit {0}
 CanAnswer h (calls.Waitany qs) p = Unit {0}

@@ -1,5 +1,6 @@
 -- What a rank is to the machine: what its calls and its messages have made of it.
-use Rattle.std.specs.Prelude.{◌≡◌, ℕ, ◌*◌, length, ◌+◌, ◌<◌, ◌≤◌, ◌^◌, List, [], Option, Some, None, count_by, is_some, IfSome, replicate}
+use Rattle.std.specs.Prelude.{◌≡◌, ℕ, ◌*◌, length, ◌+◌, ◌<◌, ◌≤◌, ◌^◌, List, [], Option, Some, None, count_by, is_some}
+use Rattle.std.specs.Prelude.{IfSome, replicate}
 use Rattle.incarnation.specs.declared.place.Place.{Place}
 use Rattle.match_queues.specs.State.{State}
 use Rattle.std.specs.List.{AllByRecursion}
@@ -57,7 +58,8 @@ pub record IsKept (p : Place) (q : State) (t : transfers.State) (slots : List (O
 
 -- THE NUMBERS OF TRANSFERS
 
--- the same core, once its sessions' transfers have these numbers, by rank: transfers were counted whose data stand elsewhere
+-- the same core, once its sessions' transfers have these numbers, by rank: transfers were counted whose data stand
+-- elsewhere
 abbrev pub with_numbers : CoreState → List Numbers → CoreState
 with_numbers c ns = record c { transfers = record c.transfers { numbers = ns } }
 

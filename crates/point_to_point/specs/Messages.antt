@@ -19,7 +19,8 @@ use Rattle.requests.specs.declared.table.TableEntry.{TableEntry}
 use Rattle.requests.specs.declared.table.RequestProgress.TheVariants.{TakenOut}
 use Rattle.requests.specs.declared.table.Request.{Request}
 use Rattle.requests.specs.Regions.{handed_of, is_unfit_to_receive}
-use Rattle.requests.specs.Table.{IsSet, after_answer, after_receive, is_full, is_message, message_in, progress_at, slot_at}
+use Rattle.requests.specs.Table.{IsSet, after_answer, after_receive, is_full, is_message, message_in, progress_at}
+use Rattle.requests.specs.Table.{slot_at}
 use Rattle.point_to_point_calls.specs.declared.call.CoreProbe.{CoreProbe}
 use Rattle.point_to_point_calls.specs.declared.call.CoreReply.{CoreReply}
 use Rattle.point_to_point_calls.specs.declared.call.CoreReply.TheVariants as replies
@@ -58,13 +59,16 @@ probed_by source tag context = record { request = 0; context = context; source =
 
 -- the message that such a receive would take now
 abbrev pub found_for : CoreState → Source → (tag : Option ℕ) → (context : ℕ) → Option Message
-found_for c source tag context = message_at c.queues.unexpected (message_for (probed_by source tag context) c.queues.unexpected)
+found_for c source tag context =
+    message_at c.queues.unexpected (message_for (probed_by source tag context) c.queues.unexpected)
 
 -- what a probe tells of what it finds; from the null process it finds what there always is (3.11)
 abbrev pub looked : CoreState → Source → (tag : Option ℕ) → (context : ℕ) → (group : Option (List ℕ)) → Option Status
 looked c sources.Null tag context group = Some null_status
-looked c sources.Any tag context group = option_map (λ m. status_in group (status_of m)) (found_for c sources.Any tag context)
-looked c (sources.Rank r) tag context group = option_map (λ m. status_in group (status_of m)) (found_for c (sources.Rank r) tag context)
+looked c sources.Any tag context group =
+    option_map (λ m. status_in group (status_of m)) (found_for c sources.Any tag context)
+looked c (sources.Rank r) tag context group =
+    option_map (λ m. status_in group (status_of m)) (found_for c (sources.Rank r) tag context)
 
 -- the first rule that a probe breaks: the tag is above the highest; there is no such rank
 unfoldable pub probe_rule : (size : ℕ) → Source → (tag : Option ℕ) → Option Refusal
@@ -102,13 +106,15 @@ pub record IsTakingOut (old : CoreState) (p : CoreProbe) (m : Message) (r : Requ
 abbrev pub TakesOut : CoreState → CoreProbe → Option Message → CoreReply → CoreState → Type 0
 TakesOut old p None reply new = (reply ≡ replies.Matched None) × (new ≡ old)
 TakesOut old p (Some m) reply new =
-    (r : Request) × (reply ≡ replies.Matched (Some (Some r, status_in p.group (status_of m)))) × IsTakingOut old p m r new
+    (r : Request) × (reply ≡ replies.Matched (Some (Some r, status_in p.group (status_of m)))) ×
+    IsTakingOut old p m r new
 
 -- what a matching probe answers and leaves; from the null process it has the message that there always is
 abbrev pub SearchesFrom : Source → CoreState → CoreProbe → CoreReply → CoreState → Type 0
 SearchesFrom sources.Null old p reply new = (reply ≡ replies.Matched (Some (None, null_status))) × (new ≡ old)
 SearchesFrom sources.Any old p reply new = TakesOut old p (found_for old sources.Any p.tag p.context) reply new
-SearchesFrom (sources.Rank r) old p reply new = TakesOut old p (found_for old (sources.Rank r) p.tag p.context) reply new
+SearchesFrom (sources.Rank r) old p reply new =
+    TakesOut old p (found_for old (sources.Rank r) p.tag p.context) reply new
 
 -- whatever it asks for
 abbrev pub Searches : CoreState → CoreProbe → CoreReply → CoreState → Type 0
@@ -121,8 +127,8 @@ abbrev pub message_fault : CoreState → Option Request → Option Refusal
 message_fault c None = None
 message_fault c (Some q) = if is_message (progress_at c.slots q.key q.serial) then None else Some refusals.Request
 
--- the first rule that it breaks by its region: buffer and layout differ in basic type, or a place is named twice; the buffer is
--- too short
+-- the first rule that it breaks by its region: buffer and layout differ in basic type, or a place is named twice; the
+-- buffer is too short
 unfoldable pub region_rule : Region → Option Refusal
 region_rule into =
     if is_unfit_to_receive (handed_of into) then Some refusals.WrongType
@@ -142,16 +148,18 @@ abbrev pub collection_on_message : CoreState → Option Request → Region → O
 collection_on_message c None into = None
 collection_on_message c (Some q) into = collection_on_post into q.key (message_in (progress_at c.slots q.key q.serial))
 
--- the core once the message is received into a region: it is matched with that, which has ended or collects its data; and an own
--- send that waited for it has ended
+-- the core once the message is received into a region: it is matched with that, which has ended or collects its data;
+-- and an own send that waited for it has ended
 abbrev pub received : CoreState → Request → Region → CoreState
 received c q into = record c {
-  slots = own_key_sent (own_send_of (message_in (progress_at c.slots q.key q.serial))) (after_receive c.slots q.key into);
+  slots = own_key_sent (own_send_of (message_in (progress_at c.slots q.key q.serial)))
+      (after_receive c.slots q.key into);
   transfers = transfers_on_post c.transfers into q.key (message_in (progress_at c.slots q.key q.serial));
 }
 
--- What the receive of a message answers and leaves: it is waited for, and so answered in its own call where it has ended; that of
--- the null process's message ends at once, and its buffer is as it was (3.8.3, 3.11)
+-- What the receive of a message answers and leaves: it is waited for, and so answered in its own call where it has
+-- ended; that of the null process's message ends at once, and its buffer is as it was (3.8.3, 3.11)
 abbrev pub Receives : CoreState → Option Request → Region → CoreReply → CoreState → Type 0
-Receives old None into reply new = (reply ≡ replies.Done (answers.One (outcomes.Received null_status into.buffer))) × (new ≡ old)
+Receives old None into reply new = (reply ≡ replies.Done (answers.One (outcomes.Received null_status into.buffer))) ×
+    (new ≡ old)
 Receives old (Some q) into reply new = Waits (received old q into) (One (Some q)) reply new

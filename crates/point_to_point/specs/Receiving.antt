@@ -19,10 +19,11 @@ use Rattle.point_to_point_calls.specs.declared.refusal.Refusal.{Refusal}
 use Rattle.point_to_point_calls.specs.declared.refusal.Refusal.TheVariants as refusals
 use Rattle.point_to_point.specs.CoreState.{CoreState}
 use Rattle.point_to_point.specs.Messages.{own_key_sent, own_send_of}
-use Rattle.point_to_point_calls.specs.Receiving.{posted_by, progress_on_post, transfers_on_post, answer_on_post, waiting_by}
+use Rattle.point_to_point_calls.specs.Receiving.{posted_by, progress_on_post, transfers_on_post, answer_on_post}
+use Rattle.point_to_point_calls.specs.Receiving.{waiting_by}
 
--- The first rule that a receive breaks: buffer and layout differ in basic type, or a place is named twice; the buffer is too short;
--- the tag is above the highest; there is no such rank.
+-- The first rule that a receive breaks: buffer and layout differ in basic type, or a place is named twice; the buffer
+-- is too short; the tag is above the highest; there is no such rank.
 unfoldable pub receive_rule : (size : ℕ) → CoreReceive → Option Refusal
 receive_rule size v =
     if is_unfit_to_receive (handed_of v.into) then Some refusals.WrongType
@@ -31,8 +32,8 @@ receive_rule size v =
     else (if is_source_beyond size v.source then Some refusals.Rank
     else None)))
 
--- The first rule or limit that a receive meets: buffer and layout differ in basic type, or a place is named twice; the buffer
--- is too short; the tag is above the highest; there is no such rank; no request can be started.
+-- The first rule or limit that a receive meets: buffer and layout differ in basic type, or a place is named twice; the
+-- buffer is too short; the tag is above the highest; there is no such rank; no request can be started.
 unfoldable pub receive_fault : CoreState → CoreReceive → Option Refusal
 receive_fault c v =
     if is_unfit_to_receive (handed_of v.into) then Some refusals.WrongType
@@ -62,10 +63,14 @@ pub record IsPosting (old : CoreState) (v : CoreReceive) (r : Request) (new : Co
   pub started : List (Option TableEntry)
   pub entry : IsSet old.slots started r.key (Some (record {
     serial = old.serial;
-    progress = progress_on_post (waiting_by v) (message_at old.queues.unexpected (message_for (posted_by r.key v) old.queues.unexpected));
+    progress =
+        progress_on_post (waiting_by v)
+        (message_at old.queues.unexpected (message_for (posted_by r.key v) old.queues.unexpected));
   }))
   pub rest : new ≡ record old {
-    slots = own_key_sent (own_send_of (message_at old.queues.unexpected (message_for (posted_by r.key v) old.queues.unexpected))) started;
+    slots = own_key_sent
+        (own_send_of (message_at old.queues.unexpected (message_for (posted_by r.key v) old.queues.unexpected)))
+        started;
     serial = old.serial + 1;
     queues = after_post old.queues (posted_by r.key v);
     transfers = transfers_on_post old.transfers v.into r.key

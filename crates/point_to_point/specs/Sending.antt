@@ -20,7 +20,8 @@ use Rattle.point_to_point_calls.specs.declared.refusal.Refusal.TheVariants as re
 use Rattle.point_to_point.specs.CoreState.{CoreState}
 use Rattle.point_to_point_calls.specs.Receiving.{slots_on_arrival, transfers_on_arrival}
 use Rattle.rendezvous.specs.State.{after_begin}
-use Rattle.point_to_point_calls.specs.Sending.{destination, frame_to, announced_to, is_to_itself, own_message, progress_of_send, offered_by}
+use Rattle.point_to_point_calls.specs.Sending.{destination, frame_to, announced_to, is_to_itself, own_message}
+use Rattle.point_to_point_calls.specs.Sending.{progress_of_send, offered_by}
 
 -- a rule's fault, or else the limit of requests
 abbrev pub or_full : Option Refusal → CoreState → Option Refusal

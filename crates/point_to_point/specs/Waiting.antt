@@ -1,4 +1,5 @@
--- What completing calls and cancels do to the core, and how a blocked call is answered (MPI 3.1, 3.7.3, 3.7.5 and 3.8.4).
+-- What completing calls and cancels do to the core, and how a blocked call is answered (MPI 3.1, 3.7.3, 3.7.5 and
+-- 3.8.4).
 use Rattle.std.specs.Prelude.{◌≡◌, ◌||◌, List, Option, Some, None, if◌then◌else◌}
 use Rattle.match_queues.specs.State as queues
 use Rattle.requests.specs.declared.answer.Answer.{Answer}
@@ -6,7 +7,8 @@ use Rattle.requests.specs.declared.awaited_requests.Awaited.{Awaited}
 use Rattle.requests.specs.declared.awaited_requests.Awaited.TheVariants.{One}
 use Rattle.requests.specs.declared.table.Request.{Request}
 use Rattle.requests.specs.declared.table.RequestProgress.{RequestProgress}
-use Rattle.requests.specs.declared.table.RequestProgress.TheVariants.{Receiving, Collecting, Offering, TakenOut, Finished}
+use Rattle.requests.specs.declared.table.RequestProgress.TheVariants.{Receiving, Collecting, Offering, TakenOut}
+use Rattle.requests.specs.declared.table.RequestProgress.TheVariants.{Finished}
 use Rattle.requests.specs.Completions.{awaited_requests, completion, without}
 use Rattle.requests.specs.Lists.{is_one_absent, is_twice}
 use Rattle.requests.specs.Table.{after_cancel, is_receive, progress_at}
@@ -34,7 +36,8 @@ cancel_fault c (Some q) = if is_receive (progress_at c.slots q.key q.serial) the
 -- by whether its answer is ready: the requests that the answer uses up are gone, or the call is blocked
 abbrev pub WaitsBy : CoreState → Awaited → Option (Answer × List Request) → CoreReply → CoreState → Type 0
 WaitsBy old a None reply new = (reply ≡ replies.Blocked) × (new ≡ record old { blocked = Some a })
-WaitsBy old a (Some (answer, used)) reply new = (reply ≡ replies.Done answer) × (new ≡ record old { slots = without old.slots used })
+WaitsBy old a (Some (answer, used)) reply new = (reply ≡ replies.Done answer) ×
+    (new ≡ record old { slots = without old.slots used })
 
 -- what a wait answers and leaves
 abbrev pub Waits : CoreState → Awaited → CoreReply → CoreState → Type 0
@@ -45,7 +48,8 @@ Waits old a reply new = WaitsBy old a (completion old.slots a) reply new
 -- by whether its answer is ready: a test never blocks
 abbrev pub TestsBy : CoreState → Option (Answer × List Request) → CoreReply → CoreState → Type 0
 TestsBy old None reply new = (reply ≡ replies.Pending) × (new ≡ old)
-TestsBy old (Some (answer, used)) reply new = (reply ≡ replies.Done answer) × (new ≡ record old { slots = without old.slots used })
+TestsBy old (Some (answer, used)) reply new = (reply ≡ replies.Done answer) ×
+    (new ≡ record old { slots = without old.slots used })
 
 -- what a test answers and leaves
 abbrev pub Tests : CoreState → Option Request → CoreReply → CoreState → Type 0
@@ -56,7 +60,8 @@ Tests old q reply new = TestsBy old (completion old.slots (One q)) reply new
 -- a receive that waits has ended and is posted no more; anything else stays as it is
 abbrev pub cancelled_at : CoreState → Request → Option RequestProgress → CoreState
 cancelled_at c q None = c
-cancelled_at c q (Some (Receiving r)) = record c { slots = after_cancel c.slots q; queues = queues.after_cancel c.queues q.key }
+cancelled_at c q (Some (Receiving r)) =
+    record c { slots = after_cancel c.slots q; queues = queues.after_cancel c.queues q.key }
 cancelled_at c q (Some (Collecting w)) = c
 cancelled_at c q (Some Offering) = c
 cancelled_at c q (Some (TakenOut t)) = c
@@ -76,7 +81,8 @@ Cancels old q reply new = (reply ≡ replies.Accepted) × (new ≡ cancelled old
 -- the blocked call is answered where its answer is ready
 abbrev pub answered_by : CoreState → Option (Answer × List Request) → CoreState
 answered_by c None = c
-answered_by c (Some (answer, used)) = record c { slots = without c.slots used; blocked = None; completion = Some answer }
+answered_by c (Some (answer, used)) =
+    record c { slots = without c.slots used; blocked = None; completion = Some answer }
 
 -- where no call is blocked, nothing is answered
 abbrev pub woken_by : CoreState → Option Awaited → CoreState

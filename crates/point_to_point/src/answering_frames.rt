@@ -6,8 +6,10 @@ ghost use Rattle.datagram.specs.Spelling.{request_text};
 ghost use Rattle.match_queues.specs.State.{receive_at, receive_for};
 ghost use Rattle.rendezvous.specs.State.{offered};
 ghost use Rattle.point_to_point_calls.specs.Frames.{addressed, addressed_text, as_list};
-ghost use Rattle.point_to_point_calls.specs.Hearing.{CanGo, asks_for_data, data_frames, frame_option, news_text, wanted_frames};
-ghost use Rattle.point_to_point.specs.Arrivals.{CanTake, KeysFit, answer_to_announced, any_is_answered, called_for, news_are_answered, news_fault, news_frames, after_lesson};
+ghost use Rattle.point_to_point_calls.specs.Hearing.{CanGo, asks_for_data, data_frames, frame_option, news_text};
+ghost use Rattle.point_to_point_calls.specs.Hearing.{wanted_frames};
+ghost use Rattle.point_to_point.specs.Arrivals.{CanTake, KeysFit, answer_to_announced, any_is_answered, called_for};
+ghost use Rattle.point_to_point.specs.Arrivals.{news_are_answered, news_fault, news_frames, after_lesson};
 ghost use Rattle.point_to_point_calls.specs.declared.refusal.Refusal.TheVariants as refusals;
 
 use crate::rank::Core;
@@ -20,7 +22,8 @@ use rendezvous::piece_count;
 use vocabulary::Endpoint;
 
 impl Core {
-    /// The frames of the data of an offer that a rank answers, if it wants them: with a lesson nothing is offered to it.
+    /// The frames of the data of an offer that a rank answers, if it wants them: with a lesson nothing is offered to
+    /// it.
     #[tactic(auto, using(crate::proofs::Replies::nothing_wanted))]
     fn wanted_frames(
         &self,
@@ -55,7 +58,8 @@ impl Core {
         keys: &Option<Vec<usize>>,
     ) -> Option<Addressed<'static>>
         requires { KeysFit (is_some keys.now) keys.now self.now.state source }
-        ensures { addressed result ≡ answer_to_announced (after_lesson (is_some keys.now) self.now.state source) source (request_text request.now) }
+        ensures { addressed result ≡ answer_to_announced (after_lesson (is_some keys.now) self.now.state source) source
+            (request_text request.now) }
     {
         let message = announced_of(source, request);
         let found = self.match_for(source, &message, keys);
@@ -79,13 +83,16 @@ impl Core {
     /// How many frames answer an announcement: one where it is matched, once the lesson is learnt.
     #[tactic(auto, using(crate::proofs::Replies::answers_are))]
     fn answer_count(&self, source: Endpoint, lesson: bool, request: &RequestToSend) -> usize
-        ensures { result ≡ length (as_list (answer_to_announced (after_lesson lesson self.now.state source) source (request_text request.now))) }
+        ensures { result ≡
+            length (as_list
+            (answer_to_announced (after_lesson lesson self.now.state source) source (request_text request.now))) }
     {
         let message = announced_of(source, request);
         usize::from(self.is_awaited(source, lesson, &message))
     }
 
-    /// How many frames the data of an offer make that a rank answers, if it wants them: with a lesson nothing is offered to it.
+    /// How many frames the data of an offer make that a rank answers, if it wants them: with a lesson nothing is
+    /// offered to it.
     #[tactic(auto, using(crate::proofs::Replies::no_many_wanted, crate::proofs::Replies::wanted_many))]
     fn wanted_count(&self, source: Endpoint, lesson: bool, answer: ClearToSend) -> usize
         ensures { result ≡ length (wanted_frames source.rank answer.clearance
@@ -130,7 +137,8 @@ impl Core {
         ensures exact { IfOk result (λ frames. map addressed_text frames.items
             ≡ called_for (after_lesson lesson self.now.state source) source (frame_option frame.entry)) }
         ensures err { IfErr result (λ e. e ≡ refusals.OutOfMemory) }
-        ensures need { OnErr result (any_is_answered (after_lesson lesson self.now.state source) source (frame_option frame.entry) ≡ true) }
+        ensures need { OnErr result
+            (any_is_answered (after_lesson lesson self.now.state source) source (frame_option frame.entry) ≡ true) }
     {
         match frame {
             Some(Frame::RequestToSend(request)) => list_of(
@@ -142,9 +150,9 @@ impl Core {
         }
     }
 
-    /// The frames that news that break no rule call for, lent from the core: the answer to an announcement that is matched,
-    /// and the data of an offer that are wanted. They are at most 1,024. It fails for want of memory alone (14), and only
-    /// where an announcement is matched or data are asked for.
+    /// The frames that news that break no rule call for, lent from the core: the answer to an announcement that is
+    /// matched, and the data of an offer that are wanted. They are at most 1,024. It fails for want of memory alone
+    /// (14), and only where an announcement is matched or data are asked for.
     pub fn frames_for<'a>(
         &'a self,
         news: News<'_>,
@@ -152,7 +160,8 @@ impl Core {
     ) -> Result<Vec<Addressed<'a>>, Refusal>
         requires allowed { news_fault self.now.state (news_text news) ≡ None }
         requires can { CanTake self.now (news_text news) ready.now }
-        ensures exact { IfOk result (λ frames. map addressed_text frames.items ≡ news_frames self.now.state (news_text news.entry)) }
+        ensures exact { IfOk result (λ frames. map addressed_text frames.items ≡
+            news_frames self.now.state (news_text news.entry)) }
         ensures go { AllByRecursion (CanGo self.now.state.place.size) (news_frames self.now.state (news_text news.entry)) }
         ensures few { length (news_frames self.now.state (news_text news.entry)) ≤ 1024 }
         ensures err { IfErr result (λ e. e ≡ refusals.OutOfMemory) }

@@ -8,8 +8,10 @@ ghost use Rattle.point_to_point.specs.CoreState.{IsAnswerable};
 ghost use Rattle.point_to_point_calls.specs.Receiving.{collection_on_arrival};
 ghost use Rattle.point_to_point.specs.Sending.{after_arrival};
 ghost use Rattle.point_to_point.specs.Waiting.{after_wake};
-ghost use Rattle.point_to_point_calls.specs.Hearing.{news_text, frame_option, IsWhole, needs_message_room, heard_fault, message_from, announced_of};
-ghost use Rattle.point_to_point.specs.Arrivals.{news_fault, CanTake, KeysFit, after_any, collection_for, after_lesson, after_announcement, after_answer, after_piece, after_news};
+ghost use Rattle.point_to_point_calls.specs.Hearing.{news_text, frame_option, IsWhole, needs_message_room, heard_fault};
+ghost use Rattle.point_to_point_calls.specs.Hearing.{message_from, announced_of};
+ghost use Rattle.point_to_point.specs.Arrivals.{news_fault, CanTake, KeysFit, after_any, collection_for, after_lesson};
+ghost use Rattle.point_to_point.specs.Arrivals.{after_announcement, after_answer, after_piece, after_news};
 
 use crate::rank::Core;
 use datagram::{ClearToSend, Data, Frame, RequestToSend};
@@ -19,8 +21,8 @@ use rendezvous::Collection;
 use vocabulary::{Endpoint, replace};
 
 impl Core {
-    /// The message ends the oldest receive that accepts it, or is kept in the room that there is. One that was announced is
-    /// collected where that receive wants its data.
+    /// The message ends the oldest receive that accepts it, or is kept in the room that there is. One that was
+    /// announced is collected where that receive wants its data.
     #[tactic(auto, unfolding(crate::specs::Sending::after_arrival))]
     fn receive_or_keep(&mut self, message: Message, collection: Option<Collection>)
         requires room { 0 < self.old.messages }
@@ -55,7 +57,8 @@ impl Core {
         }
     }
 
-    /// The message, whose data are there, ends the oldest receive that accepts it, or is kept in the room that there is.
+    /// The message, whose data are there, ends the oldest receive that accepts it, or is kept in the room that there
+    /// is.
     pub(crate) fn arrive(&mut self, message: Message)
         requires room { 0 < self.old.messages }
         requires whole { IsWhole message.body }
@@ -119,8 +122,8 @@ impl Core {
         }
     }
 
-    /// What a frame of an endpoint makes of the core, if one came: its message comes, the transfer that it announces is counted,
-    /// the send that it answers is over, or its data are put to those that came before.
+    /// What a frame of an endpoint makes of the core, if one came: its message comes, the transfer that it announces is
+    /// counted, the send that it answers is over, or its data are put to those that came before.
     #[tactic(auto, using(crate::proofs::Allowances::allowed, crate::proofs::Allowances::second_of, crate::proofs::Allowances::whole_so))]
     fn take_frame(
         &mut self,
@@ -166,12 +169,13 @@ impl Core {
         }
     }
 
-    /// Takes in news that break no rule and were made ready: first the lesson, then the frame. A blocked call is answered
-    /// by `wake`, once the event is over. It takes no memory.
+    /// Takes in news that break no rule and were made ready: first the lesson, then the frame. A blocked call is
+    /// answered by `wake`, once the event is over. It takes no memory.
     ///
-    /// With a lesson the requests that wait for the rank end as replaced, with their buffers as they were: receives that name
-    /// it or collect from it, and sends that wait for its answer. Messages from its former incarnations that were not
-    /// received are dropped, and the receive of one that was taken out ends as replaced; the session's transfers start anew.
+    /// With a lesson the requests that wait for the rank end as replaced, with their buffers as they were: receives
+    /// that name it or collect from it, and sends that wait for its answer. Messages from its former incarnations that
+    /// were not received are dropped, and the receive of one that was taken out ends as replaced; the session's
+    /// transfers start anew.
     /// MPI 3.1 has no restarts of a rank: these rules are this project's own.
     pub fn take_news(&mut self, news: News<'_>, ready: PreparedNews)
         requires allowed { news_fault self.old.state (news_text news) ≡ None }
@@ -188,9 +192,9 @@ impl Core {
         self.take_frame(news.source, news.frame, message, collection);
     }
 
-    /// Answers the blocked call, if its answer is ready now; else it stays blocked (MPI 3.1, 3.7.3 and 3.7.5). It is called
-    /// once for each event, behind everything that the event hands up, since one that waits for any of several requests is
-    /// answered by all that has ended then. It takes no memory.
+    /// Answers the blocked call, if its answer is ready now; else it stays blocked (MPI 3.1, 3.7.3 and 3.7.5). It is
+    /// called once for each event, behind everything that the event hands up, since one that waits for any of several
+    /// requests is answered by all that has ended then. It takes no memory.
     #[tactic(auto, unfolding(crate::specs::Waiting::after_wake))]
     pub fn wake(&mut self)
         ensures exact { self.new.state ≡ after_wake self.old.state }

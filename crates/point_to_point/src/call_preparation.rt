@@ -14,8 +14,8 @@ ghost use Rattle.point_to_point_calls.specs.declared.call.CoreCall.TheVariants a
 use crate::calls::probed_by;
 use crate::rank::Core;
 use point_to_point_calls::{
-    CoreCall, PreparedCall, CoreProbe, CoreReceive, Refusal, CoreSend, announced_to, collection_on_post,
-    destination_of, is_own, pack, posted_by, room_for_all,
+    CoreCall, CoreProbe, CoreReceive, CoreSend, PreparedCall, Refusal, announced_to,
+    collection_on_post, destination_of, is_own, pack, posted_by, room_for_all,
 };
 use rendezvous::Collection;
 use requests::{Region, Request};
@@ -185,8 +185,8 @@ impl Core {
         }
     }
 
-    /// Makes ready what the answer to a call that breaks no rule takes, or finds that there is no memory (14), which a wait
-    /// for one or any, a test and a cancel do not need. What the core holds stays as it is.
+    /// Makes ready what the answer to a call that breaks no rule takes, or finds that there is no memory (14), which a
+    /// wait for one or any, a test and a cancel do not need. What the core holds stays as it is.
     #[tactic(auto, using(crate::proofs::Allowed::send_types, crate::proofs::Allowed::send_room, crate::proofs::Allowed::receive_starts))]
     pub fn prepare(&mut self, call: &CoreCall) -> Result<PreparedCall, Refusal>
         requires { call_fault self.old.state call.now ≡ None }

@@ -8,30 +8,33 @@ ghost use Rattle.requests.specs.Lists.{is_twice, named};
 ghost use Rattle.requests.specs.Regions.{CanReceive};
 ghost use Rattle.requests.specs.declared.awaited_requests.Awaited.TheVariants.{AllOf};
 ghost use Rattle.point_to_point_calls.specs.Calls.{HasOutcomeRoom, IsPacked, IsTaken};
-ghost use Rattle.point_to_point.specs.Calls.{Answers, CanAnswer, CanPost, CanSearch, collection_on_receive, call_fault, free_fault};
+ghost use Rattle.point_to_point.specs.Calls.{Answers, CanAnswer, CanPost, CanSearch, collection_on_receive, call_fault};
+ghost use Rattle.point_to_point.specs.Calls.{free_fault};
 ghost use Rattle.point_to_point.specs.CoreState.{CanStart};
 ghost use Rattle.point_to_point_calls.specs.Receiving.{collection_on_post, transfers_with};
 ghost use Rattle.point_to_point.specs.Receiving.{found_by, IsPosting, IsReceiving, IsReceivingNothing};
 ghost use Rattle.point_to_point_calls.specs.Sending.{announced_to, is_own, is_to_itself};
 ghost use Rattle.point_to_point.specs.Sending.{IsOffering, IsSending, arrived_at_itself};
 ghost use Rattle.point_to_point.specs.Waiting.{Tests, Waits, cancelled};
-ghost use Rattle.point_to_point.specs.Messages.{Receives, Searches, collection_on_message, own_key_sent, own_send_of, probed_by};
+ghost use Rattle.point_to_point.specs.Messages.{Receives, Searches, collection_on_message, own_key_sent, own_send_of};
+ghost use Rattle.point_to_point.specs.Messages.{probed_by};
 ghost use Rattle.std.specs.Option.{option_copied};
 ghost use Rattle.point_to_point_calls.specs.declared.call.CoreCall.TheVariants as calls;
 
 use crate::rank::Core;
+use communicator_members::status_in;
 use datatypes::Buffer;
 use match_queues::{Body, Message};
 use point_to_point_calls::{
-    CoreCall, Destination, PreparedCall, CoreProbe, CoreReceive, CoreReply, CoreSend, announced_to, destination_of,
-    into_elements, is_own, null_status, own_message, posted_by, progress_on_post, status_of,
+    CoreCall, CoreProbe, CoreReceive, CoreReply, CoreSend, Destination, PreparedCall, announced_to,
+    destination_of, into_elements, is_own, null_status, own_message, posted_by, progress_on_post,
+    status_of,
 };
 use rendezvous::Collection;
 use requests::{
-    Answer, Awaited, AwaitedAll, Outcome, Posted, RequestProgress, ReceiveRegion, Region, Request,
-    RequestList, TakenOut,
+    Answer, Awaited, AwaitedAll, Outcome, Posted, ReceiveRegion, Region, Request, RequestList,
+    RequestProgress, TakenOut,
 };
-use communicator_members::status_in;
 use vocabulary::{Mode, Source, replace};
 
 /// The key of the own send that waits for the match of this message, if one does.
@@ -48,7 +51,11 @@ fn own_send_of(message: Option<&Message>) -> Option<usize>
 }
 
 /// The receive that a probe stands for, as it would stand in the queue.
-pub(crate) fn probed_by(source: Source, tag: Option<u32>, context: u64) -> match_queues::PostedReceive
+pub(crate) fn probed_by(
+    source: Source,
+    tag: Option<u32>,
+    context: u64,
+) -> match_queues::PostedReceive
     ensures { result ≡ probed_by source tag context }
 {
     match_queues::PostedReceive {
@@ -106,7 +113,9 @@ impl Core {
                     self.arrive_at_itself(destination, Some(waiting), elements);
                     return waiting;
                 }
-                let request = self.requests.start(RequestProgress::Finished(Outcome::Sent));
+                let request = self
+                    .requests
+                    .start(RequestProgress::Finished(Outcome::Sent));
                 self.arrive_at_itself(destination, None, elements);
                 request
             }
@@ -175,7 +184,8 @@ impl Core {
 
     /// The own send under this key ends, if there is one.
     fn finish_own(&mut self, own: Option<usize>)
-        ensures { self.new ≡ record self.old { state = record self.old.state { slots = own_key_sent own self.old.state.slots } } }
+        ensures { self.new ≡
+            record self.old { state = record self.old.state { slots = own_key_sent own self.old.state.slots } } }
     {
         if let Some(key) = own {
             self.requests.finish_send(key);
@@ -311,7 +321,10 @@ impl Core {
     {
         match call {
             CoreCall::Isend(send) => CoreReply::Started(self.send(send, prepared)),
-            CoreCall::Irecv(receive) => CoreReply::Started(self.receive(receive, prepared.into_place())),
+            CoreCall::Irecv(receive) => CoreReply::Started(self.receive(
+                receive,
+                prepared.into_place(),
+            )),
             CoreCall::Waitall(list) => self.wait_all(list, prepared),
             CoreCall::Mrecv(message, into) => {
                 self.receive_message(message, into, prepared.into_place())
@@ -320,7 +333,8 @@ impl Core {
                 drop(prepared);
                 self.search(probe)
             }
-            // The others need nothing. It is dropped by name: that is one step of the proof each, and not one for each variant.
+            // The others need nothing. It is dropped by name: that is one step of the proof each, and not one for each
+            // variant.
             CoreCall::Wait(request) => {
                 drop(prepared);
                 self.wait(Awaited::One(request))

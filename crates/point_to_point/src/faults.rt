@@ -6,12 +6,14 @@ ghost use Rattle.requests.specs.Lists.{named};
 ghost use Rattle.requests.specs.declared.awaited_requests.Awaited.TheVariants.{One};
 ghost use Rattle.point_to_point_calls.specs.Calls.{IsPacked, IsWithin};
 ghost use Rattle.point_to_point_calls.specs.Hearing.{first_of};
-ghost use Rattle.point_to_point.specs.Calls.{CanAnswer, IsCutFault, argument_fault, call_fault, call_frame, call_rank, limit_fault, request_fault};
+ghost use Rattle.point_to_point.specs.Calls.{CanAnswer, IsCutFault, argument_fault, call_fault, call_frame, call_rank};
+ghost use Rattle.point_to_point.specs.Calls.{limit_fault, request_fault};
 ghost use Rattle.point_to_point_calls.specs.Frames.{addressed};
 ghost use Rattle.point_to_point_calls.specs.declared.call.CoreCall.{CoreCall};
 ghost use Rattle.point_to_point.specs.CoreState.{CoreState};
 ghost use Rattle.point_to_point.specs.Receiving.{receive_frame, receive_rule};
-ghost use Rattle.point_to_point.specs.Messages.{looked, message_fault, message_frame, probe_rule, region_rule, search_limit};
+ghost use Rattle.point_to_point.specs.Messages.{looked, message_fault, message_frame, probe_rule, region_rule};
+ghost use Rattle.point_to_point.specs.Messages.{search_limit};
 ghost use Rattle.point_to_point_calls.specs.Sending.{announced_to, or_worn_out, send_fault};
 ghost use Rattle.point_to_point.specs.Sending.{frame_of, or_full};
 ghost use Rattle.point_to_point.specs.Waiting.{cancel_fault, requests_fault, wait_fault};
@@ -19,16 +21,16 @@ ghost use Rattle.point_to_point.specs.Waiting.{cancel_fault, requests_fault, wai
 use crate::calls::probed_by;
 use crate::rank::Core;
 use point_to_point_calls::{
-    Addressed, CoreCall, PreparedCall, CoreProbe, CoreReceive, Refusal, CoreSend, announced_to, answer_on_post,
-    destination_of, elements_of, fault_of, frame_to, is_source_beyond, is_tag_above, null_status,
-    posted_by, rank_to, show_widths, status_of,
+    Addressed, CoreCall, CoreProbe, CoreReceive, CoreSend, PreparedCall, Refusal, announced_to,
+    answer_on_post, destination_of, elements_of, fault_of, frame_to, is_source_beyond,
+    is_tag_above, null_status, posted_by, rank_to, show_widths, status_of,
 };
 use requests::{Region, Request, RequestList};
 use vocabulary::{Source, Status};
 
-/// A law of `fault_of_requests`, `fault_of_arguments` and `limit_of`: the first fault that they find, asked in this order, is
-/// that of the call. So whoever has rules of its own that stand between them may ask it, and where all three find none, a call
-/// may be made ready.
+/// A law of `fault_of_requests`, `fault_of_arguments` and `limit_of`: the first fault that they find, asked in this
+/// order, is that of the call. So whoever has rules of its own that stand between them may ask it, and where all three
+/// find none, a call may be made ready.
 #[tactic(auto, using(crate::proofs::Cuts::cut))]
 pub fn faults_are_cut()
     ensures { (c : CoreState) (call : CoreCall) → IsCutFault c call }
@@ -176,8 +178,9 @@ impl Core {
         }
     }
 
-    /// The fault of a call by its requests, which is 6: an earlier call is blocked, there is no such request, a list names
-    /// one twice, what is cancelled is no receive, or what is received is no message that was taken out and isn't received.
+    /// The fault of a call by its requests, which is 6: an earlier call is blocked, there is no such request, a list
+    /// names one twice, what is cancelled is no receive, or what is received is no message that was taken out and isn't
+    /// received.
     /// It takes no memory (MPI 3.1, 3.7, 3.8.3 and 3.8.4).
     pub fn fault_of_requests(&self, call: &CoreCall) -> Option<Refusal>
         ensures { result ≡ request_fault self.now.state call.now }
@@ -195,10 +198,11 @@ impl Core {
         }
     }
 
-    /// The fault of a call by what it hands in, the first of 2 (buffer and layout are of different basic types, or a receive
-    /// names a place twice), 1 (more than 1,048,576 bytes of data in a send, or the buffer is too short), 3 (the tag is above
-    /// the greatest, or the wildcard in a send) and 5 (no such rank of world, or any rank in a send). Of a matching probe these
-    /// are 3 and 5, and of the receive of a message 2 and 1. It takes no memory (MPI 3.1, 3.2.2 and 4.1.11).
+    /// The fault of a call by what it hands in, the first of 2 (buffer and layout are of different basic types, or a
+    /// receive names a place twice), 1 (more than 1,048,576 bytes of data in a send, or the buffer is too short), 3
+    /// (the tag is above the greatest, or the wildcard in a send) and 5 (no such rank of world, or any rank in a send).
+    /// Of a matching probe these are 3 and 5, and of the receive of a message 2 and 1. It takes no memory (MPI 3.1,
+    /// 3.2.2 and 4.1.11).
     pub fn fault_of_arguments(&self, call: &CoreCall) -> Option<Refusal>
         ensures fault { result ≡ argument_fault self.now.state.place call.now }
         ensures within { IsWithin call.now }
@@ -211,13 +215,16 @@ impl Core {
             CoreCall::Irecv(receive) => self.rule_of_receive(receive),
             CoreCall::Improbe(probe) => rule_of_probe(self.place.size, probe.source, probe.tag),
             CoreCall::Mrecv(_, into) => rule_of_region(into),
-            CoreCall::Wait(_) | CoreCall::Test(_) | CoreCall::Waitany(_) | CoreCall::Waitall(_) | CoreCall::Cancel(_) =>
-                { None }
+            CoreCall::Wait(_)
+            | CoreCall::Test(_)
+            | CoreCall::Waitany(_)
+            | CoreCall::Waitall(_)
+            | CoreCall::Cancel(_) => { None }
         }
     }
 
-    /// The limit that a call meets, which is 13: 65,536 requests are there, no serial is left, or no number of a transfer to
-    /// the rank. A matching probe meets it only where it finds a message. It takes no memory.
+    /// The limit that a call meets, which is 13: 65,536 requests are there, no serial is left, or no number of a
+    /// transfer to the rank. A matching probe meets it only where it finds a message. It takes no memory.
     pub fn limit_of(&self, call: &CoreCall) -> Option<Refusal>
         ensures { result ≡ limit_fault self.now.state call.now }
     {
@@ -226,8 +233,11 @@ impl Core {
             CoreCall::Irecv(_) => self.limit_of_receive(),
             CoreCall::Improbe(probe) => self.limit_of_search(probe),
             CoreCall::Mrecv(_, _) => None,
-            CoreCall::Wait(_) | CoreCall::Test(_) | CoreCall::Waitany(_) | CoreCall::Waitall(_) | CoreCall::Cancel(_) =>
-                { None }
+            CoreCall::Wait(_)
+            | CoreCall::Test(_)
+            | CoreCall::Waitany(_)
+            | CoreCall::Waitall(_)
+            | CoreCall::Cancel(_) => { None }
         }
     }
 
@@ -242,8 +252,8 @@ impl Core {
         }
     }
 
-    /// The first rule or limit that a call meets: of its requests, then of what it hands in, and then the limits. It takes no
-    /// memory.
+    /// The first rule or limit that a call meets: of its requests, then of what it hands in, and then the limits. It
+    /// takes no memory.
     #[tactic(auto, using(crate::proofs::Cuts::by_request, crate::proofs::Cuts::by_rest))]
     pub fn fault_of(&self, call: &CoreCall) -> Option<Refusal>
         ensures fault { result ≡ call_fault self.now.state call.now }
@@ -255,8 +265,8 @@ impl Core {
         }
     }
 
-    /// What a receive of this source, tag and context that is posted now would be matched with: the status of that message,
-    /// whose source is a rank of world, or none. It takes no memory and changes nothing (MPI 3.1, 3.8.1).
+    /// What a receive of this source, tag and context that is posted now would be matched with: the status of that
+    /// message, whose source is a rank of world, or none. It takes no memory and changes nothing (MPI 3.1, 3.8.1).
     pub fn look(&self, source: Source, tag: Option<u32>, context: u64) -> Option<Status>
         ensures { result ≡ looked self.now.state source tag context None }
     {
@@ -274,7 +284,8 @@ impl Core {
     #[tactic(auto, using(crate::proofs::Allowed::send_there))]
     pub fn rank_of(&self, call: &CoreCall) -> Option<u16>
         ensures exact { result ≡ call_rank self.now.state call.now }
-        ensures there { call_fault self.now.state call.now ≡ None → IfSome result (λ rank. rank < self.now.state.place.size) }
+        ensures there { call_fault self.now.state call.now ≡ None →
+            IfSome result (λ rank. rank < self.now.state.place.size) }
     {
         match call {
             CoreCall::Isend(send) => rank_to(
@@ -290,8 +301,11 @@ impl Core {
                 None => None,
             },
             CoreCall::Improbe(_) => None,
-            CoreCall::Wait(_) | CoreCall::Test(_) | CoreCall::Waitany(_) | CoreCall::Waitall(_) | CoreCall::Cancel(_) =>
-                None,
+            CoreCall::Wait(_)
+            | CoreCall::Test(_)
+            | CoreCall::Waitany(_)
+            | CoreCall::Waitall(_)
+            | CoreCall::Cancel(_) => None,
         }
     }
 
@@ -329,7 +343,11 @@ impl Core {
     }
 
     #[tactic(auto, using(point_to_point_calls::proofs::Sends::is_sendable, point_to_point_calls::proofs::Sends::is_there))]
-    fn frame_of_send<'a>(&self, send: &'a CoreSend, prepared: &'a PreparedCall) -> Option<Addressed<'a>>
+    fn frame_of_send<'a>(
+        &self,
+        send: &'a CoreSend,
+        prepared: &'a PreparedCall,
+    ) -> Option<Addressed<'a>>
         requires allowed { send_fault self.now.state.place send.now ≡ None }
         requires packed { IsPacked send.now prepared.now }
         ensures exact { addressed result ≡ frame_of self.now.state send.now }
@@ -347,9 +365,13 @@ impl Core {
         )
     }
 
-    /// The frame that a call that breaks no rule gives to another rank, lent from the call, or from what was made ready for
-    /// it.
-    pub fn frame_of<'a>(&self, call: &'a CoreCall, prepared: &'a PreparedCall) -> Option<Addressed<'a>>
+    /// The frame that a call that breaks no rule gives to another rank, lent from the call, or from what was made ready
+    /// for it.
+    pub fn frame_of<'a>(
+        &self,
+        call: &'a CoreCall,
+        prepared: &'a PreparedCall,
+    ) -> Option<Addressed<'a>>
         requires allowed { call_fault self.now.state call.now ≡ None }
         requires ready { CanAnswer self.now call.now prepared.now }
         ensures exact { addressed result ≡ call_frame self.now.state call.now }
@@ -361,8 +383,11 @@ impl Core {
             CoreCall::Irecv(receive) => self.answer_of_receive(receive),
             CoreCall::Mrecv(message, into) => self.answer_of_message(*message, into),
             CoreCall::Improbe(_) => None,
-            CoreCall::Wait(_) | CoreCall::Test(_) | CoreCall::Waitany(_) | CoreCall::Waitall(_) | CoreCall::Cancel(_) =>
-                None,
+            CoreCall::Wait(_)
+            | CoreCall::Test(_)
+            | CoreCall::Waitany(_)
+            | CoreCall::Waitall(_)
+            | CoreCall::Cancel(_) => None,
         }
     }
 }

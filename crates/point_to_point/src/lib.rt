@@ -1,6 +1,7 @@
 //! What a rank is to the machine: its calls, its requests, and the messages that it has and wants.
 //!
-//! A core knows frames as values, ranks and endpoints; it knows no number of a frame, no byte of a datagram and no clock.
+//! A core knows frames as values, ranks and endpoints; it knows no number of a frame, no byte of a datagram and no
+//! clock.
 //! Each event is looked at first, which finds the rule that it breaks; then what it needs is made ready, which may want
 //! memory; and then it is done, which cannot fail. Until it is done the core stays as it was.
 #![tactic(auto)]
@@ -15,7 +16,8 @@ mod rank;
 mod transfer_numbers;
 
 pub use faults::faults_are_cut;
-pub use rank::Core;
 pub use point_to_point_calls::{
-    Addressed, CoreCall, HandedBack, News, PreparedCall, CoreProbe, PreparedNews, CoreReceive, Refusal, CoreReply, CoreSend,
+    Addressed, CoreCall, CoreProbe, CoreReceive, CoreReply, CoreSend, HandedBack, News,
+    PreparedCall, PreparedNews, Refusal,
 };
+pub use rank::Core;

@@ -4,8 +4,11 @@ ghost use Rattle.std.specs.Prelude.{◌≡◌, ◌<◌, ◌&&◌, ◌==◌, true
 ghost use Rattle.std.specs.List.{list_any};
 ghost use Rattle.datagram.specs.Spelling.{frame_text, request_text};
 ghost use Rattle.requests.specs.Table.{after_replaces, slot_at, wants_by};
-ghost use Rattle.point_to_point_calls.specs.Hearing.{HeardFits, bad_unless, first_of, frame_fault, frame_option, match_by, needs_message_room, news_need_memory, news_text, transfers_met};
-ghost use Rattle.point_to_point.specs.Arrivals.{CanTake, KeysFit, collection_for, collection_for_announced, keys_ending, match_of, news_fault, after_lesson};
+ghost use Rattle.point_to_point_calls.specs.Hearing.{HeardFits, bad_unless, first_of, frame_fault, frame_option};
+ghost use Rattle.point_to_point_calls.specs.Hearing.{match_by, needs_message_room, news_need_memory, news_text};
+ghost use Rattle.point_to_point_calls.specs.Hearing.{transfers_met};
+ghost use Rattle.point_to_point.specs.Arrivals.{CanTake, KeysFit, collection_for, collection_for_announced};
+ghost use Rattle.point_to_point.specs.Arrivals.{keys_ending, match_of, news_fault, after_lesson};
 ghost use Rattle.rendezvous.specs.State.{is_next, is_due, offered};
 ghost use Rattle.point_to_point_calls.specs.declared.refusal.Refusal.TheVariants as refusals;
 
@@ -13,8 +16,8 @@ use crate::rank::Core;
 use datagram::{Data, Frame, RequestToSend};
 use match_queues::{Message, PostedReceive};
 use point_to_point_calls::{
-    Match, News, PreparedNews, Refusal, announced_of, bad_unless, collection_of_match, fault_of_plane,
-    first_of, message_from,
+    Match, News, PreparedNews, Refusal, announced_of, bad_unless, collection_of_match,
+    fault_of_plane, first_of, message_from,
 };
 use rendezvous::Collection;
 use vocabulary::{BasicType, Endpoint};
@@ -63,7 +66,8 @@ impl Core {
 
     /// The rule that a frame of the rank breaks, once the lesson is learnt.
     fn fault_of_frame(&self, rank: u16, lesson: bool, frame: Frame<'_>) -> Option<Refusal>
-        ensures { result ≡ frame_fault (transfers_met lesson self.now.state.transfers rank) rank (frame_text frame.entry) }
+        ensures { result ≡ frame_fault (transfers_met lesson self.now.state.transfers rank) rank
+            (frame_text frame.entry) }
     {
         match frame {
             Frame::Eager(eager) => fault_of_plane(eager.plane),
@@ -78,9 +82,9 @@ impl Core {
         }
     }
 
-    /// The rule that news break: 30 (a message of a collective operation, which isn't the core's; an announcement under another number than
-    /// the next; an answer to a transfer that is not offered; data that are not due). With a lesson the session with the
-    /// rank starts anew, and no transfer of the former one is left. It takes no memory.
+    /// The rule that news break: 30 (a message of a collective operation, which isn't the core's; an announcement under
+    /// another number than the next; an answer to a transfer that is not offered; data that are not due). With a lesson
+    /// the session with the rank starts anew, and no transfer of the former one is left. It takes no memory.
     pub fn fault_of_news(&self, news: News<'_>) -> Option<Refusal>
         ensures { result ≡ news_fault self.now.state (news_text news.entry) }
     {
@@ -131,8 +135,8 @@ impl Core {
         }
     }
 
-    /// Whether the receive under this key has room for a message of this type and so many elements, once the requests under
-    /// some keys have ended.
+    /// Whether the receive under this key has room for a message of this type and so many elements, once the requests
+    /// under some keys have ended.
     #[tactic(auto, using(crate::proofs::Endings::ended_wants_none, crate::proofs::Endings::left_wants))]
     fn wants_after(&self, ended: &[usize], key: usize, basic: BasicType, count: u64) -> bool
         ensures { result ≡ wants_by (slot_at (after_replaces self.now.state.slots ended.now) key) basic count }
@@ -212,9 +216,12 @@ impl Core {
     ) -> Result<Option<Collection>, Refusal>
         requires { KeysFit (is_some keys.now) keys.now self.now.state source }
         ensures ok { IfOk result (λ collection. collection
-            ≡ collection_for (after_lesson (is_some keys.now) self.now.state source) source (frame_option frame.entry)) }
+            ≡ collection_for (after_lesson (is_some keys.now) self.now.state source) source
+            (frame_option frame.entry)) }
         ensures err { IfErr result (λ e. e ≡ refusals.OutOfMemory) }
-        ensures need { OnErr result (is_some (collection_for (after_lesson (is_some keys.now) self.now.state source) source (frame_option frame.entry)) ≡ true) }
+        ensures need { OnErr result
+            (is_some (collection_for (after_lesson (is_some keys.now) self.now.state source) source
+            (frame_option frame.entry)) ≡ true) }
     {
         match frame {
             Some(Frame::RequestToSend(request)) => {
@@ -239,8 +246,8 @@ impl Core {
         }
     }
 
-    /// Makes ready what news that break no rule need, or finds that there is no memory (14), which an answer and data without
-    /// a lesson do not need. What the core holds stays as it is.
+    /// Makes ready what news that break no rule need, or finds that there is no memory (14), which an answer and data
+    /// without a lesson do not need. What the core holds stays as it is.
     pub fn prepare_news(&mut self, news: News<'_>) -> Result<PreparedNews, Refusal>
         requires { HeardFits (frame_option news.frame) }
         ensures can { IfOk result (λ ready. CanTake self.new (news_text news.entry) ready) }
@@ -249,7 +256,8 @@ impl Core {
         ensures need { OnErr result (news_need_memory (news_text news.entry) ≡ true) }
     {
         let keys = self.keys_for(news.source, news.lesson)?;
-        // What is held is dropped by name where a step fails: that is one step of the proof each, and not one for each variant.
+        // What is held is dropped by name where a step fails: that is one step of the proof each, and not one for each
+        // variant.
         let message = match message_from(self.alloc, news.source, news.frame) {
             Ok(message) => message,
             Err(refused) => {

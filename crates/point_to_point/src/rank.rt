@@ -91,8 +91,8 @@ impl Core {
         self.blocked.is_some()
     }
 
-    /// Hands out the answer of a blocked call, once, after the event in which it was ready. An answer that isn't taken is
-    /// lost when the next one comes.
+    /// Hands out the answer of a blocked call, once, after the event in which it was ready. An answer that isn't taken
+    /// is lost when the next one comes.
     pub fn take_completion(&mut self) -> Option<Answer>
         ensures completion { result ≡ self.old.state.completion }
         ensures rest { self.new.state ≡ record self.old.state { completion = None } }

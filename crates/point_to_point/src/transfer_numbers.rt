@@ -21,8 +21,8 @@ impl Core {
         }
     }
 
-    /// From now on there were so many transfers in the session with each rank: those of collectives were counted with those of
-    /// messages. Nothing else changes, and it takes no memory.
+    /// From now on there were so many transfers in the session with each rank: those of collectives were counted with
+    /// those of messages. Nothing else changes, and it takes no memory.
     pub fn set_numbers(&mut self, numbers: Vec<Numbers>)
         requires { length numbers.items ≡ self.old.state.place.size }
         ensures exact { self.new.state ≡ with_numbers self.old.state numbers.items }

@@ -9,8 +9,11 @@ go : (rank transfer : ℕ) (ps : List Piece) →
     map addressed_text (map (framed rank transfer) ps)
     ≡ map (data_frame rank transfer) (map (λ p. (p.offset, p.bytes.now)) ps)
 go rank transfer [] = refl
-go rank transfer (p ∷ ps) = ap (λ (fs : List FrameFor). data_frame rank transfer (p.offset, p.bytes.now) ∷ fs) (go rank transfer ps)
+go rank transfer (p ∷ ps) =
+    ap (λ (fs : List FrameFor). data_frame rank transfer (p.offset, p.bytes.now) ∷ fs) (go rank transfer ps)
 
-pub frames_are : (rank transfer : ℕ) (fs : List Addressed) (ps : List Piece) (xs : List (ℕ × List ℕ)) → fs ≡ map (framed rank transfer) ps →
+pub frames_are : (rank transfer : ℕ) (fs : List Addressed) (ps : List Piece) (xs : List (ℕ × List ℕ)) →
+    fs ≡ map (framed rank transfer) ps →
     map (λ p. (p.offset, p.bytes.now)) ps ≡ xs → map addressed_text fs ≡ data_frames rank transfer xs
-frames_are rank transfer fs ps xs made are = ap (map addressed_text) made ∙ go rank transfer ps ∙ ap (map (data_frame rank transfer)) are
+frames_are rank transfer fs ps xs made are = ap (map addressed_text) made ∙ go rank transfer ps ∙
+    ap (map (data_frame rank transfer)) are

@@ -49,7 +49,8 @@ has_target p s none = grind (arith, common_steps, none)
 -- THE FRAME
 
 -- what is announced may be
-pub announced_is : (m : Mode) (c : Contents) → is_announced m c ≡ true → may_be_announced m (length c.values * size_of c.basic) ≡ true
+pub announced_is : (m : Mode) (c : Contents) → is_announced m c ≡ true →
+    may_be_announced m (length c.values * size_of c.basic) ≡ true
 announced_is Standard c h = h
 announced_is Synchronous c h = refl
 
@@ -62,7 +63,8 @@ few_elements tag c small =
     omega (arith, sized, least, small.count)
 
 -- few bytes under a tag may be sent
-sendable_at : (t : Source) (g : Option ℕ) (x : ℕ) (c : Contents) → length c.values * size_of c.basic ≤ send_limit → is_no_tag g ≡ false →
+sendable_at : (t : Source) (g : Option ℕ) (x : ℕ) (c : Contents) → length c.values * size_of c.basic ≤ send_limit →
+    is_no_tag g ≡ false →
     IfSome (destination t g x) (λ (d : Destination). IsSendable d.tag c)
 sendable_at Any g x c few tagged = tt
 sendable_at Null g x c few tagged = tt
@@ -72,18 +74,22 @@ sendable_at (Rank to) (Some tag) x c few tagged =
     record { count = omega (arith, sized, few); tag_is = grind (arith, common_steps, tagged) }
 
 -- a target that is a rank is one of the job's
-there_at : (n : ℕ) (t : Source) (g : Option ℕ) (x : ℕ) → is_no_target n t ≡ false → IfSome (destination t g x) (λ (d : Destination). d.rank < n)
+there_at : (n : ℕ) (t : Source) (g : Option ℕ) (x : ℕ) → is_no_target n t ≡ false →
+    IfSome (destination t g x) (λ (d : Destination). d.rank < n)
 there_at n Any g x there = tt
 there_at n Null g x there = tt
 there_at n (Rank to) None x there = tt
 there_at n (Rank to) (Some tag) x there = grind (arith, common_steps, there)
 
 -- what it sends may be sent
-pub is_sendable : (p : Place) (s : CoreSend) → send_fault p s ≡ None → IfSome (destination s.target s.tag s.context) (λ (d : Destination). IsSendable d.tag (sent_from s.from))
-is_sendable p s none = sendable_at s.target s.tag s.context (sent_from s.from) (within_limit p s none) (has_tag p s none)
+pub is_sendable : (p : Place) (s : CoreSend) → send_fault p s ≡ None →
+    IfSome (destination s.target s.tag s.context) (λ (d : Destination). IsSendable d.tag (sent_from s.from))
+is_sendable p s none =
+    sendable_at s.target s.tag s.context (sent_from s.from) (within_limit p s none) (has_tag p s none)
 
 -- it goes to a rank of the job
-pub is_there : (p : Place) (s : CoreSend) → send_fault p s ≡ None → IfSome (destination s.target s.tag s.context) (λ (d : Destination). d.rank < p.size)
+pub is_there : (p : Place) (s : CoreSend) → send_fault p s ≡ None →
+    IfSome (destination s.target s.tag s.context) (λ (d : Destination). d.rank < p.size)
 is_there p s none = there_at p.size s.target s.tag s.context (has_target p s none)
 
 -- so does its frame
@@ -92,10 +98,12 @@ rank_at true n d there = tt
 rank_at false n d there = there
 
 -- whatever the destination
-rank_within : (p : Place) (d : Option Destination) → IfSome d (λ (d : Destination). d.rank < p.size) → IfSome (rank_to p d) (λ (rank : ℕ). rank < p.size)
+rank_within : (p : Place) (d : Option Destination) → IfSome d (λ (d : Destination). d.rank < p.size) →
+    IfSome (rank_to p d) (λ (rank : ℕ). rank < p.size)
 rank_within p None there = tt
 rank_within p (Some d) there = rank_at (d.rank == p.endpoint.rank) p.size d there
 
 -- the rank that its frame goes to is one of the job's
-pub rank_is_there : (p : Place) (s : CoreSend) → send_fault p s ≡ None → IfSome (rank_to p (destination s.target s.tag s.context)) (λ (rank : ℕ). rank < p.size)
+pub rank_is_there : (p : Place) (s : CoreSend) → send_fault p s ≡ None →
+    IfSome (rank_to p (destination s.target s.tag s.context)) (λ (rank : ℕ). rank < p.size)
 rank_is_there p s none = rank_within p (destination s.target s.tag s.context) (is_there p s none)

@@ -26,7 +26,8 @@ IsWithin (calls.Cancel q) = Unit {0}
 IsWithin (calls.Improbe p) = Unit {0}
 IsWithin (calls.Mrecv q into) = Unit {0}
 
--- what a call starts, what it takes out or receives, and the outcomes of several requests, take memory; all else is answered without
+-- what a call starts, what it takes out or receives, and the outcomes of several requests, take memory; all else is
+-- answered without
 abbrev pub NeedsMemory : CoreCall → Type 0
 NeedsMemory (calls.Isend s) = Unit {0}
 NeedsMemory (calls.Irecv v) = Unit {0}

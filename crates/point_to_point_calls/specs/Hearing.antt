@@ -9,7 +9,8 @@ use Rattle.datagram.specs.declared.kinds.Plane.{Plane}
 use Rattle.datagram.specs.declared.kinds.Plane.TheVariants.{PointToPoint, Collective}
 use Rattle.datagram.specs.declared.frame.Frame.{Frame}
 use Rattle.datagram.specs.declared.frame.Frame.TheVariants as frames
-use Rattle.datagram.specs.Spelling.{EagerText, RequestText, FrameText, EagerFrame, RequestFrame, ClearFrame, DataFrame, frame_text, FrameFits}
+use Rattle.datagram.specs.Spelling.{EagerText, RequestText, FrameText, EagerFrame, RequestFrame, ClearFrame, DataFrame}
+use Rattle.datagram.specs.Spelling.{frame_text, FrameFits}
 use Rattle.match_queues.specs.declared.envelope.Message.{Message}
 use Rattle.match_queues.specs.declared.envelope.Body.{Body}
 use Rattle.match_queues.specs.declared.envelope.Body.TheVariants.{Whole, Own, Announced}
@@ -71,8 +72,8 @@ abbrev pub bad_unless : Bool → Option Refusal
 bad_unless true = None
 bad_unless false = Some refusals.BadFrame
 
--- The rule by which a frame of a rank isn't taken: it is of a collective operation; it announces another transfer than the
--- next; it answers one that isn't offered; it has data of one that isn't collected, or other data than are due.
+-- The rule by which a frame of a rank isn't taken: it is of a collective operation; it announces another transfer than
+-- the next; it answers one that isn't offered; it has data of one that isn't collected, or other data than are due.
 abbrev pub frame_fault : transfers.State → (rank : ℕ) → FrameText → Option Refusal
 frame_fault t rank (EagerFrame f) = plane_fault f.plane
 frame_fault t rank (RequestFrame f) = first_of (plane_fault f.plane) (bad_unless (is_next t.numbers rank f.transfer))
@@ -206,7 +207,7 @@ abbrev pub needs_message_room : Option FrameText → Bool
 needs_message_room None = false
 needs_message_room (Some f) = frame_needs_message_room f
 
--- Whether news take memory: with a lesson the keys of what ends are listed, and a message that comes or is announced takes
--- room. An answer and data without a lesson take none.
+-- Whether news take memory: with a lesson the keys of what ends are listed, and a message that comes or is announced
+-- takes room. An answer and data without a lesson take none.
 abbrev pub news_need_memory : NewsText → Bool
 news_need_memory n = n.lesson || needs_message_room n.frame

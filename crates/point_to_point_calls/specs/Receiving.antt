@@ -23,7 +23,8 @@ use Rattle.match_queues.specs.declared.envelope.Body.TheVariants.{Whole, Own, An
 use Rattle.vocabulary.specs.BasicTypes.{size_of}
 use Rattle.point_to_point_calls.specs.Frames.{FrameFor}
 use Rattle.communicator_members.specs.Statuses.{status_in}
-use Rattle.requests.specs.Table.{slot_at, after_announcement, after_answer, after_finish, has_room, progress_on_match, wants_by}
+use Rattle.requests.specs.Table.{slot_at, after_announcement, after_answer, after_finish, has_room, progress_on_match}
+use Rattle.requests.specs.Table.{wants_by}
 use Rattle.point_to_point_calls.specs.declared.call.CoreReceive.{CoreReceive}
 
 -- the receive as it stands in the queue, under its key in the table
@@ -38,8 +39,8 @@ waiting_by v = record { into = v.into; group = v.group }
 abbrev pub status_of : Message → Status
 status_of m = record { source = sources.Rank m.sender.rank; tag = Some m.tag; count = count_of m.body }
 
--- the table once a message was matched with the receive under a key: it has ended, or collects what was announced; and the own
--- send that waited for that has ended
+-- the table once a message was matched with the receive under a key: it has ended, or collects what was announced; and
+-- the own send that waited for that has ended
 abbrev pub slots_on_match : List (Option TableEntry) → (key : ℕ) → Status → Body → List (Option TableEntry)
 slots_on_match slots key status (Whole elements) = after_finish slots key status elements
 slots_on_match slots key status (Own own) = after_answer (after_finish slots key status own.elements) own.key
@@ -111,7 +112,11 @@ abbrev pub answer_by : (wanted : Bool) → Message → Body → Option FrameFor
 answer_by wanted m (Whole elements) = None
 answer_by wanted m (Own own) = None
 answer_by wanted m (Announced a) =
-    Some (record { rank = m.sender.rank; frame = ClearFrame (record { transfer = a.transfer; clearance = clearance_of wanted }) })
+    Some (record {
+      rank = m.sender.rank;
+      frame =
+          ClearFrame (record { transfer = a.transfer; clearance = clearance_of wanted });
+    })
 
 -- the frame that answers the message that a posted receive found, if it found one that was announced
 abbrev pub answer_on_post : Region → Option Message → Option FrameFor
@@ -120,5 +125,6 @@ answer_on_post r (Some m) = answer_by (has_room r (basic_of m.body) (count_of m.
 
 -- the frame that answers a message that came, if it was announced and matched
 abbrev pub answer_on_arrival : List (Option TableEntry) → Arrival → Option FrameFor
-answer_on_arrival slots (Matched r m) = answer_by (wants_by (slot_at slots r.request) (basic_of m.body) (count_of m.body)) m m.body
+answer_on_arrival slots (Matched r m) =
+    answer_by (wants_by (slot_at slots r.request) (basic_of m.body) (count_of m.body)) m m.body
 answer_on_arrival slots Kept = None

@@ -3,7 +3,12 @@ use Rattle.std.specs.Prelude.{◌≡◌, ℕ, Option, Some, None}
 use Rattle.datagram.specs.declared.refusal.DatagramRefusal as lower
 use Rattle.datagram.specs.declared.refusal.DatagramRefusal.TheVariants as lowers
 use Rattle.point_to_point_calls.specs.declared.refusal.Refusal.{Refusal}
-use Rattle.point_to_point_calls.specs.declared.refusal.Refusal.TheVariants.{Count, WrongType, Tag, Communicator, Rank, Request, Root, Operation, Replaced, Limit, OutOfMemory, Short, Magic, Version, Kind, Length, ForeignJob, NotForMe, StaleSource, StaleTarget, BadFrame, OutOfWindow, ClockBack}
+use Rattle.point_to_point_calls.specs.declared.refusal.Refusal.TheVariants.{Count, WrongType, Tag, Communicator, Rank}
+use Rattle.point_to_point_calls.specs.declared.refusal.Refusal.TheVariants.{Request, Root, Operation, Replaced, Limit}
+use Rattle.point_to_point_calls.specs.declared.refusal.Refusal.TheVariants.{OutOfMemory, Short, Magic, Version, Kind}
+use Rattle.point_to_point_calls.specs.declared.refusal.Refusal.TheVariants.{Length, ForeignJob, NotForMe, StaleSource}
+use Rattle.point_to_point_calls.specs.declared.refusal.Refusal.TheVariants.{StaleTarget, BadFrame, OutOfWindow}
+use Rattle.point_to_point_calls.specs.declared.refusal.Refusal.TheVariants.{ClockBack}
 
 -- the number that a call or an event answers
 abbrev pub number_of_refusal : Refusal → ℕ

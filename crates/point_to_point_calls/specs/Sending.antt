@@ -28,8 +28,8 @@ use Rattle.point_to_point_calls.specs.declared.refusal.Refusal.TheVariants as re
 use Rattle.rendezvous.specs.State.{State, after_begin, is_full_to, next_to}
 
 -- The first rule that a send breaks: buffer and layout differ in basic type; it has more than 1,048,576 bytes, also to
--- the own rank and to the null process; the buffer is too short; the tag is above the highest, or the wildcard; there is no
--- such rank, or it is any rank.
+-- the own rank and to the null process; the buffer is too short; the tag is above the highest, or the wildcard; there
+-- is no such rank, or it is any rank.
 unfoldable pub send_fault : Place → CoreSend → Option Refusal
 send_fault p s =
     if differs_in_type (handed_of s.from) then Some refusals.WrongType
@@ -47,8 +47,8 @@ or_worn_out None (Some rank) t = if is_full_to t.numbers rank then Some refusals
 
 -- WHERE IT GOES
 
--- The rank that a send goes to, with its tag and context. To the null process nothing goes (3.11); a wildcard is refused, and
--- goes nowhere.
+-- The rank that a send goes to, with its tag and context. To the null process nothing goes (3.11); a wildcard is
+-- refused, and goes nowhere.
 abbrev pub destination : Source → Option ℕ → (context : ℕ) → Option Destination
 destination (Rank to) (Some tag) context = Some (record { rank = to; tag = tag; context = context })
 destination (Rank to) None context = None
@@ -106,7 +106,8 @@ request_frame mode transfer context tag c = RequestFrame (record {
 -- the frame of these elements: they go in it, or it announces them as the next transfer to their rank
 abbrev pub frame_with : State → Mode → Destination → Contents → FrameText
 frame_with t mode d c =
-    if is_announced mode c then request_frame mode (next_to t.numbers d.rank) d.context d.tag c else eager_frame d.context d.tag c
+    if is_announced mode c then request_frame mode (next_to t.numbers d.rank) d.context d.tag c else
+    eager_frame d.context d.tag c
 
 -- the frame that goes to another rank
 abbrev pub frame_unless : Bool → State → Mode → Destination → Contents → Option FrameFor
@@ -128,9 +129,11 @@ abbrev pub rank_to : Place → Option Destination → Option ℕ
 rank_to p None = None
 rank_to p (Some d) = rank_unless (d.rank == p.endpoint.rank) d
 
--- to which other rank the message of a send is announced, if it is: that of a synchronous send, or one that doesn't go in one frame
+-- to which other rank the message of a send is announced, if it is: that of a synchronous send, or one that doesn't go
+-- in one frame
 abbrev pub announced_to : Place → CoreSend → Option ℕ
-announced_to p s = if is_announced s.mode (sent_from s.from) then rank_to p (destination s.target s.tag s.context) else None
+announced_to p s = if is_announced s.mode (sent_from s.from) then rank_to p (destination s.target s.tag s.context) else
+    None
 
 -- THE MESSAGE TO THE OWN RANK
 
@@ -141,7 +144,8 @@ own_body (Some q) c = Own (record { key = q.key; serial = q.serial; elements = c
 
 -- the message of these elements to the own rank, in this context and under this tag
 abbrev pub own_message : Place → (context tag : ℕ) → (waiting : Option Request) → Contents → Message
-own_message p context tag waiting c = record { sender = p.endpoint; context = context; tag = tag; body = own_body waiting c }
+own_message p context tag waiting c =
+    record { sender = p.endpoint; context = context; tag = tag; body = own_body waiting c }
 
 -- how far a send is in its own call: one whose message is announced waits for its receiver's answer
 abbrev pub progress_of_send : Option ℕ → RequestProgress

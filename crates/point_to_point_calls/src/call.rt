@@ -3,8 +3,8 @@
 ghost use Rattle.std.specs.Prelude.{◌≡◌, IfOk};
 
 use crate::refusal::Refusal;
-use requests::{Answer, Region, Request, RequestList};
 use communicator_members::{Members, share_group};
+use requests::{Answer, Region, Request, RequestList};
 use std::alloc::{AllocError, Global};
 use vocabulary::{Mode, Source, Status};
 

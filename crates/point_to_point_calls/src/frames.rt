@@ -67,7 +67,8 @@ pub fn data_frames<'a>(
     offer: &'a Offer,
 ) -> Result<Vec<Addressed<'a>>, Refusal>
     ensures ok { IfOk result (λ frames. map addressed_text frames.items
-        ≡ data_frames rank offer.now.transfer (pieces_of (bytes_of (size_of offer.now.elements.basic) offer.now.elements.values))) }
+        ≡ data_frames rank offer.now.transfer
+        (pieces_of (bytes_of (size_of offer.now.elements.basic) offer.now.elements.values))) }
     ensures err { IfErr result (λ e. e ≡ Refusal.OutOfMemory) }
 {
     let Ok(pieces) = pieces(alloc, &offer.elements) else {

@@ -1,7 +1,8 @@
-//! What calls and frames are to a rank, before its queues and requests are asked: sends and receives, what is made ready for
-//! them, what is heard from other ranks, and why an event is refused.
+//! What calls and frames are to a rank, before its queues and requests are asked: sends and receives, what is made
+//! ready for them, what is heard from other ranks, and why an event is refused.
 //!
-//! Nothing here holds the state of a rank: each function looks at values, or makes a frame, a message or the room for it.
+//! Nothing here holds the state of a rank: each function looks at values, or makes a frame, a message or the room for
+//! it.
 #![tactic(auto)]
 
 mod call;
@@ -12,7 +13,7 @@ mod receives;
 mod refusal;
 mod sends;
 
-pub use call::{CoreCall, HandedBack, CoreProbe, CoreReceive, CoreReply, CoreSend};
+pub use call::{CoreCall, CoreProbe, CoreReceive, CoreReply, CoreSend, HandedBack};
 pub use frames::{data_frames, list_of};
 pub use news::{
     Match, News, PreparedNews, announced_of, answer_to_match, bad_unless, collection_of_match,

@@ -3,7 +3,9 @@
 ghost use Rattle.std.specs.Prelude.{◌≡◌, true, IfOk, IfErr, OnErr, is_some};
 ghost use Rattle.datagram.specs.Spelling.{eager_text, EagerFits, request_text};
 ghost use Rattle.point_to_point_calls.specs.Frames.{addressed};
-ghost use Rattle.point_to_point_calls.specs.Hearing.{HeardFits, announced_of, answer_by_match, bad_unless, collection_by_match, first_of, frame_option, message_from, message_of, plane_fault};
+ghost use Rattle.point_to_point_calls.specs.Hearing.{HeardFits, announced_of, answer_by_match, bad_unless};
+ghost use Rattle.point_to_point_calls.specs.Hearing.{collection_by_match, first_of, frame_option, message_from};
+ghost use Rattle.point_to_point_calls.specs.Hearing.{message_of, plane_fault};
 
 use crate::receives::{answer_to, collection_on_match};
 use crate::refusal::Refusal;
@@ -128,8 +130,8 @@ pub fn first_of(fault: Option<Refusal>, other: Option<Refusal>) -> Option<Refusa
     }
 }
 
-/// What is collected of an announced message that found this receive, if it found one and its data are wanted; or want of
-/// memory, where something is collected.
+/// What is collected of an announced message that found this receive, if it found one and its data are wanted; or want
+/// of memory, where something is collected.
 pub fn collection_of_match(
     alloc: Global,
     found: Option<Match>,

@@ -6,16 +6,17 @@ ghost use Rattle.datagram.specs.Spelling.{FrameFits, frame_text};
 ghost use Rattle.perfect_queues.specs.Outcomes.{null_status};
 ghost use Rattle.perfect_queues.specs.Refusals.{is_tag_above, is_source_beyond};
 ghost use Rattle.point_to_point_calls.specs.Frames.{addressed};
-ghost use Rattle.point_to_point_calls.specs.Receiving.{answer_by, answer_on_post, collection_on_match, collection_on_post, posted_by, progress_on_post, status_of};
+ghost use Rattle.point_to_point_calls.specs.Receiving.{answer_by, answer_on_post, collection_on_match};
+ghost use Rattle.point_to_point_calls.specs.Receiving.{collection_on_post, posted_by, progress_on_post, status_of};
 
 use crate::call::CoreReceive;
 use crate::refusal::Refusal;
 use crate::sends::Addressed;
+use communicator_members::status_in;
 use datagram::{ClearToSend, Clearance, Frame};
 use match_queues::{Body, Message};
 use rendezvous::Collection;
-use requests::{Posted, RequestProgress, Region, match_body};
-use communicator_members::status_in;
+use requests::{Posted, Region, RequestProgress, match_body};
 use std::alloc::Global;
 use vocabulary::{HIGHEST_TAG, Source, Status};
 

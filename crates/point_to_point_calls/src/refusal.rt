@@ -10,11 +10,12 @@ use thiserror::Error;
 /// for the reset that goes out with `StaleTarget`.
 #[derive(Clone, Copy, Debug, PartialEq, Eq, Error)]
 pub enum Refusal {
-    /// More data than a send or a block of a collective may have, a buffer too short for its layout and number of copies, or a
-    /// scatter's root that hands in another number of elements than a block for each member (MPI 3.1, ERR_COUNT).
+    /// More data than a send or a block of a collective may have, a buffer too short for its layout and number of
+    /// copies, or a scatter's root that hands in another number of elements than a block for each member (MPI 3.1,
+    /// ERR_COUNT).
     Count,
-    /// Buffer and layout are of different basic types, a receive names a place twice, or a scatter's root hands in elements of
-    /// another type than its blocks (ERR_TYPE, 3.3.1, 4.1.11 and 5.6).
+    /// Buffer and layout are of different basic types, a receive names a place twice, or a scatter's root hands in
+    /// elements of another type than its blocks (ERR_TYPE, 3.3.1, 4.1.11 and 5.6).
     WrongType,
     /// A tag above 2,147,483,647, or the wildcard in a send (ERR_TAG).
     Tag,
@@ -22,14 +23,15 @@ pub enum Refusal {
     Communicator,
     /// No such rank, or any rank in a send (ERR_RANK).
     Rank,
-    /// No such request, one twice in a list, a cancel of a send or of the null request, or any call while an earlier one is
-    /// blocked (ERR_REQUEST).
+    /// No such request, one twice in a list, a cancel of a send or of the null request, or any call while an earlier
+    /// one is blocked (ERR_REQUEST).
     Request,
     /// A collective names a root that is no rank in the communicator (ERR_ROOT).
     Root,
     /// The operation isn't defined on the type (ERR_OP, 5.9.2).
     Operation,
-    /// A member of the communicator was started anew. MPI 3.1 has no restarts of a rank: this rule is this project's own.
+    /// A member of the communicator was started anew. MPI 3.1 has no restarts of a rank: this rule is this project's
+    /// own.
     Replaced,
     /// A limit is reached.
     Limit,
@@ -63,8 +65,8 @@ pub enum Refusal {
 }
 
 impl fmt::Display for Refusal {
-    // One text is written, whichever it is. A message at each variant would be a step of its own there, with a proof that grows by
-    // the square of their number.
+    // One text is written, whichever it is. A message at each variant would be a step of its own there, with a proof
+    // that grows by the square of their number.
     fn fmt<W: fmt::Write>(&self, f: &mut fmt::Formatter<W>) -> fmt::Result {
         f.write_str(match self {
             Refusal::Count => "the count is out of range",

@@ -7,7 +7,9 @@ ghost use Rattle.requests.specs.Regions.{sent_from};
 ghost use Rattle.point_to_point_calls.specs.Calls.{IsPacked, IsWithin};
 ghost use Rattle.point_to_point_calls.specs.declared.call.CoreCall.TheVariants as calls;
 ghost use Rattle.point_to_point_calls.specs.Frames.{addressed};
-ghost use Rattle.point_to_point_calls.specs.Sending.{IsSendable, announced_to, destination, eager_frame, frame_to, frame_with, is_announced, is_large, is_own, own_message, rank_to, request_frame, send_fault};
+ghost use Rattle.point_to_point_calls.specs.Sending.{IsSendable, announced_to, destination, eager_frame, frame_to};
+ghost use Rattle.point_to_point_calls.specs.Sending.{frame_with, is_announced, is_large, is_own, own_message, rank_to};
+ghost use Rattle.point_to_point_calls.specs.Sending.{request_frame, send_fault};
 
 use crate::call::CoreSend;
 use crate::prepared_call::PreparedCall;
@@ -126,8 +128,8 @@ fn is_large(elements: &Buffer) -> bool
     elements.byte_len() > EAGER_LIMIT
 }
 
-/// To which other rank the message of a send is announced, if it is: that of a synchronous send, or one that does not go in one
-/// frame.
+/// To which other rank the message of a send is announced, if it is: that of a synchronous send, or one that does not
+/// go in one frame.
 pub fn announced_to(place: Place, send: &CoreSend) -> Option<u16>
     ensures { result ≡ announced_to place send.now }
 {
@@ -269,7 +271,8 @@ pub fn into_elements(send: CoreSend, prepared: PreparedCall) -> Buffer
     }
 }
 
-/// The message of these elements to the own rank, in a context and under a tag; and of this send, if one waits for its match.
+/// The message of these elements to the own rank, in a context and under a tag; and of this send, if one waits for its
+/// match.
 pub fn own_message(
     place: Place,
     context: u64,
@@ -295,8 +298,8 @@ pub fn own_message(
     }
 }
 
-/// What a send shows of itself: by the bytes of its buffer each element has the width of its type, and its context has 64
-/// bits.
+/// What a send shows of itself: by the bytes of its buffer each element has the width of its type, and its context has
+/// 64 bits.
 pub fn show_widths(send: &CoreSend)
     ensures { IsWithin (calls.Isend send.now) }
 {

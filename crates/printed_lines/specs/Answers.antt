@@ -32,7 +32,8 @@ tag_text (Some tag) = decimal tag
 
 -- `source S tag T count C`
 abbrev pub status_text : Status → List ℕ
-status_text s = codes "source " ++ source_text s.source ++ codes " tag " ++ tag_text s.tag ++ codes " count " ++ decimal s.count
+status_text s = codes "source " ++ source_text s.source ++ codes " tag " ++ tag_text s.tag ++ codes " count " ++
+    decimal s.count
 
 -- the number of a message that was taken out; that of the null process has none
 abbrev pub serial_text : Option ℕ → List ℕ
@@ -60,7 +61,8 @@ received_text status buffer = status_text status ++ codes " data" ++ elements_te
 abbrev pub outcome_text : OutcomeText → List ℕ
 outcome_text outcomes.Sent = codes "sent"
 outcome_text (outcomes.Received status buffer) = status_text status ++ codes " data" ++ elements_text buffer.now
-outcome_text (outcomes.Ended number status buffer) = codes "error " ++ decimal number ++ codes " " ++ status_text status ++ codes " data" ++ elements_text buffer.now
+outcome_text (outcomes.Ended number status buffer) = codes "error " ++ decimal number ++ codes " " ++
+    status_text status ++ codes " data" ++ elements_text buffer.now
 outcome_text (outcomes.Lost buffer) = codes "error 11 data" ++ elements_text buffer.now
 outcome_text (outcomes.Cancelled buffer) = codes "cancelled data" ++ elements_text buffer.now
 outcome_text (outcomes.Failed number) = codes "error " ++ decimal number

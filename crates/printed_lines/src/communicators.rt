@@ -23,7 +23,8 @@ impl fmt::Display for CommunicatorText {
     }
 }
 
-/// `rank R of N`: the caller's rank in a communicator and the communicator's size, as they are written (MPI 3.1, 6.4.1).
+/// `rank R of N`: the caller's rank in a communicator and the communicator's size, as they are written (MPI 3.1,
+/// 6.4.1).
 #[derive(Clone, Copy)]
 pub struct PositionText {
     /// The rank in the communicator.

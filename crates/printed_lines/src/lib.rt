@@ -1,6 +1,7 @@
 //! The texts of answers and of datagrams that went out.
 //!
-//! A value that is written lends what it tells of, and each text is stated byte by byte. The texts are this project's own.
+//! A value that is written lends what it tells of, and each text is stated byte by byte. The texts are this project's
+//! own.
 #![tactic(auto)]
 
 mod answers;

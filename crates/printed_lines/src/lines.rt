@@ -3,7 +3,8 @@
 ghost use Rattle.std.specs.Prelude.{◌≡◌, drop, IfOk};
 ghost use Rattle.printed_lines.specs.Answers.{count_text, status_text};
 ghost use Rattle.printed_lines.specs.CommunicatorTexts.{comparison_text, members_text, position_text};
-ghost use Rattle.printed_lines.specs.Lines.{error_line, error_lines, further_errors, none_line, pending_line, elements_line, words_line, spaced_words};
+ghost use Rattle.printed_lines.specs.Lines.{error_line, error_lines, further_errors, none_line, pending_line};
+ghost use Rattle.printed_lines.specs.Lines.{elements_line, words_line, spaced_words};
 
 use crate::{ComparisonText, CountText, ElementsText, MembersText, PositionText, StatusText};
 use datagram::Bytes;

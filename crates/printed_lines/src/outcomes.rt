@@ -124,7 +124,8 @@ impl<'a> fmt::Display for FurtherOutcomes<'a> {
     }
 }
 
-/// How several operations ended, as it is written: the texts in their order, `; ` between two; `done` where there is none.
+/// How several operations ended, as it is written: the texts in their order, `; ` between two; `done` where there is
+/// none.
 #[derive(Clone, Copy)]
 pub struct OutcomesText<'a> {
     /// How each of them ended.

@@ -91,7 +91,8 @@ impl fmt::Display for SerialText {
     }
 }
 
-/// `message M source S tag T count C`: a message that was taken out, and its status, as they are written (MPI 3.1, 3.8.2).
+/// `message M source S tag T count C`: a message that was taken out, and its status, as they are written (MPI 3.1,
+/// 3.8.2).
 #[derive(Clone, Copy)]
 pub struct MessageText {
     /// Its number in the order of requests and messages; none: that of the null process.
@@ -117,8 +118,8 @@ impl fmt::Display for MessageText {
     }
 }
 
-/// How many copies of a layout were received, as it is written: a number, or `undefined` where what came is no whole number
-/// of copies (MPI 3.1, 3.2.5).
+/// How many copies of a layout were received, as it is written: a number, or `undefined` where what came is no whole
+/// number of copies (MPI 3.1, 3.2.5).
 #[derive(Clone, Copy)]
 pub struct CountText {
     /// How many copies; none: no whole number of them.

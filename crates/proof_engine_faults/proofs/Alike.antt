@@ -2,7 +2,8 @@
 use Rattle.std.proofs.Common.{◌≡◌, Bool, ◌||◌, Option, Some, None, if◌then◌else◌, refl, sym, ap, subst, inl, inr, ◌⊎◌}
 use Rattle.communicators.specs.Routes.{RouteText}
 use Rattle.engine_calls.specs.EngineState.{EngineState, member_of}
-use Rattle.engine_calls.specs.Faults.{broken, free_fault, group_limit, is_replaced, look_rules, message_rules, on_route, probe_rules, receive_rules, routed_limit, send_rules}
+use Rattle.engine_calls.specs.Faults.{broken, free_fault, group_limit, is_replaced, look_rules, message_rules, on_route}
+use Rattle.engine_calls.specs.Faults.{probe_rules, receive_rules, routed_limit, send_rules}
 use Rattle.engine_calls.specs.Refusals.{first_fault}
 use Rattle.engine_calls.specs.Routing.{probe_by, receive_by, route_at, send_by}
 use Rattle.engine_calls.specs.declared.call.Call.{Call}
@@ -54,7 +55,9 @@ only_full (Some x) h = inr (ap (λ (y : Refusal). Some y) (h x refl))
 
 -- the limits of a call with a route
 limits_alike : (e : EngineState) (q : cores.CoreCall) → Alike (routed_limit e q) (routed_limit (calm_engine e) q)
-limits_alike e q = Full (only_full (routed_limit e q) (routed_full e q)) (only_full (routed_limit (calm_engine e) q) (routed_full (calm_engine e) q))
+limits_alike e q =
+    Full (only_full (routed_limit e q) (routed_full e q))
+    (only_full (routed_limit (calm_engine e) q) (routed_full (calm_engine e) q))
 
 -- ---- point to point
 
@@ -67,22 +70,27 @@ send_alike e s r =
     q : cores.CoreCall
     q = core_calls.Isend (send_by s r)
 
-receive_alike_by : (e : EngineState) (v : Receive) (r : RouteText) → Alike (receive_rules e v r) (receive_rules (calm_engine e) v r)
+receive_alike_by : (e : EngineState) (v : Receive) (r : RouteText) →
+    Alike (receive_rules e v r) (receive_rules (calm_engine e) v r)
 receive_alike_by e v r =
     first_alike (argument_fault e.core.place q) _ _
     (first_alike (broken (is_source_beyond (held_at (member_of e.groups) v.comm) v.source) refusals.Rank) _ _
-    (first_alike (broken (is_replaced e v.comm v.source) refusals.Replaced) _ _ (first_alike (group_limit r.group) _ _ (limits_alike e q))))
+    (first_alike (broken (is_replaced e v.comm v.source) refusals.Replaced) _ _
+    (first_alike (group_limit r.group) _ _ (limits_alike e q))))
   where
     q : cores.CoreCall
     q = core_calls.Irecv (receive_by v r)
 
-probe_alike : (e : EngineState) (p : Probe) (r : RouteText) → Alike (probe_rules e p r) (probe_rules (calm_engine e) p r)
+probe_alike : (e : EngineState) (p : Probe) (r : RouteText) →
+    Alike (probe_rules e p r) (probe_rules (calm_engine e) p r)
 probe_alike e p r = first_alike (look_rules e p r) _ _ (limits_alike e (core_calls.Improbe (probe_by p r)))
 
 -- ---- requests
 
 wait_same : (c : CoreState) (a : Awaited) → wait_fault c a ≡ wait_fault (calm_core c) a
-wait_same c a = sym (ap (λ (b : Bool). if b || lists.is_twice (awaited_requests a) then Some refusals.Request else None) (one_absent_alike c.slots (awaited_requests a)))
+wait_same c a =
+    sym (ap (λ (b : Bool). if b || lists.is_twice (awaited_requests a) then Some refusals.Request else None)
+    (one_absent_alike c.slots (awaited_requests a)))
 
 cancel_same : (c : CoreState) (q : Option Request) → cancel_fault c q ≡ cancel_fault (calm_core c) q
 cancel_same c None = refl
@@ -92,10 +100,14 @@ message_same : (c : CoreState) (q : Option Request) → message_fault c q ≡ me
 message_same c None = refl
 message_same c (Some q) = sym (ap (λ (b : Bool). if b then None else Some refusals.Request) (message_alike c.slots q))
 
-message_rules_alike : (e : EngineState) (q : Option Request) (into : Region) → Alike (message_rules e (core_calls.Mrecv q into)) (message_rules (calm_engine e) (core_calls.Mrecv q into))
+message_rules_alike : (e : EngineState) (q : Option Request) (into : Region) →
+    Alike (message_rules e (core_calls.Mrecv q into)) (message_rules (calm_engine e) (core_calls.Mrecv q into))
 message_rules_alike e q into =
-    subst (λ (o : Option Refusal). Alike (message_rules e call) (first_fault o (first_fault (argument_fault e.core.place call) (routed_limit (calm_engine e) call)))) (message_same e.core q)
-    (first_alike (message_fault e.core q) _ _ (first_alike (argument_fault e.core.place call) _ _ (limits_alike e call)))
+    subst (λ (o : Option Refusal). Alike (message_rules e call)
+    (first_fault o (first_fault (argument_fault e.core.place call) (routed_limit (calm_engine e) call))))
+    (message_same e.core q)
+    (first_alike (message_fault e.core q) _ _
+    (first_alike (argument_fault e.core.place call) _ _ (limits_alike e call)))
   where
     call : cores.CoreCall
     call = core_calls.Mrecv q into

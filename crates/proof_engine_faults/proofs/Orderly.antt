@@ -1,5 +1,6 @@
 -- A new engine is orderly, and so is each engine of a world.
-use Rattle.std.proofs.Common.{◌≡◌, ℕ, zero, suc, ◌+◌, ◌<◌, [], ◌∷◌, length, map, Some, None, refl, sym, ap, ◌∙◌, subst, arith}
+use Rattle.std.proofs.Common.{◌≡◌, ℕ, zero, suc, ◌+◌, ◌<◌, [], ◌∷◌, length, map, Some, None, refl, sym, ap, ◌∙◌, subst}
+use Rattle.std.proofs.Common.{arith}
 use Rattle.std.specs.Prelude.{slice_get}
 use Rattle.std.specs.List.{range_with_len}
 use Rattle.std.proofs.lemmas.Option.{same_Some, slice_get_within}
@@ -33,7 +34,9 @@ rank_is_orderly e core m r = record {
       let b : IsRow r.queues.rows other u = r.queues.table.entries other u is in
       let one : a.row ≡ b.row = same_Some a.row b.row (sym a.there ∙ ap (slice_get r.queues.rows) same ∙ b.there) in
       sym a.key_is ∙ ap (λ (x : Row). x.key) one ∙ b.key_is;
-  inside = λ comm c k x held at. r.inside comm c k x (named_same m.membership (member_of e.groups) comm (held_same e.sessions.place.endpoint e.groups m r.groups) ∙ held) at;
+  inside = λ comm c k x held at. r.inside comm c k x
+      (named_same m.membership (member_of e.groups) comm (held_same e.sessions.place.endpoint e.groups m r.groups) ∙
+      held) at;
   placed = r.placed;
   own = r.groups.own;
   width = r.queues.width;
@@ -47,7 +50,8 @@ engines_of_worlds_are_orderly n r engines datagrams history e f there =
 
 -- ---- a new engine
 
-ranks_below : (a n r x : ℕ) → slice_get (map (λ (m : Endpoint). m.rank) (map first_endpoint (range_with_len a n))) r ≡ Some x → x < a + n
+ranks_below : (a n r x : ℕ) → slice_get (map (λ (m : Endpoint). m.rank) (map first_endpoint (range_with_len a n))) r ≡
+    Some x → x < a + n
 ranks_below a zero r x h = absurd cc
 ranks_below a (suc n) zero x h = let e : a ≡ x = same_Some a x h in omega (arith, e)
 ranks_below a (suc n) (suc r) x h = let lt : x < a + 1 + n = ranks_below (a + 1) n r x h in omega (arith, lt)
@@ -57,7 +61,8 @@ new_in_world n e inside None c r x h at = absurd cc
 new_in_world n e inside (Some zero) c r x h at =
     let lt : x < 0 + n = ranks_below 0 n r x (subst (λ (y : Communicator). slice_get (group_of y) r ≡ Some x) (sym (same_Some (world_of n) c h)) at) in
     omega (arith, lt)
-new_in_world n e inside (Some (suc zero)) c r x h at = own r (subst (λ (y : Communicator). slice_get (group_of y) r ≡ Some x) (sym (same_Some (self_of e) c h)) at)
+new_in_world n e inside (Some (suc zero)) c r x h at =
+    own r (subst (λ (y : Communicator). slice_get (group_of y) r ≡ Some x) (sym (same_Some (self_of e) c h)) at)
   where
     own : (r : ℕ) → slice_get (e.rank ∷ []) r ≡ Some x → x < n
     own zero is = let s : e.rank ≡ x = same_Some e.rank x is in omega (arith, s, inside)
@@ -71,7 +76,8 @@ new_engines_are_orderly p inside = record {
   inside = λ comm c k x held at.
       new_in_world p.size p.endpoint inside comm c k x
       (named_same (fresh_member p.size p.endpoint) (member_of (opening p).groups) comm
-      (held_same p.endpoint (opening p).groups ((new_group_network p.size).member p.endpoint) (openings_are_shown p.size p.endpoint)) ∙ held) at;
+      (held_same p.endpoint (opening p).groups ((new_group_network p.size).member p.endpoint)
+      (openings_are_shown p.size p.endpoint)) ∙ held) at;
   placed = refl;
   own = refl;
   width = (opening_known p inside).width;

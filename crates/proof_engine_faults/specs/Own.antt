@@ -1,5 +1,6 @@
 -- The fault that the machine finds with a call of an engine, by what the engine itself holds.
-use Rattle.std.specs.Prelude.{◌≡◌, ℕ, ◌<◌, List, [], ◌∷◌, length, Option, Some, None, if◌then◌else◌, ◌==◌, slice_get, slice_index}
+use Rattle.std.specs.Prelude.{◌≡◌, ℕ, ◌<◌, List, [], ◌∷◌, length, Option, Some, None, if◌then◌else◌, ◌==◌, slice_get}
+use Rattle.std.specs.Prelude.{slice_index}
 use Rattle.communicators.specs.Rules.{known_by}
 use Rattle.engine_calls.specs.Calls.{CallGives, IsTaken}
 use Rattle.engine_calls.specs.EngineState.{EngineState, member_of, opening}
@@ -39,19 +40,21 @@ standing_of (Some progresses.Offering) = Sends
 standing_of (Some (progresses.TakenOut t)) = OfMessage
 standing_of (Some (progresses.Finished o)) = standing_of_outcome (outcome_seen o)
 
--- The machine's first fault of a call at the engine's endpoint, by its own part: whether an earlier call of it is blocked, what its
--- table says of each request, the incarnation at which it knows each rank, and the communicators that it holds
+-- The machine's first fault of a call at the engine's endpoint, by its own part: whether an earlier call of it is
+-- blocked, what its table says of each request, the incarnation at which it knows each rank, and the communicators that
+-- it holds
 abbrev pub own_fault : EngineState → machine.Call → Option ℕ
 own_fault e call =
     fault_by (is_busy e) (λ k. standing_of (found e.core.slots k)) e.sessions.place.endpoint (known_by e.sessions.known)
     (member_of e.groups) call
 
--- What is asked of the engine: its requests have serials of their own, all below the next; its communicators are of ranks of its
--- job; and its parts know where it stands
+-- What is asked of the engine: its requests have serials of their own, all below the next; its communicators are of
+-- ranks of its job; and its parts know where it stands
 pub record IsOrderly (e : EngineState) : Type 0 where
   pub below : (key : ℕ) (t : table.TableEntry) → slot_at e.core.slots key ≡ Some t → t.serial < e.core.serial
   pub apart :
-      (key other : ℕ) (t u : table.TableEntry) → slot_at e.core.slots key ≡ Some t → slot_at e.core.slots other ≡ Some u →
+      (key other : ℕ) (t u : table.TableEntry) → slot_at e.core.slots key ≡ Some t →
+      slot_at e.core.slots other ≡ Some u →
       t.serial ≡ u.serial → key ≡ other
   pub inside : AreInWorld e.core.place.size (member_of e.groups)
   pub placed : e.core.place ≡ e.sessions.place
@@ -59,10 +62,12 @@ pub record IsOrderly (e : EngineState) : Type 0 where
   pub width : length e.sessions.known ≡ e.core.place.size
   pub itself : slice_index e.sessions.known e.core.place.endpoint.rank ≡ e.core.place.endpoint.incarnation
 
--- a call that it refuses has the machine's first fault, by its number; or the machine finds none, and the number is 13 or 14
+-- a call that it refuses has the machine's first fault, by its number; or the machine finds none, and the number is 13
+-- or 14
 abbrev pub OwnRefusals : Type 0
 OwnRefusals =
-    (e mid : EngineState) (call back : Call) (why : Refusal) → IsOrderly e → CallGives e call (replies.Refused why back) mid →
+    (e mid : EngineState) (call back : Call) (why : Refusal) → IsOrderly e →
+    CallGives e call (replies.Refused why back) mid →
     IsReason (own_fault e (call_meant e.core call)) why
 
 -- a call that it takes names no request of another engine, and the machine finds no fault with it

@@ -19,5 +19,7 @@ and_nested true b c = refl
 and_nested false b c = refl
 
 -- a receive in the queue accepts the messages that the receive itself does
-pub same_test : (from : Endpoint → List Transfer) (key : ℕ) (p : machine.Receive) (m : Message) → queues.accepts (posted_record key p) m ≡ fits p (held_of from m)
-same_test from key p m = and_nested (p.context == m.context) (machine.is_from p.source m.sender.rank) (machine.has_tag p.tag m.tag)
+pub same_test : (from : Endpoint → List Transfer) (key : ℕ) (p : machine.Receive) (m : Message) →
+    queues.accepts (posted_record key p) m ≡ fits p (held_of from m)
+same_test from key p m =
+    and_nested (p.context == m.context) (machine.is_from p.source m.sender.rank) (machine.has_tag p.tag m.tag)

@@ -1,5 +1,7 @@
 -- A message that arrives takes the same receive from the queue and from the jobs, or none.
-use Rattle.std.proofs.Common.{◌≡◌, ℕ, suc, Bool, true, false, List, [], ◌∷◌, ◌++◌, position, remove, slice_get, slice_set, Option, Some, None, refl, sym, ap, ap₂, ◌∙◌, ◌⊎◌, inl, inr, ⊎_elim, if◌then◌else◌}
+use Rattle.std.proofs.Common.{◌≡◌, ℕ, suc, Bool, true, false, List, [], ◌∷◌, ◌++◌, position, remove, slice_get}
+use Rattle.std.proofs.Common.{slice_set, Option, Some, None, refl, sym, ap, ap₂, ◌∙◌, ◌⊎◌, inl, inr, ⊎_elim}
+use Rattle.std.proofs.Common.{if◌then◌else◌}
 use Rattle.match_queues.specs.Accepts.{accepts}
 use Rattle.match_queues.specs.declared.envelope.PostedReceive as posted
 use Rattle.match_queues.specs.declared.envelope.Message.{Message}
@@ -9,7 +11,8 @@ use Rattle.vocabulary.specs.declared.endpoint.Endpoint.{Endpoint}
 use Rattle.proof_engine_view.specs.Transfers.{Transfer}
 use Rattle.perfect_queues.specs.Receives.{Receive}
 use Rattle.proof_pure_network.specs.Held.{fits}
-use Rattle.proof_pure_network.specs.Jobs.{Closed, Collecting, Job, Offering, Over, Probed, Unmatched, Waiting, oldest_posted, or_later, takes}
+use Rattle.proof_pure_network.specs.Jobs.{Closed, Collecting, Job, Offering, Over, Probed, Unmatched, Waiting}
+use Rattle.proof_pure_network.specs.Jobs.{oldest_posted, or_later, takes}
 use Rattle.proof_engine_view.specs.Rows.{Row, held_of, jobs_of, posted_job, posted_rows}
 use Rattle.proof_engine_matching.specs.Matches.{ArrivalsMatch, IsKept, IsMatchedTo}
 use Rattle.proof_engine_matching.proofs.Accepting.{posted_record, same_test}
@@ -29,7 +32,8 @@ record Passed (from : Endpoint → List Transfer) (m : Message) (rows : List Row
   place : place_for m rows ≡ None
 
 -- row k is that of the oldest receive that accepts it, and place i of the queue is this receive's
-record Taken (from : Endpoint → List Transfer) (m : Message) (rows : List Row) (k i key : ℕ) (p : Receive) : Type 0 where
+record Taken (from : Endpoint → List Transfer) (m : Message) (rows : List Row) (k i key : ℕ)
+    (p : Receive) : Type 0 where
   row : slice_get rows k ≡ Some (row_of key (Waiting p))
   core : oldest_posted (held_of from m) (jobs_of rows) ≡ Some (k, p)
   place : place_for m rows ≡ Some i
@@ -42,7 +46,8 @@ abbrev Tried : (Endpoint → List Transfer) → Message → List Row → Type 0
 Tried from m rows = Passed from m rows ⊎ ((k : ℕ) × (i : ℕ) × (key : ℕ) × (p : Receive) × Taken from m rows k i key p)
 
 -- a row that waits for nothing changes nothing
-skip : (from : Endpoint → List Transfer) (m : Message) (key : ℕ) (j : Job) (rs : List Row) → takes (held_of from m) j ≡ None → posted_job key j ≡ [] → Tried from m rs → Tried from m (row_of key j ∷ rs)
+skip : (from : Endpoint → List Transfer) (m : Message) (key : ℕ) (j : Job) (rs : List Row) →
+    takes (held_of from m) j ≡ None → posted_job key j ≡ [] → Tried from m rs → Tried from m (row_of key j ∷ rs)
 skip from m key j rs a b = ⊎_elim
     (λ (n : Passed from m rs). inl (record {
       core = ap₂ or_later a n.core;
@@ -61,20 +66,24 @@ skip from m key j rs a b = ⊎_elim
         accepts = s.4.accepts;
         rest = λ x e.
             ap (λ (l : List posted.PostedReceive). remove (l ++ posted_rows rs) s.1) b
-            ∙ (s.4.rest x e ∙ sym (ap (λ (l : List posted.PostedReceive). l ++ posted_rows (slice_set rs s.0 (row_of s.2 x))) b));
+            ∙ (s.4.rest x e ∙
+            sym (ap (λ (l : List posted.PostedReceive). l ++ posted_rows (slice_set rs s.0 (row_of s.2 x))) b));
       },
     ))
 
 -- what a receive that waits takes, by its test
-taken_by : (from : Endpoint → List Transfer) (m : Message) (p : Receive) (t : Bool) → fits p (held_of from m) ≡ t → takes (held_of from m) (Waiting p) ≡ (if t then Some p else None)
+taken_by : (from : Endpoint → List Transfer) (m : Message) (p : Receive) (t : Bool) → fits p (held_of from m) ≡ t →
+    takes (held_of from m) (Waiting p) ≡ (if t then Some p else None)
 taken_by from m p t h = ap (λ (b : Bool). if b then Some p else None) h
 
 -- a receive that waits and doesn't accept it
-miss : (from : Endpoint → List Transfer) (m : Message) (key : ℕ) (p : Receive) (rs : List Row) → fits p (held_of from m) ≡ false → Tried from m rs → Tried from m (row_of key (Waiting p) ∷ rs)
+miss : (from : Endpoint → List Transfer) (m : Message) (key : ℕ) (p : Receive) (rs : List Row) →
+    fits p (held_of from m) ≡ false → Tried from m rs → Tried from m (row_of key (Waiting p) ∷ rs)
 miss from m key p rs h = ⊎_elim
     (λ (n : Passed from m rs). inl (record {
       core = ap₂ or_later (taken_by from m p false h) n.core;
-      place = position_later (λ r. accepts r m) (posted_record key p) (posted_rows rs) None (same_test from key p m ∙ h) n.place;
+      place = position_later (λ r. accepts r m) (posted_record key p) (posted_rows rs) None (same_test from key p m ∙ h)
+          n.place;
     }))
     (λ (s : (k : ℕ) × (i : ℕ) × (key : ℕ) × (p : Receive) × Taken from m rs k i key p). inr (
       suc s.0,
@@ -84,7 +93,8 @@ miss from m key p rs h = ⊎_elim
       record {
         row = s.4.row;
         core = ap₂ or_later (taken_by from m p false h) s.4.core;
-        place = position_later (λ r. accepts r m) (posted_record key p) (posted_rows rs) (Some s.1) (same_test from key p m ∙ h) s.4.place;
+        place = position_later (λ r. accepts r m) (posted_record key p) (posted_rows rs) (Some s.1)
+            (same_test from key p m ∙ h) s.4.place;
         there = s.4.there;
         accepts = s.4.accepts;
         rest = λ x e. ap (λ (l : List posted.PostedReceive). posted_record key p ∷ l) (s.4.rest x e);
@@ -92,19 +102,23 @@ miss from m key p rs h = ⊎_elim
     ))
 
 -- the receive that accepts it
-hit : (from : Endpoint → List Transfer) (m : Message) (key : ℕ) (p : Receive) (rs : List Row) → fits p (held_of from m) ≡ true → Taken from m (row_of key (Waiting p) ∷ rs) 0 0 key p
+hit : (from : Endpoint → List Transfer) (m : Message) (key : ℕ) (p : Receive) (rs : List Row) →
+    fits p (held_of from m) ≡ true → Taken from m (row_of key (Waiting p) ∷ rs) 0 0 key p
 hit from m key p rs h =
     record {
       row = refl;
-      core = ap (λ (t : Option Receive). or_later t (oldest_posted (held_of from m) (jobs_of rs))) (taken_by from m p true h);
+      core = ap (λ (t : Option Receive). or_later t (oldest_posted (held_of from m) (jobs_of rs)))
+          (taken_by from m p true h);
       place = position_here (λ r. accepts r m) (posted_record key p) (posted_rows rs) (same_test from key p m ∙ h);
       there = refl;
       accepts = h;
-      rest = λ x e. remove_first (posted_record key p) (posted_rows rs) ∙ sym (ap (λ (l : List posted.PostedReceive). l ++ posted_rows rs) e);
+      rest = λ x e. remove_first (posted_record key p) (posted_rows rs) ∙
+          sym (ap (λ (l : List posted.PostedReceive). l ++ posted_rows rs) e);
     }
 
 -- one more row in front
-step : (from : Endpoint → List Transfer) (m : Message) (key : ℕ) (j : Job) (rs : List Row) → Tried from m rs → Tried from m (row_of key j ∷ rs)
+step : (from : Endpoint → List Transfer) (m : Message) (key : ℕ) (j : Job) (rs : List Row) → Tried from m rs →
+    Tried from m (row_of key j ∷ rs)
 step from m key (Waiting p) rs t = go (fits p (held_of from m)) refl
   where
     go : (b : Bool) → fits p (held_of from m) ≡ b → Tried from m (row_of key (Waiting p) ∷ rs)
@@ -123,7 +137,8 @@ tried from m [] = inl (record { core = refl; place = refl })
 tried from m (r ∷ rs) = step from m r.key r.job rs (tried from m rs)
 
 -- the message stays, as no row takes it
-kept : (from : Endpoint → List Transfer) (rows : List Row) (old : State) (m : Message) → old.posted ≡ posted_rows rows → Passed from m rows → IsKept from rows old m
+kept : (from : Endpoint → List Transfer) (rows : List Row) (old : State) (m : Message) → old.posted ≡ posted_rows rows →
+    Passed from m rows → IsKept from rows old m
 kept from rows old m h n =
     let none : receive_for m old.posted ≡ None = ap (λ (ps : List posted.PostedReceive). receive_for m ps) h ∙ n.place in
     record {
@@ -133,16 +148,19 @@ kept from rows old m h n =
     }
 
 -- the message goes to the row that takes it
-matched : (from : Endpoint → List Transfer) (rows : List Row) (old : State) (m : Message) (k i key : ℕ) (p : Receive) → old.posted ≡ posted_rows rows → Taken from m rows k i key p → IsMatchedTo from rows old m k key p
+matched : (from : Endpoint → List Transfer) (rows : List Row) (old : State) (m : Message) (k i key : ℕ) (p : Receive) →
+    old.posted ≡ posted_rows rows → Taken from m rows k i key p → IsMatchedTo from rows old m k key p
 matched from rows old m k i key p h s =
     let place : receive_for m old.posted ≡ Some i = ap (λ (ps : List posted.PostedReceive). receive_for m ps) h ∙ s.place in
     let there : slice_get old.posted i ≡ Some (posted_record key p) = ap (λ (ps : List posted.PostedReceive). slice_get ps i) h ∙ s.there in
     record {
       row = s.row;
       core = s.core;
-      arrival = ap (λ (o : Option ℕ). arrival_at (receive_at old.posted o) m) place ∙ ap (λ (r : Option posted.PostedReceive). arrival_at r m) there;
+      arrival = ap (λ (o : Option ℕ). arrival_at (receive_at old.posted o) m) place ∙
+          ap (λ (r : Option posted.PostedReceive). arrival_at r m) there;
       accepts = s.accepts;
-      posted = λ x e. ap (λ (q : Option ℕ). (arrived_at q old m).posted) place ∙ (ap (λ (ps : List posted.PostedReceive). remove ps i) h ∙ s.rest x e);
+      posted = λ x e. ap (λ (q : Option ℕ). (arrived_at q old m).posted) place ∙
+          (ap (λ (ps : List posted.PostedReceive). remove ps i) h ∙ s.rest x e);
       unexpected = ap (λ (q : Option ℕ). (arrived_at q old m).unexpected) place;
     }
 
@@ -150,5 +168,6 @@ matched from rows old m k i key p h s =
 pub arrivals_match : ArrivalsMatch
 arrivals_match from rows old m h = ⊎_elim
     (λ (n : Passed from m rows). inl (kept from rows old m h n))
-    (λ (s : (k : ℕ) × (i : ℕ) × (key : ℕ) × (p : Receive) × Taken from m rows k i key p). inr (s.0, s.2, s.3, matched from rows old m s.0 s.1 s.2 s.3 h s.4))
+    (λ (s : (k : ℕ) × (i : ℕ) × (key : ℕ) × (p : Receive) × Taken from m rows k i key p). inr
+    (s.0, s.2, s.3, matched from rows old m s.0 s.1 s.2 s.3 h s.4))
     (tried from m rows)

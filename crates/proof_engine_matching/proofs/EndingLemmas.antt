@@ -24,8 +24,11 @@ use Rattle.proof_engine_matching.specs.Matches.{OutcomesAgree, OwnOutcomesAgree}
 
 -- by whether the types are one and whether the message has room
 ends : (same room : Bool) (status : Status) (told buffer : Contents) →
-    ◌≡◌ {A = machine.Outcome} (if same && room then machine.Received status told else machine.Ended (if same then 10 else 2) status buffer)
-    (outcome_seen (if same then (if room then outcomes.Received status told else outcomes.Ended Truncated status buffer) else outcomes.Ended WrongType status buffer))
+    ◌≡◌ {A = machine.Outcome} (if same && room then machine.Received status told else
+    machine.Ended (if same then 10 else 2) status buffer)
+    (outcome_seen (if same then
+    (if room then outcomes.Received status told else outcomes.Ended Truncated status buffer) else
+    outcomes.Ended WrongType status buffer))
 ends true true status told buffer = refl
 ends true false status told buffer = refl
 ends false room status told buffer = refl
@@ -45,7 +48,8 @@ whole_ends from p m c =
 -- the law of outcomes
 pub outcomes_agree : OutcomesAgree
 outcomes_agree from p m c is =
-    subst (λ (b : Body). machine.outcome p (full (held_of from (with_body m b)) c.values) ≡ outcome_seen (outcome_of p.into (status_in p.group (status_of (with_body m b))) c)) (sym is)
+    subst (λ (b : Body). machine.outcome p (full (held_of from (with_body m b)) c.values) ≡
+    outcome_seen (outcome_of p.into (status_in p.group (status_of (with_body m b))) c)) (sym is)
     (whole_ends from p m c)
 
 -- how it ends with one of the rank's own
@@ -53,11 +57,13 @@ own_ends : (from : Endpoint → List Transfer) (p : Receive) (m : Message) (o : 
     machine.outcome p (full (held_of from (with_body m (Own o))) o.elements.values)
     ≡ outcome_seen (outcome_of p.into (status_in p.group (status_of (with_body m (Own o)))) o.elements)
 own_ends from p m o =
-    ends (is_same_type p.into.buffer.basic o.elements.basic) (nat_le (length o.elements.values) (length (places_in p.into)))
+    ends (is_same_type p.into.buffer.basic o.elements.basic)
+    (nat_le (length o.elements.values) (length (places_in p.into)))
     (status_in p.group (status_of (with_body m (Own o)))) (filled p.into o.elements.values) p.into.buffer
 
 -- the law of their outcomes
 pub own_outcomes_agree : OwnOutcomesAgree
 own_outcomes_agree from p m o is =
-    subst (λ (b : Body). machine.outcome p (full (held_of from (with_body m b)) o.elements.values) ≡ outcome_seen (outcome_of p.into (status_in p.group (status_of (with_body m b))) o.elements)) (sym is)
+    subst (λ (b : Body). machine.outcome p (full (held_of from (with_body m b)) o.elements.values) ≡
+    outcome_seen (outcome_of p.into (status_in p.group (status_of (with_body m b))) o.elements)) (sym is)
     (own_ends from p m o)

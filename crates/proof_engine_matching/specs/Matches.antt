@@ -33,7 +33,8 @@ pub record IsKept (from : Endpoint → List Transfer) (rows : List Row) (old : S
   pub queues : after_arrival old m ≡ record old { unexpected = old.unexpected ++ m ∷ [] }
 
 -- the receive with serial k takes it
-pub record IsMatchedTo (from : Endpoint → List Transfer) (rows : List Row) (old : State) (m : Message) (k key : ℕ) (p : Receive) : Type 0 where
+pub record IsMatchedTo (from : Endpoint → List Transfer) (rows : List Row) (old : State) (m : Message) (k key : ℕ)
+    (p : Receive) : Type 0 where
   pub row : slice_get rows k ≡ Some (record { key = key; job = Waiting p })
   pub core : oldest_posted (held_of from m) (jobs_of rows) ≡ Some (k, p)
   pub arrival :
@@ -52,13 +53,15 @@ ArrivalsMatch =
     IsKept from rows old m ⊎ ((k : ℕ) × (key : ℕ) × (p : Receive) × IsMatchedTo from rows old m k key p)
 
 -- no message that waits is accepted
-pub record FindsNone (from : Endpoint → List Transfer) (old : State) (v : engine_receive.CoreReceive) (key : ℕ) : Type 0 where
+pub record FindsNone (from : Endpoint → List Transfer) (old : State) (v : engine_receive.CoreReceive)
+    (key : ℕ) : Type 0 where
   pub core : found (receive_seen v) (map (held_of from) old.unexpected) ≡ None
   pub message : message_at old.unexpected (message_for (posted_by key v) old.unexpected) ≡ None
   pub queues : after_post old (posted_by key v) ≡ record old { posted = old.posted ++ posted_by key v ∷ [] }
 
 -- the receive takes the same message out of both, and those before and after it stay
-pub record Finds (from : Endpoint → List Transfer) (old : State) (v : engine_receive.CoreReceive) (key : ℕ) (m : Message) (earlier later : List Held) : Type 0 where
+pub record Finds (from : Endpoint → List Transfer) (old : State) (v : engine_receive.CoreReceive) (key : ℕ)
+    (m : Message) (earlier later : List Held) : Type 0 where
   pub core : found (receive_seen v) (map (held_of from) old.unexpected) ≡ Some (earlier, held_of from m, later)
   pub message : message_at old.unexpected (message_for (posted_by key v) old.unexpected) ≡ Some m
   pub accepts : fits (receive_seen v) (held_of from m) ≡ true
@@ -69,7 +72,8 @@ pub record Finds (from : Endpoint → List Transfer) (old : State) (v : engine_r
 abbrev pub PostsMatch : Type 0
 PostsMatch =
     (from : Endpoint → List Transfer) (old : State) (v : engine_receive.CoreReceive) (key : ℕ) →
-    FindsNone from old v key ⊎ ((m : Message) × (earlier : List Held) × (later : List Held) × Finds from old v key m earlier later)
+    FindsNone from old v key ⊎
+    ((m : Message) × (earlier : List Held) × (later : List Held) × Finds from old v key m earlier later)
 
 -- such a receive would find no message that waits, and nothing is taken out
 pub record TakesNone (from : Endpoint → List Transfer) (old : State) (q : machine.Probe) : Type 0 where
@@ -78,18 +82,21 @@ pub record TakesNone (from : Endpoint → List Transfer) (old : State) (q : mach
   pub queues : after_take old (probed_by q.source q.tag q.context) ≡ old
 
 -- the same message is taken out of both, and those before and after it stay
-pub record Takes (from : Endpoint → List Transfer) (old : State) (q : machine.Probe) (m : Message) (earlier later : List Held) : Type 0 where
+pub record Takes (from : Endpoint → List Transfer) (old : State) (q : machine.Probe) (m : Message)
+    (earlier later : List Held) : Type 0 where
   pub core : found (machine.such_receive q) (map (held_of from) old.unexpected) ≡ Some (earlier, held_of from m, later)
   pub message : message_at old.unexpected (message_for (probed_by q.source q.tag q.context) old.unexpected) ≡ Some m
   pub accepts : fits (machine.such_receive q) (held_of from m) ≡ true
   pub posted : (after_take old (probed_by q.source q.tag q.context)).posted ≡ old.posted
-  pub unexpected : map (held_of from) (after_take old (probed_by q.source q.tag q.context)).unexpected ≡ earlier ++ later
+  pub unexpected : map (held_of from) (after_take old (probed_by q.source q.tag q.context)).unexpected ≡ earlier ++
+      later
 
 -- A probe finds the same message in the engine's queues and in the core, or in neither
 abbrev pub TakesMatch : Type 0
 TakesMatch =
     (from : Endpoint → List Transfer) (old : State) (q : machine.Probe) →
-    TakesNone from old q ⊎ ((m : Message) × (earlier : List Held) × (later : List Held) × Takes from old q m earlier later)
+    TakesNone from old q ⊎
+    ((m : Message) × (earlier : List Held) × (later : List Held) × Takes from old q m earlier later)
 
 -- a receive ends alike with a message that is whole
 abbrev pub OutcomesAgree : Type 0
@@ -101,10 +108,12 @@ OutcomesAgree =
 abbrev pub OwnOutcomesAgree : Type 0
 OwnOutcomesAgree =
     (from : Endpoint → List Transfer) (p : Receive) (m : Message) (o : OwnSend) → m.body ≡ Own o →
-    outcome p (full (held_of from m) o.elements.values) ≡ outcome_seen (outcome_of p.into (status_in p.group (status_of m)) o.elements)
+    outcome p (full (held_of from m) o.elements.values) ≡
+    outcome_seen (outcome_of p.into (status_in p.group (status_of m)) o.elements)
 
 -- an announced message is wanted by a receive alike, and leaves it alike
-pub record AnnouncedAlike (from : Endpoint → List Transfer) (p : Receive) (w : Posted) (m : Message) (a : Announcement) : Type 0 where
+pub record AnnouncedAlike (from : Endpoint → List Transfer) (p : Receive) (w : Posted) (m : Message)
+    (a : Announcement) : Type 0 where
   pub wanted : machine.has_room p a.basic a.count ≡ has_room w.into a.basic a.count
   pub fits :
       Fits (matched_progress w.into (status_in w.group (status_of m)) a.basic)
@@ -113,5 +122,6 @@ pub record AnnouncedAlike (from : Endpoint → List Transfer) (p : Receive) (w :
 -- A receive that accepts it is matched with an announced message alike
 abbrev pub AnnouncementsAgree : Type 0
 AnnouncementsAgree =
-    (from : Endpoint → List Transfer) (p : Receive) (w : Posted) (m : Message) (a : Announcement) → m.body ≡ Announced a →
+    (from : Endpoint → List Transfer) (p : Receive) (w : Posted) (m : Message) (a : Announcement) →
+    m.body ≡ Announced a →
     IsPosted w p → fits p (held_of from m) ≡ true → AnnouncedAlike from p w m a

@@ -1,5 +1,7 @@
--- A large send of a rank to another one is that of its core in the network: it is announced, and its request waits for the answer.
-use Rattle.std.proofs.Common.{◌^◌, ◌≡◌, ℕ, ◌+◌, ◌*◌, ◌<◌, ◌≤◌, ◌==◌, true, false, List, [], ◌∷◌, ◌++◌, length, Option, Some, None, slice_index, refl, sym, ap, ap₂, ◌∙◌, subst, append-nil}
+-- A large send of a rank to another one is that of its core in the network: it is announced, and its request waits for
+-- the answer.
+use Rattle.std.proofs.Common.{◌^◌, ◌≡◌, ℕ, ◌+◌, ◌*◌, ◌<◌, ◌≤◌, ◌==◌, true, false, List, [], ◌∷◌, ◌++◌, length, Option}
+use Rattle.std.proofs.Common.{Some, None, slice_index, refl, sym, ap, ap₂, ◌∙◌, subst, append-nil}
 use Rattle.std.specs.List.{AllByRecursion}
 use Rattle.std.proofs.lemmas.Bool.{eqb-false, leb-false, ltb-false}
 use Rattle.std.proofs.lemmas.List.{length-map}
@@ -36,14 +38,17 @@ use Rattle.proof_engine_view.specs.Standing.{AreSent, CanLeave, all_gone}
 use Rattle.proof_engine_view.specs.Transfers.{Announcements, after_out}
 use Rattle.proof_engine_steps.specs.Steps.{IsCalled}
 use Rattle.proof_engine_steps.proofs.Announces.{begun_under_way, offering_row}
-use Rattle.proof_engine_steps.proofs.LargeSends.{announcement_of, announcing_frame, announcing_leaves, announcing_sent, core_announces, core_offering, is_announced_to, large_frame, large_sending, number_left}
+use Rattle.proof_engine_steps.proofs.LargeSends.{announcement_of, announcing_frame, announcing_leaves, announcing_sent}
+use Rattle.proof_engine_steps.proofs.LargeSends.{core_announces, core_offering, is_announced_to, large_frame}
+use Rattle.proof_engine_steps.proofs.LargeSends.{large_sending, number_left}
 use Rattle.proof_engine_steps.proofs.Sends.{KeepsRules, called_send, core_sent, send_fit}
-use Rattle.proof_engine_steps.proofs.Starting.{core_free, holding_of, holding_started, serial_told, shown_free, started_call}
+use Rattle.proof_engine_steps.proofs.Starting.{core_free, holding_of, holding_started, serial_told, shown_free}
+use Rattle.proof_engine_steps.proofs.Starting.{started_call}
 use Rattle.proof_engine_steps.proofs.Staying.{after_grows}
 use Rattle.proof_engine_steps.proofs.Waking.{Holding}
 
--- What a large send to another rank rests on: the rank is one of the job, the tag is allowed, the elements are so many, of the
--- width of their type, and a number is left
+-- What a large send to another rank rests on: the rank is one of the job, the tag is allowed, the elements are so many,
+-- of the width of their type, and a number is left
 record MayAnnounce (mode : Mode) (old : CoreState) (to context tag : ℕ) (c : Contents) : Type 0 where
   pub there : to < old.place.size
   pub apart : to ≡ old.place.endpoint.rank → ⊥
@@ -55,8 +60,10 @@ record MayAnnounce (mode : Mode) (old : CoreState) (to context tag : ℕ) (c : C
   pub free : is_full_to old.transfers.numbers to ≡ false
 
 -- one that meets no rule and no limit may
-may_announce : (old : CoreState) (s : CoreSend) (to tag : ℕ) → s.target ≡ Rank to → s.tag ≡ Some tag → (to == old.place.endpoint.rank) ≡ false → KeepsRules old.place s → IsWithin (calls.Isend s) →
-    is_announced s.mode (sent_from s.from) ≡ true → free_fault old (calls.Isend s) ≡ None → MayAnnounce s.mode old to s.context tag (sent_from s.from)
+may_announce : (old : CoreState) (s : CoreSend) (to tag : ℕ) → s.target ≡ Rank to → s.tag ≡ Some tag →
+    (to == old.place.endpoint.rank) ≡ false → KeepsRules old.place s → IsWithin (calls.Isend s) →
+    is_announced s.mode (sent_from s.from) ≡ true → free_fault old (calls.Isend s) ≡ None →
+    MayAnnounce s.mode old to s.context tag (sent_from s.from)
 may_announce old s to tag target_is tag_is other kept within large fine =
     record {
       there = leb-false old.place.size to (sym (ap (rules.is_no_target old.place.size) target_is) ∙ kept.inside);
@@ -66,51 +73,72 @@ may_announce old s to tag target_is tag_is other kept within large fine =
       limit = kept.few;
       wide = within.1;
       within = within.0;
-      free = number_left (or_full (send_fault old.place s) old) (announced_to old.place s) to old.transfers (is_announced_to old.place s to tag target_is tag_is other large) fine;
+      free = number_left (or_full (send_fault old.place s) old) (announced_to old.place s) to old.transfers
+          (is_announced_to old.place s to tag target_is tag_is other large) fine;
     }
 
 -- the rank once the request offers its message
 abbrev pub offering_rank : CoreState → (to : ℕ) → Request → Contents → CoreState → CoreState
-offering_rank old to q c new = record old { slots = new.slots; serial = old.serial + 1; transfers = after_begin old.transfers to q.key c }
+offering_rank old to q c new =
+    record old { slots = new.slots; serial = old.serial + 1; transfers = after_begin old.transfers to q.key c }
 
 -- so many requests of the core were started
-rows_counted : (a : Announcements) (old : CoreState) (known : List ℕ) (core : Core) → (shown : IsShown a old known core) → length shown.rows ≡ length core.jobs
-rows_counted a old known core shown = sym (ap (λ (js : List Job). length js) shown.jobs ∙ length-map shown.rows (λ (r : Row). r.job))
+rows_counted : (a : Announcements) (old : CoreState) (known : List ℕ) (core : Core) →
+    (shown : IsShown a old known core) → length shown.rows ≡ length core.jobs
+rows_counted a old known core shown =
+    sym (ap (λ (js : List Job). length js) shown.jobs ∙ length-map shown.rows (λ (r : Row). r.job))
 
 -- its request is there, and offers the message that is announced
-large_holds : (mode : Mode) (a : Announcements) (old : CoreState) (known : List ℕ) (core : Core) (q : Request) (new : CoreState) (to context tag : ℕ) (c : Contents) → (shown : IsShown a old known core) → MayAnnounce mode old to context tag c →
+large_holds : (mode : Mode) (a : Announcements) (old : CoreState) (known : List ℕ) (core : Core) (q : Request)
+    (new : CoreState) (to context tag : ℕ) (c : Contents) → (shown : IsShown a old known core) →
+    MayAnnounce mode old to context tag c →
     IsOffering old to c q new →
-    Holding (after_out a (announcement_of core (endpoint_of known to) context tag c.basic c.values ∷ [])) (offering_rank old to q c new) known (core_offering core (endpoint_of known to) c.basic c.values)
+    Holding (after_out a (announcement_of core (endpoint_of known to) context tag c.basic c.values ∷ []))
+    (offering_rank old to q c new) known (core_offering core (endpoint_of known to) c.basic c.values)
     (shown.rows ++ offering_row q.key (endpoint_of known to) c ∷ [])
 large_holds mode a old known core q new to context tag c shown may sent =
-    holding_started a (after_out a (announcement_of core (endpoint_of known to) context tag c.basic c.values ∷ [])) old (offering_rank old to q c new) known core (core_offering core (endpoint_of known to) c.basic c.values)
+    holding_started a (after_out a (announcement_of core (endpoint_of known to) context tag c.basic c.values ∷ [])) old
+    (offering_rank old to q c new) known core (core_offering core (endpoint_of known to) c.basic c.values)
     shown.rows q.key Offering (jobs.Offering (endpoint_of known to) c.basic c.values)
     (holding_of a old known core shown) sent.fresh sent.entry tt refl refl
     (shown.posted ∙ sym (append-nil (posted_rows shown.rows))) shown.held
-    (begun_under_way a known old.place old.slots shown.rows old.transfers old.queues.unexpected to q.key context tag (length core.jobs) c shown.under_way shown.table sent.fresh
+    (begun_under_way a known old.place old.slots shown.rows old.transfers old.queues.unexpected to q.key context tag
+    (length core.jobs) c shown.under_way shown.table sent.fresh
     (rows_counted a old known core shown) may.there may.apart may.free may.within may.limit)
     (after_grows a (announcement_of core (endpoint_of known to) context tag c.basic c.values ∷ [])) tt refl refl
 
 -- a large send to another rank
-pub large_send_shown : (a : Announcements) (old new : CoreState) (known : List ℕ) (core : Core) (s : CoreSend) (q : Request) (to tag : ℕ) → IsShown a old known core → old.blocked ≡ None →
-    s.target ≡ Rank to → s.tag ≡ Some tag → (to == old.place.endpoint.rank) ≡ false → KeepsRules old.place s → IsWithin (calls.Isend s) → is_announced s.mode (sent_from s.from) ≡ true →
-    free_fault old (calls.Isend s) ≡ None → IsSending old s q new → IsCalled a old known core (calls.Isend s) (replies.Started q) new
+pub large_send_shown : (a : Announcements) (old new : CoreState) (known : List ℕ) (core : Core) (s : CoreSend)
+    (q : Request) (to tag : ℕ) → IsShown a old known core → old.blocked ≡ None →
+    s.target ≡ Rank to → s.tag ≡ Some tag → (to == old.place.endpoint.rank) ≡ false → KeepsRules old.place s →
+    IsWithin (calls.Isend s) → is_announced s.mode (sent_from s.from) ≡ true →
+    free_fault old (calls.Isend s) ≡ None → IsSending old s q new →
+    IsCalled a old known core (calls.Isend s) (replies.Started q) new
 large_send_shown a old new known core s q to tag shown free target_is tag_is other kept within large fine is_sent =
     started_call a old new known core (calls.Isend s) q after (record {
-      is = called_send core own s ∙ (ap₂ (λ (t : Source) (g : Option ℕ). core_sent s.mode own core s.context t g c) target_is tag_is
-          ∙ core_announces s.mode core own to (slice_index known to) s.context tag c other may.large (shown.known_alike to));
+      is = called_send core own s ∙
+          (ap₂ (λ (t : Source) (g : Option ℕ). core_sent s.mode own core s.context t g c) target_is tag_is
+          ∙ core_announces s.mode core own to (slice_index known to) s.context tag c other may.large
+          (shown.known_alike to));
       fit = send_fit old.place core s core_is kept;
       place = ap (λ (x : CoreState). x.place) sent.rest;
       completion = ap (λ (x : CoreState). x.completion) sent.rest;
       free = core_is;
       shown = shown_free (after_out a after.out) new known after.core rows
-          (subst (λ (x : CoreState). Holding (after_out a after.out) x known after.core rows) (sym sent.rest) (large_holds s.mode a old known core q new to s.context tag c shown may sent))
+          (subst (λ (x : CoreState). Holding (after_out a after.out) x known after.core rows) (sym sent.rest)
+          (large_holds s.mode a old known core q new to s.context tag c shown may sent))
           (ap (λ (x : CoreState). x.blocked) sent.rest ∙ free) core_is;
-      sends = subst (λ (f : Option FrameFor). AreSent (after_out a after.out) (all_gone known (as_list f)) after.out) (sym frame_is)
-          (announcing_sent s.mode a known to (next_to old.transfers.numbers to) s.context tag (length core.jobs) c (shown.under_way.numbered.begun to may.there may.apart));
-      leaves = subst (λ (f : Option FrameFor). AllByRecursion (CanLeave old.place) (as_list f)) (sym frame_is)
-          (announcing_leaves s.mode old.place to (next_to old.transfers.numbers to) s.context tag c may.wide may.there may.apart may.low may.large may.limit (shown.under_way.numbered.most to), tt);
-      reply = ap (λ (n : ℕ). Some (call_seen (calls.Isend s), Some (machine.Started n))) (serial_told a old known core q shown sent.serial);
+      sends = subst (λ (f : Option FrameFor). AreSent (after_out a after.out) (all_gone known (as_list f)) after.out)
+          (sym frame_is)
+          (announcing_sent s.mode a known to (next_to old.transfers.numbers to) s.context tag (length core.jobs) c
+          (shown.under_way.numbered.begun to may.there may.apart));
+      leaves = subst (λ (f : Option FrameFor). AllByRecursion (CanLeave old.place) (as_list f)) (sym frame_is) (
+        announcing_leaves s.mode old.place to (next_to old.transfers.numbers to) s.context tag c may.wide may.there
+            may.apart may.low may.large may.limit (shown.under_way.numbered.most to),
+        tt,
+      );
+      reply = ap (λ (n : ℕ). Some (call_seen (calls.Isend s), Some (machine.Started n)))
+          (serial_told a old known core q shown sent.serial);
     })
   where
     own : Endpoint
@@ -120,7 +148,8 @@ large_send_shown a old new known core s q to tag shown free target_is tag_is oth
     c = sent_from s.from
 
     after : Effect
-    after = effect (core_offering core (endpoint_of known to) c.basic c.values) (announcement_of core (endpoint_of known to) s.context tag c.basic c.values ∷ [])
+    after = effect (core_offering core (endpoint_of known to) c.basic c.values)
+        (announcement_of core (endpoint_of known to) s.context tag c.basic c.values ∷ [])
 
     may : MayAnnounce s.mode old to s.context tag c
     may = may_announce old s to tag target_is tag_is other kept within large fine

@@ -1,5 +1,6 @@
 -- A large message is announced: its request offers it under the next number.
-use Rattle.std.proofs.Common.{◌≡◌, ℕ, ◌==◌, ◌&&◌, Bool, true, false, List, [], ◌∷◌, ◌++◌, length, if◌then◌else◌, slice_get, refl, ap, ◌∙◌, append-nil}
+use Rattle.std.proofs.Common.{◌≡◌, ℕ, ◌==◌, ◌&&◌, Bool, true, false, List, [], ◌∷◌, ◌++◌, length, if◌then◌else◌}
+use Rattle.std.proofs.Common.{slice_get, refl, ap, ◌∙◌, append-nil}
 use Rattle.std.proofs.lemmas.Bool.{ne_eqb}
 use Rattle.vocabulary.specs.Endpoints.{is_same}
 use Rattle.vocabulary.specs.declared.endpoint.Endpoint.{Endpoint}
@@ -18,30 +19,37 @@ transfer_of serial c = record { serial = serial; basic = c.basic; count = length
 
 -- what was announced to whom it goes, once it is announced
 pub announced_there : (a : Announcements) (d : Endpoint) (context tag serial : ℕ) (c : Contents) →
-    (after_out a ((d, Rts context tag c.basic serial (length c.values)) ∷ [])).to d ≡ a.to d ++ transfer_of serial c ∷ []
+    (after_out a ((d, Rts context tag c.basic serial (length c.values)) ∷ [])).to d ≡ a.to d ++ transfer_of serial c ∷
+    []
 announced_there a d context tag serial c = go (is_same d d) (same_refl d)
   where
     go : (t : Bool) → t ≡ true →
-        a.to d ++ announced_in (if t then Rts context tag c.basic serial (length c.values) ∷ [] else []) ≡ a.to d ++ transfer_of serial c ∷ []
+        a.to d ++ announced_in (if t then Rts context tag c.basic serial (length c.values) ∷ [] else []) ≡ a.to d ++
+        transfer_of serial c ∷ []
     go true is = refl
     go false is = absurd cc
 
 -- and to another rank
-pub announced_elsewhere : (a : Announcements) (d x : Endpoint) (frame : Frame) → (x.rank ≡ d.rank → ⊥) → (after_out a ((d, frame) ∷ [])).to x ≡ a.to x
+pub announced_elsewhere : (a : Announcements) (d x : Endpoint) (frame : Frame) → (x.rank ≡ d.rank → ⊥) →
+    (after_out a ((d, frame) ∷ [])).to x ≡ a.to x
 announced_elsewhere a d x frame apart = go (x.rank == d.rank) (ne_eqb x.rank d.rank apart)
   where
-    go : (t : Bool) → t ≡ false → a.to x ++ announced_in (if t && (x.incarnation == d.incarnation) then frame ∷ [] else []) ≡ a.to x
+    go : (t : Bool) → t ≡ false →
+        a.to x ++ announced_in (if t && (x.incarnation == d.incarnation) then frame ∷ [] else []) ≡ a.to x
     go false is = append-nil (a.to x)
     go true is = absurd cc
 
 -- its frame stands for the network's, if its number is how many were announced before
-pub request_stands : (mode : Mode) (a : Announcements) (d : Endpoint) (number context tag serial : ℕ) (c : Contents) (back : List Transfer) → number ≡ length (a.to d) →
-    StandsFor ((after_out a ((d, Rts context tag c.basic serial (length c.values)) ∷ [])).to d) back (request_frame mode number context tag c) (Rts context tag c.basic serial (length c.values))
+pub request_stands : (mode : Mode) (a : Announcements) (d : Endpoint) (number context tag serial : ℕ) (c : Contents)
+    (back : List Transfer) → number ≡ length (a.to d) →
+    StandsFor ((after_out a ((d, Rts context tag c.basic serial (length c.values)) ∷ [])).to d) back
+    (request_frame mode number context tag c) (Rts context tag c.basic serial (length c.values))
 request_stands mode a d number context tag serial c back is =
     record {
       serial = serial;
       plane = refl;
       announced = ap (λ (ts : List Transfer). slice_get ts number) (announced_there a d context tag serial c)
-          ∙ (ap (λ (k : ℕ). slice_get (a.to d ++ transfer_of serial c ∷ []) k) is ∙ push_at (a.to d) (transfer_of serial c));
+          ∙ (ap (λ (k : ℕ). slice_get (a.to d ++ transfer_of serial c ∷ []) k) is ∙
+          push_at (a.to d) (transfer_of serial c));
       frame_is = refl;
     }

@@ -1,5 +1,7 @@
 -- A cancel of a rank is that of its core in the network.
-use Rattle.std.proofs.Common.{◌≡◌, ◌≢◌, ℕ, zero, suc, Bool, true, false, List, [], ◌∷◌, ◌++◌, map, remove, Option, Some, None, ◌==◌, slice_get, slice_set, option_map, arith, refl, sym, ap, ◌∙◌, subst, ◌⊎◌, inl, inr}
+use Rattle.std.proofs.Common.{◌≡◌, ◌≢◌, ℕ, zero, suc, Bool, true, false, List, [], ◌∷◌, ◌++◌, map, remove, Option, Some}
+use Rattle.std.proofs.Common.{None, ◌==◌, slice_get, slice_set, option_map, arith, refl, sym, ap, ◌∙◌, subst, ◌⊎◌, inl}
+use Rattle.std.proofs.Common.{inr}
 use Rattle.std.proofs.lemmas.Bool.{eq-eqb, eqb-true}
 use Rattle.std.proofs.lemmas.List.{length-set}
 use Rattle.std.proofs.lemmas.Option.{none-some, same_Some}
@@ -34,7 +36,8 @@ use Rattle.proof_engine_view.specs.Rows.{Fits, Holds, Row, held_of, posted_job, 
 use Rattle.observation.specs.CoreCalls.{outcome_seen, own_serial, request_by}
 use Rattle.proof_engine_view.specs.Shown.{IsShown}
 use Rattle.proof_engine_view.specs.Transfers.{Announcements}
-use Rattle.proof_engine_steps.proofs.Found.{CollectsFor, HasRow, HoldsMessage, OffersValues, WaitsForMatch, collecting_of, finished_row, offering_of, probed_of, row_of, waiting_of}
+use Rattle.proof_engine_steps.proofs.Found.{CollectsFor, HasRow, HoldsMessage, OffersValues, WaitsForMatch}
+use Rattle.proof_engine_steps.proofs.Found.{collecting_of, finished_row, offering_of, probed_of, row_of, waiting_of}
 use Rattle.proof_engine_steps.proofs.Meant.{IsMeant}
 use Rattle.proof_engine_matching.proofs.Positions.{position_here, position_later, remove_first}
 use Rattle.proof_engine_steps.proofs.RefusedWaits.{cancel_faultless, cancel_present}
@@ -51,7 +54,8 @@ use Rattle.proof_engine_steps.proofs.Waking.{Holding, holding_of}
 -- ---- the jobs
 
 -- a receive that waits is dropped
-dropped_waiting : (js : List Job) (k : ℕ) (p : receives.Receive) → slice_get js k ≡ Some (Waiting p) → changed dropped js k ≡ slice_set js k (Over (ends.Cancelled p.into.buffer))
+dropped_waiting : (js : List Job) (k : ℕ) (p : receives.Receive) → slice_get js k ≡ Some (Waiting p) →
+    changed dropped js k ≡ slice_set js k (Over (ends.Cancelled p.into.buffer))
 dropped_waiting [] k p h = absurd (none-some (Waiting p) h)
 dropped_waiting (j ∷ js) zero p h = ap (λ (y : Job). dropped y ∷ js) (same_Some j (Waiting p) h)
 dropped_waiting (j ∷ js) (suc k) p h = ap (λ (ys : List Job). j ∷ ys) (dropped_waiting js k p h)
@@ -88,7 +92,8 @@ without_at rs None = rs
 without_at rs (Some i) = remove rs i
 
 -- with one more in front
-without_later : (x : posted.PostedReceive) (rs : List posted.PostedReceive) (o : Option ℕ) → without_at (x ∷ rs) (option_map suc o) ≡ x ∷ without_at rs o
+without_later : (x : posted.PostedReceive) (rs : List posted.PostedReceive) (o : Option ℕ) →
+    without_at (x ∷ rs) (option_map suc o) ≡ x ∷ without_at rs o
 without_later x rs None = refl
 without_later x rs (Some i) = refl
 
@@ -97,18 +102,24 @@ abbrev posted_without : List posted.PostedReceive → (key : ℕ) → List poste
 posted_without rs key = without_at rs (queues.posted_for key rs)
 
 -- the front one is that of the request
-taken_here : (x : posted.PostedReceive) (rs : List posted.PostedReceive) (key : ℕ) → x.request ≡ key → posted_without (x ∷ rs) key ≡ rs
+taken_here : (x : posted.PostedReceive) (rs : List posted.PostedReceive) (key : ℕ) → x.request ≡ key →
+    posted_without (x ∷ rs) key ≡ rs
 taken_here x rs key e =
-    ap (without_at (x ∷ rs)) (position_here (λ (r : posted.PostedReceive). r.request == key) x rs (eq-eqb x.request key e)) ∙ remove_first x rs
+    ap (without_at (x ∷ rs))
+    (position_here (λ (r : posted.PostedReceive). r.request == key) x rs (eq-eqb x.request key e)) ∙
+    remove_first x rs
 
 -- the front one is that of another request
-taken_later : (x : posted.PostedReceive) (rs : List posted.PostedReceive) (key : ℕ) → x.request ≢ key → posted_without (x ∷ rs) key ≡ x ∷ posted_without rs key
+taken_later : (x : posted.PostedReceive) (rs : List posted.PostedReceive) (key : ℕ) → x.request ≢ key →
+    posted_without (x ∷ rs) key ≡ x ∷ posted_without rs key
 taken_later x rs key n = go (x.request == key) refl
   where
     go : (b : Bool) → (x.request == key) ≡ b → posted_without (x ∷ rs) key ≡ x ∷ posted_without rs key
     go true e = absurd (n (eqb-true x.request key e))
     go false e =
-        ap (without_at (x ∷ rs)) (position_later (λ (r : posted.PostedReceive). r.request == key) x rs (queues.posted_for key rs) e refl) ∙ without_later x rs (queues.posted_for key rs)
+        ap (without_at (x ∷ rs))
+        (position_later (λ (r : posted.PostedReceive). r.request == key) x rs (queues.posted_for key rs) e refl) ∙
+        without_later x rs (queues.posted_for key rs)
 
 -- the queues after a cancel have these receives, and the same messages
 cancel_posted : (s : queues.State) (key : ℕ) → (queues.after_cancel s key).posted ≡ posted_without s.posted key
@@ -140,21 +151,27 @@ suc_same : (j k : ℕ) → suc j ≡ suc k → j ≡ k
 suc_same j k e = omega arith
 
 -- what the rows post once the receive of one of them is cancelled
-cancelled_rows : (rows : List Row) (k key : ℕ) (p : receives.Receive) (x : ends.Outcome) → slice_get rows k ≡ Some (record { key = key; job = Waiting p }) → IsAlone rows k key →
+cancelled_rows : (rows : List Row) (k key : ℕ) (p : receives.Receive) (x : ends.Outcome) →
+    slice_get rows k ≡ Some (record { key = key; job = Waiting p }) → IsAlone rows k key →
     posted_without (posted_rows rows) key ≡ posted_rows (slice_set rows k (record { key = key; job = Over x }))
 cancelled_rows [] k key p x h alone = absurd (none-some (record { key = key; job = Waiting p }) h)
 cancelled_rows (r ∷ rs) zero key p x h alone =
-    ap (λ (y : Row). posted_without (posted_job y.key y.job ++ posted_rows rs) key) (same_Some r (record { key = key; job = Waiting p }) h) ∙
+    ap (λ (y : Row). posted_without (posted_job y.key y.job ++ posted_rows rs) key)
+    (same_Some r (record { key = key; job = Waiting p }) h) ∙
     taken_here (record { request = key; context = p.context; source = p.source; tag = p.tag }) (posted_rows rs) key refl
-cancelled_rows (r ∷ rs) (suc k) key p x h alone = front r.job refl (cancelled_rows rs k key p x h (λ j y n. alone (suc j) y (λ e. n (suc_same j k e))))
+cancelled_rows (r ∷ rs) (suc k) key p x h alone =
+    front r.job refl (cancelled_rows rs k key p x h (λ j y n. alone (suc j) y (λ e. n (suc_same j k e))))
   where
     left : List posted.PostedReceive
     left = posted_rows (slice_set rs k (record { key = key; job = Over x }))
 
-    by_job : (j : Job) → r.job ≡ j → posted_without (posted_rows rs) key ≡ left → posted_without (posted_job r.key j ++ posted_rows rs) key ≡ posted_job r.key j ++ left
+    by_job : (j : Job) → r.job ≡ j → posted_without (posted_rows rs) key ≡ left →
+        posted_without (posted_job r.key j ++ posted_rows rs) key ≡ posted_job r.key j ++ left
     by_job (Waiting q) e rest =
         let one : posted.PostedReceive = record { request = r.key; context = q.context; source = q.source; tag = q.tag } in
-        taken_later one (posted_rows rs) key (λ same. still_open q r.job e (alone zero r (λ z. zero_apart k z) refl same)) ∙ ap (λ (ps : List posted.PostedReceive). one ∷ ps) rest
+        taken_later one (posted_rows rs) key
+        (λ same. still_open q r.job e (alone zero r (λ z. zero_apart k z) refl same)) ∙
+        ap (λ (ps : List posted.PostedReceive). one ∷ ps) rest
     by_job (Collecting q m got) e rest = rest
     by_job (Offering d basic values) e rest = rest
     by_job (Over y) e rest = rest
@@ -162,20 +179,26 @@ cancelled_rows (r ∷ rs) (suc k) key p x h alone = front r.job refl (cancelled_
     by_job (Unmatched d) e rest = rest
     by_job (Probed g h) e rest = rest
 
-    front : (j : Job) → r.job ≡ j → posted_without (posted_rows rs) key ≡ left → posted_without (posted_job r.key r.job ++ posted_rows rs) key ≡ posted_job r.key r.job ++ left
-    front j e rest = subst (λ (y : Job). posted_without (posted_job r.key y ++ posted_rows rs) key ≡ posted_job r.key y ++ left) (sym e) (by_job j e rest)
+    front : (j : Job) → r.job ≡ j → posted_without (posted_rows rs) key ≡ left →
+        posted_without (posted_job r.key r.job ++ posted_rows rs) key ≡ posted_job r.key r.job ++ left
+    front j e rest =
+        subst (λ (y : Job). posted_without (posted_job r.key y ++ posted_rows rs) key ≡ posted_job r.key y ++ left)
+        (sym e) (by_job j e rest)
 
 -- ---- the call
 
 -- what is no receive that waits stays as it is
-cancel_still : (links : Announcements) (old : CoreState) (known : List ℕ) (core : Core) (q : Request) (j : Job) → (shown : IsShown links old known core) → old.blocked ≡ None → cancel_fault old (Some q) ≡ None →
-    slice_get shown.rows q.serial ≡ Some (record { key = q.key; job = j }) → dropped j ≡ j → IsMeant links old known core (machine.Cancel (Some q.serial)) replies.Accepted old
+cancel_still : (links : Announcements) (old : CoreState) (known : List ℕ) (core : Core) (q : Request) (j : Job) →
+    (shown : IsShown links old known core) → old.blocked ≡ None → cancel_fault old (Some q) ≡ None →
+    slice_get shown.rows q.serial ≡ Some (record { key = q.key; job = j }) → dropped j ≡ j →
+    IsMeant links old known core (machine.Cancel (Some q.serial)) replies.Accepted old
 cancel_still links old known core q j shown free fine there stays =
     record {
       fit = cancel_faultless links old known core q shown free fine;
       place = refl;
       completion = refl;
-      shown = subst (λ (c : Core). IsShown links old known c) (sym (settled_free (core_cancels core (Some q.serial)) (core_free links old known core shown free)))
+      shown = subst (λ (c : Core). IsShown links old known c)
+          (sym (settled_free (core_cancels core (Some q.serial)) (core_free links old known core shown free)))
           (subst (λ (js : List Job). IsShown links old known (with_jobs core js)) (sym same) shown);
       sends = refl;
       tells = refl;
@@ -194,7 +217,8 @@ record IsWaiting (rows : List Row) (q : Request) (b : Posted) : Type 0 where
   into : receive.into ≡ handed_of b.into
 
 -- the row of a receive that waits
-waiting_row : (links : Announcements) (old : CoreState) (known : List ℕ) (core : Core) (q : Request) (b : Posted) → (shown : IsShown links old known core) → progress_at old.slots q.key q.serial ≡ Some (Receiving b) →
+waiting_row : (links : Announcements) (old : CoreState) (known : List ℕ) (core : Core) (q : Request) (b : Posted) →
+    (shown : IsShown links old known core) → progress_at old.slots q.key q.serial ≡ Some (Receiving b) →
     IsWaiting shown.rows q b
 waiting_row links old known core q b shown g =
     let r : HasRow shown.rows q.serial q.key (Receiving b) = row_of old.slots shown.rows q.serial q.key (Receiving b) shown.table g in
@@ -211,21 +235,37 @@ after_dropping c q b =
     record c { slots = cancelled_by c.slots q (Some (Receiving b)); queues = queues.after_cancel c.queues q.key }
 
 -- both hold the same once a receive that waits is cancelled
-cancel_holds : (links : Announcements) (old : CoreState) (known : List ℕ) (core : Core) (q : Request) (b : Posted) → (shown : IsShown links old known core) → (w : IsWaiting shown.rows q b) →
-    Holding links (after_dropping old q b) known (core_cancels core (Some q.serial)) (slice_set shown.rows q.serial (record { key = q.key; job = Over (ends.Cancelled w.receive.into.buffer) }))
+cancel_holds : (links : Announcements) (old : CoreState) (known : List ℕ) (core : Core) (q : Request) (b : Posted) →
+    (shown : IsShown links old known core) → (w : IsWaiting shown.rows q b) →
+    Holding links (after_dropping old q b) known (core_cancels core (Some q.serial))
+    (slice_set shown.rows q.serial (record { key = q.key; job = Over (ends.Cancelled w.receive.into.buffer) }))
 cancel_holds links old known core q b shown w =
     record {
-      jobs = dropped_waiting core.jobs q.serial w.receive job ∙ (ap (λ (js : List Job). slice_set js q.serial (Over x)) shown.jobs ∙ sym (set_jobs shown.rows q.serial q.key (Over x)));
+      jobs = dropped_waiting core.jobs q.serial w.receive job ∙
+          (ap (λ (js : List Job). slice_set js q.serial (Over x)) shown.jobs ∙
+          sym (set_jobs shown.rows q.serial q.key (Over x)));
       count = length-set shown.rows q.serial over ∙ shown.count;
-      table = changed_table old.slots (slice_set old.slots q.key (Some after)) shown.rows q.serial q.key (Waiting w.receive) (Over x) (Some after) shown.table w.there (λ e. cc)
-          (set_is_set old.slots q.key mine.entry (Some after) mine.there) (says_some q.serial (Finished (outcomes.Cancelled b.into.buffer)) (Over x) values_same);
-      posted = cancel_posted old.queues q.key ∙ (ap (λ (ps : List posted.PostedReceive). posted_without ps q.key) shown.posted ∙
-          cancelled_rows shown.rows q.serial q.key w.receive x w.there (set_change old.slots shown.rows q.serial q.key (Waiting w.receive) (Over x) shown.table w.there (λ e. cc)).alone);
-      held = shown.held ∙ ap (λ (ms : List Message). map (held_of links.from) ms) (sym (cancel_unexpected old.queues q.key));
-      under_way = under_way_still links known old.place old.place shown.rows (slice_set shown.rows q.serial over) old.transfers old.transfers old.queues.unexpected (queues.after_cancel old.queues q.key).unexpected shown.under_way
-          (same_set shown.rows q.serial q.key (Waiting w.receive) (Over x) w.there (λ i. i) (λ i. i)) refl refl (cancel_unexpected old.queues q.key);
-      taken = taken_set links.from known old.place (slice_set shown.rows q.serial over) old.slots (slice_set old.slots q.key (Some after)) q.key (Some after) (set_is_set old.slots q.key mine.entry (Some after) mine.there)
-          (taken_same links.from known old.place shown.rows (slice_set shown.rows q.serial over) old.slots (keeps_set shown.rows q.serial q.key (Waiting w.receive) (Over x) w.there (λ i. i)) shown.taken) tt;
+      table = changed_table old.slots (slice_set old.slots q.key (Some after)) shown.rows q.serial q.key
+          (Waiting w.receive) (Over x) (Some after) shown.table w.there (λ e. cc)
+          (set_is_set old.slots q.key mine.entry (Some after) mine.there)
+          (says_some q.serial (Finished (outcomes.Cancelled b.into.buffer)) (Over x) values_same);
+      posted = cancel_posted old.queues q.key ∙
+          (ap (λ (ps : List posted.PostedReceive). posted_without ps q.key) shown.posted ∙
+          cancelled_rows shown.rows q.serial q.key w.receive x w.there
+          (set_change old.slots shown.rows q.serial q.key (Waiting w.receive) (Over x) shown.table w.there
+          (λ e. cc)).alone);
+      held = shown.held ∙
+          ap (λ (ms : List Message). map (held_of links.from) ms) (sym (cancel_unexpected old.queues q.key));
+      under_way =
+          under_way_still links known old.place old.place shown.rows (slice_set shown.rows q.serial over) old.transfers
+          old.transfers old.queues.unexpected (queues.after_cancel old.queues q.key).unexpected shown.under_way
+          (same_set shown.rows q.serial q.key (Waiting w.receive) (Over x) w.there (λ i. i) (λ i. i)) refl refl
+          (cancel_unexpected old.queues q.key);
+      taken = taken_set links.from known old.place (slice_set shown.rows q.serial over) old.slots
+          (slice_set old.slots q.key (Some after)) q.key (Some after)
+          (set_is_set old.slots q.key mine.entry (Some after) mine.there)
+          (taken_same links.from known old.place shown.rows (slice_set shown.rows q.serial over) old.slots
+          (keeps_set shown.rows q.serial q.key (Waiting w.receive) (Over x) w.there (λ i. i)) shown.taken) tt;
       knowing = (holding_of links old known core shown).knowing;
     }
   where
@@ -242,14 +282,18 @@ cancel_holds links old known core q b shown w =
     mine = held_at old.slots shown.rows q.serial q.key (Waiting w.receive) shown.table w.there (λ e. cc)
 
     job : slice_get core.jobs q.serial ≡ Some (Waiting w.receive)
-    job = ap (λ (js : List Job). slice_get js q.serial) shown.jobs ∙ job_at shown.rows q.serial q.key (Waiting w.receive) w.there
+    job = ap (λ (js : List Job). slice_get js q.serial) shown.jobs ∙
+        job_at shown.rows q.serial q.key (Waiting w.receive) w.there
 
     values_same : x ≡ outcome_seen (outcomes.Cancelled b.into.buffer)
-    values_same = ap (λ (h : Handed). ends.Cancelled h.buffer) w.into ∙ ap (λ (c : Contents). ends.Cancelled c) (handed_buffer b.into)
+    values_same = ap (λ (h : Handed). ends.Cancelled h.buffer) w.into ∙
+        ap (λ (c : Contents). ends.Cancelled c) (handed_buffer b.into)
 
 -- a receive that waits is cancelled
-cancel_waiting : (links : Announcements) (old : CoreState) (known : List ℕ) (core : Core) (q : Request) (b : Posted) → IsShown links old known core → old.blocked ≡ None → cancel_fault old (Some q) ≡ None →
-    progress_at old.slots q.key q.serial ≡ Some (Receiving b) → IsMeant links old known core (machine.Cancel (Some q.serial)) replies.Accepted (after_dropping old q b)
+cancel_waiting : (links : Announcements) (old : CoreState) (known : List ℕ) (core : Core) (q : Request) (b : Posted) →
+    IsShown links old known core → old.blocked ≡ None → cancel_fault old (Some q) ≡ None →
+    progress_at old.slots q.key q.serial ≡ Some (Receiving b) →
+    IsMeant links old known core (machine.Cancel (Some q.serial)) replies.Accepted (after_dropping old q b)
 cancel_waiting links old known core q b shown free fine g =
     let w : IsWaiting shown.rows q b = waiting_row links old known core q b shown g in
     let core_is : core.blocked ≡ None = core_free links old known core shown free in
@@ -257,21 +301,28 @@ cancel_waiting links old known core q b shown free fine g =
       fit = cancel_faultless links old known core q shown free fine;
       place = refl;
       completion = refl;
-      shown = subst (λ (c : Core). IsShown links (after_dropping old q b) known c) (sym (settled_free (core_cancels core (Some q.serial)) core_is))
-          (shown_free links (after_dropping old q b) known (core_cancels core (Some q.serial)) (slice_set shown.rows q.serial (record { key = q.key; job = Over (ends.Cancelled w.receive.into.buffer) }))
+      shown = subst (λ (c : Core). IsShown links (after_dropping old q b) known c)
+          (sym (settled_free (core_cancels core (Some q.serial)) core_is))
+          (shown_free links (after_dropping old q b) known (core_cancels core (Some q.serial))
+          (slice_set shown.rows q.serial
+          (record { key = q.key; job = Over (ends.Cancelled w.receive.into.buffer) }))
           (cancel_holds links old known core q b shown w) free core_is);
       sends = refl;
       tells = refl;
     }
 
 -- what is cancelled by how far it is
-cancel_some : (links : Announcements) (old : CoreState) (known : List ℕ) (core : Core) (q : Request) → IsShown links old known core → old.blocked ≡ None → cancel_fault old (Some q) ≡ None → (o : Option RequestProgress) →
-    progress_at old.slots q.key q.serial ≡ o → IsMeant links old known core (machine.Cancel (Some q.serial)) replies.Accepted (cancelled_at old q o)
+cancel_some : (links : Announcements) (old : CoreState) (known : List ℕ) (core : Core) (q : Request) →
+    IsShown links old known core → old.blocked ≡ None → cancel_fault old (Some q) ≡ None →
+    (o : Option RequestProgress) →
+    progress_at old.slots q.key q.serial ≡ o →
+    IsMeant links old known core (machine.Cancel (Some q.serial)) replies.Accepted (cancelled_at old q o)
 cancel_some links old known core q shown free fine None g =
     let p : IsPresent old q = cancel_present old q fine in
     absurd (none-some p.0 (sym g ∙ p.1))
 cancel_some links old known core q shown free fine (Some (Receiving b)) g =
-    subst (λ (ss : List (Option TableEntry)). IsMeant links old known core (machine.Cancel (Some q.serial)) replies.Accepted (record old { slots = ss; queues = queues.after_cancel old.queues q.key }))
+    subst (λ (ss : List (Option TableEntry)). IsMeant links old known core (machine.Cancel (Some q.serial))
+    replies.Accepted (record old { slots = ss; queues = queues.after_cancel old.queues q.key }))
     (sym (ap (cancelled_by old.slots q) g)) (cancel_waiting links old known core q b shown free fine g)
 cancel_some links old known core q shown free fine (Some (progresses.Collecting w)) g =
     let r : HasRow shown.rows q.serial q.key (progresses.Collecting w) = row_of old.slots shown.rows q.serial q.key (progresses.Collecting w) shown.table g in
@@ -283,13 +334,17 @@ cancel_some links old known core q shown free fine (Some (progresses.TakenOut t)
     let r : HasRow shown.rows q.serial q.key (progresses.TakenOut t) = row_of old.slots shown.rows q.serial q.key (progresses.TakenOut t) shown.table g in
     cancel_still links old known core q r.job shown free fine r.there (taken_stays t r.job r.fits)
 cancel_some links old known core q shown free fine (Some (Finished o)) g =
-    cancel_still links old known core q (Over (outcome_seen o)) shown free fine (finished_row old.slots shown.rows q o shown.table g) refl
+    cancel_still links old known core q (Over (outcome_seen o)) shown free fine
+    (finished_row old.slots shown.rows q o shown.table g) refl
 
 -- a cancel that breaks no rule
-pub cancel_meant : (links : Announcements) (old new : CoreState) (known : List ℕ) (core : Core) (q : Option Request) (reply : CoreReply) → IsShown links old known core → old.blocked ≡ None → cancel_fault old q ≡ None → Cancels old q reply new →
+pub cancel_meant : (links : Announcements) (old new : CoreState) (known : List ℕ) (core : Core) (q : Option Request)
+    (reply : CoreReply) → IsShown links old known core → old.blocked ≡ None → cancel_fault old q ≡ None →
+    Cancels old q reply new →
     IsMeant links old known core (machine.Cancel (request_by own_serial q)) reply new
 cancel_meant links old new known core None reply shown free fine cancels = absurd cc
 cancel_meant links old new known core (Some q) reply shown free fine cancels =
     subst (λ (x : CoreReply). IsMeant links old known core (machine.Cancel (Some q.serial)) x new) (sym cancels.0)
-    (subst (λ (x : CoreState). IsMeant links old known core (machine.Cancel (Some q.serial)) replies.Accepted x) (sym cancels.1)
+    (subst (λ (x : CoreState). IsMeant links old known core (machine.Cancel (Some q.serial)) replies.Accepted x)
+    (sym cancels.1)
     (cancel_some links old known core q shown free fine (progress_at old.slots q.key q.serial) refl))

@@ -1,5 +1,7 @@
 -- Data that are due: what collects them at a rank, which request of the core takes them, and what they are.
-use Rattle.std.proofs.Common.{◌≡◌, ◌≢◌, ℕ, zero, suc, ◌*◌, ◌/◌, ◌^◌, ◌<◌, ◌==◌, ◌&&◌, ◌||◌, Bool, true, false, List, [], ◌∷◌, ◌++◌, length, nat_lt, Option, Some, None, if◌then◌else◌, slice_get, slice_index, option_map, refl, sym, ap, ◌∙◌, arith, ◌⊎◌, inl, inr}
+use Rattle.std.proofs.Common.{◌≡◌, ◌≢◌, ℕ, zero, suc, ◌*◌, ◌/◌, ◌^◌, ◌<◌, ◌==◌, ◌&&◌, ◌||◌, Bool, true, false, List, []}
+use Rattle.std.proofs.Common.{◌∷◌, ◌++◌, length, nat_lt, Option, Some, None, if◌then◌else◌, slice_get, slice_index}
+use Rattle.std.proofs.Common.{option_map, refl, sym, ap, ◌∙◌, arith, ◌⊎◌, inl, inr}
 use Rattle.std.proofs.Math.Nat.{mul-div_cancel}
 use Rattle.std.proofs.lemmas.Bool.{and_parts, cases_eq, eq-eqb, eqb-true, ne_eqb}
 use Rattle.std.proofs.lemmas.Option.{same_Some}
@@ -13,7 +15,8 @@ use Rattle.perfect_queues.specs.Receives.{names}
 use Rattle.proof_pure_network.specs.Core.{Core}
 use Rattle.proof_pure_network.specs.Engine as network
 use Rattle.proof_pure_network.specs.Jobs as jobs
-use Rattle.proof_pure_network.specs.Jobs.{Job, Closed, Offering, Over, Waiting, collecting, ended, is_collecting, Probed, Unmatched}
+use Rattle.proof_pure_network.specs.Jobs.{Job, Closed, Offering, Over, Waiting, collecting, ended, is_collecting}
+use Rattle.proof_pure_network.specs.Jobs.{Probed, Unmatched}
 use Rattle.proof_engine_steps.specs.Steps.{CollectsOnce}
 use Rattle.proof_engine_steps.proofs.ListsApart.{HasIt, Passes, of_map, position_passes}
 
@@ -37,10 +40,12 @@ middle false true c h = refl
 middle false false c h = absurd (grind arith)
 
 -- only with such a one data are due
-pub collection_there : (cs : List Collecting) (source transfer offset : ℕ) (piece : List ℕ) → is_due cs source transfer offset piece ≡ true → IsDueFor cs source transfer offset
+pub collection_there : (cs : List Collecting) (source transfer offset : ℕ) (piece : List ℕ) →
+    is_due cs source transfer offset piece ≡ true → IsDueFor cs source transfer offset
 collection_there cs source transfer offset piece due = go (collection_for source transfer cs) refl due
   where
-    at : (i : ℕ) → collection_for source transfer cs ≡ Some i → Passes (is_from source transfer) cs i → is_taken (slice_get cs i) offset piece ≡ true → IsDueFor cs source transfer offset
+    at : (i : ℕ) → collection_for source transfer cs ≡ Some i → Passes (is_from source transfer) cs i →
+        is_taken (slice_get cs i) offset piece ≡ true → IsDueFor cs source transfer offset
     at i e p h =
         let c : Collecting = p.element in
         let t : is_next_data c offset piece ≡ true = sym (ap (λ (o : Option Collecting). is_taken o offset piece) p.there) ∙ h in
@@ -55,7 +60,8 @@ collection_there cs source transfer offset piece due = go (collection_for source
           offset_is = eqb-true offset (length c.bytes) (middle _ (offset == length c.bytes) _ t);
         }
 
-    go : (o : Option ℕ) → collection_for source transfer cs ≡ o → is_taken (collection_at cs o) offset piece ≡ true → IsDueFor cs source transfer offset
+    go : (o : Option ℕ) → collection_for source transfer cs ≡ o → is_taken (collection_at cs o) offset piece ≡ true →
+        IsDueFor cs source transfer offset
     go None e h = absurd (grind arith)
     go (Some i) e h = at i e (position_passes (is_from source transfer) cs i e) h
 
@@ -66,15 +72,19 @@ abbrev some_at : Job → Option (ℕ × Job)
 some_at x = Some (zero, x)
 
 -- the request that collects, where no other does
-pub collecting_there : (s : Endpoint) (k : ℕ) (js : List Job) (i : ℕ) (x : Job) → slice_get js i ≡ Some x → is_collecting s k x ≡ true →
+pub collecting_there : (s : Endpoint) (k : ℕ) (js : List Job) (i : ℕ) (x : Job) → slice_get js i ≡ Some x →
+    is_collecting s k x ≡ true →
     ((j : ℕ) (y : Job) → slice_get js j ≡ Some y → is_collecting s k y ≡ true → i ≡ j) → collecting s k js ≡ Some (i, x)
 collecting_there s k [] i x h c one = absurd (grind arith)
 collecting_there s k (y ∷ ys) zero x h c one =
     let same : y ≡ x = same_Some y x h in
-    ap (λ (b : Bool). if b then Some (zero, y) else option_map (λ (t : ℕ × Job). (suc t.0, t.1)) (collecting s k ys)) (ap (is_collecting s k) same ∙ c) ∙ ap (λ (z : Job). some_at z) same
+    ap (λ (b : Bool). if b then Some (zero, y) else option_map (λ (t : ℕ × Job). (suc t.0, t.1)) (collecting s k ys))
+    (ap (is_collecting s k) same ∙ c) ∙ ap (λ (z : Job). some_at z) same
 collecting_there s k (y ∷ ys) (suc i) x h c one =
-    ap (λ (b : Bool). if b then Some (zero, y) else option_map (λ (t : ℕ × Job). (suc t.0, t.1)) (collecting s k ys)) (first (is_collecting s k y) refl)
-    ∙ ap (λ (o : Option (ℕ × Job)). option_map (λ (t : ℕ × Job). (suc t.0, t.1)) o) (collecting_there s k ys i x h c later)
+    ap (λ (b : Bool). if b then Some (zero, y) else option_map (λ (t : ℕ × Job). (suc t.0, t.1)) (collecting s k ys))
+    (first (is_collecting s k y) refl)
+    ∙ ap (λ (o : Option (ℕ × Job)). option_map (λ (t : ℕ × Job). (suc t.0, t.1)) o)
+    (collecting_there s k ys i x h c later)
   where
     first : (b : Bool) → is_collecting s k y ≡ b → is_collecting s k y ≡ false
     first true e = absurd (grind (arith, one zero y refl e))
@@ -84,27 +94,33 @@ collecting_there s k (y ∷ ys) (suc i) x h c one =
     later j z g d = let e : suc i ≡ suc j = one (suc j) z g d in omega arith
 
 -- a lesson only ends requests
-ended_collecting : (r i : ℕ) (s : Endpoint) (k : ℕ) (j : Job) → is_collecting s k (ended r i j) ≡ true → is_collecting s k j ≡ true
+ended_collecting : (r i : ℕ) (s : Endpoint) (k : ℕ) (j : Job) → is_collecting s k (ended r i j) ≡ true →
+    is_collecting s k j ≡ true
 ended_collecting r i s k (Waiting p) h = go (names p.source r) h
   where
-    go : (b : Bool) → is_collecting s k (if b then Over (machine.Replaced (Some p.into.buffer)) else Waiting p) ≡ true → is_collecting s k (Waiting p) ≡ true
+    go : (b : Bool) → is_collecting s k (if b then Over (machine.Replaced (Some p.into.buffer)) else Waiting p) ≡ true →
+        is_collecting s k (Waiting p) ≡ true
     go true e = absurd (grind arith)
     go false e = e
 ended_collecting r i s k (jobs.Collecting p g got) h = go (names p.source r || is_former r i g.sender) h
   where
-    go : (b : Bool) → is_collecting s k (if b then Over (machine.Replaced (Some p.into.buffer)) else jobs.Collecting p g got) ≡ true → is_collecting s k (jobs.Collecting p g got) ≡ true
+    go : (b : Bool) →
+        is_collecting s k (if b then Over (machine.Replaced (Some p.into.buffer)) else jobs.Collecting p g got) ≡ true →
+        is_collecting s k (jobs.Collecting p g got) ≡ true
     go true e = absurd (grind arith)
     go false e = e
 ended_collecting r i s k (Offering d basic values) h = go (d.rank == r) h
   where
-    go : (b : Bool) → is_collecting s k (if b then Over (machine.Replaced None) else Offering d basic values) ≡ true → is_collecting s k (Offering d basic values) ≡ true
+    go : (b : Bool) → is_collecting s k (if b then Over (machine.Replaced None) else Offering d basic values) ≡ true →
+        is_collecting s k (Offering d basic values) ≡ true
     go true e = absurd (grind arith)
     go false e = e
 ended_collecting r i s k (Over x) h = h
 ended_collecting r i s k Closed h = h
 ended_collecting r i s k (Unmatched d) h = go (d.rank == r) h
   where
-    go : (b : Bool) → is_collecting s k (if b then Over (machine.Replaced None) else Unmatched d) ≡ true → is_collecting s k (Unmatched d) ≡ true
+    go : (b : Bool) → is_collecting s k (if b then Over (machine.Replaced None) else Unmatched d) ≡ true →
+        is_collecting s k (Unmatched d) ≡ true
     go true e = absurd (grind arith)
     go false e = e
 ended_collecting r i s k (Probed g x) h = h
@@ -123,7 +139,8 @@ once_met core w once = go (nat_lt (core.known w.rank) w.incarnation)
     learned s k m n x y hx cx hy cy =
         let a : HasIt (ended r i) core.jobs m x = of_map (ended r i) core.jobs m x hx in
         let b : HasIt (ended r i) core.jobs n y = of_map (ended r i) core.jobs n y hy in
-        once s k m n a.element b.element a.there (ended_collecting r i s k a.element (ap (is_collecting s k) a.has ∙ cx)) b.there
+        once s k m n a.element b.element a.there
+        (ended_collecting r i s k a.element (ap (is_collecting s k) a.has ∙ cx)) b.there
         (ended_collecting r i s k b.element (ap (is_collecting s k) b.has ∙ cy))
 
     go : (b : Bool) → CollectsOnce (if b then network.learned core r i else core)

@@ -1,5 +1,7 @@
 -- The rows once a rank is learnt at a later incarnation: what names it has ended.
-use Rattle.std.proofs.Common.{◌≡◌, ℕ, zero, suc, Bool, true, false, not, cond, List, [], ◌∷◌, ◌++◌, map, filter, Option, Some, None, if◌then◌else◌, slice_get, option_map, refl, sym, ap, ◌∙◌, subst, ◌||◌, ◌==◌, ◌⊎◌, inl, inr}
+use Rattle.std.proofs.Common.{◌≡◌, ℕ, zero, suc, Bool, true, false, not, cond, List, [], ◌∷◌, ◌++◌, map, filter, Option}
+use Rattle.std.proofs.Common.{Some, None, if◌then◌else◌, slice_get, option_map, refl, sym, ap, ◌∙◌, subst, ◌||◌, ◌==◌}
+use Rattle.std.proofs.Common.{◌⊎◌, inl, inr}
 use Rattle.std.proofs.lemmas.Bool.{cases_eq}
 use Rattle.std.proofs.lemmas.List.Elements.{filter-append}
 use Rattle.std.proofs.lemmas.Option.{none-some, same_Some, slice_get-map}
@@ -28,7 +30,8 @@ ended_jobs r i (x ∷ xs) = ap (λ (js : List Job). ended r i x.job ∷ js) (end
 -- a row that stands there, as it has ended
 pub ended_at : (r i : ℕ) (rows : List Row) (k : ℕ) (row : Row) → slice_get rows k ≡ Some row →
     slice_get (map (ended_row r i) rows) k ≡ Some (ended_row r i row)
-ended_at r i rows k row h = slice_get-map (ended_row r i) rows k ∙ ap (λ (o : Option Row). option_map (ended_row r i) o) h
+ended_at r i rows k row h = slice_get-map (ended_row r i) rows k ∙
+    ap (λ (o : Option Row). option_map (ended_row r i) o) h
 
 -- WHAT IS POSTED
 
@@ -45,13 +48,15 @@ posted_ended r i key (Waiting p) = go (names p.source r)
 posted_ended r i key (Collecting p h got) = go (names p.source r || is_former r i h.sender)
   where
     go : (b : Bool) →
-        ◌≡◌ {A = List queued.PostedReceive} [] (posted_job key (if b then Over (machine.Replaced (Some p.into.buffer)) else Collecting p h got))
+        ◌≡◌ {A = List queued.PostedReceive} []
+        (posted_job key (if b then Over (machine.Replaced (Some p.into.buffer)) else Collecting p h got))
     go true = refl
     go false = refl
 posted_ended r i key (Offering d basic values) = go (d.rank == r)
   where
     go : (b : Bool) →
-        ◌≡◌ {A = List queued.PostedReceive} [] (posted_job key (if b then Over (machine.Replaced None) else Offering d basic values))
+        ◌≡◌ {A = List queued.PostedReceive} []
+        (posted_job key (if b then Over (machine.Replaced None) else Offering d basic values))
     go true = refl
     go false = refl
 posted_ended r i key (Over x) = refl
@@ -59,18 +64,21 @@ posted_ended r i key Closed = refl
 posted_ended r i key (Unmatched d) = go (d.rank == r)
   where
     go : (b : Bool) →
-        ◌≡◌ {A = List queued.PostedReceive} [] (posted_job key (if b then Over (machine.Replaced None) else Unmatched d))
+        ◌≡◌ {A = List queued.PostedReceive} []
+        (posted_job key (if b then Over (machine.Replaced None) else Unmatched d))
     go true = refl
     go false = refl
 posted_ended r i key (Probed g h) = refl
 
 -- of all rows
 pub posted_left : (r i : ℕ) (rows : List Row) →
-    filter (λ (x : queued.PostedReceive). not (names x.source r)) (posted_rows rows) ≡ posted_rows (map (ended_row r i) rows)
+    filter (λ (x : queued.PostedReceive). not (names x.source r)) (posted_rows rows) ≡
+    posted_rows (map (ended_row r i) rows)
 posted_left r i [] = refl
 posted_left r i (x ∷ xs) =
     filter-append (λ (y : queued.PostedReceive). not (names y.source r)) (posted_job x.key x.job) (posted_rows xs) ∙
-    (ap (λ (ys : List queued.PostedReceive). ys ++ filter (λ (y : queued.PostedReceive). not (names y.source r)) (posted_rows xs)) (posted_ended r i x.key x.job) ∙
+    (ap (λ (ys : List queued.PostedReceive). ys ++
+    filter (λ (y : queued.PostedReceive). not (names y.source r)) (posted_rows xs)) (posted_ended r i x.key x.job) ∙
     ap (λ (ys : List queued.PostedReceive). posted_job x.key (ended r i x.job) ++ ys) (posted_left r i xs))
 
 -- WHAT IS HELD
@@ -162,7 +170,8 @@ posted_of key p = record { request = key; context = p.context; source = p.source
 -- the keys with this receive in front, by whether it names the rank
 abbrev keys_by : (r : ℕ) → Bool → queued.PostedReceive → List queued.PostedReceive → List ℕ
 keys_by r b x ps = map (λ (y : queued.PostedReceive). y.request)
-    (cond b (x ∷ filter (λ (y : queued.PostedReceive). names y.source r) ps) (filter (λ (y : queued.PostedReceive). names y.source r) ps))
+    (cond b (x ∷ filter (λ (y : queued.PostedReceive). names y.source r) ps)
+    (filter (λ (y : queued.PostedReceive). names y.source r) ps))
 
 -- a key is there where that of a later row is
 more_among : (r key own : ℕ) (job : Job) (ps : List queued.PostedReceive) → IsAmong key (keys_naming r ps) →
@@ -193,7 +202,8 @@ naming_among r [] k key p h named = absurd (none-some (record { key = key; job =
 naming_among r (x ∷ xs) zero key p h named =
     subst (λ (y : Row). IsAmong key (keys_naming r (posted_job y.key y.job ++ posted_rows xs)))
     (sym (same_Some x (record { key = key; job = Waiting p }) h)) (first_among r key p (posted_rows xs) named)
-naming_among r (x ∷ xs) (suc k) key p h named = more_among r key x.key x.job (posted_rows xs) (naming_among r xs k key p h named)
+naming_among r (x ∷ xs) (suc k) key p h named =
+    more_among r key x.key x.job (posted_rows xs) (naming_among r xs k key p h named)
 
 -- a later row
 later_row : (x : Row) (xs : List Row) (r key : ℕ) → IsNaming xs r key → IsNaming (x ∷ xs) r key
@@ -210,7 +220,8 @@ first_or_later r key x xs (Waiting p) is rest h = go (names p.source r) refl h
         record {
           serial = zero;
           receive = p;
-          there = ap (λ (j : Job). Some (record { key = x.key; job = j })) is ∙ ap (λ (n : ℕ). Some (record { key = n; job = Waiting p })) (sym e);
+          there = ap (λ (j : Job). Some (record { key = x.key; job = j })) is ∙
+              ap (λ (n : ℕ). Some (record { key = n; job = Waiting p })) (sym e);
           named = named;
         }
 
@@ -218,7 +229,8 @@ first_or_later r key x xs (Waiting p) is rest h = go (names p.source r) refl h
     there named (inl e) = first e named
     there named (inr a) = later_row x xs r key (rest a)
 
-    go : (b : Bool) → names p.source r ≡ b → IsAmong key (keys_by r b (posted_of x.key p) (posted_rows xs)) → IsNaming (x ∷ xs) r key
+    go : (b : Bool) → names p.source r ≡ b → IsAmong key (keys_by r b (posted_of x.key p) (posted_rows xs)) →
+        IsNaming (x ∷ xs) r key
     go true named a = there named a
     go false named a = later_row x xs r key (rest a)
 first_or_later r key x xs (Collecting p m got) is rest h = later_row x xs r key (rest h)
@@ -229,6 +241,7 @@ first_or_later r key x xs (Unmatched d) is rest h = later_row x xs r key (rest h
 first_or_later r key x xs (Probed g m) is rest h = later_row x xs r key (rest h)
 
 -- the row of a key that is there
-pub named_at : (r : ℕ) (rows : List Row) (key : ℕ) → IsAmong key (keys_naming r (posted_rows rows)) → IsNaming rows r key
+pub named_at : (r : ℕ) (rows : List Row) (key : ℕ) → IsAmong key (keys_naming r (posted_rows rows)) →
+    IsNaming rows r key
 named_at r [] key h = absurd h
 named_at r (x ∷ xs) key h = first_or_later r key x xs x.job refl (named_at r xs key) h

@@ -31,5 +31,6 @@ pub record IsEnding (rows : List Row) (r i key : ℕ) : Type 0 where
 
 -- these are the keys of the requests that end
 pub record AreEnding (rows : List Row) (r i : ℕ) (keys : List ℕ) : Type 0 where
-  pub each : (k key : ℕ) (job : Job) → slice_get rows k ≡ Some (record { key = key; job = job }) → ends_by r i job ≡ true → IsAmong key keys
+  pub each : (k key : ℕ) (job : Job) → slice_get rows k ≡ Some (record { key = key; job = job }) →
+      ends_by r i job ≡ true → IsAmong key keys
   pub only : (key : ℕ) → IsAmong key keys → IsEnding rows r i key

@@ -1,5 +1,6 @@
 -- Requests of other engines, and requests that stand in the table.
-use Rattle.std.proofs.Common.{◌≡◌, ℕ, zero, suc, Bool, true, false, not, ◌&&◌, ◌||◌, List, [], ◌∷◌, Option, Some, None, if◌then◌else◌, ◌==◌, refl, sym, ap, ◌∙◌}
+use Rattle.std.proofs.Common.{◌≡◌, ℕ, zero, suc, Bool, true, false, not, ◌&&◌, ◌||◌, List, [], ◌∷◌, Option, Some, None}
+use Rattle.std.proofs.Common.{if◌then◌else◌, ◌==◌, refl, sym, ap, ◌∙◌}
 use Rattle.std.specs.List.{list_any}
 use Rattle.std.proofs.lemmas.Bool.{eq-eqb}
 use Rattle.proof_pure_network.specs.Jobs.{Job}
@@ -23,7 +24,8 @@ not_held (Some t) k h = go (t.serial == k) refl h
     go false is h' = is
 
 -- one in which some progress is told holds it
-told_held : (slot : Option TableEntry) (k : ℕ) (g : RequestProgress) → progress_of slot k ≡ Some g → has_serial k slot ≡ true
+told_held : (slot : Option TableEntry) (k : ℕ) (g : RequestProgress) → progress_of slot k ≡ Some g →
+    has_serial k slot ≡ true
 told_held None k g h = absurd cc
 told_held (Some t) k g h = go (t.serial == k) refl h
   where
@@ -37,7 +39,8 @@ or_true true b h = refl
 or_true false b h = h
 
 -- a slot that holds a serial is found among all
-found_among : (slots : List (Option TableEntry)) (key k : ℕ) → has_serial k (slot_at slots key) ≡ true → list_any (has_serial k) slots ≡ true
+found_among : (slots : List (Option TableEntry)) (key k : ℕ) → has_serial k (slot_at slots key) ≡ true →
+    list_any (has_serial k) slots ≡ true
 found_among [] key k h = h
 found_among (x ∷ xs) zero k h = ap (λ (b : Bool). b || list_any (has_serial k) xs) h
 found_among (x ∷ xs) (suc j) k h = or_true (has_serial k x) (list_any (has_serial k) xs) (found_among xs j k h)
@@ -45,7 +48,8 @@ found_among (x ∷ xs) (suc j) k h = or_true (has_serial k x) (list_any (has_ser
 -- WHETHER ANOTHER ENGINE GAVE A REQUEST
 
 -- a request of which the table holds the serial, but not under its key, is another engine's
-pub foreign_of : (slots : List (Option TableEntry)) (q : Request) (key : ℕ) (j : Job) → progress_at slots q.key q.serial ≡ None →
+pub foreign_of : (slots : List (Option TableEntry)) (q : Request) (key : ℕ) (j : Job) →
+    progress_at slots q.key q.serial ≡ None →
     is_foreign slots q ≡ false → Holds (slot_at slots key) q.serial j → ⊥
 foreign_of slots q key j h own held =
     let here : has_serial q.serial (slot_at slots key) ≡ true = ap (has_serial q.serial) held.there ∙ eq-eqb held.entry.serial q.serial held.serial_is in
@@ -70,6 +74,8 @@ and_not true b h = ap (λ (x : Bool). not x) h
 and_not false b h = refl
 
 -- a request that the table holds stands for its own serial
-pub held_own : (e : CoreState) (q : Request) (g : RequestProgress) → progress_at e.slots q.key q.serial ≡ Some g → serial_meant e q ≡ q.serial
+pub held_own : (e : CoreState) (q : Request) (g : RequestProgress) → progress_at e.slots q.key q.serial ≡ Some g →
+    serial_meant e q ≡ q.serial
 held_own e q g h =
-    meant_own e q (and_not (list_any (has_serial q.serial) e.slots) (has_serial q.serial (slot_at e.slots q.key)) (told_held (slot_at e.slots q.key) q.serial g h))
+    meant_own e q (and_not (list_any (has_serial q.serial) e.slots) (has_serial q.serial (slot_at e.slots q.key))
+    (told_held (slot_at e.slots q.key) q.serial g h))

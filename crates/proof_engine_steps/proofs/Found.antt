@@ -1,5 +1,6 @@
 -- The rows of requests that the table holds.
-use Rattle.std.proofs.Common.{◌≡◌, ℕ, true, List, Option, Some, None, is_some, ◌==◌, slice_get, refl, sym, ap, ◌∙◌, subst, ◌⊎◌, inl, inr}
+use Rattle.std.proofs.Common.{◌≡◌, ℕ, true, List, Option, Some, None, is_some, ◌==◌, slice_get, refl, sym, ap, ◌∙◌}
+use Rattle.std.proofs.Common.{subst, ◌⊎◌, inl, inr}
 use Rattle.std.proofs.lemmas.Bool.{eqb-true}
 use Rattle.std.proofs.lemmas.Option.{cond_some, none-some}
 use Rattle.vocabulary.specs.declared.basic_type.BasicType.{BasicType}
@@ -28,16 +29,19 @@ pub record HasRow (rows : List Row) (k key : ℕ) (g : RequestProgress) : Type 0
   pub fits : Fits g job
 
 -- the row of an entry with this serial
-row_found : (rows : List Row) (k key : ℕ) (g : RequestProgress) (t : TableEntry) → IsRow rows key t → t.serial ≡ k → t.progress ≡ g → HasRow rows k key g
+row_found : (rows : List Row) (k key : ℕ) (g : RequestProgress) (t : TableEntry) → IsRow rows key t → t.serial ≡ k →
+    t.progress ≡ g → HasRow rows k key g
 row_found rows k key g t r s p =
     record {
       job = r.row.job;
-      there = sym (ap (slice_get rows) s) ∙ (r.there ∙ ap (λ (x : ℕ). Some (record { key = x; job = r.row.job })) r.key_is);
+      there = sym (ap (slice_get rows) s) ∙
+          (r.there ∙ ap (λ (x : ℕ). Some (record { key = x; job = r.row.job })) r.key_is);
       fits = subst (λ (x : RequestProgress). Fits x r.row.job) p r.fits;
     }
 
 -- a request whose progress the table tells has a row
-pub row_of : (table : List (Option TableEntry)) (rows : List Row) (k key : ℕ) (g : RequestProgress) → IsTable table rows → progress_at table key k ≡ Some g → HasRow rows k key g
+pub row_of : (table : List (Option TableEntry)) (rows : List Row) (k key : ℕ) (g : RequestProgress) →
+    IsTable table rows → progress_at table key k ≡ Some g → HasRow rows k key g
 row_of table rows k key g t h = go (slot_at table key) refl h
   where
     go : (s : Option TableEntry) → slot_at table key ≡ s → progress_of s k ≡ Some g → HasRow rows k key g
@@ -120,7 +124,8 @@ probed_of t (Offering d basic values) f = absurd f
 probed_of t (Over x) f = absurd f
 probed_of t Closed f = absurd f
 probed_of t (Unmatched d) f = absurd f
-probed_of t (Probed g h) f = record { message = h; is = ap (λ (x : Option (List ℕ)). Probed x h) f.group_is; there = f.there }
+probed_of t (Probed g h) f =
+    record { message = h; is = ap (λ (x : Option (List ℕ)). Probed x h) f.group_is; there = f.there }
 
 -- one that stands in the table isn't closed
 pub open_of : (g : RequestProgress) → Fits g Closed → ⊥
@@ -131,7 +136,8 @@ open_of (progresses.TakenOut t) f = f
 open_of (Finished o) f = f
 
 -- a request whose progress the table tells is named by an unanswered row
-pub named_of : (table : List (Option TableEntry)) (rows : List Row) (q : Request) (g : RequestProgress) → IsTable table rows → progress_at table q.key q.serial ≡ Some g → IsNamed rows q
+pub named_of : (table : List (Option TableEntry)) (rows : List Row) (q : Request) (g : RequestProgress) →
+    IsTable table rows → progress_at table q.key q.serial ≡ Some g → IsNamed rows q
 named_of table rows q g t h =
     let r : HasRow rows q.serial q.key g = row_of table rows q.serial q.key g t h in
     record {
@@ -142,7 +148,8 @@ named_of table rows q g t h =
     }
 
 -- the row of a request that is finished
-pub finished_row : (table : List (Option TableEntry)) (rows : List Row) (q : Request) (o : Outcome) → IsTable table rows → progress_at table q.key q.serial ≡ Some (Finished o) →
+pub finished_row : (table : List (Option TableEntry)) (rows : List Row) (q : Request) (o : Outcome) →
+    IsTable table rows → progress_at table q.key q.serial ≡ Some (Finished o) →
     slice_get rows q.serial ≡ Some (record { key = q.key; job = Over (outcome_seen o) })
 finished_row table rows q o t h =
     let r : HasRow rows q.serial q.key (Finished o) = row_of table rows q.serial q.key (Finished o) t h in

@@ -1,5 +1,6 @@
 -- What a rank and its core know of the ranks.
-use Rattle.std.proofs.Common.{◌≡◌, ℕ, zero, suc, ◌<◌, Bool, true, false, List, length, max, if◌then◌else◌, ◌==◌, slice_index, slice_set, replicate, refl, sym, ap, ◌∙◌, subst, arith}
+use Rattle.std.proofs.Common.{◌≡◌, ℕ, zero, suc, ◌<◌, Bool, true, false, List, length, max, if◌then◌else◌, ◌==◌}
+use Rattle.std.proofs.Common.{slice_index, slice_set, replicate, refl, sym, ap, ◌∙◌, subst, arith}
 use Rattle.std.proofs.lemmas.Bool.{eqb-false, eqb-true}
 use Rattle.std.proofs.lemmas.List.{get_or-set_other, get_or-set_same, length-replicate, length-set}
 use Rattle.incarnation.specs.declared.place.Place.{Place}
@@ -27,15 +28,20 @@ opening_known p inside =
       itself = own;
     }
   where
-    own : slice_index (slice_set (replicate p.size 0) p.endpoint.rank p.endpoint.incarnation) p.endpoint.rank ≡ p.endpoint.incarnation
+    own : slice_index (slice_set (replicate p.size 0) p.endpoint.rank p.endpoint.incarnation) p.endpoint.rank ≡
+        p.endpoint.incarnation
     own = get_or-set_same (replicate p.size 0) p.endpoint.rank p.endpoint.incarnation 0
         (subst (λ (n : ℕ). p.endpoint.rank < n) (sym (length-replicate p.size 0)) inside)
 
     same : (r : ℕ) (b : Bool) → (r == p.endpoint.rank) ≡ b →
-        (if b then p.endpoint.incarnation else 0) ≡ slice_index (slice_set (replicate p.size 0) p.endpoint.rank p.endpoint.incarnation) r
-    same r true e = sym (ap (slice_index (slice_set (replicate p.size 0) p.endpoint.rank p.endpoint.incarnation)) (eqb-true r p.endpoint.rank e) ∙ own)
+        (if b then p.endpoint.incarnation else 0) ≡
+        slice_index (slice_set (replicate p.size 0) p.endpoint.rank p.endpoint.incarnation) r
+    same r true e =
+        sym (ap (slice_index (slice_set (replicate p.size 0) p.endpoint.rank p.endpoint.incarnation))
+        (eqb-true r p.endpoint.rank e) ∙ own)
     same r false e =
-        sym (get_or-set_other (replicate p.size 0) p.endpoint.rank r p.endpoint.incarnation 0 (eqb-false r p.endpoint.rank e) ∙ zero_everywhere p.size r)
+        sym (get_or-set_other (replicate p.size 0) p.endpoint.rank r p.endpoint.incarnation 0
+        (eqb-false r p.endpoint.rank e) ∙ zero_everywhere p.size r)
 
 -- the greater of two numbers
 greater : (a b : ℕ) → a < b → max a b ≡ b
@@ -53,7 +59,8 @@ learnt_known p known at r i h inside apart later =
     }
   where
     written : slice_index (slice_set known r (max (slice_index known r) i)) r ≡ i
-    written = get_or-set_same known r (max (slice_index known r) i) 0 (subst (λ (n : ℕ). r < n) (sym h.width) inside) ∙ greater (slice_index known r) i later
+    written = get_or-set_same known r (max (slice_index known r) i) 0 (subst (λ (n : ℕ). r < n) (sym h.width) inside) ∙
+        greater (slice_index known r) i later
 
     same : (x : ℕ) (b : Bool) → (x == r) ≡ b →
         (if b then i else at x) ≡ slice_index (slice_set known r (max (slice_index known r) i)) x

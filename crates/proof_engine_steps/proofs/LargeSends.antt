@@ -1,5 +1,7 @@
--- A large send of a rank to another one: what its core in the network does with it, what it leaves of the rank, and its frame.
-use Rattle.std.proofs.Common.{◌^◌, ◌≡◌, ℕ, ◌+◌, ◌*◌, ◌<◌, ◌≤◌, ◌==◌, ◌||◌, Bool, true, false, List, [], ◌∷◌, ◌++◌, length, Option, Some, None, if◌then◌else◌, nat_le, refl, sym, ap, ap₂, ◌∙◌, subst, arith}
+-- A large send of a rank to another one: what its core in the network does with it, what it leaves of the rank, and its
+-- frame.
+use Rattle.std.proofs.Common.{◌^◌, ◌≡◌, ℕ, ◌+◌, ◌*◌, ◌<◌, ◌≤◌, ◌==◌, ◌||◌, Bool, true, false, List, [], ◌∷◌, ◌++◌}
+use Rattle.std.proofs.Common.{length, Option, Some, None, if◌then◌else◌, nat_le, refl, sym, ap, ap₂, ◌∙◌, subst, arith}
 use Rattle.std.proofs.lemmas.Bool.{and_left, lt-leb, ltb-true}
 use Rattle.vocabulary.specs.BasicTypes.{size_of}
 use Rattle.vocabulary.specs.Limits.{eager_limit, highest_tag, send_limit}
@@ -25,9 +27,12 @@ use Rattle.point_to_point_calls.specs.declared.refusal.Refusal.TheVariants as re
 use Rattle.point_to_point_calls.specs.declared.call.CoreSend.{CoreSend}
 use Rattle.point_to_point_calls.specs.Frames.{FrameFor}
 use Rattle.datagram.specs.Spelling.{FrameText}
-use Rattle.point_to_point_calls.specs.Sending.{announced_to, destination, eager_frame, frame_to, frame_unless, is_announced, is_own, is_to_itself, offered_by, or_worn_out, progress_of_send, rank_to, rank_unless, request_frame}
+use Rattle.point_to_point_calls.specs.Sending.{announced_to, destination, eager_frame, frame_to, frame_unless}
+use Rattle.point_to_point_calls.specs.Sending.{is_announced, is_own, is_to_itself, offered_by, or_worn_out}
+use Rattle.point_to_point_calls.specs.Sending.{progress_of_send, rank_to, rank_unless, request_frame}
 use Rattle.point_to_point.specs.CoreState.{CoreState}
-use Rattle.point_to_point.specs.Sending.{IsOffering, IsSending, arrived_at_itself, arrived_if, begun, frame_of, waiting_of}
+use Rattle.point_to_point.specs.Sending.{IsOffering, IsSending, arrived_at_itself, arrived_if, begun, frame_of}
+use Rattle.point_to_point.specs.Sending.{waiting_of}
 use Rattle.rendezvous.specs.State as transfers
 use Rattle.rendezvous.specs.State.{after_begin, is_full_to, most_transfers, next_to}
 use Rattle.proof_pure_network.specs.Core.{Core, effect, with_jobs}
@@ -50,20 +55,25 @@ abbrev pub announcement_of : Core → Endpoint → (context tag : ℕ) → Basic
 announcement_of core d c tag basic values = (d, Rts c tag basic (length core.jobs) (length values))
 
 -- elements that are announced aren't finished in their own call, where they go to another rank
-waits_for_match : (mode : Mode) (own d : Endpoint) (x : Contents) → is_same d own ≡ false → is_announced mode x ≡ true → machine.is_eager mode own d x.basic x.values ≡ false
+waits_for_match : (mode : Mode) (own d : Endpoint) (x : Contents) → is_same d own ≡ false → is_announced mode x ≡ true →
+    machine.is_eager mode own d x.basic x.values ≡ false
 waits_for_match Standard own d x other large =
     let few : nat_le (length x.values * size_of x.basic) eager_limit ≡ false = lt-leb (length x.values * size_of x.basic) eager_limit (ltb-true eager_limit (length x.values * size_of x.basic) large) in
     ap₂ (λ (a b : Bool). a || b) few other
 waits_for_match Synchronous own d x other large = refl
 
 -- a send to another rank whose message is announced
-pub core_announces : (mode : Mode) (core : Core) (own : Endpoint) (to i c tag : ℕ) (x : Contents) → (to == own.rank) ≡ false → is_announced mode x ≡ true → core.known to ≡ i →
+pub core_announces : (mode : Mode) (core : Core) (own : Endpoint) (to i c tag : ℕ) (x : Contents) →
+    (to == own.rank) ≡ false → is_announced mode x ≡ true → core.known to ≡ i →
     sends_to mode own core c (Rank to) (Some tag) x.basic x.values
-    ≡ effect (core_offering core (record { rank = to; incarnation = i }) x.basic x.values) (announcement_of core (record { rank = to; incarnation = i }) c tag x.basic x.values ∷ [])
+    ≡ effect (core_offering core (record { rank = to; incarnation = i }) x.basic x.values)
+    (announcement_of core (record { rank = to; incarnation = i }) c tag x.basic x.values ∷ [])
 core_announces mode core own to i c tag x other large known =
-    ap (λ (b : Bool). sends own core d (is_same d own) c tag x.basic x.values b) (waits_for_match mode own d x elsewhere large)
+    ap (λ (b : Bool). sends own core d (is_same d own) c tag x.basic x.values b)
+    (waits_for_match mode own d x elsewhere large)
     ∙ (ap (λ (b : Bool). sends own core d b c tag x.basic x.values false) elsewhere
-    ∙ ap (λ (n : ℕ). effect (core_offering core (record { rank = to; incarnation = n }) x.basic x.values) (announcement_of core (record { rank = to; incarnation = n }) c tag x.basic x.values ∷ [])) known)
+    ∙ ap (λ (n : ℕ). effect (core_offering core (record { rank = to; incarnation = n }) x.basic x.values)
+    (announcement_of core (record { rank = to; incarnation = n }) c tag x.basic x.values ∷ [])) known)
   where
     d : Endpoint
     d = machine.receiver core.known to
@@ -74,14 +84,16 @@ core_announces mode core own to i c tag x other large known =
 -- ---- THE RANK'S SEND
 
 -- it is announced to that rank
-pub is_announced_to : (p : Place) (s : CoreSend) (to tag : ℕ) → s.target ≡ Rank to → s.tag ≡ Some tag → (to == p.endpoint.rank) ≡ false → is_announced s.mode (sent_from s.from) ≡ true → announced_to p s ≡ Some to
+pub is_announced_to : (p : Place) (s : CoreSend) (to tag : ℕ) → s.target ≡ Rank to → s.tag ≡ Some tag →
+    (to == p.endpoint.rank) ≡ false → is_announced s.mode (sent_from s.from) ≡ true → announced_to p s ≡ Some to
 is_announced_to p s to tag target_is tag_is other large =
     ap (λ (b : Bool). if b then rank_to p (destination s.target s.tag s.context) else None) large
     ∙ (ap₂ (λ (t : Source) (g : Option ℕ). rank_to p (destination t g s.context)) target_is tag_is
     ∙ ap (λ (b : Bool). rank_unless b (record { rank = to; tag = tag; context = s.context })) other)
 
 -- where no limit refused it, a number is left for it
-free_after : (fault : Option Refusal) (to : ℕ) (t : transfers.State) → or_worn_out fault (Some to) t ≡ None → is_full_to t.numbers to ≡ false
+free_after : (fault : Option Refusal) (to : ℕ) (t : transfers.State) → or_worn_out fault (Some to) t ≡ None →
+    is_full_to t.numbers to ≡ false
 free_after (Some e) to t fine = absurd cc
 free_after None to t fine = go (is_full_to t.numbers to) fine
   where
@@ -89,12 +101,16 @@ free_after None to t fine = go (is_full_to t.numbers to) fine
     go true h = absurd cc
     go false h = refl
 
-pub number_left : (fault : Option Refusal) (rank : Option ℕ) (to : ℕ) (t : transfers.State) → rank ≡ Some to → or_worn_out fault rank t ≡ None → is_full_to t.numbers to ≡ false
-number_left fault rank to t is fine = free_after fault to t (subst (λ (o : Option ℕ). or_worn_out fault o t ≡ None) is fine)
+pub number_left : (fault : Option Refusal) (rank : Option ℕ) (to : ℕ) (t : transfers.State) → rank ≡ Some to →
+    or_worn_out fault rank t ≡ None → is_full_to t.numbers to ≡ false
+number_left fault rank to t is fine =
+    free_after fault to t (subst (λ (o : Option ℕ). or_worn_out fault o t ≡ None) is fine)
 
 -- one that goes to another rank isn't one to itself
-pub not_to_itself : (p : Place) (s : CoreSend) (to tag : ℕ) → s.target ≡ Rank to → s.tag ≡ Some tag → (to == p.endpoint.rank) ≡ false → is_to_itself p s ≡ false
-not_to_itself p s to tag target_is tag_is other = ap₂ (λ (t : Source) (g : Option ℕ). is_own p (destination t g s.context)) target_is tag_is ∙ other
+pub not_to_itself : (p : Place) (s : CoreSend) (to tag : ℕ) → s.target ≡ Rank to → s.tag ≡ Some tag →
+    (to == p.endpoint.rank) ≡ false → is_to_itself p s ≡ false
+not_to_itself p s to tag target_is tag_is other =
+    ap₂ (λ (t : Source) (g : Option ℕ). is_own p (destination t g s.context)) target_is tag_is ∙ other
 
 -- so none of the rank's own sends waits for a match then
 pub none_waits : (mode : Mode) (own : Bool) (q : Request) → own ≡ false → waiting_of mode own q ≡ None
@@ -103,16 +119,22 @@ none_waits Synchronous true q is = absurd cc
 none_waits Synchronous false q is = refl
 
 -- its request waits for the answer
-pub large_sending : (old new : CoreState) (s : CoreSend) (q : Request) (to tag : ℕ) → s.target ≡ Rank to → s.tag ≡ Some tag → (to == old.place.endpoint.rank) ≡ false →
+pub large_sending : (old new : CoreState) (s : CoreSend) (q : Request) (to tag : ℕ) → s.target ≡ Rank to →
+    s.tag ≡ Some tag → (to == old.place.endpoint.rank) ≡ false →
     is_announced s.mode (sent_from s.from) ≡ true → IsSending old s q new → IsOffering old to (sent_from s.from) q new
 large_sending old new s q to tag target_is tag_is other large sent =
     record {
       fresh = sent.fresh;
       serial = sent.serial;
-      entry = subst (λ (slots : List (Option TableEntry)). IsSet old.slots slots q.key (Some (record { serial = old.serial; progress = Offering }))) (sym slots_are)
-          (subst (λ (to : Option ℕ). IsSet old.slots sent.started q.key (Some (record { serial = old.serial; progress = progress_of_send to }))) announced
-          (subst (λ (w : Option Request). IsSet old.slots sent.started q.key (Some (record { serial = old.serial; progress = begun w (announced_to old.place s) })))
-          (none_waits s.mode (is_to_itself old.place s) q (not_to_itself old.place s to tag target_is tag_is other)) sent.entry));
+      entry = subst
+          (λ (slots : List (Option TableEntry)). IsSet old.slots slots q.key
+          (Some (record { serial = old.serial; progress = Offering }))) (sym slots_are)
+          (subst (λ (to : Option ℕ). IsSet old.slots sent.started q.key
+          (Some (record { serial = old.serial; progress = progress_of_send to }))) announced
+          (subst (λ (w : Option Request). IsSet old.slots sent.started q.key
+          (Some (record { serial = old.serial; progress = begun w (announced_to old.place s) })))
+          (none_waits s.mode (is_to_itself old.place s) q (not_to_itself old.place s to tag target_is tag_is other))
+          sent.entry));
       rest = rest ∙ ap left (sym slots_are);
     }
   where
@@ -132,9 +154,17 @@ large_sending old new s q to tag target_is tag_is other large sent =
 
     rest : new ≡ left sent.started
     rest = sent.rest
-        ∙ (ap (λ (x : Option ℕ). arrived_at_itself (record old { slots = sent.started; serial = old.serial + 1; transfers = offered_by old.transfers x q.key c }) (destination s.target s.tag s.context) w c) announced
-        ∙ (ap₂ (λ (t : Source) (g : Option ℕ). arrived_at_itself (left sent.started) (destination t g s.context) w c) target_is tag_is
-        ∙ ap (λ (b : Bool). arrived_if b (left sent.started) (record { rank = to; tag = tag; context = s.context }) w c) other))
+        ∙ (ap (λ (x : Option ℕ). arrived_at_itself
+        (record old {
+          slots = sent.started;
+          serial = old.serial + 1;
+          transfers =
+              offered_by old.transfers x q.key c;
+        }) (destination s.target s.tag s.context) w c) announced
+        ∙ (ap₂ (λ (t : Source) (g : Option ℕ). arrived_at_itself (left sent.started) (destination t g s.context) w c)
+        target_is tag_is
+        ∙ ap (λ (b : Bool). arrived_if b (left sent.started) (record { rank = to; tag = tag; context = s.context }) w c)
+        other))
 
     slots_are : new.slots ≡ sent.started
     slots_are = ap (λ (x : CoreState). x.slots) rest
@@ -143,29 +173,37 @@ large_sending old new s q to tag target_is tag_is other large sent =
 
 -- the frame that announces it
 abbrev pub announcing_frame : Mode → CoreState → (to context tag : ℕ) → Contents → FrameFor
-announcing_frame mode old to context tag c = record { rank = to; frame = request_frame mode (next_to old.transfers.numbers to) context tag c }
+announcing_frame mode old to context tag c =
+    record { rank = to; frame = request_frame mode (next_to old.transfers.numbers to) context tag c }
 
-pub large_frame : (old : CoreState) (s : CoreSend) (to tag : ℕ) → s.target ≡ Rank to → s.tag ≡ Some tag → (to == old.place.endpoint.rank) ≡ false → is_announced s.mode (sent_from s.from) ≡ true →
+pub large_frame : (old : CoreState) (s : CoreSend) (to tag : ℕ) → s.target ≡ Rank to → s.tag ≡ Some tag →
+    (to == old.place.endpoint.rank) ≡ false → is_announced s.mode (sent_from s.from) ≡ true →
     frame_of old s ≡ Some (announcing_frame s.mode old to s.context tag (sent_from s.from))
 large_frame old s to tag target_is tag_is other large =
-    ap₂ (λ (t : Source) (g : Option ℕ). frame_to old.place old.transfers s.mode (destination t g s.context) c) target_is tag_is
-    ∙ (ap (λ (b : Bool). frame_unless b old.transfers s.mode (record { rank = to; tag = tag; context = s.context }) c) other
+    ap₂ (λ (t : Source) (g : Option ℕ). frame_to old.place old.transfers s.mode (destination t g s.context) c) target_is
+    tag_is
+    ∙ (ap (λ (b : Bool). frame_unless b old.transfers s.mode (record { rank = to; tag = tag; context = s.context }) c)
+    other
     ∙ ap (λ (b : Bool). Some (record { rank = to; frame = with_frame b })) large)
   where
     c : Contents
     c = sent_from s.from
 
     with_frame : Bool → FrameText
-    with_frame b = if b then request_frame s.mode (next_to old.transfers.numbers to) s.context tag c else eager_frame s.context tag c
+    with_frame b = if b then request_frame s.mode (next_to old.transfers.numbers to) s.context tag c else
+        eager_frame s.context tag c
 
 -- it may be announced by its size
-may_announce : (mode : Mode) (c : Contents) → is_announced mode c ≡ true → may_be_announced mode (length c.values * size_of c.basic) ≡ true
+may_announce : (mode : Mode) (c : Contents) → is_announced mode c ≡ true →
+    may_be_announced mode (length c.values * size_of c.basic) ≡ true
 may_announce Standard c large = large
 may_announce Synchronous c large = refl
 
 -- it can leave the rank
-pub announcing_leaves : (mode : Mode) (p : Place) (to number context tag : ℕ) (c : Contents) → context < 2 ^ 64 → to < p.size → (to ≡ p.endpoint.rank → ⊥) → tag ≤ highest_tag → is_announced mode c ≡ true →
-    length c.values * size_of c.basic ≤ send_limit → number ≤ most_transfers → CanLeave p (record { rank = to; frame = request_frame mode number context tag c })
+pub announcing_leaves : (mode : Mode) (p : Place) (to number context tag : ℕ) (c : Contents) → context < 2 ^ 64 →
+    to < p.size → (to ≡ p.endpoint.rank → ⊥) → tag ≤ highest_tag → is_announced mode c ≡ true →
+    length c.values * size_of c.basic ≤ send_limit → number ≤ most_transfers →
+    CanLeave p (record { rank = to; frame = request_frame mode number context tag c })
 announcing_leaves mode p to number context tag c wide there apart low large limit most =
     let size : 0 < size_of c.basic = (sizes c.basic).positive in
     let least : length c.values ≤ length c.values * size_of c.basic = grind arith in
@@ -177,9 +215,13 @@ announcing_leaves mode p to number context tag c wide there apart low large limi
     }
 
 -- it stands for what the core announces
-pub announcing_sent : (mode : Mode) (a : Announcements) (known : List ℕ) (to number context tag serial : ℕ) (c : Contents) → number ≡ length (a.to (endpoint_of known to)) →
+pub announcing_sent : (mode : Mode) (a : Announcements) (known : List ℕ) (to number context tag serial : ℕ)
+    (c : Contents) → number ≡ length (a.to (endpoint_of known to)) →
     AreSent (after_out a ((endpoint_of known to, Rts context tag c.basic serial (length c.values)) ∷ []))
     (all_gone known (record { rank = to; frame = request_frame mode number context tag c } ∷ []))
     ((endpoint_of known to, Rts context tag c.basic serial (length c.values)) ∷ [])
-announcing_sent mode a known to number context tag serial c is =
-    (refl, request_stands mode a (endpoint_of known to) number context tag serial c (a.from (endpoint_of known to)) is, tt)
+announcing_sent mode a known to number context tag serial c is = (
+  refl,
+  request_stands mode a (endpoint_of known to) number context tag serial c (a.from (endpoint_of known to)) is,
+  tt,
+)

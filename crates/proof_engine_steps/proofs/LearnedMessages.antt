@@ -1,5 +1,7 @@
--- Messages that were taken out, once a rank is learnt at a later incarnation: those of its former ones are lost, and all others stay.
-use Rattle.std.proofs.Common.{◌≡◌, ℕ, ◌<◌, false, not, List, map, Option, Some, None, slice_index, slice_set, option_map, refl, sym, ap, ◌∙◌, subst, ◌⊎◌, inl, inr}
+-- Messages that were taken out, once a rank is learnt at a later incarnation: those of its former ones are lost, and
+-- all others stay.
+use Rattle.std.proofs.Common.{◌≡◌, ℕ, ◌<◌, false, not, List, map, Option, Some, None, slice_index, slice_set}
+use Rattle.std.proofs.Common.{option_map, refl, sym, ap, ◌∙◌, subst, ◌⊎◌, inl, inr}
 use Rattle.std.proofs.lemmas.Option.{same_Some}
 use Rattle.vocabulary.specs.Endpoints.{is_former}
 use Rattle.vocabulary.specs.declared.endpoint.Endpoint.{Endpoint}
@@ -21,20 +23,25 @@ use Rattle.proof_engine_steps.proofs.Replacing.{ends_false, replaces_among, repl
 use Rattle.proof_engine_steps.proofs.UnderWay.{row_of}
 
 -- of a request that ended nothing is left
-replaced_by : (from : Endpoint → List Transfer) (known : List ℕ) (p : Place) (rows : List Row) (e : TableEntry) (g : RequestProgress) → IsTakenAt from known p rows (Some (replaced_entry (record e { progress = g })))
+replaced_by : (from : Endpoint → List Transfer) (known : List ℕ) (p : Place) (rows : List Row) (e : TableEntry)
+    (g : RequestProgress) → IsTakenAt from known p rows (Some (replaced_entry (record e { progress = g })))
 replaced_by from known p rows e (Receiving w) = tt
 replaced_by from known p rows e (progresses.Collecting w) = tt
 replaced_by from known p rows e progresses.Offering = tt
 replaced_by from known p rows e (progresses.TakenOut t) = tt
 replaced_by from known p rows e (Finished o) = tt
 
-replaced_at : (from : Endpoint → List Transfer) (known : List ℕ) (p : Place) (rows : List Row) (o : Option TableEntry) → IsTakenAt from known p rows (option_map replaced_entry o)
+replaced_at : (from : Endpoint → List Transfer) (known : List ℕ) (p : Place) (rows : List Row) (o : Option TableEntry) →
+    IsTakenAt from known p rows (option_map replaced_entry o)
 replaced_at from known p rows None = tt
 replaced_at from known p rows (Some e) = replaced_by from known p rows e e.progress
 
 -- once rank r is learnt at incarnation i
-pub learned_taken : (from : Endpoint → List Transfer) (known : List ℕ) (p : Place) (rows : List Row) (slots : List (Option TableEntry)) (r i v : ℕ) (keys : List ℕ) → IsTable slots rows → AreEnding rows r i keys → (r ≡ p.endpoint.rank → ⊥) →
-    slice_index known r < i → AreTaken from known p rows slots → AreTaken from (slice_set known r v) p (map (ended_row r i) rows) (after_replaces slots keys)
+pub learned_taken : (from : Endpoint → List Transfer) (known : List ℕ) (p : Place) (rows : List Row)
+    (slots : List (Option TableEntry)) (r i v : ℕ) (keys : List ℕ) → IsTable slots rows → AreEnding rows r i keys →
+    (r ≡ p.endpoint.rank → ⊥) →
+    slice_index known r < i → AreTaken from known p rows slots →
+    AreTaken from (slice_set known r v) p (map (ended_row r i) rows) (after_replaces slots keys)
 learned_taken from known p rows slots r i v keys table are apart later taken key = go (cases_among key keys)
   where
     after : List ℕ
@@ -44,14 +51,18 @@ learned_taken from known p rows slots r i v keys table are apart later taken key
     left = map (ended_row r i) rows
 
     -- the message isn't lost
-    stays : (e : TableEntry) (group : Option (List ℕ)) (m : Message) → (IsAmong key keys → ⊥) → slot_at slots key ≡ Some e → IsTakenOut from known p rows e.serial group m → is_former r i m.sender ≡ false
+    stays : (e : TableEntry) (group : Option (List ℕ)) (m : Message) → (IsAmong key keys → ⊥) →
+        slot_at slots key ≡ Some e → IsTakenOut from known p rows e.serial group m → is_former r i m.sender ≡ false
     stays e group m n at t =
         let row : IsRow rows key e = table.entries key e at in
         let same : row.row ≡ row_of t.key (Probed group (Some (held_of from m))) = same_Some row.row (row_of t.key (Probed group (Some (held_of from m)))) (sym row.there ∙ t.row) in
         ends_false rows r i e.serial key (Probed group (Some (held_of from m))) keys are
-        (t.row ∙ ap (λ (k : ℕ). Some (row_of k (Probed group (Some (held_of from m))))) (sym (ap (λ (y : Row). y.key) same) ∙ row.key_is)) n
+        (t.row ∙ ap (λ (k : ℕ). Some (row_of k (Probed group (Some (held_of from m)))))
+        (sym (ap (λ (y : Row). y.key) same) ∙ row.key_is)) n
 
-    kept_if : (e : TableEntry) (group : Option (List ℕ)) (o : Option Message) → (IsAmong key keys → ⊥) → slot_at slots key ≡ Some e → IsTakenIf from known p rows e.serial group o → IsTakenIf from after p left e.serial group o
+    kept_if : (e : TableEntry) (group : Option (List ℕ)) (o : Option Message) → (IsAmong key keys → ⊥) →
+        slot_at slots key ≡ Some e → IsTakenIf from known p rows e.serial group o →
+        IsTakenIf from after p left e.serial group o
     kept_if e group None n at t = tt
     kept_if e group (Some m) n at t =
         let f : is_former r i m.sender ≡ false = stays e group m n at t in
@@ -61,17 +72,24 @@ learned_taken from known p rows slots r i v keys table are apart later taken key
           from_link = learned_message from known p rows r i v m m.body apart later (ap not f) t.from_link;
         }
 
-    kept_by : (e : TableEntry) (g : RequestProgress) → (IsAmong key keys → ⊥) → slot_at slots key ≡ Some e → IsTakenBy from known p rows e.serial g → IsTakenBy from after p left e.serial g
+    kept_by : (e : TableEntry) (g : RequestProgress) → (IsAmong key keys → ⊥) → slot_at slots key ≡ Some e →
+        IsTakenBy from known p rows e.serial g → IsTakenBy from after p left e.serial g
     kept_by e (Receiving w) n at t = tt
     kept_by e (progresses.Collecting w) n at t = tt
     kept_by e progresses.Offering n at t = tt
     kept_by e (progresses.TakenOut x) n at t = kept_if e x.group x.message n at t
     kept_by e (Finished o) n at t = tt
 
-    kept : (o : Option TableEntry) → (IsAmong key keys → ⊥) → slot_at slots key ≡ o → IsTakenAt from known p rows o → IsTakenAt from after p left o
+    kept : (o : Option TableEntry) → (IsAmong key keys → ⊥) → slot_at slots key ≡ o → IsTakenAt from known p rows o →
+        IsTakenAt from after p left o
     kept None n at t = tt
     kept (Some e) n at t = kept_by e e.progress n at t
 
-    go : IsAmong key keys ⊎ (IsAmong key keys → ⊥) → IsTakenAt from after p left (slot_at (after_replaces slots keys) key)
-    go (inl a) = subst (IsTakenAt from after p left) (sym (replaces_among keys slots key a)) (replaced_at from after p left (slot_at slots key))
-    go (inr n) = subst (IsTakenAt from after p left) (sym (replaces_apart keys slots key n)) (kept (slot_at slots key) n refl (taken key))
+    go : IsAmong key keys ⊎ (IsAmong key keys → ⊥) →
+        IsTakenAt from after p left (slot_at (after_replaces slots keys) key)
+    go (inl a) =
+        subst (IsTakenAt from after p left) (sym (replaces_among keys slots key a))
+        (replaced_at from after p left (slot_at slots key))
+    go (inr n) =
+        subst (IsTakenAt from after p left) (sym (replaces_apart keys slots key n))
+        (kept (slot_at slots key) n refl (taken key))

@@ -35,7 +35,8 @@ told_by e c replies.Blocked = Called e c machine.Blocked ∷ []
 told_by e c (replies.Refused why back) = []
 
 -- it is what is seen of the rank's call
-told_same : (e : Endpoint) (call : CoreCall) (reply : CoreReply) → told_by e (call_seen call) reply ≡ told_call e call (Some reply)
+told_same : (e : Endpoint) (call : CoreCall) (reply : CoreReply) → told_by e (call_seen call) reply ≡
+    told_call e call (Some reply)
 told_same e call (replies.Started q) = refl
 told_same e call (replies.Done a) = refl
 told_same e call replies.Pending = refl
@@ -45,18 +46,21 @@ told_same e call replies.Blocked = refl
 told_same e call (replies.Refused why back) = refl
 
 -- what a call leaves that the machine is told as this one
-pub record IsMeant (links : Announcements) (old : CoreState) (known : List ℕ) (core : Core) (c : machine.Call) (reply : CoreReply) (new : CoreState) : Type 0 where
+pub record IsMeant (links : Announcements) (old : CoreState) (known : List ℕ) (core : Core) (c : machine.Call)
+    (reply : CoreReply) (new : CoreState) : Type 0 where
   pub fit : queue_fault old.place.size (view blank core) c ≡ None
   pub place : new.place ≡ old.place
   pub completion : new.completion ≡ old.completion
   pub shown : IsShown links new known (core_settled (called old.place.endpoint core c).core)
   pub sends : (called old.place.endpoint core c).out ≡ []
   pub tells :
-      told old.place.endpoint (call_and_reply (view blank core) (Some c)) (core_ready (called old.place.endpoint core c).core)
+      told old.place.endpoint (call_and_reply (view blank core) (Some c))
+      (core_ready (called old.place.endpoint core c).core)
       ≡ told_by old.place.endpoint c reply
 
 -- the rank's call is so
-pub meant_called : (links : Announcements) (old new : CoreState) (known : List ℕ) (core : Core) (call : CoreCall) (reply : CoreReply) → call_frame old call ≡ None → IsMeant links old known core (call_seen call) reply new →
+pub meant_called : (links : Announcements) (old new : CoreState) (known : List ℕ) (core : Core) (call : CoreCall)
+    (reply : CoreReply) → call_frame old call ≡ None → IsMeant links old known core (call_seen call) reply new →
     IsCalled links old known core call reply new
 meant_called links old new known core call reply frame m =
     record {
@@ -66,8 +70,11 @@ meant_called links old new known core call reply frame m =
       shown = subst (λ (out : List (Endpoint × Frame)). IsShown (after_out links out) new known settled) (sym m.sends)
           (shown_quiet links new known settled [] tt m.shown);
       settled = settled_is (called old.place.endpoint core (call_seen call)).core;
-      sends = subst (λ (out : List (Endpoint × Frame)). AreSent (after_out links out) (all_gone known (as_list (call_frame old call))) out) (sym m.sends)
-          (subst (λ (f : Option FrameFor). AreSent (after_out links []) (all_gone known (as_list f)) []) (sym frame) tt);
+      sends = subst
+          (λ (out : List (Endpoint × Frame)). AreSent (after_out links out)
+          (all_gone known (as_list (call_frame old call))) out) (sym m.sends)
+          (subst (λ (f : Option FrameFor). AreSent (after_out links []) (all_gone known (as_list f)) [])
+          (sym frame) tt);
       leaves = subst (λ (f : Option FrameFor). AllByRecursion (CanLeave old.place) (as_list f)) (sym frame) tt;
       tells = m.tells ∙ told_same old.place.endpoint call reply;
     }

@@ -1,5 +1,6 @@
 -- Requests that are named by unanswered rows, and what leaves them so.
-use Rattle.std.proofs.Common.{◌≡◌, ◌≢◌, ℕ, List, [], ◌∷◌, map, Option, Some, None, slice_get, slice_set, option_map, sym, ap, ◌∙◌, ◌⊎◌, inl, inr}
+use Rattle.std.proofs.Common.{◌≡◌, ◌≢◌, ℕ, List, [], ◌∷◌, map, Option, Some, None, slice_get, slice_set, option_map}
+use Rattle.std.proofs.Common.{sym, ap, ◌∙◌, ◌⊎◌, inl, inr}
 use Rattle.std.specs.List.{AllByRecursion}
 use Rattle.std.proofs.lemmas.Bool.{cases_eq}
 use Rattle.std.proofs.lemmas.List.Elements.{All-from_recursion, recursion_from_All}
@@ -15,7 +16,8 @@ use Rattle.proof_engine_view.specs.Rows.{Row}
 use Rattle.proof_engine_view.specs.Shown.{IsBlocked, IsNamed}
 
 -- what holds of each element follows from what held of it
-pub all_follow : {A : Type 0} (P Q : A → Type 0) → ((x : A) → P x → Q x) → (xs : List A) → AllByRecursion P xs → AllByRecursion Q xs
+pub all_follow : {A : Type 0} (P Q : A → Type 0) → ((x : A) → P x → Q x) → (xs : List A) → AllByRecursion P xs →
+    AllByRecursion Q xs
 all_follow P Q f [] h = tt
 all_follow P Q f (x ∷ xs) h = (f x h.0, all_follow P Q f xs h.1)
 
@@ -28,7 +30,8 @@ pub named_same : (rows : List Row) → NamedStay rows rows
 named_same rows q h = h
 
 -- so it is where one row's job changes, and isn't closed
-pub named_set : (rows : List Row) (k key : ℕ) (job job' : Job) → slice_get rows k ≡ Some (record { key = key; job = job }) → (job' ≡ Closed → ⊥) →
+pub named_set : (rows : List Row) (k key : ℕ) (job job' : Job) →
+    slice_get rows k ≡ Some (record { key = key; job = job }) → (job' ≡ Closed → ⊥) →
     NamedStay rows (slice_set rows k (record { key = key; job = job' }))
 named_set rows k key job job' here live q h = go (cases_eq q.serial k)
   where
@@ -56,7 +59,8 @@ named_set rows k key job job' here live q h = go (cases_eq q.serial k)
         }
 
 -- so it is where every row keeps its key, and none is closed that wasn't
-pub named_map : (f : Row → Row) → ((r : Row) → (f r).key ≡ r.key) → ((r : Row) → (f r).job ≡ Closed → r.job ≡ Closed) → (rows : List Row) → NamedStay rows (map f rows)
+pub named_map : (f : Row → Row) → ((r : Row) → (f r).key ≡ r.key) → ((r : Row) → (f r).job ≡ Closed → r.job ≡ Closed) →
+    (rows : List Row) → NamedStay rows (map f rows)
 named_map f keys live rows q h =
     record {
       row = f h.row;
@@ -66,10 +70,12 @@ named_map f keys live rows q h =
     }
 
 -- what the blocked call waits for is still named
-pub blocked_stays : (rows left : List Row) (b : Option Awaited) (x y : Option machine.Unanswered) → IsBlocked rows b x → y ≡ x → NamedStay rows left → IsBlocked left b y
+pub blocked_stays : (rows left : List Row) (b : Option Awaited) (x y : Option machine.Unanswered) → IsBlocked rows b x →
+    y ≡ x → NamedStay rows left → IsBlocked left b y
 blocked_stays rows left None x y h e stay = e ∙ h
 blocked_stays rows left (Some a) x y h e stay = (
   e ∙ h.0,
   All-from_recursion (IsNamed left) (awaited_requests a)
-      (all_follow (IsNamed rows) (IsNamed left) stay (awaited_requests a) (recursion_from_All (IsNamed rows) (awaited_requests a) h.1)),
+      (all_follow (IsNamed rows) (IsNamed left) stay (awaited_requests a)
+      (recursion_from_All (IsNamed rows) (awaited_requests a) h.1)),
 )

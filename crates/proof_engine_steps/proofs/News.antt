@@ -35,25 +35,29 @@ use Rattle.proof_engine_steps.proofs.Meeting.{met_holds}
 use Rattle.proof_engine_steps.proofs.Named.{blocked_stays}
 use Rattle.proof_engine_steps.proofs.SourceKnown.{source_known}
 use Rattle.proof_engine_steps.proofs.Staying.{AreQuiet, sent_then, shown_quiet}
-use Rattle.proof_engine_steps.proofs.Taking.{AnnouncementsAreTaken, AnswersAreTaken, HoldBoth, IsTaken, Meets, MessagesAreTaken, PiecesAreTaken}
+use Rattle.proof_engine_steps.proofs.Taking.{AnnouncementsAreTaken, AnswersAreTaken, HoldBoth, IsTaken, Meets}
+use Rattle.proof_engine_steps.proofs.Taking.{MessagesAreTaken, PiecesAreTaken}
 use Rattle.proof_engine_steps.proofs.Waking.{shown_with}
 
 -- ---- A WHOLE MESSAGE
 
 -- the frame of the network for which an eager frame stands
-eager_is : (t : EagerText) (plane : Plane) (frame : Frame) → message_seen plane t ≡ Some frame → message_seen PointToPoint t ≡ Some frame
+eager_is : (t : EagerText) (plane : Plane) (frame : Frame) → message_seen plane t ≡ Some frame →
+    message_seen PointToPoint t ≡ Some frame
 eager_is t PointToPoint frame h = h
 eager_is t Collective frame h = absurd cc
 
 -- what the core makes of it, by its message
-eager_came : (from : Endpoint → List Transfer) (core : Core) (s : Endpoint) (t : EagerText) (frame : Frame) → message_seen t.plane t ≡ Some frame → came core s frame ≡ arrived core (held_of from (message_of s t))
+eager_came : (from : Endpoint → List Transfer) (core : Core) (s : Endpoint) (t : EagerText) (frame : Frame) →
+    message_seen t.plane t ≡ Some frame → came core s frame ≡ arrived core (held_of from (message_of s t))
 unfolding message_of
 eager_came from core s t frame h =
     let e : Eager t.context t.tag t.basic (values_of (size_of t.basic) t.elements) ≡ frame = same_Some (Eager t.context t.tag t.basic (values_of (size_of t.basic) t.elements)) frame (eager_is t t.plane frame h) in
     ap (came core s) (sym e)
 
 -- its message is whole
-eager_whole : (s : Endpoint) (t : EagerText) → (message_of s t).body ≡ bodies.Whole (record { basic = t.basic; values = values_of (size_of t.basic) t.elements })
+eager_whole : (s : Endpoint) (t : EagerText) →
+    (message_of s t).body ≡ bodies.Whole (record { basic = t.basic; values = values_of (size_of t.basic) t.elements })
 unfolding message_of
 eager_whole s t = refl
 
@@ -65,8 +69,11 @@ messages_are_taken match agree links e known core s t frame meets =
           (record {
             rows = a.left;
             holding = a.holding;
-            awaited = blocked_stays meets.both.rows a.left (rank.after_arrival e m).blocked core.blocked (arrived core (held_of links.from m)).core.blocked
-                (subst (λ (x : Option Awaited). IsBlocked meets.both.rows x core.blocked) (sym keeps.blocked) meets.both.awaited) a.blocked a.waits;
+            awaited =
+                blocked_stays meets.both.rows a.left (rank.after_arrival e m).blocked core.blocked
+                (arrived core (held_of links.from m)).core.blocked
+                (subst (λ (x : Option Awaited). IsBlocked meets.both.rows x core.blocked)
+                (sym keeps.blocked) meets.both.awaited) a.blocked a.waits;
           });
       place = keeps.place;
       completion = keeps.completion;
@@ -82,7 +89,9 @@ messages_are_taken match agree links e known core s t frame meets =
     keeps = arrived_keeps e m
 
     a : IsHeldAfter links meets.both.rows (rank.after_arrival e m) known core (arrived core (held_of links.from m))
-    a = message_holds match agree links e known core meets.both.rows m (record { basic = t.basic; values = values_of (size_of t.basic) t.elements }) (eager_whole s t) meets.both.holding
+    a = message_holds match agree links e known core meets.both.rows m
+        (record { basic = t.basic; values = values_of (size_of t.basic) t.elements })
+        (eager_whole s t) meets.both.holding
 
     same : came core s frame ≡ arrived core (held_of links.from m)
     same = eager_came links.from core s t frame meets.stands
@@ -100,7 +109,8 @@ pub record AreTaken : Type 0 where
   pub pieces : PiecesAreTaken
 
 -- what both hold once the frame came, if one did, and what goes out
-record Hears (links : Announcements) (e : CoreState) (known : List ℕ) (core : Core) (s : Endpoint) (text : Option FrameText) (frame : Option Frame) : Type 0 where
+record Hears (links : Announcements) (e : CoreState) (known : List ℕ) (core : Core) (s : Endpoint)
+    (text : Option FrameText) (frame : Option Frame) : Type 0 where
   both : HoldBoth links (after_any e s text) known (heard_by_core core s frame).core
   place : (after_any e s text).place ≡ e.place
   completion : (after_any e s text).completion ≡ e.completion
@@ -109,15 +119,19 @@ record Hears (links : Announcements) (e : CoreState) (known : List ℕ) (core : 
   leaves : AllByRecursion (CanLeave e.place) (called_for e s text)
 
 -- a frame, by its kind
-frame_taken : AreTaken → (links : Announcements) (e : CoreState) (known : List ℕ) (core : Core) (s : Endpoint) (text : FrameText) (frame : Frame) → Meets links e known core s text frame
+frame_taken : AreTaken →
+    (links : Announcements) (e : CoreState) (known : List ℕ) (core : Core) (s : Endpoint) (text : FrameText)
+    (frame : Frame) → Meets links e known core s text frame
     → IsTaken links e known core s text frame
 frame_taken laws links e known core s (EagerFrame t) frame meets = laws.messages links e known core s t frame meets
-frame_taken laws links e known core s (RequestFrame t) frame meets = laws.announcements links e known core s t frame meets
+frame_taken laws links e known core s (RequestFrame t) frame meets =
+    laws.announcements links e known core s t frame meets
 frame_taken laws links e known core s (ClearFrame t) frame meets = laws.answers links e known core s t frame meets
 frame_taken laws links e known core s (DataFrame t) frame meets = laws.pieces links e known core s t frame meets
 
 -- what comes after the lesson: who spoke is known, and no rule refuses the frame, if one came
-record Comes (links : Announcements) (e : CoreState) (known : List ℕ) (core : Core) (s : Endpoint) (text : Option FrameText) (frame : Option Frame) : Type 0 where
+record Comes (links : Announcements) (e : CoreState) (known : List ℕ) (core : Core) (s : Endpoint)
+    (text : Option FrameText) (frame : Option Frame) : Type 0 where
   both : HoldBoth links e known (network.met core s)
   sender : s ≡ endpoint_of known s.rank
   there : s.rank < e.place.size
@@ -127,9 +141,12 @@ record Comes (links : Announcements) (e : CoreState) (known : List ℕ) (core : 
   taken : heard_fault e.transfers s.rank text ≡ None
   once : CollectsOnce (network.met core s)
 
-any_taken : AreTaken → (links : Announcements) (e : CoreState) (known : List ℕ) (core : Core) (s : Endpoint) (text : Option FrameText) (frame : Option Frame) → Comes links e known core s text frame
+any_taken : AreTaken →
+    (links : Announcements) (e : CoreState) (known : List ℕ) (core : Core) (s : Endpoint) (text : Option FrameText)
+    (frame : Option Frame) → Comes links e known core s text frame
     → Hears links e known core s text frame
-any_taken laws links e known core s None None c = record { both = c.both; place = refl; completion = refl; quiet = tt; sends = tt; leaves = tt }
+any_taken laws links e known core s None None c =
+    record { both = c.both; place = refl; completion = refl; quiet = tt; sends = tt; leaves = tt }
 any_taken laws links e known core s None (Some frame) c = absurd c.meant
 any_taken laws links e known core s (Some text) None c = absurd c.meant
 any_taken laws links e known core s (Some text) (Some frame) c =
@@ -143,7 +160,15 @@ any_taken laws links e known core s (Some text) (Some frame) c =
       taken = c.taken;
       once = c.once;
     }) in
-    record { both = t.both; place = t.place; completion = t.completion; quiet = t.quiet; sends = t.sends; leaves = t.leaves }
+    record {
+      both = t.both;
+      place = t.place;
+      completion = t.completion;
+      quiet = t.quiet;
+      sends = t.sends;
+      leaves =
+          t.leaves;
+    }
 
 -- ---- THE LESSON AND THE FRAME
 
@@ -158,22 +183,28 @@ taught_completion true c s = refl
 taught_completion false c s = refl
 
 -- the frame meets the transfers that the lesson leaves
-taught_transfers : (lesson : Bool) (c : CoreState) (s : Endpoint) → transfers_met lesson c.transfers s.rank ≡ (after_lesson lesson c s).transfers
+taught_transfers : (lesson : Bool) (c : CoreState) (s : Endpoint) → transfers_met lesson c.transfers s.rank ≡
+    (after_lesson lesson c s).transfers
 taught_transfers true c s = refl
 taught_transfers false c s = refl
 
 -- what comes once the lesson, if there was one, is learnt
-news_come : (links : Announcements) (old : CoreState) (known : List ℕ) (core : Core) (news : NewsText) (frame : Option Frame) → IsShown links old known core →
-    MayCome links old known core news frame → Comes links (after_lesson news.lesson old news.source) (known_after news.lesson known news.source) core news.source news.frame frame
+news_come : (links : Announcements) (old : CoreState) (known : List ℕ) (core : Core) (news : NewsText)
+    (frame : Option Frame) → IsShown links old known core →
+    MayCome links old known core news frame →
+    Comes links (after_lesson news.lesson old news.source) (known_after news.lesson known news.source) core
+    news.source news.frame frame
 news_come links old known core news frame shown may =
     record {
       both = met_holds links old known core news shown may.other may.untold;
       sender = sym (source_known old known news shown.width may.other);
       there = subst (λ (p : Place). s.rank < p.size) (sym (taught_place news.lesson old s)) may.other.there;
-      apart = subst (λ (p : Place). s.rank ≡ p.endpoint.rank → ⊥) (sym (taught_place news.lesson old s)) may.other.apart;
+      apart = subst (λ (p : Place). s.rank ≡ p.endpoint.rank → ⊥) (sym (taught_place news.lesson old s))
+          may.other.apart;
       meant = may.meant;
       within = may.within;
-      taken = subst (λ (t : transfers.State). heard_fault t s.rank news.frame ≡ None) (taught_transfers news.lesson old s) may.taken;
+      taken = subst (λ (t : transfers.State). heard_fault t s.rank news.frame ≡ None)
+          (taught_transfers news.lesson old s) may.taken;
       once = once_met core s may.once;
     }
   where
@@ -189,7 +220,8 @@ news_are_shown laws links old known core news frame shown may =
       shown = shown_quiet links (after_news old news) learnt after.core after.out h.quiet
           (shown_with links (after_news old news) learnt after.core h.both.rows h.both.holding h.both.awaited);
       sends = sent_then links after.out (all_gone learnt (news_frames old news)) h.sends;
-      leaves = subst (λ (p : Place). AllByRecursion (CanLeave p) (news_frames old news)) (taught_place news.lesson old s) h.leaves;
+      leaves = subst (λ (p : Place). AllByRecursion (CanLeave p) (news_frames old news))
+          (taught_place news.lesson old s) h.leaves;
     }
   where
     s : Endpoint
@@ -202,4 +234,5 @@ news_are_shown laws links old known core news frame shown may =
     after = heard_by_core core s frame
 
     h : Hears links (after_lesson news.lesson old s) learnt core s news.frame frame
-    h = any_taken laws links (after_lesson news.lesson old s) learnt core s news.frame frame (news_come links old known core news frame shown may)
+    h = any_taken laws links (after_lesson news.lesson old s) learnt core s news.frame frame
+        (news_come links old known core news frame shown may)

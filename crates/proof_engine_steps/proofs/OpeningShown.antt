@@ -18,11 +18,13 @@ none_begun (suc n) zero = refl
 none_begun (suc n) (suc rank) = none_begun n rank
 
 -- so the numbers are those of links on which nothing was announced
-opening_numbered : (p : Place) (to : Endpoint → List Transfer) (known : List ℕ) → ((d : Endpoint) → to d ≡ []) → IsNumbered to known p (replicate p.size fresh)
+opening_numbered : (p : Place) (to : Endpoint → List Transfer) (known : List ℕ) → ((d : Endpoint) → to d ≡ []) →
+    IsNumbered to known p (replicate p.size fresh)
 opening_numbered p to known none =
     record {
       width = length-replicate p.size fresh;
-      begun = λ rank there apart. none_begun p.size rank ∙ ap (λ (ts : List Transfer). length ts) (sym (none (endpoint_of known rank)));
+      begun = λ rank there apart. none_begun p.size rank ∙
+          ap (λ (ts : List Transfer). length ts) (sym (none (endpoint_of known rank)));
       most = λ rank. subst (λ (n : ℕ). n ≤ most_transfers) (sym (none_begun p.size rank)) (omega arith);
     }
 

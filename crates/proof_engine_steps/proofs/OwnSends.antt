@@ -1,5 +1,7 @@
--- A send of a rank, by where it goes: one to the rank itself starts its request, and then its message comes to its own queues.
-use Rattle.std.proofs.Common.{◌≡◌, ℕ, ◌+◌, ◌*◌, ◌||◌, nat_le, length, slice_get, Bool, true, false, List, [], ◌∷◌, ◌++◌, Option, Some, None, ◌==◌, refl, sym, ap, ap₂, subst, ◌∙◌}
+-- A send of a rank, by where it goes: one to the rank itself starts its request, and then its message comes to its own
+-- queues.
+use Rattle.std.proofs.Common.{◌≡◌, ℕ, ◌+◌, ◌*◌, ◌||◌, nat_le, length, slice_get, Bool, true, false, List, [], ◌∷◌, ◌++◌}
+use Rattle.std.proofs.Common.{Option, Some, None, ◌==◌, refl, sym, ap, ap₂, subst, ◌∙◌}
 use Rattle.std.proofs.lemmas.Bool.{and_from, eq-eqb, eqb-true}
 use Rattle.std.proofs.lemmas.List.{length-map}
 use Rattle.datatypes.specs.Contents.{Contents}
@@ -29,7 +31,8 @@ use Rattle.point_to_point.specs.CoreState.{CoreState}
 use Rattle.point_to_point.specs.Sending as rank
 use Rattle.point_to_point_calls.specs.Calls.{IsWithin}
 use Rattle.point_to_point_calls.specs.Frames.{as_list}
-use Rattle.point_to_point_calls.specs.Sending.{announced_to, destination, frame_to, frame_unless, is_announced, is_own, is_to_itself, offered_by, own_message, rank_to, rank_unless}
+use Rattle.point_to_point_calls.specs.Sending.{announced_to, destination, frame_to, frame_unless, is_announced, is_own}
+use Rattle.point_to_point_calls.specs.Sending.{is_to_itself, offered_by, own_message, rank_to, rank_unless}
 use Rattle.point_to_point.specs.Calls.{free_fault}
 use Rattle.point_to_point.specs.Sending.{IsSending, arrived_at_itself, arrived_if, begun, frame_of, waiting_of}
 use Rattle.proof_pure_network.specs.Core.{Core, Effect}
@@ -49,48 +52,66 @@ use Rattle.proof_engine_steps.proofs.AnnouncedSends.{large_send_shown}
 use Rattle.proof_engine_steps.proofs.Arriving.{IsHeldAfter, Keeps, arrived_keeps, message_holds}
 use Rattle.proof_engine_steps.proofs.OwnSynchronous.{own_begun, own_message_holds, own_row, own_unclaimed, started_rank}
 use Rattle.proof_engine_steps.proofs.RefusedSends.{no_send_fault}
-use Rattle.proof_engine_steps.proofs.Sends.{IsSmallSending, KeepsRules, announced_nowhere, core_sent, null_send_shown, other_send_shown, send_holds, send_rules, send_started, small_sending}
+use Rattle.proof_engine_steps.proofs.Sends.{IsSmallSending, KeepsRules, announced_nowhere, core_sent, null_send_shown}
+use Rattle.proof_engine_steps.proofs.Sends.{other_send_shown, send_holds, send_rules, send_started, small_sending}
 use Rattle.proof_engine_steps.proofs.Starting.{none_leave, none_sent}
 use Rattle.proof_engine_steps.proofs.Staying.{AreQuiet}
 use Rattle.proof_engine_steps.proofs.Waking.{Holding}
 
 -- whom a send to the own rank is meant for
-itself : (core : Core) (own : Endpoint) → core.known own.rank ≡ own.incarnation → is_same (machine.receiver core.known own.rank) own ≡ true
-itself core own known = and_from (own.rank == own.rank) (core.known own.rank == own.incarnation) (eq-eqb own.rank own.rank refl) (eq-eqb (core.known own.rank) own.incarnation known)
+itself : (core : Core) (own : Endpoint) → core.known own.rank ≡ own.incarnation →
+    is_same (machine.receiver core.known own.rank) own ≡ true
+itself core own known =
+    and_from (own.rank == own.rank) (core.known own.rank == own.incarnation) (eq-eqb own.rank own.rank refl)
+    (eq-eqb (core.known own.rank) own.incarnation known)
 
 or_true : (b : Bool) → (b || true) ≡ true
 or_true true = refl
 or_true false = refl
 
 -- the core's standard send to its own endpoint
-core_sends_own : (core : Core) (own : Endpoint) (c tag : ℕ) (basic : BasicType) (values : List ℕ) → core.known own.rank ≡ own.incarnation →
-    sends_to Standard own core c (Rank own.rank) (Some tag) basic values ≡ arrived (pushed_over core) (cores.own_message own c tag basic values)
+core_sends_own : (core : Core) (own : Endpoint) (c tag : ℕ) (basic : BasicType) (values : List ℕ) →
+    core.known own.rank ≡ own.incarnation →
+    sends_to Standard own core c (Rank own.rank) (Some tag) basic values ≡
+    arrived (pushed_over core) (cores.own_message own c tag basic values)
 core_sends_own core own c tag basic values known =
-    ap (λ (b : Bool). sends own core d b c tag basic values (nat_le (length values * size_of basic) eager_limit || b)) (itself core own known)
-    ∙ ap (λ (b : Bool). sends own core d true c tag basic values b) (or_true (nat_le (length values * size_of basic) eager_limit))
+    ap (λ (b : Bool). sends own core d b c tag basic values (nat_le (length values * size_of basic) eager_limit || b))
+    (itself core own known)
+    ∙ ap (λ (b : Bool). sends own core d true c tag basic values b)
+    (or_true (nat_le (length values * size_of basic) eager_limit))
   where
     d : Endpoint
     d = machine.receiver core.known own.rank
 
 -- nothing goes out of such a send
-own_frame : (old : CoreState) (s : CoreSend) (to tag : ℕ) → s.target ≡ Rank to → s.tag ≡ Some tag → (to == old.place.endpoint.rank) ≡ true → frame_of old s ≡ None
+own_frame : (old : CoreState) (s : CoreSend) (to tag : ℕ) → s.target ≡ Rank to → s.tag ≡ Some tag →
+    (to == old.place.endpoint.rank) ≡ true → frame_of old s ≡ None
 own_frame old s to tag target_is tag_is own =
-    ap₂ (λ (t : Source) (g : Option ℕ). frame_to old.place old.transfers s.mode (destination t g s.context) (sent_from s.from)) target_is tag_is
-    ∙ ap (λ (b : Bool). frame_unless b old.transfers s.mode (record { rank = to; tag = tag; context = s.context }) (sent_from s.from)) own
+    ap₂ (λ (t : Source) (g : Option ℕ). frame_to old.place old.transfers s.mode (destination t g s.context)
+    (sent_from s.from)) target_is tag_is
+    ∙ ap (λ (b : Bool). frame_unless b old.transfers s.mode (record { rank = to; tag = tag; context = s.context })
+    (sent_from s.from)) own
 
 -- and nothing is announced, however many bytes it has
-own_to_nobody : (p : Place) (s : CoreSend) (to tag : ℕ) → s.target ≡ Rank to → s.tag ≡ Some tag → (to == p.endpoint.rank) ≡ true → announced_to p s ≡ None
+own_to_nobody : (p : Place) (s : CoreSend) (to tag : ℕ) → s.target ≡ Rank to → s.tag ≡ Some tag →
+    (to == p.endpoint.rank) ≡ true → announced_to p s ≡ None
 own_to_nobody p s to tag target_is tag_is own =
     announced_nowhere p s
-    (ap₂ (λ (t : Source) (g : Option ℕ). rank_to p (destination t g s.context)) target_is tag_is ∙ ap (λ (b : Bool). rank_unless b (record { rank = to; tag = tag; context = s.context })) own)
+    (ap₂ (λ (t : Source) (g : Option ℕ). rank_to p (destination t g s.context)) target_is tag_is ∙
+    ap (λ (b : Bool). rank_unless b (record { rank = to; tag = tag; context = s.context })) own)
 
 -- such a standard send is that of its core: the request starts, finished, and then the message comes
-own_send_shown : ArrivalsMatch → OutcomesAgree → (links : Announcements) (old new : CoreState) (known : List ℕ) (core : Core) (s : CoreSend) (q : Request) (to tag : ℕ) → IsShown links old known core → old.blocked ≡ None →
-    s.mode ≡ Standard → s.target ≡ Rank to → s.tag ≡ Some tag → (to == old.place.endpoint.rank) ≡ true → KeepsRules old.place s → IsSending old s q new → IsCalled links old known core (calls.Isend s) (replies.Started q) new
+own_send_shown : ArrivalsMatch → OutcomesAgree →
+    (links : Announcements) (old new : CoreState) (known : List ℕ) (core : Core) (s : CoreSend) (q : Request)
+    (to tag : ℕ) → IsShown links old known core → old.blocked ≡ None →
+    s.mode ≡ Standard → s.target ≡ Rank to → s.tag ≡ Some tag → (to == old.place.endpoint.rank) ≡ true →
+    KeepsRules old.place s → IsSending old s q new →
+    IsCalled links old known core (calls.Isend s) (replies.Started q) new
 own_send_shown match agree links old new known core s q to tag shown free standard target_is tag_is own kept is_sent =
     send_started links old new known core s q came after.left shown free kept sent.serial
     (ap₂ (λ (t : Source) (g : Option ℕ). core_sent s.mode e core s.context t g c) target_is tag_is ∙
-    (ap₂ (λ (mode : Mode) (r : ℕ). core_sent mode e core s.context (Rank r) (Some tag) c) standard (eqb-true to e.rank own) ∙
+    (ap₂ (λ (mode : Mode) (r : ℕ). core_sent mode e core s.context (Rank r) (Some tag) c) standard
+    (eqb-true to e.rank own) ∙
     core_sends_own core e s.context tag c.basic c.values (shown.known_alike e.rank ∙ shown.itself)))
     (subst (λ (x : CoreState). Holding links x known came.core after.left) (sym rest) after.holding)
     after.blocked
@@ -100,7 +121,8 @@ own_send_shown match agree links old new known core s q to tag shown free standa
       blocked = ap (λ (x : CoreState). x.blocked) rest ∙ keeps.blocked;
     })
     (subst (λ (out : List (Endpoint × Frame)). AreQuiet out) (sym after.sends) tt)
-    (subst (λ (out : List (Endpoint × Frame)). AreSent (after_out links out) (all_gone known (as_list (frame_of old s))) out) (sym after.sends) (none_sent (after_out links []) known (frame_of old s) none))
+    (subst (λ (out : List (Endpoint × Frame)). AreSent (after_out links out) (all_gone known (as_list (frame_of old s)))
+    out) (sym after.sends) (none_sent (after_out links []) known (frame_of old s) none))
     (none_leave old.place (frame_of old s) none)
   where
     e : Endpoint
@@ -113,7 +135,8 @@ own_send_shown match agree links old new known core s q to tag shown free standa
     m = own_message old.place s.context tag None c
 
     sent : IsSmallSending old s q new
-    sent = small_sending old new s q (own_to_nobody old.place s to tag target_is tag_is own) (ap (λ (mode : Mode). waiting_of mode (is_to_itself old.place s) q) standard) is_sent
+    sent = small_sending old new s q (own_to_nobody old.place s to tag target_is tag_is own)
+        (ap (λ (mode : Mode). waiting_of mode (is_to_itself old.place s) q) standard) is_sent
 
     -- the rank once the request was started
     started : CoreState
@@ -123,33 +146,46 @@ own_send_shown match agree links old new known core s q to tag shown free standa
     keeps = arrived_keeps started m
 
     rest : new ≡ rank.after_arrival started m
-    rest = sent.rest ∙ ap₂ (λ (t : Source) (g : Option ℕ). arrived_at_itself started (destination t g s.context) None c) target_is tag_is ∙
+    rest = sent.rest ∙ ap₂ (λ (t : Source) (g : Option ℕ). arrived_at_itself started (destination t g s.context) None c)
+        target_is tag_is ∙
         ap (λ (b : Bool). arrived_if b started (record { rank = to; tag = tag; context = s.context }) None c) own
 
     -- what the core makes of its message
     came : Effect
     came = arrived (pushed_over core) (held_of links.from m)
 
-    after : IsHeldAfter links (shown.rows ++ record { key = q.key; job = Over ends.Sent } ∷ []) (rank.after_arrival started m) known (pushed_over core) came
-    after = message_holds match agree links started known (pushed_over core) (shown.rows ++ record { key = q.key; job = Over ends.Sent } ∷ []) m c refl (send_holds links old known core s q new shown sent)
+    after : IsHeldAfter links (shown.rows ++ record { key = q.key; job = Over ends.Sent } ∷ [])
+        (rank.after_arrival started m) known (pushed_over core) came
+    after = message_holds match agree links started known (pushed_over core)
+        (shown.rows ++ record { key = q.key; job = Over ends.Sent } ∷ []) m c refl
+        (send_holds links old known core s q new shown sent)
 
     none : frame_of old s ≡ None
     none = own_frame old s to tag target_is tag_is own
 
 -- the core's synchronous send to its own endpoint
-core_waits_own : (core : Core) (own : Endpoint) (c tag : ℕ) (basic : BasicType) (values : List ℕ) → core.known own.rank ≡ own.incarnation →
-    sends_to Synchronous own core c (Rank own.rank) (Some tag) basic values ≡ arrived (pushed_own core own) (cores.own_waiting own c tag basic values (length core.jobs))
+core_waits_own : (core : Core) (own : Endpoint) (c tag : ℕ) (basic : BasicType) (values : List ℕ) →
+    core.known own.rank ≡ own.incarnation →
+    sends_to Synchronous own core c (Rank own.rank) (Some tag) basic values ≡
+    arrived (pushed_own core own) (cores.own_waiting own c tag basic values (length core.jobs))
 core_waits_own core own c tag basic values known =
-    ap (λ (b : Bool). sends own core (machine.receiver core.known own.rank) b c tag basic values false) (itself core own known)
-    ∙ ap (λ (n : ℕ). arrived (pushed_own core (record { rank = own.rank; incarnation = n })) (cores.own_waiting own c tag basic values (length core.jobs))) known
+    ap (λ (b : Bool). sends own core (machine.receiver core.known own.rank) b c tag basic values false)
+    (itself core own known)
+    ∙ ap (λ (n : ℕ). arrived (pushed_own core (record { rank = own.rank; incarnation = n }))
+    (cores.own_waiting own c tag basic values (length core.jobs))) known
 
 -- such a synchronous send is that of its core: the request starts, and waits for its match, and then the message comes
-own_waits_shown : ArrivalsMatch → OutcomesAgree → (links : Announcements) (old new : CoreState) (known : List ℕ) (core : Core) (s : CoreSend) (q : Request) (to tag : ℕ) → IsShown links old known core → old.blocked ≡ None →
-    s.mode ≡ Synchronous → s.target ≡ Rank to → s.tag ≡ Some tag → (to == old.place.endpoint.rank) ≡ true → KeepsRules old.place s → IsSending old s q new → IsCalled links old known core (calls.Isend s) (replies.Started q) new
+own_waits_shown : ArrivalsMatch → OutcomesAgree →
+    (links : Announcements) (old new : CoreState) (known : List ℕ) (core : Core) (s : CoreSend) (q : Request)
+    (to tag : ℕ) → IsShown links old known core → old.blocked ≡ None →
+    s.mode ≡ Synchronous → s.target ≡ Rank to → s.tag ≡ Some tag → (to == old.place.endpoint.rank) ≡ true →
+    KeepsRules old.place s → IsSending old s q new →
+    IsCalled links old known core (calls.Isend s) (replies.Started q) new
 own_waits_shown match agree links old new known core s q to tag shown free synchronous target_is tag_is own kept sent =
     send_started links old new known core s q came after.left shown free kept sent.serial
     (ap₂ (λ (t : Source) (g : Option ℕ). core_sent s.mode e core s.context t g c) target_is tag_is ∙
-    (ap₂ (λ (mode : Mode) (r : ℕ). core_sent mode e core s.context (Rank r) (Some tag) c) synchronous (eqb-true to e.rank own) ∙
+    (ap₂ (λ (mode : Mode) (r : ℕ). core_sent mode e core s.context (Rank r) (Some tag) c) synchronous
+    (eqb-true to e.rank own) ∙
     (core_waits_own core e s.context tag c.basic c.values (shown.known_alike e.rank ∙ shown.itself) ∙
     ap (λ (n : ℕ). arrived (pushed_own core e) (cores.own_waiting e s.context tag c.basic c.values n)) serial_is)))
     (subst (λ (x : CoreState). Holding links x known came.core after.left) (sym rest) after.holding)
@@ -160,7 +196,8 @@ own_waits_shown match agree links old new known core s q to tag shown free synch
       blocked = ap (λ (x : CoreState). x.blocked) rest ∙ keeps.blocked;
     })
     (subst (λ (out : List (Endpoint × Frame)). AreQuiet out) (sym after.sends) tt)
-    (subst (λ (out : List (Endpoint × Frame)). AreSent (after_out links out) (all_gone known (as_list (frame_of old s))) out) (sym after.sends) (none_sent (after_out links []) known (frame_of old s) none))
+    (subst (λ (out : List (Endpoint × Frame)). AreSent (after_out links out) (all_gone known (as_list (frame_of old s)))
+    out) (sym after.sends) (none_sent (after_out links []) known (frame_of old s) none))
     (none_leave old.place (frame_of old s) none)
   where
     e : Endpoint
@@ -180,24 +217,36 @@ own_waits_shown match agree links old new known core s q to tag shown free synch
     started = started_rank old sent.started
 
     waits : waiting_of s.mode (is_to_itself old.place s) q ≡ Some q
-    waits = ap₂ (λ (mode : Mode) (b : Bool). waiting_of mode b q) synchronous (ap₂ (λ (t : Source) (g : Option ℕ). is_own old.place (destination t g s.context)) target_is tag_is ∙ own)
+    waits = ap₂ (λ (mode : Mode) (b : Bool). waiting_of mode b q) synchronous
+        (ap₂ (λ (t : Source) (g : Option ℕ). is_own old.place (destination t g s.context)) target_is tag_is ∙ own)
 
     entry : IsSet old.slots sent.started q.key (Some (record { serial = old.serial; progress = progresses.Offering }))
-    entry = subst (λ (w : Option Request). IsSet old.slots sent.started q.key (Some (record { serial = old.serial; progress = begun w (announced_to old.place s) }))) waits sent.entry
+    entry = subst
+        (λ (w : Option Request). IsSet old.slots sent.started q.key
+        (Some (record { serial = old.serial; progress = begun w (announced_to old.place s) }))) waits sent.entry
 
     keeps : Keeps started (rank.after_arrival started m)
     keeps = arrived_keeps started m
 
     rest : new ≡ rank.after_arrival started m
     rest = sent.rest
-        ∙ (ap₂ (λ (a : Option ℕ) (w : Option Request). arrived_at_itself (record old { slots = sent.started; serial = old.serial + 1; transfers = offered_by old.transfers a q.key c }) (destination s.target s.tag s.context) w c)
+        ∙ (ap₂ (λ (a : Option ℕ) (w : Option Request). arrived_at_itself
+        (record old {
+          slots = sent.started;
+          serial = old.serial + 1;
+          transfers =
+              offered_by old.transfers a q.key c;
+        }) (destination s.target s.tag s.context) w c)
         (own_to_nobody old.place s to tag target_is tag_is own) waits
-        ∙ (ap₂ (λ (t : Source) (g : Option ℕ). arrived_at_itself started (destination t g s.context) (Some q) c) target_is tag_is
-        ∙ ap (λ (b : Bool). arrived_if b started (record { rank = to; tag = tag; context = s.context }) (Some q) c) own))
+        ∙ (ap₂ (λ (t : Source) (g : Option ℕ). arrived_at_itself started (destination t g s.context) (Some q) c)
+        target_is tag_is
+        ∙ ap (λ (b : Bool). arrived_if b started (record { rank = to; tag = tag; context = s.context }) (Some q) c)
+        own))
 
     -- so many requests of the core were started before
     serial_is : length core.jobs ≡ q.serial
-    serial_is = (ap (λ (js : List Job). length js) shown.jobs ∙ length-map shown.rows (λ (r : Row). r.job)) ∙ (shown.count ∙ sym sent.serial)
+    serial_is = (ap (λ (js : List Job). length js) shown.jobs ∙ length-map shown.rows (λ (r : Row). r.job)) ∙
+        (shown.count ∙ sym sent.serial)
 
     -- what the core makes of its message
     came : Effect
@@ -210,44 +259,63 @@ own_waits_shown match agree links old new known core s q to tag shown free synch
     here = ap (slice_get rows) (sent.serial ∙ sym shown.count) ∙ push_at shown.rows (own_row old q.key)
 
     after : IsHeldAfter links rows (rank.after_arrival started m) known (pushed_own core e) came
-    after = own_message_holds match agree links started known (pushed_own core e) rows m o (own_begun links old known core sent.started q.key shown sent.fresh entry) refl here
+    after = own_message_holds match agree links started known (pushed_own core e) rows m o
+        (own_begun links old known core sent.started q.key shown sent.fresh entry) refl here
         (own_unclaimed links old known core q.serial shown sent.serial)
 
     none : frame_of old s ≡ None
     none = own_frame old s to tag target_is tag_is own
 
 -- a send to another rank, by whether it goes in one frame
-away_send_shown : (links : Announcements) (old new : CoreState) (known : List ℕ) (core : Core) (s : CoreSend) (q : Request) (to tag : ℕ) → IsShown links old known core → old.blocked ≡ None →
-    s.target ≡ Rank to → s.tag ≡ Some tag → (to == old.place.endpoint.rank) ≡ false → KeepsRules old.place s → IsWithin (calls.Isend s) → free_fault old (calls.Isend s) ≡ None →
+away_send_shown : (links : Announcements) (old new : CoreState) (known : List ℕ) (core : Core) (s : CoreSend)
+    (q : Request) (to tag : ℕ) → IsShown links old known core → old.blocked ≡ None →
+    s.target ≡ Rank to → s.tag ≡ Some tag → (to == old.place.endpoint.rank) ≡ false → KeepsRules old.place s →
+    IsWithin (calls.Isend s) → free_fault old (calls.Isend s) ≡ None →
     IsSending old s q new → IsCalled links old known core (calls.Isend s) (replies.Started q) new
-away_send_shown links old new known core s q to tag shown free target_is tag_is other kept within fine sent = go (is_announced s.mode (sent_from s.from)) refl
+away_send_shown links old new known core s q to tag shown free target_is tag_is other kept within fine sent =
+    go (is_announced s.mode (sent_from s.from)) refl
   where
-    go : (b : Bool) → is_announced s.mode (sent_from s.from) ≡ b → IsCalled links old known core (calls.Isend s) (replies.Started q) new
-    go false small = other_send_shown links old new known core s q to tag shown free target_is tag_is other kept within small sent
-    go true large = large_send_shown links old new known core s q to tag shown free target_is tag_is other kept within large fine sent
+    go : (b : Bool) → is_announced s.mode (sent_from s.from) ≡ b →
+        IsCalled links old known core (calls.Isend s) (replies.Started q) new
+    go false small =
+        other_send_shown links old new known core s q to tag shown free target_is tag_is other kept within small sent
+    go true large =
+        large_send_shown links old new known core s q to tag shown free target_is tag_is other kept within large fine
+        sent
 
 -- a send that meets no rule, by where it goes
-pub send_shown : ArrivalsMatch → OutcomesAgree → (links : Announcements) (old new : CoreState) (known : List ℕ) (core : Core) (s : CoreSend) (q : Request) → IsShown links old known core → old.blocked ≡ None →
-    IsWithin (calls.Isend s) → free_fault old (calls.Isend s) ≡ None → IsSending old s q new → IsCalled links old known core (calls.Isend s) (replies.Started q) new
-send_shown match agree links old new known core s q shown free within fine sent = go s.target refl s.tag refl kept.inside kept.low
+pub send_shown : ArrivalsMatch → OutcomesAgree →
+    (links : Announcements) (old new : CoreState) (known : List ℕ) (core : Core) (s : CoreSend) (q : Request) →
+    IsShown links old known core → old.blocked ≡ None →
+    IsWithin (calls.Isend s) → free_fault old (calls.Isend s) ≡ None → IsSending old s q new →
+    IsCalled links old known core (calls.Isend s) (replies.Started q) new
+send_shown match agree links old new known core s q shown free within fine sent =
+    go s.target refl s.tag refl kept.inside kept.low
   where
     kept : KeepsRules old.place s
     kept = send_rules old.place s (no_send_fault old s fine)
 
-    by_rank : (to tag : ℕ) → s.target ≡ Rank to → s.tag ≡ Some tag → (own : Bool) → (to == old.place.endpoint.rank) ≡ own →
+    by_rank : (to tag : ℕ) → s.target ≡ Rank to → s.tag ≡ Some tag → (own : Bool) →
+        (to == old.place.endpoint.rank) ≡ own →
         IsCalled links old known core (calls.Isend s) (replies.Started q) new
-    by_rank to tag target_is tag_is false other = away_send_shown links old new known core s q to tag shown free target_is tag_is other kept within fine sent
+    by_rank to tag target_is tag_is false other =
+        away_send_shown links old new known core s q to tag shown free target_is tag_is other kept within fine sent
     by_rank to tag target_is tag_is true own = by_mode s.mode refl
       where
         by_mode : (mode : Mode) → s.mode ≡ mode → IsCalled links old known core (calls.Isend s) (replies.Started q) new
-        by_mode Standard is = own_send_shown match agree links old new known core s q to tag shown free is target_is tag_is own kept sent
-        by_mode Synchronous is = own_waits_shown match agree links old new known core s q to tag shown free is target_is tag_is own kept sent
+        by_mode Standard is =
+            own_send_shown match agree links old new known core s q to tag shown free is target_is tag_is own kept sent
+        by_mode Synchronous is =
+            own_waits_shown match agree links old new known core s q to tag shown free is target_is tag_is own kept sent
 
-    go : (t : Source) → s.target ≡ t → (g : Option ℕ) → s.tag ≡ g → rules.is_no_target old.place.size s.target ≡ false → rules.is_no_tag s.tag ≡ false →
+    go : (t : Source) → s.target ≡ t → (g : Option ℕ) → s.tag ≡ g → rules.is_no_target old.place.size s.target ≡ false →
+        rules.is_no_tag s.tag ≡ false →
         IsCalled links old known core (calls.Isend s) (replies.Started q) new
     go Null target_is g tag_is inside low = null_send_shown links old new known core s q shown free target_is kept sent
     go Any target_is g tag_is inside low =
-        let wrong : true ≡ false = sym (ap (λ (t : Source). rules.is_no_target old.place.size t) target_is) ∙ inside in absurd cc
+        let wrong : true ≡ false = sym (ap (λ (t : Source). rules.is_no_target old.place.size t) target_is) ∙ inside in
+        absurd cc
     go (Rank to) target_is None tag_is inside low =
         let wrong : true ≡ false = sym (ap (λ (g : Option ℕ). rules.is_no_tag g) tag_is) ∙ low in absurd cc
-    go (Rank to) target_is (Some tag) tag_is inside low = by_rank to tag target_is tag_is (to == old.place.endpoint.rank) refl
+    go (Rank to) target_is (Some tag) tag_is inside low =
+        by_rank to tag target_is tag_is (to == old.place.endpoint.rank) refl

@@ -1,6 +1,7 @@
--- A matching probe, or a receive of a message that was taken out, that a rank refuses has a reason, and one that it takes has no
--- fault.
-use Rattle.std.proofs.Common.{◌≡◌, ℕ, Bool, true, false, not, List, [], ◌∷◌, Option, Some, None, if◌then◌else◌, option_map, refl, sym, ap, ◌∙◌}
+-- A matching probe, or a receive of a message that was taken out, that a rank refuses has a reason, and one that it
+-- takes has no fault.
+use Rattle.std.proofs.Common.{◌≡◌, ℕ, Bool, true, false, not, List, [], ◌∷◌, Option, Some, None, if◌then◌else◌}
+use Rattle.std.proofs.Common.{option_map, refl, sym, ap, ◌∙◌}
 use Rattle.vocabulary.specs.declared.envelope.Source.{Source}
 use Rattle.vocabulary.specs.declared.envelope.Source.TheVariants as sources
 use Rattle.match_queues.specs.declared.envelope.Message.{Message}
@@ -42,24 +43,33 @@ full_met : (c : CoreState) (o : Option Message) (why : Refusal) → full_if c o 
 full_met c None why h = absurd cc
 full_met c (Some m) why h = limit_met (is_full c.slots c.serial) why h
 
-search_met : (s : Source) (c : CoreState) (p : CoreProbe) (why : Refusal) → search_limit s c p ≡ Some why → IsOutOfRoom why
+search_met : (s : Source) (c : CoreState) (p : CoreProbe) (why : Refusal) → search_limit s c p ≡ Some why →
+    IsOutOfRoom why
 search_met sources.Null c p why h = absurd cc
 search_met sources.Any c p why h = full_met c (found_for c sources.Any p.tag p.context) why h
 search_met (sources.Rank r) c p why h = full_met c (found_for c (sources.Rank r) p.tag p.context) why h
 
 -- a matching probe that breaks a rule or meets the limit
-pub search_reason : (links : Announcements) (old : CoreState) (known : List ℕ) (core : Core) (p : CoreProbe) (why : Refusal) → IsShown links old known core → old.blocked ≡ None →
+pub search_reason : (links : Announcements) (old : CoreState) (known : List ℕ) (core : Core) (p : CoreProbe)
+    (why : Refusal) → IsShown links old known core → old.blocked ≡ None →
     free_fault old (calls.Improbe p) ≡ Some why → HasReason old core (calls.Improbe p) why
 search_reason links old known core p why shown free fault = go (probe_rule old.place.size p.source p.tag) refl fault
   where
-    go : (o : Option Refusal) → probe_rule old.place.size p.source p.tag ≡ o → first_of o (search_limit p.source old p) ≡ Some why → HasReason old core (calls.Improbe p) why
-    go (Some x) e h = reason_is old core (calls.Improbe p) x why h (MachinesFault (searches_judged links old known core p shown free ∙ ap (option_map number_of_refusal) e))
-    go None e h = NoRoom (search_met p.source old p why h) (searches_judged links old known core p shown free ∙ ap (option_map number_of_refusal) e)
+    go : (o : Option Refusal) → probe_rule old.place.size p.source p.tag ≡ o →
+        first_of o (search_limit p.source old p) ≡ Some why → HasReason old core (calls.Improbe p) why
+    go (Some x) e h =
+        reason_is old core (calls.Improbe p) x why h
+        (MachinesFault (searches_judged links old known core p shown free ∙ ap (option_map number_of_refusal) e))
+    go None e h =
+        NoRoom (search_met p.source old p why h) (searches_judged links old known core p shown free ∙
+        ap (option_map number_of_refusal) e)
 
 -- one that meets none
-pub search_without_fault : (links : Announcements) (old : CoreState) (known : List ℕ) (core : Core) (p : CoreProbe) → IsShown links old known core → old.blocked ≡ None → free_fault old (calls.Improbe p) ≡ None →
+pub search_without_fault : (links : Announcements) (old : CoreState) (known : List ℕ) (core : Core) (p : CoreProbe) →
+    IsShown links old known core → old.blocked ≡ None → free_fault old (calls.Improbe p) ≡ None →
     IsFaultless (queue_fault old.place.size (view blank core) (call_seen (calls.Improbe p))) old (calls.Improbe p)
-search_without_fault links old known core p shown free fine = record { own = refl; none = search_fit links old known core p shown free fine }
+search_without_fault links old known core p shown free fine =
+    record { own = refl; none = search_fit links old known core p shown free fine }
 
 -- ---- RECEIVES OF MESSAGES
 
@@ -72,14 +82,19 @@ is_unknown old (Some q) = not (table.is_message (progress_at old.slots q.key q.s
 abbrev message_rules : (unknown : Bool) → Region → Option ℕ
 message_rules unknown into =
     rules.first_fault (
-    (unknown, 6) ∷ (false, 4) ∷ (is_unfit_to_receive (handed_of into), 2) ∷ (is_too_short (handed_of into), 1) ∷ (false, 3) ∷ (false, 5) ∷ (false, 7) ∷ (false, 9) ∷ (false, 11) ∷ [])
+    (unknown, 6) ∷ (false, 4) ∷ (is_unfit_to_receive (handed_of into), 2) ∷ (is_too_short (handed_of into), 1) ∷
+    (false, 3) ∷ (false, 5) ∷ (false, 7) ∷ (false, 9) ∷ (false, 11) ∷ [])
 
 -- the fault that the machine finds is by the rank's own tests
-message_found : (links : Announcements) (old : CoreState) (known : List ℕ) (core : Core) (q : Option Request) (into : Region) → IsShown links old known core → old.blocked ≡ None →
-    queue_fault old.place.size (view blank core) (machine.Mrecv (request_by (serial_meant old) q) (handed_of into)) ≡ message_rules (is_unknown old q) into
-message_found links old known core None into shown free = fault_free old.place.size core (machine.Mrecv None (handed_of into)) (core_free links old known core shown free)
+message_found : (links : Announcements) (old : CoreState) (known : List ℕ) (core : Core) (q : Option Request)
+    (into : Region) → IsShown links old known core → old.blocked ≡ None →
+    queue_fault old.place.size (view blank core) (machine.Mrecv (request_by (serial_meant old) q) (handed_of into)) ≡
+    message_rules (is_unknown old q) into
+message_found links old known core None into shown free =
+    fault_free old.place.size core (machine.Mrecv None (handed_of into)) (core_free links old known core shown free)
 message_found links old known core (Some q) into shown free =
-    fault_free old.place.size core (machine.Mrecv (Some (serial_meant old q)) (handed_of into)) (core_free links old known core shown free)
+    fault_free old.place.size core (machine.Mrecv (Some (serial_meant old q)) (handed_of into))
+    (core_free links old known core shown free)
     ∙ ap (λ (b : Bool). message_rules (not b) into) (message_seen links old known core q shown)
 
 -- the rank's test, the other way round
@@ -87,7 +102,8 @@ turned : (b : Bool) → (if b then None else Some refusals.Request) ≡ (if not 
 turned true = refl
 turned false = refl
 
-unknown_is : (old : CoreState) (q : Option Request) → message_fault old q ≡ (if is_unknown old q then Some refusals.Request else None)
+unknown_is : (old : CoreState) (q : Option Request) → message_fault old q ≡
+    (if is_unknown old q then Some refusals.Request else None)
 unknown_is old None = refl
 unknown_is old (Some q) = turned (table.is_message (progress_at old.slots q.key q.serial))
 
@@ -96,10 +112,13 @@ unknown_fault : (b : Bool) (into : Region) → b ≡ true → message_rules b in
 unknown_fault b into h = rw h refl
 
 -- a receive that breaks a rule
-pub message_reason : (links : Announcements) (old : CoreState) (known : List ℕ) (core : Core) (q : Option Request) (into : Region) (why : Refusal) → IsShown links old known core → old.blocked ≡ None →
+pub message_reason : (links : Announcements) (old : CoreState) (known : List ℕ) (core : Core) (q : Option Request)
+    (into : Region) (why : Refusal) → IsShown links old known core → old.blocked ≡ None →
     free_fault old (calls.Mrecv q into) ≡ Some why → HasReason old core (calls.Mrecv q into) why
 unfolding region_rule
-message_reason links old known core q into why shown free fault = by_request (is_unknown old q) refl (sym (ap (λ (o : Option Refusal). first_of o (region_rule into)) (unknown_is old q)) ∙ fault)
+message_reason links old known core q into why shown free fault =
+    by_request (is_unknown old q) refl
+    (sym (ap (λ (o : Option Refusal). first_of o (region_rule into)) (unknown_is old q)) ∙ fault)
   where
     unfit : Bool
     unfit = is_unfit_to_receive (handed_of into)
@@ -107,21 +126,31 @@ message_reason links old known core q into why shown free fault = by_request (is
     short : Bool
     short = is_too_short (handed_of into)
 
-    found : queue_fault old.place.size (view blank core) (machine.Mrecv (request_by (serial_meant old) q) (handed_of into)) ≡ message_rules (is_unknown old q) into
+    found : queue_fault old.place.size (view blank core)
+        (machine.Mrecv (request_by (serial_meant old) q) (handed_of into)) ≡ message_rules (is_unknown old q) into
     found = message_found links old known core q into shown free
 
-    by_length : is_unknown old q ≡ false → unfit ≡ false → (b : Bool) → short ≡ b → (if b then Some refusals.Count else None) ≡ Some why → HasReason old core (calls.Mrecv q into) why
+    by_length : is_unknown old q ≡ false → unfit ≡ false → (b : Bool) → short ≡ b →
+        (if b then Some refusals.Count else None) ≡ Some why → HasReason old core (calls.Mrecv q into) why
     by_length known fit true e h =
-        reason_is old core (calls.Mrecv q into) refusals.Count why h (MachinesFault (found ∙ count_fault (is_unknown old q) false unfit short false false known refl fit e))
+        reason_is old core (calls.Mrecv q into) refusals.Count why h
+        (MachinesFault (found ∙ count_fault (is_unknown old q) false unfit short false false known refl fit e))
     by_length known fit false e h = absurd cc
 
-    by_type : is_unknown old q ≡ false → (b : Bool) → unfit ≡ b → (if b then Some refusals.WrongType else (if short then Some refusals.Count else None)) ≡ Some why → HasReason old core (calls.Mrecv q into) why
+    by_type : is_unknown old q ≡ false → (b : Bool) → unfit ≡ b →
+        (if b then Some refusals.WrongType else (if short then Some refusals.Count else None)) ≡ Some why →
+        HasReason old core (calls.Mrecv q into) why
     by_type known true e h =
-        reason_is old core (calls.Mrecv q into) refusals.WrongType why h (MachinesFault (found ∙ type_fault (is_unknown old q) false unfit short false false known refl e))
+        reason_is old core (calls.Mrecv q into) refusals.WrongType why h
+        (MachinesFault (found ∙ type_fault (is_unknown old q) false unfit short false false known refl e))
     by_type known false e h = by_length known e short refl h
 
-    by_request : (b : Bool) → is_unknown old q ≡ b → first_of (if b then Some refusals.Request else None) (region_rule into) ≡ Some why → HasReason old core (calls.Mrecv q into) why
-    by_request true e h = reason_is old core (calls.Mrecv q into) refusals.Request why h (MachinesFault (found ∙ unknown_fault (is_unknown old q) into e))
+    by_request : (b : Bool) → is_unknown old q ≡ b →
+        first_of (if b then Some refusals.Request else None) (region_rule into) ≡ Some why →
+        HasReason old core (calls.Mrecv q into) why
+    by_request true e h =
+        reason_is old core (calls.Mrecv q into) refusals.Request why h
+        (MachinesFault (found ∙ unknown_fault (is_unknown old q) into e))
     by_request false e h = by_type e unfit refl h
 
 -- What a receive that breaks no rule names is there, and its region is fit
@@ -130,44 +159,57 @@ record KeepsRules (old : CoreState) (q : Option Request) (into : Region) : Type 
   fit : is_unfit_to_receive (handed_of into) ≡ false
   long : is_too_short (handed_of into) ≡ false
 
-message_kept : (old : CoreState) (q : Option Request) (into : Region) → free_fault old (calls.Mrecv q into) ≡ None → KeepsRules old q into
+message_kept : (old : CoreState) (q : Option Request) (into : Region) → free_fault old (calls.Mrecv q into) ≡ None →
+    KeepsRules old q into
 unfolding region_rule
-message_kept old q into fine = go (is_unknown old q) refl (sym (ap (λ (o : Option Refusal). first_of o (region_rule into)) (unknown_is old q)) ∙ fine)
+message_kept old q into fine =
+    go (is_unknown old q) refl (sym (ap (λ (o : Option Refusal). first_of o (region_rule into)) (unknown_is old q)) ∙
+    fine)
   where
     one_test : (b : Bool) → (if b then Some refusals.Count else None) ≡ None → b ≡ false
     one_test true h = absurd cc
     one_test false h = refl
 
-    go : (b : Bool) → is_unknown old q ≡ b → first_of (if b then Some refusals.Request else None) (region_rule into) ≡ None → KeepsRules old q into
+    go : (b : Bool) → is_unknown old q ≡ b → first_of (if b then Some refusals.Request else None) (region_rule into) ≡
+        None → KeepsRules old q into
     go true e h = absurd cc
     go false e h = by_type (is_unfit_to_receive (handed_of into)) refl h
       where
-        by_type : (b : Bool) → is_unfit_to_receive (handed_of into) ≡ b → (if b then Some refusals.WrongType else (if is_too_short (handed_of into) then Some refusals.Count else None)) ≡ None → KeepsRules old q into
+        by_type : (b : Bool) → is_unfit_to_receive (handed_of into) ≡ b →
+            (if b then Some refusals.WrongType else
+            (if is_too_short (handed_of into) then Some refusals.Count else None)) ≡ None → KeepsRules old q into
         by_type true f g = absurd cc
         by_type false f g = record { named = e; fit = f; long = one_test (is_too_short (handed_of into)) g }
 
 -- a message that is there
-message_there : (old : CoreState) (q : Request) → not (table.is_message (progress_at old.slots q.key q.serial)) ≡ false → IsPresent old q
+message_there : (old : CoreState) (q : Request) → not (table.is_message (progress_at old.slots q.key q.serial)) ≡
+    false → IsPresent old q
 message_there old q h = go (progress_at old.slots q.key q.serial) refl h
   where
-    go : (o : Option RequestProgress) → progress_at old.slots q.key q.serial ≡ o → not (table.is_message o) ≡ false → IsPresent old q
+    go : (o : Option RequestProgress) → progress_at old.slots q.key q.serial ≡ o → not (table.is_message o) ≡ false →
+        IsPresent old q
     go None e f = absurd cc
     go (Some g) e f = (g, e)
 
 -- it means its own serial
-message_own : (old : CoreState) (q : Option Request) → is_unknown old q ≡ false → request_by (serial_meant old) q ≡ request_by own_serial q
+message_own : (old : CoreState) (q : Option Request) → is_unknown old q ≡ false → request_by (serial_meant old) q ≡
+    request_by own_serial q
 message_own old None h = refl
 message_own old (Some q) h = ap (λ (k : ℕ). Some k) (meant_present old q (message_there old q h))
 
 -- one that breaks none
-pub message_without_fault : (links : Announcements) (old : CoreState) (known : List ℕ) (core : Core) (q : Option Request) (into : Region) → IsShown links old known core → old.blocked ≡ None → free_fault old (calls.Mrecv q into) ≡ None →
+pub message_without_fault : (links : Announcements) (old : CoreState) (known : List ℕ) (core : Core)
+    (q : Option Request) (into : Region) → IsShown links old known core → old.blocked ≡ None →
+    free_fault old (calls.Mrecv q into) ≡ None →
     IsFaultless (queue_fault old.place.size (view blank core) (call_seen (calls.Mrecv q into))) old (calls.Mrecv q into)
 message_without_fault links old known core q into shown free fine =
     record {
       own = ap (λ (k : Option ℕ). machine.Mrecv k (handed_of into)) own;
-      none = ap (λ (k : Option ℕ). queue_fault old.place.size (view blank core) (machine.Mrecv k (handed_of into))) (sym own)
+      none = ap (λ (k : Option ℕ). queue_fault old.place.size (view blank core) (machine.Mrecv k (handed_of into)))
+          (sym own)
           ∙ (message_found links old known core q into shown free
-          ∙ no_fault (is_unknown old q) false (is_unfit_to_receive (handed_of into)) (is_too_short (handed_of into)) false false kept.named refl kept.fit kept.long refl refl);
+          ∙ no_fault (is_unknown old q) false (is_unfit_to_receive (handed_of into)) (is_too_short (handed_of into))
+          false false kept.named refl kept.fit kept.long refl refl);
     }
   where
     kept : KeepsRules old q into

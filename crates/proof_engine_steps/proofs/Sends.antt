@@ -1,6 +1,8 @@
 -- A send of a rank to another one, or to the null process, is that of its core in the network.
 use Rattle.vocabulary.specs.Limits.{eager_limit, highest_tag, send_limit}
-use Rattle.std.proofs.Common.{◌^◌, ◌≡◌, ℕ, ◌+◌, ◌*◌, ◌<◌, ◌≤◌, Bool, true, false, List, [], ◌∷◌, ◌++◌, length, Option, Some, None, if◌then◌else◌, ◌==◌, ◌||◌, ap₂, nat_le, nat_lt, slice_index, refl, sym, ap, ◌∙◌, subst, arith, append-nil}
+use Rattle.std.proofs.Common.{◌^◌, ◌≡◌, ℕ, ◌+◌, ◌*◌, ◌<◌, ◌≤◌, Bool, true, false, List, [], ◌∷◌, ◌++◌, length, Option}
+use Rattle.std.proofs.Common.{Some, None, if◌then◌else◌, ◌==◌, ◌||◌, ap₂, nat_le, nat_lt, slice_index, refl, sym, ap}
+use Rattle.std.proofs.Common.{◌∙◌, subst, arith, append-nil}
 use Rattle.std.specs.List.{AllByRecursion}
 use Rattle.std.proofs.lemmas.Bool.{and_left, eqb-false, le-leb, le-ltb, leb-false, ltb-false, or_left}
 use Rattle.vocabulary.specs.BasicTypes.{size_of}
@@ -34,7 +36,9 @@ use Rattle.datatypes.specs.Contents.{AreWithin, Contents, bytes_of, values_of}
 use Rattle.point_to_point_calls.specs.Calls.{IsWithin}
 use Rattle.point_to_point.specs.CoreState.{CoreState}
 use Rattle.point_to_point_calls.specs.Frames.{FrameFor, as_list}
-use Rattle.point_to_point_calls.specs.Sending.{announced_to, destination, eager_frame, frame_to, frame_unless, is_announced, is_own, is_to_itself, offered_by, progress_of_send, rank_to, request_frame, send_fault}
+use Rattle.point_to_point_calls.specs.Sending.{announced_to, destination, eager_frame, frame_to, frame_unless}
+use Rattle.point_to_point_calls.specs.Sending.{is_announced, is_own, is_to_itself, offered_by, progress_of_send}
+use Rattle.point_to_point_calls.specs.Sending.{rank_to, request_frame, send_fault}
 use Rattle.point_to_point.specs.Sending.{IsSending, arrived_at_itself, arrived_if, begun, frame_of, waiting_of}
 use Rattle.rendezvous.specs.State.{next_to}
 use Rattle.requests.specs.Table.{IsSet, slot_at}
@@ -49,7 +53,8 @@ use Rattle.proof_engine_view.specs.Transfers.{Announcements, after_out}
 use Rattle.proof_engine_steps.specs.Steps.{IsCalled}
 use Rattle.proof_engine_steps.proofs.LargeSends.{none_waits, not_to_itself}
 use Rattle.proof_engine_steps.proofs.Regions.{handed_buffer}
-use Rattle.proof_engine_steps.proofs.Starting.{core_free, fault_free, holding_of, holding_started, no_fault, none_leave, none_sent, serial_told, shown_free, started_call, two_tests}
+use Rattle.proof_engine_steps.proofs.Starting.{core_free, fault_free, holding_of, holding_started, no_fault, none_leave}
+use Rattle.proof_engine_steps.proofs.Starting.{none_sent, serial_told, shown_free, started_call, two_tests}
 use Rattle.proof_engine_steps.proofs.Staying.{AreQuiet, shown_quiet, under_way_still}
 use Rattle.proof_engine_steps.proofs.UnderWay.{after_grows_not, same_pushed}
 use Rattle.proof_engine_steps.proofs.Waking.{Holding}
@@ -61,8 +66,8 @@ one_test : (b : Bool) (x : Refusal) → (if b then Some x else None) ≡ None �
 one_test true x h = absurd cc
 one_test false x h = refl
 
--- buffer and layout have one type, not too many bytes, a buffer that is long enough, a tag that is allowed, and a rank of the
--- job or the null process
+-- buffer and layout have one type, not too many bytes, a buffer that is long enough, a tag that is allowed, and a rank
+-- of the job or the null process
 pub record KeepsRules (p : Place) (s : CoreSend) : Type 0 where
   pub one_type : differs_in_type (handed_of s.from) ≡ false
   pub few : byte_count s.from ≤ send_limit
@@ -75,7 +80,8 @@ unfolding send_fault
 send_rules p s fine =
     let last : Option Refusal = if rules.is_no_target p.size s.target then Some refusals.Rank else None in
     let t = two_tests (differs_in_type (handed_of s.from)) (nat_lt send_limit (byte_count s.from)) refusals.WrongType refusals.Count
-    (if is_too_short (handed_of s.from) then Some refusals.Count else (if rules.is_no_tag s.tag then Some refusals.Tag else last)) fine in
+    (if is_too_short (handed_of s.from) then Some refusals.Count else
+    (if rules.is_no_tag s.tag then Some refusals.Tag else last)) fine in
     let u = two_tests (is_too_short (handed_of s.from)) (rules.is_no_tag s.tag) refusals.Count refusals.Tag last t.2 in
     record {
       one_type = t.0;
@@ -87,18 +93,22 @@ send_rules p s fine =
 
 -- so many bytes, in a buffer that is long enough or isn't, are as many as the machine allows
 pub send_count : (s : CoreSend) (b : Bool) → byte_count s.from ≤ send_limit → is_too_short (handed_of s.from) ≡ b →
-    (nat_lt send_limit (length (data_of (handed_of s.from)) * size_of (handed_of s.from).buffer.basic) || is_too_short (handed_of s.from)) ≡ b
+    (nat_lt send_limit (length (data_of (handed_of s.from)) * size_of (handed_of s.from).buffer.basic) ||
+    is_too_short (handed_of s.from)) ≡ b
 send_count s b few long =
     ap₂ (λ (x y : Bool). x || y)
-    (ap (λ (c : Contents). nat_lt send_limit (length (data_of (handed_of s.from)) * size_of c.basic)) (handed_buffer s.from)
+    (ap (λ (c : Contents). nat_lt send_limit (length (data_of (handed_of s.from)) * size_of c.basic))
+    (handed_buffer s.from)
     ∙ le-ltb send_limit (byte_count s.from) few) long
 
 -- too many bytes are more than the machine allows, whatever the buffer
 pub send_over : (s : CoreSend) → nat_lt send_limit (byte_count s.from) ≡ true →
-    (nat_lt send_limit (length (data_of (handed_of s.from)) * size_of (handed_of s.from).buffer.basic) || is_too_short (handed_of s.from)) ≡ true
+    (nat_lt send_limit (length (data_of (handed_of s.from)) * size_of (handed_of s.from).buffer.basic) ||
+    is_too_short (handed_of s.from)) ≡ true
 send_over s over =
     ap (λ (x : Bool). x || is_too_short (handed_of s.from))
-    (ap (λ (c : Contents). nat_lt send_limit (length (data_of (handed_of s.from)) * size_of c.basic)) (handed_buffer s.from) ∙ over)
+    (ap (λ (c : Contents). nat_lt send_limit (length (data_of (handed_of s.from)) * size_of c.basic))
+    (handed_buffer s.from) ∙ over)
 
 -- no rule of the machine is broken
 pub send_fit : (p : Place) (core : Core) (s : CoreSend) → core.blocked ≡ None → KeepsRules p s →
@@ -106,7 +116,8 @@ pub send_fit : (p : Place) (core : Core) (s : CoreSend) → core.blocked ≡ Non
 send_fit p core s free kept =
     fault_free p.size core (call_seen (calls.Isend s)) free ∙
     no_fault false false (differs_in_type (handed_of s.from))
-    (nat_lt send_limit (length (data_of (handed_of s.from)) * size_of (handed_of s.from).buffer.basic) || is_too_short (handed_of s.from))
+    (nat_lt send_limit (length (data_of (handed_of s.from)) * size_of (handed_of s.from).buffer.basic) ||
+    is_too_short (handed_of s.from))
     (rules.is_no_tag s.tag) (rules.is_no_target p.size s.target)
     refl refl kept.one_type (send_count s false kept.few kept.long) kept.low kept.inside
 
@@ -122,27 +133,35 @@ few_of Standard c small = ltb-false eager_limit (length c.values * size_of c.bas
 few_of Synchronous c small = absurd cc
 
 -- and are finished in their own call
-needs_no_match : (mode : Mode) (own d : Endpoint) (c : Contents) → is_announced mode c ≡ false → machine.is_eager mode own d c.basic c.values ≡ true
+needs_no_match : (mode : Mode) (own d : Endpoint) (c : Contents) → is_announced mode c ≡ false →
+    machine.is_eager mode own d c.basic c.values ≡ true
 needs_no_match Standard own d c small =
-    or_left (nat_le (length c.values * size_of c.basic) eager_limit) (is_same d own) (le-leb (length c.values * size_of c.basic) eager_limit (few_of Standard c small))
+    or_left (nat_le (length c.values * size_of c.basic) eager_limit) (is_same d own)
+    (le-leb (length c.values * size_of c.basic) eager_limit (few_of Standard c small))
 needs_no_match Synchronous own d c small = absurd cc
 
 -- a small send to another rank
-core_sends : (mode : Mode) (core : Core) (own : Endpoint) (to i context tag : ℕ) (c : Contents) → (to == own.rank) ≡ false → is_announced mode c ≡ false → core.known to ≡ i →
-    sends_to mode own core context (Rank to) (Some tag) c.basic c.values ≡ effect (pushed_over core) ((record { rank = to; incarnation = i }, Eager context tag c.basic c.values) ∷ [])
+core_sends : (mode : Mode) (core : Core) (own : Endpoint) (to i context tag : ℕ) (c : Contents) →
+    (to == own.rank) ≡ false → is_announced mode c ≡ false → core.known to ≡ i →
+    sends_to mode own core context (Rank to) (Some tag) c.basic c.values ≡
+    effect (pushed_over core) ((record { rank = to; incarnation = i }, Eager context tag c.basic c.values) ∷ [])
 core_sends mode core own to i context tag c other small known =
-    ap (λ (b : Bool). sends own core d b context tag c.basic c.values (machine.is_eager mode own d c.basic c.values)) (and_left (to == own.rank) (core.known to == own.incarnation) other) ∙
+    ap (λ (b : Bool). sends own core d b context tag c.basic c.values (machine.is_eager mode own d c.basic c.values))
+    (and_left (to == own.rank) (core.known to == own.incarnation) other) ∙
     (ap (λ (b : Bool). sends own core d false context tag c.basic c.values b) (needs_no_match mode own d c small) ∙
-    ap (λ (n : ℕ). effect (pushed_over core) ((record { rank = to; incarnation = n }, Eager context tag c.basic c.values) ∷ [])) known)
+    ap (λ (n : ℕ). effect (pushed_over core)
+    ((record { rank = to; incarnation = n }, Eager context tag c.basic c.values) ∷ [])) known)
   where
     d : Endpoint
     d = machine.receiver core.known to
 
 -- what is sent of a region
 pub called_send : (core : Core) (own : Endpoint) (s : CoreSend) →
-    sends_to s.mode own core s.context s.target s.tag (handed_of s.from).buffer.basic (data_of (handed_of s.from)) ≡ core_sent s.mode own core s.context s.target s.tag (sent_from s.from)
+    sends_to s.mode own core s.context s.target s.tag (handed_of s.from).buffer.basic (data_of (handed_of s.from)) ≡
+    core_sent s.mode own core s.context s.target s.tag (sent_from s.from)
 called_send core own s =
-    ap (λ (b : Contents). sends_to s.mode own core s.context s.target s.tag b.basic (data_of (handed_of s.from))) (handed_buffer s.from)
+    ap (λ (b : Contents). sends_to s.mode own core s.context s.target s.tag b.basic (data_of (handed_of s.from)))
+    (handed_buffer s.from)
 
 -- THE RANK'S SEND
 
@@ -152,29 +171,52 @@ pub record IsSmallSending (old : CoreState) (s : CoreSend) (q : Request) (new : 
   pub serial : q.serial ≡ old.serial
   pub started : List (Option TableEntry)
   pub entry : IsSet old.slots started q.key (Some (record { serial = old.serial; progress = Finished Sent }))
-  pub rest : new ≡ arrived_at_itself (record old { slots = started; serial = old.serial + 1 }) (destination s.target s.tag s.context) None (sent_from s.from)
+  pub rest : new ≡ arrived_at_itself (record old { slots = started; serial = old.serial + 1 })
+      (destination s.target s.tag s.context) None (sent_from s.from)
 
 -- each send whose message isn't announced, and that waits for no match, is such a one
-pub small_sending : (old new : CoreState) (s : CoreSend) (q : Request) → announced_to old.place s ≡ None → waiting_of s.mode (is_to_itself old.place s) q ≡ None → IsSending old s q new → IsSmallSending old s q new
+pub small_sending : (old new : CoreState) (s : CoreSend) (q : Request) → announced_to old.place s ≡ None →
+    waiting_of s.mode (is_to_itself old.place s) q ≡ None → IsSending old s q new → IsSmallSending old s q new
 small_sending old new s q none no_wait sent =
     record {
       fresh = sent.fresh;
       serial = sent.serial;
       started = sent.started;
-      entry = subst (λ (a : Option ℕ). IsSet old.slots sent.started q.key (Some (record { serial = old.serial; progress = progress_of_send a }))) none
-          (subst (λ (w : Option Request). IsSet old.slots sent.started q.key (Some (record { serial = old.serial; progress = begun w (announced_to old.place s) }))) no_wait sent.entry);
-      rest = subst (λ (a : Option ℕ). new ≡ arrived_at_itself (record old { slots = sent.started; serial = old.serial + 1; transfers = offered_by old.transfers a q.key (sent_from s.from) })
+      entry = subst
+          (λ (a : Option ℕ). IsSet old.slots sent.started q.key
+          (Some (record { serial = old.serial; progress = progress_of_send a }))) none
+          (subst (λ (w : Option Request). IsSet old.slots sent.started q.key
+          (Some (record { serial = old.serial; progress = begun w (announced_to old.place s) }))) no_wait
+          sent.entry);
+      rest = subst (λ (a : Option ℕ). new ≡
+          arrived_at_itself
+          (record old {
+            slots = sent.started;
+            serial = old.serial + 1;
+            transfers =
+                offered_by old.transfers a q.key (sent_from s.from);
+          })
           (destination s.target s.tag s.context) None (sent_from s.from)) none
-          (subst (λ (w : Option Request). new ≡ arrived_at_itself (record old { slots = sent.started; serial = old.serial + 1; transfers = offered_by old.transfers (announced_to old.place s) q.key (sent_from s.from) })
+          (subst (λ (w : Option Request). new ≡
+          arrived_at_itself
+          (record old {
+            slots = sent.started;
+            serial = old.serial + 1;
+            transfers =
+                offered_by old.transfers (announced_to old.place s) q.key (sent_from s.from);
+          })
           (destination s.target s.tag s.context) w (sent_from s.from)) no_wait sent.rest);
     }
 
 -- nothing is announced that goes in one frame
-pub announced_small : (p : Place) (s : CoreSend) → is_announced s.mode (sent_from s.from) ≡ false → announced_to p s ≡ None
-announced_small p s small = ap (λ (b : Bool). if b then rank_to p (destination s.target s.tag s.context) else None) small
+pub announced_small : (p : Place) (s : CoreSend) → is_announced s.mode (sent_from s.from) ≡ false →
+    announced_to p s ≡ None
+announced_small p s small =
+    ap (λ (b : Bool). if b then rank_to p (destination s.target s.tag s.context) else None) small
 
 -- nor what goes to no other rank
-pub announced_nowhere : (p : Place) (s : CoreSend) → rank_to p (destination s.target s.tag s.context) ≡ None → announced_to p s ≡ None
+pub announced_nowhere : (p : Place) (s : CoreSend) → rank_to p (destination s.target s.tag s.context) ≡ None →
+    announced_to p s ≡ None
 announced_nowhere p s nowhere = go (is_announced s.mode (sent_from s.from))
   where
     go : (b : Bool) → (if b then rank_to p (destination s.target s.tag s.context) else None) ≡ None
@@ -182,13 +224,18 @@ announced_nowhere p s nowhere = go (is_announced s.mode (sent_from s.from))
     go false = refl
 
 -- its request is there, and is over
-pub send_holds : (links : Announcements) (old : CoreState) (known : List ℕ) (core : Core) (s : CoreSend) (q : Request) (new : CoreState) → (shown : IsShown links old known core) → (sent : IsSmallSending old s q new) →
-    Holding links (record old { slots = sent.started; serial = old.serial + 1 }) known (pushed_over core) (shown.rows ++ record { key = q.key; job = Over ends.Sent } ∷ [])
+pub send_holds : (links : Announcements) (old : CoreState) (known : List ℕ) (core : Core) (s : CoreSend) (q : Request)
+    (new : CoreState) → (shown : IsShown links old known core) → (sent : IsSmallSending old s q new) →
+    Holding links (record old { slots = sent.started; serial = old.serial + 1 }) known (pushed_over core)
+    (shown.rows ++ record { key = q.key; job = Over ends.Sent } ∷ [])
 send_holds links old known core s q new shown sent =
-    holding_started links links old (record old { slots = sent.started; serial = old.serial + 1 }) known core (pushed_over core) shown.rows q.key (Finished Sent) (Over ends.Sent)
+    holding_started links links old (record old { slots = sent.started; serial = old.serial + 1 }) known core
+    (pushed_over core) shown.rows q.key (Finished Sent) (Over ends.Sent)
     (holding_of links old known core shown) sent.fresh sent.entry refl refl refl
     (shown.posted ∙ sym (append-nil (posted_rows shown.rows))) shown.held
-    (under_way_still links known old.place old.place shown.rows (shown.rows ++ record { key = q.key; job = Over ends.Sent } ∷ []) old.transfers old.transfers old.queues.unexpected old.queues.unexpected shown.under_way
+    (under_way_still links known old.place old.place shown.rows
+    (shown.rows ++ record { key = q.key; job = Over ends.Sent } ∷ []) old.transfers old.transfers
+    old.queues.unexpected old.queues.unexpected shown.under_way
     (same_pushed shown.rows q.key (Over ends.Sent) (λ i. i)) refl refl refl)
     (after_grows_not links) tt refl refl
 
@@ -199,10 +246,15 @@ pub record Stays (old new : CoreState) : Type 0 where
   pub blocked : new.blocked ≡ old.blocked
 
 -- A send that was started and announces nothing, by what the core makes of it
-pub send_started : (links : Announcements) (old new : CoreState) (known : List ℕ) (core : Core) (s : CoreSend) (q : Request) (after : Effect) (rows : List Row) → IsShown links old known core → old.blocked ≡ None →
-    KeepsRules old.place s → q.serial ≡ old.serial → core_sent s.mode old.place.endpoint core s.context s.target s.tag (sent_from s.from) ≡ after → Holding links new known after.core rows →
-    after.core.blocked ≡ core.blocked → Stays old new → AreQuiet after.out → AreSent (after_out links after.out) (all_gone known (as_list (frame_of old s))) after.out →
-    AllByRecursion (CanLeave old.place) (as_list (frame_of old s)) → IsCalled links old known core (calls.Isend s) (replies.Started q) new
+pub send_started : (links : Announcements) (old new : CoreState) (known : List ℕ) (core : Core) (s : CoreSend)
+    (q : Request) (after : Effect) (rows : List Row) → IsShown links old known core → old.blocked ≡ None →
+    KeepsRules old.place s → q.serial ≡ old.serial →
+    core_sent s.mode old.place.endpoint core s.context s.target s.tag (sent_from s.from) ≡ after →
+    Holding links new known after.core rows →
+    after.core.blocked ≡ core.blocked → Stays old new → AreQuiet after.out →
+    AreSent (after_out links after.out) (all_gone known (as_list (frame_of old s))) after.out →
+    AllByRecursion (CanLeave old.place) (as_list (frame_of old s)) →
+    IsCalled links old known core (calls.Isend s) (replies.Started q) new
 send_started links old new known core s q after rows shown free kept serial is holding same stays quiet out leave =
     let core_is : core.blocked ≡ None = core_free links old known core shown free in
     started_call links old new known core (calls.Isend s) q after (record {
@@ -211,42 +263,62 @@ send_started links old new known core s q after rows shown free kept serial is h
       place = stays.place;
       completion = stays.completion;
       free = same ∙ core_is;
-      shown = shown_quiet links new known after.core after.out quiet (shown_free links new known after.core rows holding (stays.blocked ∙ free) (same ∙ core_is));
+      shown = shown_quiet links new known after.core after.out quiet
+          (shown_free links new known after.core rows holding (stays.blocked ∙ free) (same ∙ core_is));
       sends = out;
       leaves = leave;
-      reply = ap (λ (n : ℕ). Some (call_seen (calls.Isend s), Some (machine.Started n))) (serial_told links old known core q shown serial);
+      reply = ap (λ (n : ℕ). Some (call_seen (calls.Isend s), Some (machine.Started n)))
+          (serial_told links old known core q shown serial);
     })
 
 -- the same, where nothing comes to the own rank
-away_shown : (links : Announcements) (old new : CoreState) (known : List ℕ) (core : Core) (s : CoreSend) (q : Request) (after : Effect) → (shown : IsShown links old known core) → old.blocked ≡ None →
-    KeepsRules old.place s → (sent : IsSmallSending old s q new) → new ≡ record old { slots = sent.started; serial = old.serial + 1 } →
-    core_sent s.mode old.place.endpoint core s.context s.target s.tag (sent_from s.from) ≡ after → after.core ≡ pushed_over core →
-    AreQuiet after.out → AreSent (after_out links after.out) (all_gone known (as_list (frame_of old s))) after.out → AllByRecursion (CanLeave old.place) (as_list (frame_of old s)) →
+away_shown : (links : Announcements) (old new : CoreState) (known : List ℕ) (core : Core) (s : CoreSend) (q : Request)
+    (after : Effect) → (shown : IsShown links old known core) → old.blocked ≡ None →
+    KeepsRules old.place s → (sent : IsSmallSending old s q new) →
+    new ≡ record old { slots = sent.started; serial = old.serial + 1 } →
+    core_sent s.mode old.place.endpoint core s.context s.target s.tag (sent_from s.from) ≡ after →
+    after.core ≡ pushed_over core →
+    AreQuiet after.out → AreSent (after_out links after.out) (all_gone known (as_list (frame_of old s))) after.out →
+    AllByRecursion (CanLeave old.place) (as_list (frame_of old s)) →
     IsCalled links old known core (calls.Isend s) (replies.Started q) new
 away_shown links old new known core s q after shown free kept sent rest is left quiet out leave =
-    send_started links old new known core s q after (shown.rows ++ record { key = q.key; job = Over ends.Sent } ∷ []) shown free kept sent.serial is
-    (subst (λ (c : Core). Holding links new known c (shown.rows ++ record { key = q.key; job = Over ends.Sent } ∷ [])) (sym left)
-    (subst (λ (e : CoreState). Holding links e known (pushed_over core) (shown.rows ++ record { key = q.key; job = Over ends.Sent } ∷ [])) (sym rest)
+    send_started links old new known core s q after (shown.rows ++ record { key = q.key; job = Over ends.Sent } ∷
+    []) shown free kept sent.serial is
+    (subst (λ (c : Core). Holding links new known c (shown.rows ++ record { key = q.key; job = Over ends.Sent } ∷ []))
+    (sym left)
+    (subst (λ (e : CoreState). Holding links e known (pushed_over core)
+    (shown.rows ++ record { key = q.key; job = Over ends.Sent } ∷ [])) (sym rest)
     (send_holds links old known core s q new shown sent)))
     (ap (λ (c : Core). c.blocked) left)
-    (record { place = ap (λ (e : CoreState). e.place) rest; completion = ap (λ (e : CoreState). e.completion) rest; blocked = ap (λ (e : CoreState). e.blocked) rest })
+    (record {
+      place = ap (λ (e : CoreState). e.place) rest;
+      completion = ap (λ (e : CoreState). e.completion) rest;
+      blocked = ap (λ (e : CoreState). e.blocked) rest;
+    })
     quiet out leave
 
 -- a send to the null process
-pub null_send_shown : (links : Announcements) (old new : CoreState) (known : List ℕ) (core : Core) (s : CoreSend) (q : Request) → IsShown links old known core → old.blocked ≡ None →
-    s.target ≡ Null → KeepsRules old.place s → IsSending old s q new → IsCalled links old known core (calls.Isend s) (replies.Started q) new
+pub null_send_shown : (links : Announcements) (old new : CoreState) (known : List ℕ) (core : Core) (s : CoreSend)
+    (q : Request) → IsShown links old known core → old.blocked ≡ None →
+    s.target ≡ Null → KeepsRules old.place s → IsSending old s q new →
+    IsCalled links old known core (calls.Isend s) (replies.Started q) new
 null_send_shown links old new known core s q shown free is kept is_sent =
     away_shown links old new known core s q (effect (pushed_over core) []) shown free kept sent
-    (sent.rest ∙ ap (λ (t : Source). arrived_at_itself (record old { slots = sent.started; serial = old.serial + 1 }) (destination t s.tag s.context) None (sent_from s.from)) is)
+    (sent.rest ∙
+    ap (λ (t : Source). arrived_at_itself (record old { slots = sent.started; serial = old.serial + 1 })
+    (destination t s.tag s.context) None (sent_from s.from)) is)
     (ap (λ (t : Source). core_sent s.mode old.place.endpoint core s.context t s.tag (sent_from s.from)) is) refl tt
     (none_sent (after_out links []) known (frame_of old s) none) (none_leave old.place (frame_of old s) none)
   where
     sent : IsSmallSending old s q new
-    sent = small_sending old new s q (announced_nowhere old.place s (ap (λ (t : Source). rank_to old.place (destination t s.tag s.context)) is))
-        (none_waits s.mode (is_to_itself old.place s) q (ap (λ (t : Source). is_own old.place (destination t s.tag s.context)) is)) is_sent
+    sent = small_sending old new s q
+        (announced_nowhere old.place s (ap (λ (t : Source). rank_to old.place (destination t s.tag s.context)) is))
+        (none_waits s.mode (is_to_itself old.place s) q
+        (ap (λ (t : Source). is_own old.place (destination t s.tag s.context)) is)) is_sent
 
     none : frame_of old s ≡ None
-    none = ap (λ (t : Source). frame_to old.place old.transfers s.mode (destination t s.tag s.context) (sent_from s.from)) is
+    none = ap
+        (λ (t : Source). frame_to old.place old.transfers s.mode (destination t s.tag s.context) (sent_from s.from)) is
 
 -- THE FRAME OF A SMALL SEND
 
@@ -255,15 +327,26 @@ abbrev eager_for : (to context tag : ℕ) → Contents → FrameFor
 eager_for to context tag c = record { rank = to; frame = eager_frame context tag c }
 
 -- elements that go in one frame go in an eager one
-small_frame : (old : CoreState) (s : CoreSend) (to tag : ℕ) → s.target ≡ Rank to → s.tag ≡ Some tag → (to == old.place.endpoint.rank) ≡ false → is_announced s.mode (sent_from s.from) ≡ false →
+small_frame : (old : CoreState) (s : CoreSend) (to tag : ℕ) → s.target ≡ Rank to → s.tag ≡ Some tag →
+    (to == old.place.endpoint.rank) ≡ false → is_announced s.mode (sent_from s.from) ≡ false →
     frame_of old s ≡ Some (eager_for to s.context tag (sent_from s.from))
 small_frame old s to tag target_is tag_is other small =
-    ap₂ (λ (t : Source) (g : Option ℕ). frame_to old.place old.transfers s.mode (destination t g s.context) (sent_from s.from)) target_is tag_is
-    ∙ (ap (λ (b : Bool). frame_unless b old.transfers s.mode (record { rank = to; tag = tag; context = s.context }) (sent_from s.from)) other
-    ∙ ap (λ (b : Bool). Some (record { rank = to; frame = if b then request_frame s.mode (next_to old.transfers.numbers to) s.context tag (sent_from s.from) else eager_frame s.context tag (sent_from s.from) })) small)
+    ap₂ (λ (t : Source) (g : Option ℕ). frame_to old.place old.transfers s.mode (destination t g s.context)
+    (sent_from s.from)) target_is tag_is
+    ∙ (ap (λ (b : Bool). frame_unless b old.transfers s.mode (record { rank = to; tag = tag; context = s.context })
+    (sent_from s.from)) other
+    ∙ ap (λ (b : Bool). Some
+    (record {
+      rank = to;
+      frame =
+          if b then request_frame s.mode (next_to old.transfers.numbers to) s.context tag (sent_from s.from) else
+          eager_frame s.context tag (sent_from s.from);
+    })) small)
 
 -- it can leave the rank
-eager_leaves : (p : Place) (to context tag : ℕ) (c : Contents) → context < 2 ^ 64 → to < p.size → (to ≡ p.endpoint.rank → ⊥) → tag ≤ highest_tag → length c.values * size_of c.basic ≤ eager_limit → CanLeave p (eager_for to context tag c)
+eager_leaves : (p : Place) (to context tag : ℕ) (c : Contents) → context < 2 ^ 64 → to < p.size →
+    (to ≡ p.endpoint.rank → ⊥) → tag ≤ highest_tag → length c.values * size_of c.basic ≤ eager_limit →
+    CanLeave p (eager_for to context tag c)
 eager_leaves p to context tag c wide there apart low count =
     let sized : length (bytes_of (size_of c.basic) c.values) ≡ length c.values * size_of c.basic = length-bytes_of (size_of c.basic) c.values in
     let size : 0 < size_of c.basic = (sizes c.basic).positive in
@@ -277,21 +360,33 @@ eager_leaves p to context tag c wide there apart low count =
 
 -- it stands for the network's, where each element has the width of its type
 eager_stands : (context tag : ℕ) (c : Contents) → AreWithin (size_of c.basic) c.values →
-    ◌≡◌ {A = Option Frame} (Some (Eager context tag c.basic (values_of (size_of c.basic) (bytes_of (size_of c.basic) c.values)))) (Some (Eager context tag c.basic c.values))
-eager_stands context tag c within = ap (λ (values : List ℕ). Some (Eager context tag c.basic values)) (values_of-bytes_of (size_of c.basic) c.values (sizes c.basic).positive within)
+    ◌≡◌ {A = Option Frame}
+    (Some (Eager context tag c.basic (values_of (size_of c.basic) (bytes_of (size_of c.basic) c.values))))
+    (Some (Eager context tag c.basic c.values))
+eager_stands context tag c within =
+    ap (λ (values : List ℕ). Some (Eager context tag c.basic values))
+    (values_of-bytes_of (size_of c.basic) c.values (sizes c.basic).positive within)
 
 -- a small send to another rank
-pub other_send_shown : (links : Announcements) (old new : CoreState) (known : List ℕ) (core : Core) (s : CoreSend) (q : Request) (to tag : ℕ) → IsShown links old known core → old.blocked ≡ None →
-    s.target ≡ Rank to → s.tag ≡ Some tag → (to == old.place.endpoint.rank) ≡ false → KeepsRules old.place s → IsWithin (calls.Isend s) → is_announced s.mode (sent_from s.from) ≡ false → IsSending old s q new →
+pub other_send_shown : (links : Announcements) (old new : CoreState) (known : List ℕ) (core : Core) (s : CoreSend)
+    (q : Request) (to tag : ℕ) → IsShown links old known core → old.blocked ≡ None →
+    s.target ≡ Rank to → s.tag ≡ Some tag → (to == old.place.endpoint.rank) ≡ false → KeepsRules old.place s →
+    IsWithin (calls.Isend s) → is_announced s.mode (sent_from s.from) ≡ false → IsSending old s q new →
     IsCalled links old known core (calls.Isend s) (replies.Started q) new
 other_send_shown links old new known core s q to tag shown free target_is tag_is other kept within small is_sent =
-    away_shown links old new known core s q (effect (pushed_over core) ((endpoint_of known to, Eager s.context tag c.basic c.values) ∷ [])) shown free kept sent
-    (sent.rest ∙ ap₂ (λ (t : Source) (g : Option ℕ). arrived_at_itself started (destination t g s.context) None c) target_is tag_is ∙
+    away_shown links old new known core s q
+    (effect (pushed_over core) ((endpoint_of known to, Eager s.context tag c.basic c.values) ∷ [])) shown free kept
+    sent
+    (sent.rest ∙ ap₂ (λ (t : Source) (g : Option ℕ). arrived_at_itself started (destination t g s.context) None c)
+    target_is tag_is ∙
     ap (λ (b : Bool). arrived_if b started (record { rank = to; tag = tag; context = s.context }) None c) other)
     (ap₂ (λ (t : Source) (g : Option ℕ). core_sent s.mode old.place.endpoint core s.context t g c) target_is tag_is ∙
-    core_sends s.mode core old.place.endpoint to (slice_index known to) s.context tag c other small (shown.known_alike to))
+    core_sends s.mode core old.place.endpoint to (slice_index known to) s.context tag c other small
+    (shown.known_alike to))
     refl (tt, tt)
-    (subst (λ (f : Option FrameFor). AreSent (after_out links ((endpoint_of known to, Eager s.context tag c.basic c.values) ∷ [])) (all_gone known (as_list f)) ((endpoint_of known to, Eager s.context tag c.basic c.values) ∷ []))
+    (subst (λ (f : Option FrameFor). AreSent
+    (after_out links ((endpoint_of known to, Eager s.context tag c.basic c.values) ∷ []))
+    (all_gone known (as_list f)) ((endpoint_of known to, Eager s.context tag c.basic c.values) ∷ []))
     (sym frame) (refl, eager_stands s.context tag c within.0, tt))
     (subst (λ (f : Option FrameFor). AllByRecursion (CanLeave old.place) (as_list f)) (sym frame)
     (eager_leaves old.place to s.context tag c within.1 there (eqb-false to old.place.endpoint.rank other) low few, tt))
@@ -300,7 +395,9 @@ other_send_shown links old new known core s q to tag shown free target_is tag_is
     c = sent_from s.from
 
     sent : IsSmallSending old s q new
-    sent = small_sending old new s q (announced_small old.place s small) (none_waits s.mode (is_to_itself old.place s) q (not_to_itself old.place s to tag target_is tag_is other)) is_sent
+    sent = small_sending old new s q (announced_small old.place s small)
+        (none_waits s.mode (is_to_itself old.place s) q (not_to_itself old.place s to tag target_is tag_is other))
+        is_sent
 
     few : length c.values * size_of c.basic ≤ eager_limit
     few = few_of s.mode c small

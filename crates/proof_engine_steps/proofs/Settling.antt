@@ -1,5 +1,6 @@
 -- How a core answers its blocked call, and what an engine does then.
-use Rattle.std.proofs.Common.{◌≡◌, ℕ, Bool, List, Option, Some, None, if◌then◌else◌, slice_get, option_and_then, refl, ap, ◌∙◌}
+use Rattle.std.proofs.Common.{◌≡◌, ℕ, Bool, List, Option, Some, None, if◌then◌else◌, slice_get, option_and_then, refl}
+use Rattle.std.proofs.Common.{ap, ◌∙◌}
 use Rattle.std.proofs.lemmas.Bool.{eq-eqb}
 use Rattle.vocabulary.specs.declared.basic_type.BasicType.{BasicType}
 use Rattle.vocabulary.specs.declared.endpoint.Endpoint.{Endpoint}
@@ -45,9 +46,11 @@ settled_is core = go (core_ready core) refl
 -- THE ENGINE
 
 -- how far the request of a row is
-pub progress_row : (table : List (Option slots.TableEntry)) (key k : ℕ) (job : Job) → (h : Holds (slot_at table key) k job) → progress_at table key k ≡ Some h.entry.progress
+pub progress_row : (table : List (Option slots.TableEntry)) (key k : ℕ) (job : Job) →
+    (h : Holds (slot_at table key) k job) → progress_at table key k ≡ Some h.entry.progress
 progress_row table key k job h =
-    ap (λ (o : Option slots.TableEntry). progress_of o k) h.there ∙ ap (λ (b : Bool). if b then Some h.entry.progress else None) (eq-eqb h.entry.serial k h.serial_is)
+    ap (λ (o : Option slots.TableEntry). progress_of o k) h.there ∙
+    ap (λ (b : Bool). if b then Some h.entry.progress else None) (eq-eqb h.entry.serial k h.serial_is)
 
 -- a receive that waits is one that is received
 pub record IsReceiving (g : RequestProgress) : Type 0 where
@@ -83,7 +86,8 @@ pub record IsCollected (g : RequestProgress) (p : Receive) (h : Held) : Type 0 w
   pub alike : IsMatched matched p h
 
 -- its progress is that it is collected
-pub fits_collecting : (g : RequestProgress) (p : Receive) (h : Held) (got : List ℕ) → Fits g (Collecting p h got) → IsCollected g p h
+pub fits_collecting : (g : RequestProgress) (p : Receive) (h : Held) (got : List ℕ) → Fits g (Collecting p h got) →
+    IsCollected g p h
 fits_collecting (Receiving b) p h got f = absurd f
 fits_collecting (progresses.Collecting w) p h got f = record { matched = w; is = refl; alike = f }
 fits_collecting progresses.Offering p h got f = absurd f
@@ -91,7 +95,8 @@ fits_collecting (progresses.TakenOut t) p h got f = absurd f
 fits_collecting (Finished o) p h got f = absurd f
 
 -- the progress of a send that offers is that it is offered
-pub fits_offering : (g : RequestProgress) (d : Endpoint) (basic : BasicType) (values : List ℕ) → Fits g (Offering d basic values) → g ≡ progresses.Offering
+pub fits_offering : (g : RequestProgress) (d : Endpoint) (basic : BasicType) (values : List ℕ) →
+    Fits g (Offering d basic values) → g ≡ progresses.Offering
 fits_offering (Receiving b) d basic values f = absurd f
 fits_offering (progresses.Collecting w) d basic values f = absurd f
 fits_offering progresses.Offering d basic values f = refl
@@ -113,7 +118,8 @@ pub record IsMessage (g : RequestProgress) (group : Option (List ℕ)) (h : Opti
   pub alike : IsTaken taken group h
 
 -- the progress of a message that was taken out
-pub fits_probed : (g : RequestProgress) (group : Option (List ℕ)) (h : Option Held) → Fits g (Probed group h) → IsMessage g group h
+pub fits_probed : (g : RequestProgress) (group : Option (List ℕ)) (h : Option Held) → Fits g (Probed group h) →
+    IsMessage g group h
 fits_probed (Receiving b) group h f = absurd f
 fits_probed (progresses.Collecting w) group h f = absurd f
 fits_probed progresses.Offering group h f = absurd f
@@ -121,7 +127,8 @@ fits_probed (progresses.TakenOut t) group h f = record { taken = t; is = refl; a
 fits_probed (Finished o) group h f = absurd f
 
 -- what the table says of a receive that waits
-pub progress_waiting : (table : List (Option slots.TableEntry)) (rows : List Row) (k key : ℕ) (p : Receive) → IsTable table rows → slice_get rows k ≡ Some (record { key = key; job = Waiting p }) →
+pub progress_waiting : (table : List (Option slots.TableEntry)) (rows : List Row) (k key : ℕ) (p : Receive) →
+    IsTable table rows → slice_get rows k ≡ Some (record { key = key; job = Waiting p }) →
     (b : Posted) × (progress_at table key k ≡ Some (Receiving b))
 progress_waiting table rows k key p t h =
     let m : Holds (slot_at table key) k (Waiting p) = held_at table rows k key (Waiting p) t h (λ e. cc) in
@@ -129,7 +136,8 @@ progress_waiting table rows k key p t h =
     (r.posted, progress_row table key k (Waiting p) m ∙ ap Some r.is)
 
 -- what the table says of a request that is over
-pub progress_over : (table : List (Option slots.TableEntry)) (rows : List Row) (k key : ℕ) (x : machine.Outcome) → IsTable table rows → slice_get rows k ≡ Some (record { key = key; job = Over x }) →
+pub progress_over : (table : List (Option slots.TableEntry)) (rows : List Row) (k key : ℕ) (x : machine.Outcome) →
+    IsTable table rows → slice_get rows k ≡ Some (record { key = key; job = Over x }) →
     (o : Outcome) × (progress_at table key k ≡ Some (Finished o)) × (x ≡ outcome_seen o)
 progress_over table rows k key x t h =
     let m : Holds (slot_at table key) k (Over x) = held_at table rows k key (Over x) t h (λ e. cc) in
@@ -137,30 +145,39 @@ progress_over table rows k key x t h =
     (r.outcome, progress_row table key k (Over x) m ∙ ap Some r.is, r.seen)
 
 -- what the table says of a receive that collects
-pub progress_collecting : (table : List (Option slots.TableEntry)) (rows : List Row) (k key : ℕ) (p : Receive) (h : Held) (got : List ℕ) → IsTable table rows →
-    slice_get rows k ≡ Some (record { key = key; job = Collecting p h got }) → (w : Matched) × (progress_at table key k ≡ Some (progresses.Collecting w)) × IsMatched w p h
+pub progress_collecting : (table : List (Option slots.TableEntry)) (rows : List Row) (k key : ℕ) (p : Receive)
+    (h : Held) (got : List ℕ) → IsTable table rows →
+    slice_get rows k ≡ Some (record { key = key; job = Collecting p h got }) →
+    (w : Matched) × (progress_at table key k ≡ Some (progresses.Collecting w)) × IsMatched w p h
 progress_collecting table rows k key p h got t at =
     let m : Holds (slot_at table key) k (Collecting p h got) = held_at table rows k key (Collecting p h got) t at (λ e. cc) in
     let r : IsCollected m.entry.progress p h = fits_collecting m.entry.progress p h got m.fits in
     (r.matched, progress_row table key k (Collecting p h got) m ∙ ap Some r.is, r.alike)
 
 -- what the table says of a send that offers
-pub progress_offering : (table : List (Option slots.TableEntry)) (rows : List Row) (k key : ℕ) (d : Endpoint) (basic : BasicType) (values : List ℕ) → IsTable table rows →
-    slice_get rows k ≡ Some (record { key = key; job = Offering d basic values }) → progress_at table key k ≡ Some progresses.Offering
+pub progress_offering : (table : List (Option slots.TableEntry)) (rows : List Row) (k key : ℕ) (d : Endpoint)
+    (basic : BasicType) (values : List ℕ) → IsTable table rows →
+    slice_get rows k ≡ Some (record { key = key; job = Offering d basic values }) →
+    progress_at table key k ≡ Some progresses.Offering
 progress_offering table rows k key d basic values t at =
     let m : Holds (slot_at table key) k (Offering d basic values) = held_at table rows k key (Offering d basic values) t at (λ e. cc) in
-    progress_row table key k (Offering d basic values) m ∙ ap Some (fits_offering m.entry.progress d basic values m.fits)
+    progress_row table key k (Offering d basic values) m ∙
+    ap Some (fits_offering m.entry.progress d basic values m.fits)
 
 -- what the table says of a send to the rank itself that waits for its match
-pub progress_unmatched : (table : List (Option slots.TableEntry)) (rows : List Row) (k key : ℕ) (d : Endpoint) → IsTable table rows →
-    slice_get rows k ≡ Some (record { key = key; job = Unmatched d }) → progress_at table key k ≡ Some progresses.Offering
+pub progress_unmatched : (table : List (Option slots.TableEntry)) (rows : List Row) (k key : ℕ) (d : Endpoint) →
+    IsTable table rows →
+    slice_get rows k ≡ Some (record { key = key; job = Unmatched d }) →
+    progress_at table key k ≡ Some progresses.Offering
 progress_unmatched table rows k key d t at =
     let m : Holds (slot_at table key) k (Unmatched d) = held_at table rows k key (Unmatched d) t at (λ e. cc) in
     progress_row table key k (Unmatched d) m ∙ ap Some (fits_unmatched m.entry.progress d m.fits)
 
 -- what the table says of a message that was taken out
-pub progress_probed : (table : List (Option slots.TableEntry)) (rows : List Row) (k key : ℕ) (group : Option (List ℕ)) (h : Option Held) → IsTable table rows →
-    slice_get rows k ≡ Some (record { key = key; job = Probed group h }) → (t : slots_of.TakenOut) × (progress_at table key k ≡ Some (progresses.TakenOut t)) × IsTaken t group h
+pub progress_probed : (table : List (Option slots.TableEntry)) (rows : List Row) (k key : ℕ) (group : Option (List ℕ))
+    (h : Option Held) → IsTable table rows →
+    slice_get rows k ≡ Some (record { key = key; job = Probed group h }) →
+    (t : slots_of.TakenOut) × (progress_at table key k ≡ Some (progresses.TakenOut t)) × IsTaken t group h
 progress_probed table rows k key group h t at =
     let m : Holds (slot_at table key) k (Probed group h) = held_at table rows k key (Probed group h) t at (λ e. cc) in
     let r : IsMessage m.entry.progress group h = fits_probed m.entry.progress group h m.fits in

@@ -1,6 +1,7 @@
--- What is under way stays where no large message is concerned: while a rank stays as it is, where requests are used up, and where
--- the frames that go out announce nothing.
-use Rattle.std.proofs.Common.{◌≡◌, ℕ, zero, suc, List, [], ◌∷◌, ◌++◌, Bool, true, false, if◌then◌else◌, Some, slice_get, refl, sym, ap, ◌∙◌, subst, append-nil}
+-- What is under way stays where no large message is concerned: while a rank stays as it is, where requests are used up,
+-- and where the frames that go out announce nothing.
+use Rattle.std.proofs.Common.{◌≡◌, ℕ, zero, suc, List, [], ◌∷◌, ◌++◌, Bool, true, false, if◌then◌else◌, Some, slice_get}
+use Rattle.std.proofs.Common.{refl, sym, ap, ◌∙◌, subst, append-nil}
 use Rattle.std.specs.List.{AllByRecursion}
 use Rattle.std.proofs.lemmas.Option.{none-some, same_Some}
 use Rattle.datagram.specs.Spelling.{FrameText}
@@ -19,7 +20,8 @@ use Rattle.proof_engine_view.specs.Rows.{Row}
 use Rattle.proof_engine_view.proofs.Growing.{sent_more}
 use Rattle.proof_engine_view.specs.Shown.{IsShown}
 use Rattle.proof_engine_view.specs.Standing.{AreSent}
-use Rattle.proof_engine_view.specs.Transfers.{Announcements, AnnouncementsGrow, Transfer, after_out, announced_in, frames_to}
+use Rattle.proof_engine_view.specs.Transfers.{Announcements, AnnouncementsGrow, Transfer, after_out, announced_in}
+use Rattle.proof_engine_view.specs.Transfers.{frames_to}
 use Rattle.proof_engine_view.specs.UnderWay.{AreUnderWay, IsFromLink}
 use Rattle.proof_engine_steps.proofs.UnderWay.{IsTransfer, SameTransfers, others_may_announce, row_of, under_way_same}
 use Rattle.proof_engine_steps.proofs.Using.{closed_row, rows_without}
@@ -27,16 +29,20 @@ use Rattle.proof_engine_steps.proofs.Using.{closed_row, rows_without}
 -- ---- the rank stays as it is
 
 -- at the same place, with the same transfers and the same messages
-pub under_way_still : (links : Announcements) (known : List ℕ) (p p' : Place) (rows rows' : List Row) (t t' : transfers.State) (ms ms' : List Message) → AreUnderWay links known p rows t ms → SameTransfers rows rows'
+pub under_way_still : (links : Announcements) (known : List ℕ) (p p' : Place) (rows rows' : List Row)
+    (t t' : transfers.State) (ms ms' : List Message) → AreUnderWay links known p rows t ms → SameTransfers rows rows'
     → p' ≡ p → t' ≡ t → ms' ≡ ms → AreUnderWay links known p' rows' t' ms'
 under_way_still links known p p' rows rows' t t' ms ms' u same ep et em =
     subst (λ (x : Place). AreUnderWay links known x rows' t' ms') (sym ep)
     (subst (λ (x : transfers.State). AreUnderWay links known p rows' x ms') (sym et)
-    (subst (λ (x : List Message). AreUnderWay links known p rows' t x) (sym em) (under_way_same links known p rows rows' t ms same u)))
+    (subst (λ (x : List Message). AreUnderWay links known p rows' t x) (sym em)
+    (under_way_same links known p rows rows' t ms same u)))
 
 -- with other messages, of which each is whole or from its link
-pub under_way_with : (links : Announcements) (known : List ℕ) (p : Place) (rows rows' : List Row) (t t' : transfers.State) (ms ms' : List Message) → AreUnderWay links known p rows t ms → SameTransfers rows rows'
-    → t' ≡ t → AllByRecursion (λ (m : Message). IsFromLink links.from known p rows' m m.body) ms' → AreUnderWay links known p rows' t' ms'
+pub under_way_with : (links : Announcements) (known : List ℕ) (p : Place) (rows rows' : List Row)
+    (t t' : transfers.State) (ms ms' : List Message) → AreUnderWay links known p rows t ms → SameTransfers rows rows'
+    → t' ≡ t → AllByRecursion (λ (m : Message). IsFromLink links.from known p rows' m m.body) ms' →
+    AreUnderWay links known p rows' t' ms'
 under_way_with links known p rows rows' t t' ms ms' u same et all =
     let kept : AreUnderWay links known p rows' t ms = under_way_same links known p rows rows' t ms same u in
     subst (λ (x : transfers.State). AreUnderWay links known p rows' x ms') (sym et)
@@ -57,7 +63,8 @@ pub same_rows : (rows : List Row) → SameTransfers rows rows
 same_rows rows = record { forth = λ k key job i h. h; back = λ k key job i h. h }
 
 -- and so have rows that changed twice
-pub same_twice : (rows rows' rows'' : List Row) → SameTransfers rows rows' → SameTransfers rows' rows'' → SameTransfers rows rows''
+pub same_twice : (rows rows' rows'' : List Row) → SameTransfers rows rows' → SameTransfers rows' rows'' →
+    SameTransfers rows rows''
 same_twice rows rows' rows'' s t =
     record {
       forth = λ k key job i h. t.forth k key job i (s.forth k key job i h);
@@ -86,19 +93,23 @@ transfer_before Closed job i h = h
 transfer_before (Unmatched d) job i h = h
 transfer_before (Probed g x) job i h = h
 
-closed_forth : (rows : List Row) (c k key : ℕ) (job : Job) → IsTransfer job → slice_get rows k ≡ Some (row_of key job) → slice_get (changed closed_row rows c) k ≡ Some (row_of key job)
+closed_forth : (rows : List Row) (c k key : ℕ) (job : Job) → IsTransfer job → slice_get rows k ≡ Some (row_of key job) →
+    slice_get (changed closed_row rows c) k ≡ Some (row_of key job)
 closed_forth [] c k key job i h = absurd (none-some (row_of key job) h)
 closed_forth (r ∷ rs) zero zero key job i h =
-    ap (λ (x : Row). Some (closed_row x)) (same_Some r (row_of key job) h) ∙ ap (λ (j : Job). Some (row_of key j)) (closed_transfer job i)
+    ap (λ (x : Row). Some (closed_row x)) (same_Some r (row_of key job) h) ∙
+    ap (λ (j : Job). Some (row_of key j)) (closed_transfer job i)
 closed_forth (r ∷ rs) zero (suc k) key job i h = h
 closed_forth (r ∷ rs) (suc c) zero key job i h = h
 closed_forth (r ∷ rs) (suc c) (suc k) key job i h = closed_forth rs c k key job i h
 
-closed_back : (rows : List Row) (c k key : ℕ) (job : Job) → IsTransfer job → slice_get (changed closed_row rows c) k ≡ Some (row_of key job) → slice_get rows k ≡ Some (row_of key job)
+closed_back : (rows : List Row) (c k key : ℕ) (job : Job) → IsTransfer job → slice_get (changed closed_row rows c) k ≡
+    Some (row_of key job) → slice_get rows k ≡ Some (row_of key job)
 closed_back [] c k key job i h = absurd (none-some (row_of key job) h)
 closed_back (r ∷ rs) zero zero key job i h =
     let e : closed_row r ≡ row_of key job = same_Some (closed_row r) (row_of key job) h in
-    ap (λ (j : Job). Some (row_of r.key j)) (transfer_before r.job job i (ap (λ (x : Row). x.job) e)) ∙ ap (λ (n : ℕ). Some (row_of n job)) (ap (λ (x : Row). x.key) e)
+    ap (λ (j : Job). Some (row_of r.key j)) (transfer_before r.job job i (ap (λ (x : Row). x.job) e)) ∙
+    ap (λ (n : ℕ). Some (row_of n job)) (ap (λ (x : Row). x.key) e)
 closed_back (r ∷ rs) zero (suc k) key job i h = h
 closed_back (r ∷ rs) (suc c) zero key job i h = h
 closed_back (r ∷ rs) (suc c) (suc k) key job i h = closed_back rs c k key job i h
@@ -111,7 +122,8 @@ same_closed rows c = record { forth = closed_forth rows c; back = closed_back ro
 pub same_without : (used : List Request) (rows : List Row) → SameTransfers rows (rows_without rows used)
 same_without [] rows = same_rows rows
 same_without (q ∷ qs) rows =
-    same_twice rows (changed closed_row rows q.serial) (rows_without (changed closed_row rows q.serial) qs) (same_closed rows q.serial) (same_without qs (changed closed_row rows q.serial))
+    same_twice rows (changed closed_row rows q.serial) (rows_without (changed closed_row rows q.serial) qs)
+    (same_closed rows q.serial) (same_without qs (changed closed_row rows q.serial))
 
 -- ---- frames that announce nothing
 
@@ -138,23 +150,31 @@ pub quiet_to : (out : List (Endpoint × Frame)) (d : Endpoint) → AreQuiet out 
 quiet_to [] d q = refl
 quiet_to (x ∷ xs) d q = go (is_same d x.0) (quiet_to xs d q.1)
   where
-    go : (t : Bool) → announced_in (frames_to d xs) ≡ [] → announced_in (if t then x.1 ∷ frames_to d xs else frames_to d xs) ≡ []
+    go : (t : Bool) → announced_in (frames_to d xs) ≡ [] →
+        announced_in (if t then x.1 ∷ frames_to d xs else frames_to d xs) ≡ []
     go true rest = quiet_front x.1 (frames_to d xs) q.0 rest
     go false rest = rest
 
 -- what was announced stays so
-pub quiet_same : (links : Announcements) (out : List (Endpoint × Frame)) (d : Endpoint) → AreQuiet out → (after_out links out).to d ≡ links.to d
+pub quiet_same : (links : Announcements) (out : List (Endpoint × Frame)) (d : Endpoint) → AreQuiet out →
+    (after_out links out).to d ≡ links.to d
 quiet_same links out d q = ap (λ (ts : List Transfer). links.to d ++ ts) (quiet_to out d q) ∙ append-nil (links.to d)
 
 -- what was announced only grows by what goes out
-pub after_grows : (links : Announcements) (out : List (Endpoint × Frame)) → AnnouncementsGrow links (after_out links out)
-after_grows links out = record { to = λ d. (announced_in (frames_to d out), refl); from = λ s. ([], append-nil (links.from s)) }
+pub after_grows : (links : Announcements) (out : List (Endpoint × Frame)) →
+    AnnouncementsGrow links (after_out links out)
+after_grows links out =
+    record { to = λ d. (announced_in (frames_to d out), refl); from = λ s. ([], append-nil (links.from s)) }
 
 -- what stood for frames goes on to
-pub sent_then : (links : Announcements) (out : List (Endpoint × Frame)) (texts : List (Endpoint × FrameText)) → AreSent links texts out → AreSent (after_out links out) texts out
+pub sent_then : (links : Announcements) (out : List (Endpoint × Frame)) (texts : List (Endpoint × FrameText)) →
+    AreSent links texts out → AreSent (after_out links out) texts out
 sent_then links out texts sent = sent_more links (after_out links out) texts out (after_grows links out) sent
 
 -- what is shown goes on to be shown once such frames went out
-pub shown_quiet : (links : Announcements) (c : CoreState) (known : List ℕ) (core : Core) (out : List (Endpoint × Frame)) → AreQuiet out → IsShown links c known core → IsShown (after_out links out) c known core
+pub shown_quiet : (links : Announcements) (c : CoreState) (known : List ℕ) (core : Core)
+    (out : List (Endpoint × Frame)) → AreQuiet out → IsShown links c known core →
+    IsShown (after_out links out) c known core
 shown_quiet links c known core out q shown =
-    others_may_announce links (after_out links out) c known core shown (after_grows links out) (λ d. quiet_same links out d q)
+    others_may_announce links (after_out links out) c known core shown (after_grows links out)
+    (λ d. quiet_same links out d q)

@@ -1,5 +1,6 @@
 -- A rank answers its blocked call where its core in the network does.
-use Rattle.std.proofs.Common.{◌≡◌, ℕ, List, All, map, length, Option, Some, None, option_and_then, refl, sym, ap, ◌∙◌, subst}
+use Rattle.std.proofs.Common.{◌≡◌, ℕ, List, All, map, length, Option, Some, None, option_and_then, refl, sym, ap, ◌∙◌}
+use Rattle.std.proofs.Common.{subst}
 use Rattle.std.proofs.lemmas.List.Elements.{recursion_from_All}
 use Rattle.std.proofs.lemmas.Option.{none-some}
 use Rattle.perfect_queues.specs.Completions as machine
@@ -24,16 +25,19 @@ use Rattle.proof_engine_view.specs.Shown.{IsBlocked, IsNamed, IsSettled, IsShown
 use Rattle.proof_engine_view.specs.Transfers.{Announcements}
 use Rattle.proof_engine_view.specs.UnderWay.{AreTaken, AreUnderWay}
 use Rattle.proof_engine_steps.specs.Steps.{IsWoken, WakesAreShown}
-use Rattle.proof_engine_steps.proofs.Agreeing.{SayTheSame, completion_seen, completions_same, named_same_outcome, serials_of}
+use Rattle.proof_engine_steps.proofs.Agreeing.{SayTheSame, completion_seen, completions_same, named_same_outcome}
+use Rattle.proof_engine_steps.proofs.Agreeing.{serials_of}
 use Rattle.proof_engine_steps.proofs.Knowing.{IsKnown}
 use Rattle.proof_engine_steps.proofs.Named.{all_follow}
 use Rattle.proof_engine_steps.proofs.Settling.{ready_free, settled_is}
 use Rattle.proof_engine_steps.proofs.Staying.{same_without, under_way_still}
 use Rattle.proof_engine_steps.proofs.UnderWay.{keeps_same, taken_same, taken_without}
-use Rattle.proof_engine_steps.proofs.Using.{jobs_without, length_without, posted_without, rows_without, table_without, used_spent}
+use Rattle.proof_engine_steps.proofs.Using.{jobs_without, length_without, posted_without, rows_without, table_without}
+use Rattle.proof_engine_steps.proofs.Using.{used_spent}
 
 -- the rank holds what the network's core holds, whatever its call waits for
-pub record Holding (links : Announcements) (e : CoreState) (known : List ℕ) (core : Core) (rows : List Row) : Type 0 where
+pub record Holding (links : Announcements) (e : CoreState) (known : List ℕ) (core : Core) (rows : List Row) : Type
+    0 where
   pub jobs : core.jobs ≡ jobs_of rows
   pub count : length rows ≡ e.serial
   pub table : IsTable e.slots rows
@@ -44,7 +48,8 @@ pub record Holding (links : Announcements) (e : CoreState) (known : List ℕ) (c
   pub knowing : IsKnown e.place known core.known
 
 -- what is held is shown, with what the call waits for
-pub shown_with : (links : Announcements) (e : CoreState) (known : List ℕ) (core : Core) (rows : List Row) → Holding links e known core rows → IsBlocked rows e.blocked core.blocked →
+pub shown_with : (links : Announcements) (e : CoreState) (known : List ℕ) (core : Core) (rows : List Row) →
+    Holding links e known core rows → IsBlocked rows e.blocked core.blocked →
     IsShown links e known core
 shown_with links e known core rows h b =
     record {
@@ -63,7 +68,8 @@ shown_with links e known core rows h b =
     }
 
 -- what both know is as it was
-pub known_still : (p p' : Place) (known : List ℕ) (at at' : ℕ → ℕ) → IsKnown p known at → p' ≡ p → at' ≡ at → IsKnown p' known at'
+pub known_still : (p p' : Place) (known : List ℕ) (at at' : ℕ → ℕ) → IsKnown p known at → p' ≡ p → at' ≡ at →
+    IsKnown p' known at'
 known_still p p' known at at' h ep ea =
     subst (λ (x : Place). IsKnown x known at') (sym ep) (subst (λ (f : ℕ → ℕ). IsKnown p known f) (sym ea) h)
 
@@ -84,7 +90,8 @@ abbrev pub answered : CoreState → Answer → List Request → CoreState
 answered e answer used = record e { slots = without e.slots used; blocked = None; completion = Some answer }
 
 -- its answer is ready
-woken_ready : (e : CoreState) (a : Awaited) (answer : Answer) (used : List Request) → e.blocked ≡ Some a → completion e.slots a ≡ Some (answer, used) → after_wake e ≡ answered e answer used
+woken_ready : (e : CoreState) (a : Awaited) (answer : Answer) (used : List Request) → e.blocked ≡ Some a →
+    completion e.slots a ≡ Some (answer, used) → after_wake e ≡ answered e answer used
 unfolding after_wake
 woken_ready e a answer used h g = ap (woken_by e) h ∙ ap (answered_by e) g
 
@@ -104,40 +111,57 @@ woken_place e = place_by e e.blocked
 -- BOTH
 
 -- both say the same of a request that the call waits for
-say_the_same : (links : Announcements) (e : CoreState) (known : List ℕ) (core : Core) (rows : List Row) → Holding links e known core rows → (q : Request) → IsNamed rows q → SayTheSame (outcome_at e.slots) (over_at core.jobs) q
+say_the_same : (links : Announcements) (e : CoreState) (known : List ℕ) (core : Core) (rows : List Row) →
+    Holding links e known core rows → (q : Request) → IsNamed rows q →
+    SayTheSame (outcome_at e.slots) (over_at core.jobs) q
 say_the_same links e known core rows h q named =
-    subst (λ (js : List Job). SayTheSame (outcome_at e.slots) (over_at js) q) (sym h.jobs) (named_same_outcome e.slots rows h.table q named)
+    subst (λ (js : List Job). SayTheSame (outcome_at e.slots) (over_at js) q) (sym h.jobs)
+    (named_same_outcome e.slots rows h.table q named)
 
 -- what the core answers to this is what the rank answers
-pub core_completion : (links : Announcements) (e : CoreState) (known : List ℕ) (core : Core) (rows : List Row) (a : Awaited) → Holding links e known core rows → All (IsNamed rows) (awaited_requests a) →
+pub core_completion : (links : Announcements) (e : CoreState) (known : List ℕ) (core : Core) (rows : List Row)
+    (a : Awaited) → Holding links e known core rows → All (IsNamed rows) (awaited_requests a) →
     machine.completion (over_at core.jobs) (awaited_seen a) ≡ completion_seen (completion e.slots a)
 core_completion links e known core rows a h named =
     completions_same e.slots (over_at core.jobs) a
-    (all_follow (IsNamed rows) (SayTheSame (outcome_at e.slots) (over_at core.jobs)) (say_the_same links e known core rows h) (awaited_requests a)
+    (all_follow (IsNamed rows) (SayTheSame (outcome_at e.slots) (over_at core.jobs))
+    (say_the_same links e known core rows h) (awaited_requests a)
     (recursion_from_All (IsNamed rows) (awaited_requests a) named))
 
 -- so it is with the blocked call
-core_ready_is : (links : Announcements) (e : CoreState) (known : List ℕ) (core : Core) (rows : List Row) (a : Awaited) → Holding links e known core rows → core.blocked ≡ Some (machine.Waits (awaited_seen a)) →
+core_ready_is : (links : Announcements) (e : CoreState) (known : List ℕ) (core : Core) (rows : List Row) (a : Awaited) →
+    Holding links e known core rows → core.blocked ≡ Some (machine.Waits (awaited_seen a)) →
     All (IsNamed rows) (awaited_requests a) → core_ready core ≡ completion_seen (completion e.slots a)
 core_ready_is links e known core rows a h b named =
-    ap (λ (x : Option machine.Unanswered). option_and_then (machine.answer_to (over_at core.jobs)) x) b ∙ core_completion links e known core rows a h named
+    ap (λ (x : Option machine.Unanswered). option_and_then (machine.answer_to (over_at core.jobs)) x) b ∙
+    core_completion links e known core rows a h named
 
 -- what the answer uses up is taken out of both
-pub holding_used : (links : Announcements) (e e' : CoreState) (known : List ℕ) (core core' : Core) (rows : List Row) (a : Awaited) (answer : Answer) (used : List Request) → Holding links e known core rows →
-    completion e.slots a ≡ Some (answer, used) → core'.jobs ≡ all_changed closed core.jobs (serials_of used) → core'.held ≡ core.held → core'.known ≡ core.known →
-    e'.slots ≡ without e.slots used → e'.serial ≡ e.serial → e'.queues ≡ e.queues → e'.transfers ≡ e.transfers → e'.place ≡ e.place → Holding links e' known core' (rows_without rows used)
+pub holding_used : (links : Announcements) (e e' : CoreState) (known : List ℕ) (core core' : Core) (rows : List Row)
+    (a : Awaited) (answer : Answer) (used : List Request) → Holding links e known core rows →
+    completion e.slots a ≡ Some (answer, used) → core'.jobs ≡ all_changed closed core.jobs (serials_of used) →
+    core'.held ≡ core.held → core'.known ≡ core.known →
+    e'.slots ≡ without e.slots used → e'.serial ≡ e.serial → e'.queues ≡ e.queues → e'.transfers ≡ e.transfers →
+    e'.place ≡ e.place → Holding links e' known core' (rows_without rows used)
 holding_used links e e' known core core' rows a answer used h g js hs kn sl se qu tr pl =
     record {
-      jobs = js ∙ (ap (λ (ys : List Job). all_changed closed ys (serials_of used)) h.jobs ∙ sym (jobs_without used rows));
+      jobs = js ∙
+          (ap (λ (ys : List Job). all_changed closed ys (serials_of used)) h.jobs ∙ sym (jobs_without used rows));
       count = length_without used rows ∙ (h.count ∙ sym se);
-      table = subst (λ (t : List (Option slots.TableEntry)). IsTable t (rows_without rows used)) (sym sl) (table_without used e.slots rows h.table (used_spent e.slots rows a answer used h.table g));
+      table = subst (λ (t : List (Option slots.TableEntry)). IsTable t (rows_without rows used)) (sym sl)
+          (table_without used e.slots rows h.table (used_spent e.slots rows a answer used h.table g));
       posted = ap (λ (q : State). q.posted) qu ∙ (h.posted ∙ sym (posted_without used rows));
       held = hs ∙ (h.held ∙ ap (λ (q : State). map (held_of links.from) q.unexpected) (sym qu));
-      under_way = under_way_still links known e.place e'.place rows (rows_without rows used) e.transfers e'.transfers e.queues.unexpected e'.queues.unexpected h.under_way
+      under_way =
+          under_way_still links known e.place e'.place rows (rows_without rows used) e.transfers e'.transfers
+          e.queues.unexpected e'.queues.unexpected h.under_way
           (same_without used rows) pl tr (ap (λ (q : State). q.unexpected) qu);
       taken = subst (λ (x : Place). AreTaken links.from known x (rows_without rows used) e'.slots) (sym pl)
-          (subst (λ (t : List (Option slots.TableEntry)). AreTaken links.from known e.place (rows_without rows used) t) (sym sl)
-          (taken_without links.from known e.place (rows_without rows used) e.slots used (taken_same links.from known e.place rows (rows_without rows used) e.slots (keeps_same rows (rows_without rows used) (same_without used rows)) h.taken)));
+          (subst (λ (t : List (Option slots.TableEntry)). AreTaken links.from known e.place (rows_without rows used) t)
+          (sym sl)
+          (taken_without links.from known e.place (rows_without rows used) e.slots used
+          (taken_same links.from known e.place rows (rows_without rows used) e.slots
+          (keeps_same rows (rows_without rows used) (same_without used rows)) h.taken)));
       knowing = known_still e.place e'.place known core.known core'.known h.knowing pl kn;
     }
 
@@ -146,33 +170,45 @@ abbrev pub core_answered : Core → List ℕ → Core
 core_answered core ks = record core { jobs = all_changed closed core.jobs ks; blocked = None }
 
 -- both, by what they become
-settled_from : (links : Announcements) (e e' : CoreState) (known : List ℕ) (core core' : Core) (ready : Option (machine.Answer × List ℕ)) → after_wake e ≡ e' → core_settled core ≡ core' → core_ready core ≡ ready → IsShown links e' known core' →
+settled_from : (links : Announcements) (e e' : CoreState) (known : List ℕ) (core core' : Core)
+    (ready : Option (machine.Answer × List ℕ)) → after_wake e ≡ e' → core_settled core ≡ core' →
+    core_ready core ≡ ready → IsShown links e' known core' →
     ((a : Endpoint) → told a None ready ≡ told_completion a e'.completion) → IsWoken links e known core
 settled_from links e e' known core core' ready w s r shown tells =
     record {
       place = woken_place e;
       settled = settled_is core;
-      shown = subst (λ (x : CoreState). IsShown links x known (core_settled core)) (sym w) (subst (λ (c : Core). IsShown links e' known c) (sym s) shown);
+      shown = subst (λ (x : CoreState). IsShown links x known (core_settled core)) (sym w)
+          (subst (λ (c : Core). IsShown links e' known c) (sym s) shown);
       tells = λ a. ap (told a None) r ∙ (tells a ∙ ap (λ (x : CoreState). told_completion a x.completion) (sym w));
     }
 
 -- a rank is woken as its core is settled
-pub settles : (links : Announcements) (e : CoreState) (known : List ℕ) (core : Core) (rows : List Row) → Holding links e known core rows → IsBlocked rows e.blocked core.blocked → e.completion ≡ None → IsWoken links e known core
+pub settles : (links : Announcements) (e : CoreState) (known : List ℕ) (core : Core) (rows : List Row) →
+    Holding links e known core rows → IsBlocked rows e.blocked core.blocked → e.completion ≡ None →
+    IsWoken links e known core
 settles links e known core rows h b free = go e.blocked refl b
   where
     still : after_wake e ≡ e → core_ready core ≡ None → IsWoken links e known core
-    still w r = settled_from links e e known core core None w (ap (core_settled_by core) r) r (shown_with links e known core rows h b) (λ t. ap (told_completion t) (sym free))
+    still w r =
+        settled_from links e e known core core None w (ap (core_settled_by core) r) r
+        (shown_with links e known core rows h b) (λ t. ap (told_completion t) (sym free))
 
-    ready : (a : Awaited) (answer : Answer) (used : List Request) → e.blocked ≡ Some a → core_ready core ≡ completion_seen (completion e.slots a) → completion e.slots a ≡ Some (answer, used) →
+    ready : (a : Awaited) (answer : Answer) (used : List Request) → e.blocked ≡ Some a →
+        core_ready core ≡ completion_seen (completion e.slots a) → completion e.slots a ≡ Some (answer, used) →
         IsWoken links e known core
     ready a answer used is same g =
         let r : core_ready core ≡ Some (answer_seen answer, serials_of used) = same ∙ ap completion_seen g in
-        settled_from links e (answered e answer used) known core (core_answered core (serials_of used)) (Some (answer_seen answer, serials_of used)) (woken_ready e a answer used is g) (ap (core_settled_by core) r) r
+        settled_from links e (answered e answer used) known core (core_answered core (serials_of used))
+        (Some (answer_seen answer, serials_of used)) (woken_ready e a answer used is g)
+        (ap (core_settled_by core) r) r
         (shown_with links (answered e answer used) known (core_answered core (serials_of used)) (rows_without rows used)
-        (holding_used links e (answered e answer used) known core (core_answered core (serials_of used)) rows a answer used h g refl refl refl refl refl refl refl refl) refl)
+        (holding_used links e (answered e answer used) known core (core_answered core (serials_of used)) rows a answer
+        used h g refl refl refl refl refl refl refl refl) refl)
         (λ t. refl)
 
-    wait : (a : Awaited) (o : Option (Answer × List Request)) → e.blocked ≡ Some a → core_ready core ≡ completion_seen (completion e.slots a) → completion e.slots a ≡ o → IsWoken links e known core
+    wait : (a : Awaited) (o : Option (Answer × List Request)) → e.blocked ≡ Some a →
+        core_ready core ≡ completion_seen (completion e.slots a) → completion e.slots a ≡ o → IsWoken links e known core
     wait a None is same g = still (woken_pending e a is g) (same ∙ ap completion_seen g)
     wait a (Some t) is same g = ready a t.0 t.1 is same g
 
@@ -188,7 +224,8 @@ unready None h = refl
 unready (Some t) h = absurd (none-some (answer_seen t.0, serials_of t.1) (sym h))
 
 -- what is shown is held
-pub holding_of : (links : Announcements) (e : CoreState) (known : List ℕ) (core : Core) → (s : IsShown links e known core) → Holding links e known core s.rows
+pub holding_of : (links : Announcements) (e : CoreState) (known : List ℕ) (core : Core) →
+    (s : IsShown links e known core) → Holding links e known core s.rows
 holding_of links e known core s =
     record {
       jobs = s.jobs;
@@ -203,13 +240,18 @@ holding_of links e known core s =
 
 -- the law of waking
 pub wakes_are_shown : WakesAreShown
-wakes_are_shown links e known core shown free = settles links e known core shown.rows (holding_of links e known core shown) shown.blocked free
+wakes_are_shown links e known core shown free =
+    settles links e known core shown.rows (holding_of links e known core shown) shown.blocked free
 
 -- where no answer is ready, nothing changes
-pub woken_still : (links : Announcements) (e : CoreState) (known : List ℕ) (core : Core) → IsShown links e known core → IsSettled core → after_wake e ≡ e
+pub woken_still : (links : Announcements) (e : CoreState) (known : List ℕ) (core : Core) → IsShown links e known core →
+    IsSettled core → after_wake e ≡ e
 woken_still links e known core shown settled = go e.blocked refl shown.blocked
   where
     go : (b : Option Awaited) → e.blocked ≡ b → IsBlocked shown.rows b core.blocked → after_wake e ≡ e
     go None b c = woken_free e b
     go (Some a) b c =
-        woken_pending e a b (unready (completion e.slots a) (sym (core_ready_is links e known core shown.rows a (holding_of links e known core shown) c.0 c.1) ∙ settled))
+        woken_pending e a b
+        (unready (completion e.slots a)
+        (sym (core_ready_is links e known core shown.rows a (holding_of links e known core shown) c.0 c.1) ∙
+        settled))

@@ -1,5 +1,6 @@
 -- Messages by their bodies, and what holds of each element of a list.
-use Rattle.std.proofs.Common.{◌≡◌, ℕ, zero, suc, Bool, true, false, List, [], ◌∷◌, ◌++◌, filter, remove, cond, slice_get, Option, Some, None, refl, ap, subst, ◌⊎◌, inl, inr}
+use Rattle.std.proofs.Common.{◌≡◌, ℕ, zero, suc, Bool, true, false, List, [], ◌∷◌, ◌++◌, filter, remove, cond}
+use Rattle.std.proofs.Common.{slice_get, Option, Some, None, refl, ap, subst, ◌⊎◌, inl, inr}
 use Rattle.std.proofs.lemmas.Option.{none-some, same_Some}
 use Rattle.std.specs.List.{AllByRecursion}
 use Rattle.datatypes.specs.Contents.{Contents}
@@ -9,7 +10,8 @@ use Rattle.match_queues.specs.declared.envelope.Body.TheVariants.{Announced, Own
 use Rattle.match_queues.specs.declared.envelope.Message.{Message}
 use Rattle.match_queues.specs.declared.envelope.OwnSend.{OwnSend}
 use Rattle.match_queues.specs.declared.envelope.PostedReceive as queued
-use Rattle.match_queues.specs.State.{State, after_arrival, after_post, arrived_at, message_at, message_for, posted_at, receive_for}
+use Rattle.match_queues.specs.State.{State, after_arrival, after_post, arrived_at, message_at, message_for, posted_at}
+use Rattle.match_queues.specs.State.{receive_for}
 use Rattle.match_queues.specs.Arrivals.{arrival_at}
 use Rattle.rendezvous.specs.State as transfers
 use Rattle.requests.specs.declared.table.TableEntry.{TableEntry}
@@ -34,10 +36,13 @@ abbrev pub own_as : Message → OwnSend → Message
 own_as m o = record m { body = Own o }
 
 -- each is whole, or was announced, or is one of the rank's own whose send waits for its match
-pub by_body : (m : Message) → ((c : Contents) × (m ≡ whole m c)) ⊎ (((a : Announcement) × (m ≡ announced_as m a)) ⊎ ((o : OwnSend) × (m ≡ own_as m o)))
+pub by_body : (m : Message) → ((c : Contents) × (m ≡ whole m c)) ⊎
+    (((a : Announcement) × (m ≡ announced_as m a)) ⊎ ((o : OwnSend) × (m ≡ own_as m o)))
 by_body m = go m.body
   where
-    go : (b : Body) → ((c : Contents) × (record m { body = b } ≡ whole m c)) ⊎ (((a : Announcement) × (record m { body = b } ≡ announced_as m a)) ⊎ ((o : OwnSend) × (record m { body = b } ≡ own_as m o)))
+    go : (b : Body) → ((c : Contents) × (record m { body = b } ≡ whole m c)) ⊎
+        (((a : Announcement) × (record m { body = b } ≡ announced_as m a)) ⊎
+        ((o : OwnSend) × (record m { body = b } ≡ own_as m o)))
     go (Whole c) = inl (c, refl)
     go (Announced a) = inr (inl (a, refl))
     go (Own o) = inr (inr (o, refl))
@@ -45,7 +50,8 @@ by_body m = go m.body
 -- ---- the elements of a list
 
 -- the one at a place
-pub at_place : {A : Type 0} (P : A → Type 0) (xs : List A) (i : ℕ) (x : A) → AllByRecursion P xs → slice_get xs i ≡ Some x → P x
+pub at_place : {A : Type 0} (P : A → Type 0) (xs : List A) (i : ℕ) (x : A) → AllByRecursion P xs →
+    slice_get xs i ≡ Some x → P x
 at_place P [] zero x h e = absurd (none-some x e)
 at_place P [] (suc i) x h e = absurd (none-some x e)
 at_place P (y ∷ ys) zero x h e = subst P (same_Some y x e) h.0
@@ -59,7 +65,8 @@ removed P (x ∷ xs) zero h = h.1
 removed P (x ∷ xs) (suc i) h = (h.0, removed P xs i h.1)
 
 -- those that are kept
-pub filtered : {A : Type 0} (P : A → Type 0) (p : A → Bool) (xs : List A) → AllByRecursion P xs → AllByRecursion P (filter p xs)
+pub filtered : {A : Type 0} (P : A → Type 0) (p : A → Bool) (xs : List A) → AllByRecursion P xs →
+    AllByRecursion P (filter p xs)
 filtered P p [] h = tt
 filtered P p (x ∷ xs) h = go (p x) (filtered P p xs h.1)
   where
@@ -68,19 +75,22 @@ filtered P p (x ∷ xs) h = go (p x) (filtered P p xs h.1)
     go false rest = rest
 
 -- one more
-pub pushed : {A : Type 0} (P : A → Type 0) (xs : List A) (x : A) → AllByRecursion P xs → P x → AllByRecursion P (xs ++ x ∷ [])
+pub pushed : {A : Type 0} (P : A → Type 0) (xs : List A) (x : A) → AllByRecursion P xs → P x →
+    AllByRecursion P (xs ++ x ∷ [])
 pushed P [] x h w = (w, tt)
 pushed P (y ∷ ys) x h w = (h.0, pushed P ys x h.1 w)
 
 -- ---- messages that wait
 
 -- the one that was found
-pub found_at : (P : Message → Type 0) (ms : List Message) (o : Option ℕ) (m : Message) → AllByRecursion P ms → message_at ms o ≡ Some m → P m
+pub found_at : (P : Message → Type 0) (ms : List Message) (o : Option ℕ) (m : Message) → AllByRecursion P ms →
+    message_at ms o ≡ Some m → P m
 found_at P ms None m h e = absurd (none-some m e)
 found_at P ms (Some i) m h e = at_place P ms i m h e
 
 -- a receive is posted
-pub post_leaves : (P : Message → Type 0) (s : State) (r : queued.PostedReceive) → AllByRecursion P s.unexpected → AllByRecursion P (after_post s r).unexpected
+pub post_leaves : (P : Message → Type 0) (s : State) (r : queued.PostedReceive) → AllByRecursion P s.unexpected →
+    AllByRecursion P (after_post s r).unexpected
 post_leaves P s r h = go (message_for r s.unexpected)
   where
     go : (o : Option ℕ) → AllByRecursion P (posted_at o s r).unexpected
@@ -88,7 +98,8 @@ post_leaves P s r h = go (message_for r s.unexpected)
     go (Some i) = removed P s.unexpected i h
 
 -- a message comes
-pub arrival_keeps : (P : Message → Type 0) (s : State) (m : Message) → AllByRecursion P s.unexpected → P m → AllByRecursion P (after_arrival s m).unexpected
+pub arrival_keeps : (P : Message → Type 0) (s : State) (m : Message) → AllByRecursion P s.unexpected → P m →
+    AllByRecursion P (after_arrival s m).unexpected
 arrival_keeps P s m h w = go (receive_for m s.posted)
   where
     go : (o : Option ℕ) → AllByRecursion P (arrived_at o s m).unexpected
@@ -96,7 +107,8 @@ arrival_keeps P s m h w = go (receive_for m s.posted)
     go (Some i) = h
 
 -- a whole one leaves the transfers as they were
-pub arrival_leaves : (t : transfers.State) (slots : List (Option TableEntry)) (m : Message) (c : Contents) (o : Option queued.PostedReceive) →
+pub arrival_leaves : (t : transfers.State) (slots : List (Option TableEntry)) (m : Message) (c : Contents)
+    (o : Option queued.PostedReceive) →
     transfers_on_arrival t slots (arrival_at o (whole m c)) ≡ t
 arrival_leaves t slots m c None = refl
 arrival_leaves t slots m c (Some r) = refl

@@ -1,4 +1,5 @@
--- What a rank's core holds once a transfer is counted in one of its sessions that is no send's and no receive's: its numbers go on.
+-- What a rank's core holds once a transfer is counted in one of its sessions that is no send's and no receive's: its
+-- numbers go on.
 use Rattle.std.specs.Prelude.{◌≡◌, ℕ, ◌<◌, false, List, [], ◌∷◌, ◌++◌, length, if◌then◌else◌}
 use Rattle.proof_engine_view.specs.Frames.{endpoint_of}
 use Rattle.proof_engine_view.specs.Shown.{IsShown}
@@ -21,20 +22,25 @@ counted_to c rank = record c { transfers = record c.transfers { numbers = with_b
 abbrev pub counted_from : CoreState → (rank : ℕ) → CoreState
 counted_from c rank = record c { transfers = after_rts c.transfers rank }
 
--- The number of the next transfer to another rank of the job is how many were announced to the endpoint at which it is known
+-- The number of the next transfer to another rank of the job is how many were announced to the endpoint at which it is
+-- known
 abbrev pub NumbersAreCounts : Type 0
 NumbersAreCounts =
-    (a : Announcements) (c : CoreState) (known : List ℕ) (core : Core) (rank : ℕ) → IsShown a c known core → rank < c.place.size → (rank ≡ c.place.endpoint.rank → ⊥) →
+    (a : Announcements) (c : CoreState) (known : List ℕ) (core : Core) (rank : ℕ) → IsShown a c known core →
+    rank < c.place.size → (rank ≡ c.place.endpoint.rank → ⊥) →
     next_to c.transfers.numbers rank ≡ length (a.to (endpoint_of known rank))
 
--- A transfer to another rank of the job is counted, where a number is left: whatever it is, it has its place behind those that were
--- announced to the endpoint at which the rank is known, and what the core holds stays
+-- A transfer to another rank of the job is counted, where a number is left: whatever it is, it has its place behind
+-- those that were announced to the endpoint at which the rank is known, and what the core holds stays
 abbrev pub TransfersToAreCounted : Type 0
 TransfersToAreCounted =
-    (a : Announcements) (c : CoreState) (known : List ℕ) (core : Core) (rank : ℕ) (t : Transfer) → IsShown a c known core → rank < c.place.size → (rank ≡ c.place.endpoint.rank → ⊥) →
-    is_full_to c.transfers.numbers rank ≡ false → IsShown (also_to a (endpoint_of known rank) t) (counted_to c rank) known core
+    (a : Announcements) (c : CoreState) (known : List ℕ) (core : Core) (rank : ℕ) (t : Transfer) →
+    IsShown a c known core → rank < c.place.size → (rank ≡ c.place.endpoint.rank → ⊥) →
+    is_full_to c.transfers.numbers rank ≡ false →
+    IsShown (also_to a (endpoint_of known rank) t) (counted_to c rank) known core
 
 -- and so it does where a transfer from a rank is counted
 abbrev pub TransfersFromAreCounted : Type 0
 TransfersFromAreCounted =
-    (a : Announcements) (c : CoreState) (known : List ℕ) (core : Core) (rank : ℕ) → IsShown a c known core → IsShown a (counted_from c rank) known core
+    (a : Announcements) (c : CoreState) (known : List ℕ) (core : Core) (rank : ℕ) → IsShown a c known core →
+    IsShown a (counted_from c rank) known core

@@ -1,4 +1,5 @@
--- What a look at the messages that came is to a rank's core in the pure network, and what is so where a probe finds none.
+-- What a look at the messages that came is to a rank's core in the pure network, and what is so where a probe finds
+-- none.
 use Rattle.std.specs.Prelude.{◌≡◌, ℕ, List, [], ◌∷◌, Option, Some, None, option_map}
 use Rattle.requests.specs.declared.awaited_requests.Awaited.{Awaited}
 use Rattle.point_to_point_calls.specs.declared.call.CoreCall.TheVariants as calls
@@ -61,10 +62,12 @@ look_fault c p = look_fault_at c.blocked c p
 abbrev pub LooksAreJudged : Type 0
 LooksAreJudged =
     (a : Announcements) (old : CoreState) (known : List ℕ) (core : Core) (p : CoreProbe) → IsShown a old known core →
-    queue_fault old.place.size (view blank core) (Iprobe (probe_seen p)) ≡ option_map number_of_refusal (look_fault old p)
+    queue_fault old.place.size (view blank core) (Iprobe (probe_seen p)) ≡
+    option_map number_of_refusal (look_fault old p)
 
 -- A matching probe answers none only where there is none
 abbrev pub SearchesFindAll : Type 0
 SearchesFindAll =
-    (a : Announcements) (old new : CoreState) (known : List ℕ) (core : Core) (p : CoreProbe) → IsShown a old known core →
+    (a : Announcements) (old new : CoreState) (known : List ℕ) (core : Core) (p : CoreProbe) →
+    IsShown a old known core →
     Answers old (calls.Improbe p) (replies.Matched None) new → HoldsNone core p

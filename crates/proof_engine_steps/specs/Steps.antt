@@ -28,8 +28,8 @@ use Rattle.proof_engine_view.specs.Shown.{IsSettled, IsShown}
 use Rattle.proof_engine_view.specs.Standing.{AreSent, CanLeave, IsMeant, all_gone}
 use Rattle.proof_engine_view.specs.Transfers.{Announcements, AnnouncementsGrow, after_out}
 
--- A core that starts, at whatever incarnation, holds what a new core of the network holds: nothing was announced on its links,
--- whatever was announced to it
+-- A core that starts, at whatever incarnation, holds what a new core of the network holds: nothing was announced on its
+-- links, whatever was announced to it
 abbrev pub OpeningIsShown : Type 0
 OpeningIsShown =
     (p : Place) (a : Announcements) → p.endpoint.rank < p.size → ((d : Endpoint) → a.to d ≡ []) →
@@ -42,7 +42,8 @@ OpeningIsSettled = (e : Endpoint) → IsSettled (new_core e)
 -- ---- calls
 
 -- a call of the rank is the call of its core in the network
-pub record IsCalled (a : Announcements) (old : CoreState) (known : List ℕ) (core : Core) (call : CoreCall) (reply : CoreReply) (new : CoreState) : Type 0 where
+pub record IsCalled (a : Announcements) (old : CoreState) (known : List ℕ) (core : Core) (call : CoreCall)
+    (reply : CoreReply) (new : CoreState) : Type 0 where
   pub fit : queue_fault old.place.size (view blank core) (call_seen call) ≡ None
   -- it leaves the rank's place, and the answer of an earlier call
   pub place : new.place ≡ old.place
@@ -53,7 +54,8 @@ pub record IsCalled (a : Announcements) (old : CoreState) (known : List ℕ) (co
   pub settled : IsSettled (core_settled (called old.place.endpoint core (call_seen call)).core)
   -- the frame that the rank gives stands for the core's, once this is announced if it is an announcement
   pub sends :
-      AreSent (after_out a (called old.place.endpoint core (call_seen call)).out) (all_gone known (as_list (call_frame old call)))
+      AreSent (after_out a (called old.place.endpoint core (call_seen call)).out)
+      (all_gone known (as_list (call_frame old call)))
       (called old.place.endpoint core (call_seen call)).out
   pub leaves : AllByRecursion (CanLeave old.place) (as_list (call_frame old call))
   pub tells :
@@ -61,23 +63,25 @@ pub record IsCalled (a : Announcements) (old : CoreState) (known : List ℕ) (co
       (core_ready (called old.place.endpoint core (call_seen call)).core)
       ≡ told_call old.place.endpoint call (Some reply)
 
--- Every call that meets no rule and no limit of a rank's core, and whose elements have the width of their type, is the same
--- call of its core in the network; of which the network's laws say that no two messages name one of its own sends
+-- Every call that meets no rule and no limit of a rank's core, and whose elements have the width of their type, is the
+-- same call of its core in the network; of which the network's laws say that no two messages name one of its own sends
 abbrev pub CallsAreShown : Type 0
 CallsAreShown =
     (a : Announcements) (old new : CoreState) (known : List ℕ) (core : Core) (call : CoreCall) (reply : CoreReply) →
-    IsShown a old known core → ClaimsOnce core → IsWithin call → call_fault old call ≡ None → Answers old call reply new →
+    IsShown a old known core → ClaimsOnce core → IsWithin call → call_fault old call ≡ None →
+    Answers old call reply new →
     IsCalled a old known core call reply new
 
 -- ---- what is heard
 
--- what the network's core makes of a word of an endpoint: it learns what the word teaches, and takes the frame, if there is one
+-- what the network's core makes of a word of an endpoint: it learns what the word teaches, and takes the frame, if
+-- there is one
 abbrev pub heard_by_core : Core → Endpoint → Option Frame → Effect
 heard_by_core core s None = effect (met core s) []
 heard_by_core core s (Some f) = came (met core s) s f
 
--- What was heard comes from another rank of the job, from no incarnation before the known one, and is a lesson where its
--- incarnation is above that
+-- What was heard comes from another rank of the job, from no incarnation before the known one, and is a lesson where
+-- its incarnation is above that
 pub record IsFromOther (old : CoreState) (known : List ℕ) (news : NewsText) : Type 0 where
   pub there : news.source.rank < old.place.size
   pub apart : news.source.rank ≡ old.place.endpoint.rank → ⊥
@@ -99,9 +103,10 @@ abbrev pub IsWithinFields : Option FrameText → Type 0
 IsWithinFields None = Unit {0}
 IsWithinFields (Some f) = FrameIsWithinFields f
 
--- What was heard may come: it is from another rank, its frame stands for this one of the network, and the rank's core refuses it
--- by no rule
-pub record MayCome (a : Announcements) (old : CoreState) (known : List ℕ) (core : Core) (news : NewsText) (frame : Option Frame) : Type 0 where
+-- What was heard may come: it is from another rank, its frame stands for this one of the network, and the rank's core
+-- refuses it by no rule
+pub record MayCome (a : Announcements) (old : CoreState) (known : List ℕ) (core : Core) (news : NewsText)
+    (frame : Option Frame) : Type 0 where
   pub other : IsFromOther old known news
   pub meant : IsMeant a news.source news.frame frame
   pub within : IsWithinFields news.frame
@@ -111,21 +116,24 @@ pub record MayCome (a : Announcements) (old : CoreState) (known : List ℕ) (cor
   pub untold : NoneUntold a known
 
 -- What is heard makes of the rank what it makes of its core in the network, before a blocked call is answered
-pub record IsHeard (a : Announcements) (old : CoreState) (known : List ℕ) (core : Core) (news : NewsText) (frame : Option Frame) : Type 0 where
+pub record IsHeard (a : Announcements) (old : CoreState) (known : List ℕ) (core : Core) (news : NewsText)
+    (frame : Option Frame) : Type 0 where
   pub place : (after_news old news).place ≡ old.place
   -- it answers no call
   pub completion : (after_news old news).completion ≡ old.completion
   pub shown :
-      IsShown (after_out a (heard_by_core core news.source frame).out) (after_news old news) (known_after news.lesson known news.source)
+      IsShown (after_out a (heard_by_core core news.source frame).out) (after_news old news)
+      (known_after news.lesson known news.source)
       (heard_by_core core news.source frame).core
   -- the frames that the rank gives stand for the core's
   pub sends :
       AreSent (after_out a (heard_by_core core news.source frame).out)
-      (all_gone (known_after news.lesson known news.source) (news_frames old news)) (heard_by_core core news.source frame).out
+      (all_gone (known_after news.lesson known news.source) (news_frames old news))
+      (heard_by_core core news.source frame).out
   pub leaves : AllByRecursion (CanLeave old.place) (news_frames old news)
 
--- So it is with all that may come, whether it is a lesson or not, with a frame or without one, and whether or not the answer of
--- the blocked call was ready before
+-- So it is with all that may come, whether it is a lesson or not, with a frame or without one, and whether or not the
+-- answer of the blocked call was ready before
 abbrev pub NewsAreShown : Type 0
 NewsAreShown =
     (a : Announcements) (old : CoreState) (known : List ℕ) (core : Core) (news : NewsText) (frame : Option Frame) →
@@ -133,7 +141,8 @@ NewsAreShown =
 
 -- ---- the blocked call is answered
 
--- The rank is woken as its core in the network is settled: both answer the blocked call where its answer is ready, and alike
+-- The rank is woken as its core in the network is settled: both answer the blocked call where its answer is ready, and
+-- alike
 pub record IsWoken (a : Announcements) (c : CoreState) (known : List ℕ) (core : Core) : Type 0 where
   pub place : (after_wake c).place ≡ c.place
   pub shown : IsShown a (after_wake c) known (core_settled core)

@@ -1,6 +1,7 @@
 -- The fault of a call on world.
 use Rattle.std.proofs.Common.{Bool, false, [], ◌∷◌, ap}
-use Rattle.perfect_queues.specs.Refusals.{first_fault, is_count_wrong, is_held, is_rank_wrong, is_request_wrong, is_tag_wrong, is_type_wrong, standing}
+use Rattle.perfect_queues.specs.Refusals.{first_fault, is_count_wrong, is_held, is_rank_wrong, is_request_wrong}
+use Rattle.perfect_queues.specs.Refusals.{is_tag_wrong, is_type_wrong, standing}
 use Rattle.std.specs.Prelude.{◌||◌, slice_get}
 use Rattle.proof_engine_view.specs.Faults.{WorldFault}
 

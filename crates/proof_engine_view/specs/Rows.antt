@@ -37,8 +37,8 @@ pub record IsPosted (w : Posted) (p : Receive) : Type 0 where
   pub into : p.into ≡ handed_of w.into
   pub group : p.group ≡ w.group
 
--- a receive was matched with this announced message, which it accepts: its data go where the receive's go, and the status is
--- what the receive has of the message
+-- a receive was matched with this announced message, which it accepts: its data go where the receive's go, and the
+-- status is what the receive has of the message
 pub record IsMatched (w : Matched) (p : Receive) (h : Held) : Type 0 where
   pub into : p.into ≡ handed_of w.into
   pub accepts : fits p h ≡ true
@@ -49,8 +49,8 @@ pub record IsTaken (t : table.TakenOut) (group : Option (List ℕ)) (h : Option 
   pub group_is : group ≡ t.group
   pub there : is_some h ≡ is_some t.message
 
--- how far the request is says what the job says; which data a receive has so far, and what a send offers, the transfers say; and
--- which message was taken out, what is under way says
+-- how far the request is says what the job says; which data a receive has so far, and what a send offers, the transfers
+-- say; and which message was taken out, what is under way says
 abbrev pub Fits : RequestProgress → Job → Type 0
 Fits (Receiving w) (Waiting p) = IsPosted w p
 Fits (Receiving w) (Collecting p h got) = ⊥
@@ -132,8 +132,8 @@ abbrev pub posted_rows : List Row → List posted.PostedReceive
 posted_rows [] = []
 posted_rows (r ∷ rs) = posted_job r.key r.job ++ posted_rows rs
 
--- what is there of a message of which its sender announced these: a large one is named by the serial of its send, and so is one of
--- the rank's own whose send waits
+-- what is there of a message of which its sender announced these: a large one is named by the serial of its send, and
+-- so is one of the rank's own whose send waits
 abbrev pub body_seen : List Transfer → Body → held.Body
 body_seen ts (bodies.Whole c) = Whole c.values
 body_seen ts (bodies.Own o) = Own o.serial o.elements.values

@@ -25,10 +25,10 @@ abbrev pub IsBlocked : List Row → Option engine.Awaited → Option Unanswered 
 IsBlocked rows None b = b ≡ None
 IsBlocked rows (Some a) b = (b ≡ Some (Waits (awaited_seen a))) × All (IsNamed rows) (awaited_requests a)
 
--- The rank holds the requests and messages of the network's core and is blocked on the same, whether or not the blocked call's
--- answer is ready; and both know the ranks alike:
--- `known` is what the rank's sessions know, the incarnation of each rank by its number. `a` is what was announced on the links
--- from and to it, by which large messages have their numbers
+-- The rank holds the requests and messages of the network's core and is blocked on the same, whether or not the blocked
+-- call's answer is ready; and both know the ranks alike:
+-- `known` is what the rank's sessions know, the incarnation of each rank by its number. `a` is what was announced on
+-- the links from and to it, by which large messages have their numbers
 pub record IsShown (a : Announcements) (c : CoreState) (known : List ℕ) (core : Core) : Type 0 where
   pub rows : List Row
   pub jobs : core.jobs ≡ jobs_of rows

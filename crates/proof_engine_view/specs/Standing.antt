@@ -6,7 +6,8 @@ use Rattle.datatypes.specs.Contents.{AreWithin, bytes_of}
 use Rattle.datagram.specs.declared.kinds.Clearance.{Clearance}
 use Rattle.datagram.specs.declared.kinds.Clearance.TheVariants.{Send, Drop}
 use Rattle.datagram.specs.declared.kinds.Plane.TheVariants.{PointToPoint}
-use Rattle.datagram.specs.Spelling.{ClearText, DataText, FrameFits, FrameIsWithinFields, FrameText, RequestText, EagerFrame, RequestFrame, ClearFrame, DataFrame}
+use Rattle.datagram.specs.Spelling.{ClearText, DataText, FrameFits, FrameIsWithinFields, FrameText, RequestText}
+use Rattle.datagram.specs.Spelling.{EagerFrame, RequestFrame, ClearFrame, DataFrame}
 use Rattle.incarnation.specs.declared.place.Place.{Place}
 use Rattle.point_to_point_calls.specs.Frames.{FrameFor}
 use Rattle.proof_pure_network.specs.Frames.{Cts, Data, Frame, Rts}
@@ -42,7 +43,8 @@ pub record IsData (out : List Transfer) (t : DataText) (frame : Frame) : Type 0 
   pub bytes : t.bytes ≡ bytes_of (size_of transfer.basic) values
   pub within : AreWithin (size_of transfer.basic) values
 
--- A frame as a text stands for a frame of the network, on a link on which `out` was announced, and on the way back `back`
+-- A frame as a text stands for a frame of the network, on a link on which `out` was announced, and on the way back
+-- `back`
 abbrev pub StandsFor : (out back : List Transfer) → FrameText → Frame → Type 0
 StandsFor out back (EagerFrame t) frame = message_seen t.plane t ≡ Some frame
 StandsFor out back (RequestFrame t) frame = IsRequest out t frame

@@ -17,7 +17,8 @@ pub record Transfer : Type 0 where
 abbrev pub announced_in : List Frame → List Transfer
 announced_in [] = []
 announced_in (Eager context tag basic values ∷ fs) = announced_in fs
-announced_in (Rts context tag basic k count ∷ fs) = record { serial = k; basic = basic; count = count } ∷ announced_in fs
+announced_in (Rts context tag basic k count ∷ fs) = record { serial = k; basic = basic; count = count } ∷
+    announced_in fs
 announced_in (Cts k wanted ∷ fs) = announced_in fs
 announced_in (Data k offset values ∷ fs) = announced_in fs
 

@@ -32,9 +32,10 @@ use Rattle.proof_engine_view.specs.Transfers.{Announcements, IsNumber, Transfer}
 
 -- NUMBERS
 
--- The next number of a session with another rank of the job is how many large messages were announced to it, at the incarnation
--- at which it is known
-pub record IsNumbered (to : Endpoint → List Transfer) (known : List ℕ) (p : Place) (numbers : List Numbers) : Type 0 where
+-- The next number of a session with another rank of the job is how many large messages were announced to it, at the
+-- incarnation at which it is known
+pub record IsNumbered (to : Endpoint → List Transfer) (known : List ℕ) (p : Place) (numbers : List Numbers) : Type
+    0 where
   pub width : length numbers ≡ p.size
   pub begun :
       (rank : ℕ) → rank < p.size → (rank ≡ p.endpoint.rank → ⊥) →
@@ -48,7 +49,11 @@ pub record IsOfferOf (to : Endpoint → List Transfer) (known : List ℕ) (rows 
   pub serial : ℕ
   pub row :
       slice_get rows serial
-      ≡ Some (record { key = o.request; job = Offering (endpoint_of known o.target) o.elements.basic o.elements.values })
+      ≡ Some (record {
+        key = o.request;
+        job =
+            Offering (endpoint_of known o.target) o.elements.basic o.elements.values;
+      })
   pub announced :
       slice_get (to (endpoint_of known o.target)) o.transfer
       ≡ Some (record { serial = serial; basic = o.elements.basic; count = length o.elements.values })
@@ -58,9 +63,10 @@ pub record IsOfferOf (to : Endpoint → List Transfer) (known : List ℕ) (rows 
 
 -- MESSAGES THAT COME
 
--- what is collected is what a row's receive collects, from the known incarnation of its rank, announced under its number; the
--- bytes are those of the values that the receive has
-pub record IsCollectionOf (from : Endpoint → List Transfer) (known : List ℕ) (rows : List Row) (c : rendezvous.Collecting) : Type 0 where
+-- what is collected is what a row's receive collects, from the known incarnation of its rank, announced under its
+-- number; the bytes are those of the values that the receive has
+pub record IsCollectionOf (from : Endpoint → List Transfer) (known : List ℕ) (rows : List Row)
+    (c : rendezvous.Collecting) : Type 0 where
   pub serial : ℕ
   pub receive : Receive
   pub message : Held
@@ -76,9 +82,10 @@ pub record IsCollectionOf (from : Endpoint → List Transfer) (known : List ℕ)
   pub bytes : c.bytes ≡ bytes_of (size_of transfer.basic) got
   pub within : AreWithin (size_of transfer.basic) got
 
--- an announced message that waits for its receive is from another rank of the job at its known incarnation, and its number
--- names it
-pub record IsPartOf (from : Endpoint → List Transfer) (known : List ℕ) (p : Place) (m : Message) (a : Announcement) : Type 0 where
+-- an announced message that waits for its receive is from another rank of the job at its known incarnation, and its
+-- number names it
+pub record IsPartOf (from : Endpoint → List Transfer) (known : List ℕ) (p : Place) (m : Message)
+    (a : Announcement) : Type 0 where
   pub sender : m.sender ≡ endpoint_of known m.sender.rank
   pub there : m.sender.rank < p.size
   pub apart : m.sender.rank ≡ p.endpoint.rank → ⊥
@@ -91,27 +98,31 @@ pub record IsOwnOf (p : Place) (rows : List Row) (m : Message) (o : OwnSend) : T
   pub row : slice_get rows o.serial ≡ Some (record { key = o.key; job = Unmatched p.endpoint })
 
 -- a whole one may be from any
-abbrev pub IsFromLink : (from : Endpoint → List Transfer) → (known : List ℕ) → Place → List Row → Message → Body → Type 0
+abbrev pub IsFromLink : (from : Endpoint → List Transfer) → (known : List ℕ) → Place → List Row → Message → Body →
+    Type 0
 IsFromLink from known p rows m (bodies.Whole elements) = Unit {0}
 IsFromLink from known p rows m (bodies.Own o) = IsOwnOf p rows m o
 IsFromLink from known p rows m (bodies.Announced a) = IsPartOf from known p m a
 
 -- MESSAGES THAT WERE TAKEN OUT
 
--- the request that holds one has its job, with the message as the network sees it; and the message is as one that waits for its
--- receive
-pub record IsTakenOut (from : Endpoint → List Transfer) (known : List ℕ) (p : Place) (rows : List Row) (serial : ℕ) (group : Option (List ℕ)) (m : Message) : Type 0 where
+-- the request that holds one has its job, with the message as the network sees it; and the message is as one that waits
+-- for its receive
+pub record IsTakenOut (from : Endpoint → List Transfer) (known : List ℕ) (p : Place) (rows : List Row) (serial : ℕ)
+    (group : Option (List ℕ)) (m : Message) : Type 0 where
   pub key : ℕ
   pub row : slice_get rows serial ≡ Some (record { key = key; job = Probed group (Some (held_of from m)) })
   pub from_link : IsFromLink from known p rows m m.body
 
 -- of one whose sender was replaced nothing is left
-abbrev pub IsTakenIf : (from : Endpoint → List Transfer) → (known : List ℕ) → Place → List Row → (serial : ℕ) → (group : Option (List ℕ)) → Option Message → Type 0
+abbrev pub IsTakenIf : (from : Endpoint → List Transfer) → (known : List ℕ) → Place → List Row → (serial : ℕ) →
+    (group : Option (List ℕ)) → Option Message → Type 0
 IsTakenIf from known p rows serial group None = Unit {0}
 IsTakenIf from known p rows serial group (Some m) = IsTakenOut from known p rows serial group m
 
 -- by how far a request is
-abbrev pub IsTakenBy : (from : Endpoint → List Transfer) → (known : List ℕ) → Place → List Row → (serial : ℕ) → RequestProgress → Type 0
+abbrev pub IsTakenBy : (from : Endpoint → List Transfer) → (known : List ℕ) → Place → List Row →
+    (serial : ℕ) → RequestProgress → Type 0
 IsTakenBy from known p rows serial (Receiving w) = Unit {0}
 IsTakenBy from known p rows serial (progresses.Collecting w) = Unit {0}
 IsTakenBy from known p rows serial progresses.Offering = Unit {0}
@@ -119,12 +130,14 @@ IsTakenBy from known p rows serial (progresses.TakenOut t) = IsTakenIf from know
 IsTakenBy from known p rows serial (Finished o) = Unit {0}
 
 -- by what stands under a key of the table
-abbrev pub IsTakenAt : (from : Endpoint → List Transfer) → (known : List ℕ) → Place → List Row → Option TableEntry → Type 0
+abbrev pub IsTakenAt : (from : Endpoint → List Transfer) → (known : List ℕ) → Place → List Row → Option TableEntry →
+    Type 0
 IsTakenAt from known p rows None = Unit {0}
 IsTakenAt from known p rows (Some e) = IsTakenBy from known p rows e.serial e.progress
 
 -- all of the table
-abbrev pub AreTaken : (from : Endpoint → List Transfer) → (known : List ℕ) → Place → List Row → List (Option TableEntry) → Type 0
+abbrev pub AreTaken : (from : Endpoint → List Transfer) → (known : List ℕ) → Place → List Row →
+    List (Option TableEntry) → Type 0
 AreTaken from known p rows slots = (key : ℕ) → IsTakenAt from known p rows (slot_at slots key)
 
 -- ALL OF THEM
@@ -142,9 +155,10 @@ offer_keys offers = map (λ (o : Offer). o.request) offers
 abbrev pub collection_keys : List rendezvous.Collecting → List ℕ
 collection_keys collections = map (λ (c : rendezvous.Collecting). c.request) collections
 
--- What the rank's transfers hold are the large messages of its rows, each once, and each row's is there; and the messages that wait
--- for a receive are those of its links and of its own sends
-pub record AreUnderWay (a : Announcements) (known : List ℕ) (p : Place) (rows : List Row) (t : transfers.State) (unexpected : List Message) : Type 0 where
+-- What the rank's transfers hold are the large messages of its rows, each once, and each row's is there; and the
+-- messages that wait for a receive are those of its links and of its own sends
+pub record AreUnderWay (a : Announcements) (known : List ℕ) (p : Place) (rows : List Row) (t : transfers.State)
+    (unexpected : List Message) : Type 0 where
   pub numbered : IsNumbered a.to known p t.numbers
   pub offers : AllByRecursion (IsOfferOf a.to known rows) t.offers
   pub offered :
@@ -154,7 +168,8 @@ pub record AreUnderWay (a : Announcements) (known : List ℕ) (p : Place) (rows 
   pub collections : AllByRecursion (IsCollectionOf a.from known rows) t.collections
   pub collected :
       (k key : ℕ) (r : Receive) (h : Held) (got : List ℕ) →
-      slice_get rows k ≡ Some (record { key = key; job = Collecting r h got }) → IsIn key (collection_keys t.collections)
+      slice_get rows k ≡ Some (record { key = key; job = Collecting r h got }) →
+      IsIn key (collection_keys t.collections)
   pub collections_apart : AreApart (collection_keys t.collections)
   -- a send that waits for its match is one to the rank itself
   pub unmatched :

@@ -1,9 +1,11 @@
--- The network in the middle of a word: the messages and notices that it brought so far were handed up, and nothing is answered yet.
+-- The network in the middle of a word: the messages and notices that it brought so far were handed up, and nothing is
+-- answered yet.
 -- A word may be taken in one part after the other, and is settled once all have come.
 use Rattle.std.specs.Prelude.{◌≡◌, ℕ, ◌+◌, ◌≤◌, List, [], ◌∷◌, ◌++◌, Some, None, slice_get}
 use Rattle.perfect_groups.specs.Events.{ended_with, ready_by, told_of}
 use Rattle.proof_group_network.specs.Happened.{IsAfter, IsWord, met_core, noted_effect}
-use Rattle.proof_group_network.specs.Network.{GroupNetwork, Happening, Word, happens, hear_word, member_settled, new_group_network, note_some, noticed_on, notify_all, run, settle_event}
+use Rattle.proof_group_network.specs.Network.{GroupNetwork, Happening, Word, happens, hear_word, member_settled}
+use Rattle.proof_group_network.specs.Network.{new_group_network, note_some, noticed_on, notify_all, run, settle_event}
 use Rattle.proof_group_network.specs.Notices.{Notice}
 use Rattle.proof_group_network.specs.NoticesStand.{NoticesStand, heard_member}
 use Rattle.proof_pure_network.specs.Announced.{MeetingsStand, TransfersStand}
@@ -15,7 +17,8 @@ use Rattle.vocabulary.specs.declared.endpoint.Endpoint.{Endpoint}
 
 -- a word of s at e, with as many of its messages and these of its notices handed up, before it is settled
 abbrev pub unsettled : GroupNetwork → (e sender : Endpoint) (frames : ℕ) (notices : List ℕ) → GroupNetwork
-unsettled w e s frames notices = note_some (record (hear_word w e s) { net = hand_some (hear_word w e s).net e s frames }) e s notices
+unsettled w e s frames notices =
+    note_some (record (hear_word w e s) { net = hand_some (hear_word w e s).net e s frames }) e s notices
 
 -- ---- the parts of a word
 
@@ -23,20 +26,25 @@ unsettled w e s frames notices = note_some (record (hear_word w e s) { net = han
 abbrev pub WordsCome : Type 0
 WordsCome =
     (r : ℕ) (w : GroupNetwork) (s : Endpoint) →
-    IsAfter w (unsettled w (here w.net r) s 0 []) (here w.net r) (met_core w r s) w.net.link (heard_member w r s) w.notices []
+    IsAfter w (unsettled w (here w.net r) s 0 []) (here w.net r) (met_core w r s) w.net.link
+    (heard_member w r s) w.notices []
 
 -- one with the next message of its link: the core takes it, and what that gives out goes to its links
 abbrev pub MessagesCome : Type 0
 MessagesCome =
-    (r : ℕ) (w : GroupNetwork) (s : Endpoint) (f : Frame) → slice_get (w.net.link s (here w.net r)).accepted (w.net.link s (here w.net r)).handed ≡ Some f →
+    (r : ℕ) (w : GroupNetwork) (s : Endpoint) (f : Frame) →
+    slice_get (w.net.link s (here w.net r)).accepted (w.net.link s (here w.net r)).handed ≡ Some f →
     IsAfter w (unsettled w (here w.net r) s 1 []) (here w.net r) (came (met_core w r s) s f).core
-    (accept_all (handed_on w.net.link s (here w.net r)) (here w.net r) (came (met_core w r s) s f).out) (heard_member w r s) w.notices []
+    (accept_all (handed_on w.net.link s (here w.net r)) (here w.net r) (came (met_core w r s) s f).out)
+    (heard_member w r s) w.notices []
 
 -- one with the notice of some number: the member keeps it, and does of itself what follows
 abbrev pub NoticesCome : Type 0
 NoticesCome =
-    (r : ℕ) (w : GroupNetwork) (s : Endpoint) (i : ℕ) (x : Notice) → slice_get (w.notices s (here w.net r)).accepted i ≡ Some x →
-    IsAfter w (unsettled w (here w.net r) s 0 (i ∷ [])) (here w.net r) (met_core w r s) w.net.link (noted_effect w r s x).member
+    (r : ℕ) (w : GroupNetwork) (s : Endpoint) (i : ℕ) (x : Notice) → slice_get (w.notices s (here w.net r)).accepted i ≡
+    Some x →
+    IsAfter w (unsettled w (here w.net r) s 0 (i ∷ [])) (here w.net r) (met_core w r s) w.net.link
+    (noted_effect w r s x).member
     (notify_all (noticed_on w.notices s (here w.net r) i) (here w.net r) (noted_effect w r s x).out) []
 
 -- and they add up: the messages of two parts are so many, and the notices come one after the other
@@ -58,11 +66,13 @@ EventsSettle =
 abbrev pub WordsSettle : Type 0
 WordsSettle =
     (n r frames : ℕ) (notices : List ℕ) (w : GroupNetwork) (s : Endpoint) → IsWord n r w s →
-    happens n w (Word s r frames notices) ≡ settle_event (unsettled w (here w.net r) s frames notices) (here w.net r) None
+    happens n w (Word s r frames notices) ≡
+    settle_event (unsettled w (here w.net r) s frames notices) (here w.net r) None
 
 -- ---- what holds in the middle
 
--- a word that rank r takes in is one in the middle of it, too, but teaches nothing any more; and nothing of it is seen yet
+-- a word that rank r takes in is one in the middle of it, too, but teaches nothing any more; and nothing of it is seen
+-- yet
 pub record IsHeardMidway (n r : ℕ) (w u : GroupNetwork) (s : Endpoint) : Type 0 where
   pub current : u.net.current ≡ w.net.current
   pub seen : u.history ≡ w.history
@@ -83,5 +93,7 @@ pub record Stands (n : ℕ) (u : GroupNetwork) : Type 0 where
 -- is there in the middle of a word, too
 abbrev pub MidwayStands : Type 0
 MidwayStands =
-    (n r frames : ℕ) (notices : List ℕ) (happenings : List Happening) (s : Endpoint) → n ≤ 65536 → IsWord n r (run n happenings (new_group_network n)) s →
-    Stands n (unsettled (run n happenings (new_group_network n)) (here (run n happenings (new_group_network n)).net r) s frames notices)
+    (n r frames : ℕ) (notices : List ℕ) (happenings : List Happening) (s : Endpoint) → n ≤ 65536 →
+    IsWord n r (run n happenings (new_group_network n)) s →
+    Stands n (unsettled (run n happenings (new_group_network n)) (here (run n happenings (new_group_network n)).net r) s
+    frames notices)

@@ -1,5 +1,7 @@
 -- One acknowledgement gives way to another one that says more: the links stay true.
-use Rattle.std.proofs.Common.{◌≡◌, ℕ, ◌+◌, ◌<◌, ◌%◌, ◌^◌, Bool, true, false, ◌&&◌, not, nat_lt, List, [], ◌∷◌, ◌++◌, length, Some, Ok, Result, ◌==◌, slice_get, slice_index, slice_set, refl, sym, ap, ◌∙◌, subst, inl, inr, ◌⊎◌, arith}
+use Rattle.std.proofs.Common.{◌≡◌, ℕ, ◌+◌, ◌<◌, ◌%◌, ◌^◌, Bool, true, false, ◌&&◌, not, nat_lt, List, [], ◌∷◌, ◌++◌}
+use Rattle.std.proofs.Common.{length, Some, Ok, Result, ◌==◌, slice_get, slice_index, slice_set, refl, sym, ap, ◌∙◌}
+use Rattle.std.proofs.Common.{subst, inl, inr, ◌⊎◌, arith}
 use Rattle.std.specs.List.{AllByRecursion}
 use Rattle.std.proofs.lemmas.Bool.{and_parts, both_ways, cases_eq, cases_lt, ltb-true}
 use Rattle.std.proofs.lemmas.Option.{same_Some, slice_get_within}
@@ -24,13 +26,18 @@ use Rattle.proof_link_truth.proofs.Reading.{HaveWidths, ack_is_read, ack_text, f
 -- ---- a list in which one element gives way to another
 
 -- whatever else was among them is among them still, and so is the new one
-pub among_moved : (ds : List (ℕ × List ℕ)) (q : ℕ) (t old new : ℕ × List ℕ) → slice_get ds q ≡ Some old → (t ≡ old → ⊥) → IsAmong (ds ++ new ∷ []) t → IsAmong (slice_set ds q new) t
+pub among_moved : (ds : List (ℕ × List ℕ)) (q : ℕ) (t old new : ℕ × List ℕ) → slice_get ds q ≡ Some old →
+    (t ≡ old → ⊥) → IsAmong (ds ++ new ∷ []) t → IsAmong (slice_set ds q new) t
 among_moved ds q t old new there other a = elim (place_of_push ds new a.place t a.there) [
   | inl before ↦ elim (cases_eq q a.place) [
     | inl same ↦ absurd (other (same_Some t old (sym before ∙ ap (slice_get ds) (sym same) ∙ there)))
     | inr apart ↦ record { place = a.place; there = get_set_other ds q a.place new apart ∙ before }
   ]
-  | inr last ↦ record { place = q; there = get_set ds q new (slice_get_within ds q old there) ∙ ap (λ (x : ℕ × List ℕ). Some x) last }
+  | inr last ↦ record {
+    place = q;
+    there = get_set ds q new (slice_get_within ds q old there) ∙
+        ap (λ (x : ℕ × List ℕ). Some x) last;
+  }
 ]
 
 -- ---- what bytes can't be
@@ -41,7 +48,8 @@ text_or t (Ok d) = d
 text_or t e = t
 
 -- bytes are read in one way
-same_text : (bytes more : List ℕ) (a b : DatagramText) → bytes ≡ more → datagram_of bytes ≡ Ok a → datagram_of more ≡ Ok b → a ≡ b
+same_text : (bytes more : List ℕ) (a b : DatagramText) → bytes ≡ more → datagram_of bytes ≡ Ok a →
+    datagram_of more ≡ Ok b → a ≡ b
 same_text bytes more a b same first second = ap (text_or a) (sym first ∙ ap datagram_of same ∙ second)
 
 -- whether it is an acknowledgement
@@ -58,12 +66,16 @@ pub record IsReadAck (n : ℕ) (own s : Endpoint) (number held : ℕ) : Type 0 w
   pub width : held < 2 ^ 64
 
 -- no frame is spelled as an acknowledgement is
-wire_is_no_ack : (n : ℕ) (a b own s : Endpoint) (q : ℕ) (f : FrameText) (number held : ℕ) → HaveWidths n a b → CanBeSent f → q < 2 ^ 64
+wire_is_no_ack : (n : ℕ) (a b own s : Endpoint) (q : ℕ) (f : FrameText) (number held : ℕ) → HaveWidths n a b →
+    CanBeSent f → q < 2 ^ 64
     → IsReadAck n own s number held → wire n a b q f ≡ ack_bytes (place_of n own) s number held → ⊥
 wire_is_no_ack n a b own s q f number held widths can numbered ack same =
     both_ways true
-    (ap (λ (t : DatagramText). is_ack t.body) (sym (same_text (wire n a b q f) (ack_bytes (place_of n own) s number held) (text_of n a b q f) (ack_text n own s number held) same
-    (frame_is_read n a b q f can widths numbered) (ack_is_read n own s number held ack.widths ack.numbered ack.even ack.width))))
+    (ap (λ (t : DatagramText). is_ack t.body)
+    (sym (same_text (wire n a b q f) (ack_bytes (place_of n own) s number held) (text_of n a b q f)
+    (ack_text n own s number held) same
+    (frame_is_read n a b q f can widths numbered)
+    (ack_is_read n own s number held ack.widths ack.numbered ack.even ack.width))))
     refl
 
 -- what acknowledgements that are spelled alike have in common
@@ -72,12 +84,15 @@ record IsSameAck (b a own s : Endpoint) (k number : ℕ) : Type 0 where
   target : a ≡ s
   numbers : k ≡ number
 
-same_ack : (n : ℕ) (b a own s : Endpoint) (k marks number held : ℕ) → IsReadAck n b a k marks → IsReadAck n own s number held
+same_ack : (n : ℕ) (b a own s : Endpoint) (k marks number held : ℕ) → IsReadAck n b a k marks →
+    IsReadAck n own s number held
     → ack_bytes (place_of n b) a k marks ≡ ack_bytes (place_of n own) s number held → IsSameAck b a own s k number
 same_ack n b a own s k marks number held first second same =
     let texts : ack_text n b a k marks ≡ ack_text n own s number held =
-    same_text (ack_bytes (place_of n b) a k marks) (ack_bytes (place_of n own) s number held) (ack_text n b a k marks) (ack_text n own s number held) same
-    (ack_is_read n b a k marks first.widths first.numbered first.even first.width) (ack_is_read n own s number held second.widths second.numbered second.even second.width) in
+    same_text (ack_bytes (place_of n b) a k marks) (ack_bytes (place_of n own) s number held) (ack_text n b a k marks)
+    (ack_text n own s number held) same
+    (ack_is_read n b a k marks first.widths first.numbered first.even first.width)
+    (ack_is_read n own s number held second.widths second.numbered second.even second.width) in
     record {
       source = ap (λ (t : DatagramText). t.header.source) texts;
       target = ap (λ (t : DatagramText). t.header.target) texts;
@@ -91,7 +106,8 @@ not_empty : {A : Type 0} (xs : List A) → 0 < length xs → xs ≡ [] → ⊥
 not_empty xs some none = let l : length xs ≡ 0 = ap length none in omega (arith, l, some)
 
 -- they are of the world
-pub heard_widths : (n : ℕ) (sessions : List SessionsState) (datagrams : List (ℕ × List ℕ)) (links : Links) (current : ℕ → ℕ) (a b : Endpoint)
+pub heard_widths : (n : ℕ) (sessions : List SessionsState) (datagrams : List (ℕ × List ℕ)) (links : Links)
+    (current : ℕ → ℕ) (a b : Endpoint)
     → AreTrue n sessions datagrams links current → 0 < (links a b).handed → HaveWidths n a b
 heard_widths n sessions datagrams links current a b true_now some = record {
   few = true_now.few;
@@ -115,34 +131,48 @@ heard_widths n sessions datagrams links current a b true_now some = record {
     pair false is = absurd (not_empty (links a b).accepted accepted (true_now.strangers a b is))
 
     both : (nat_lt a.rank n ≡ true) × (nat_lt b.rank n ≡ true)
-    both = and_parts (nat_lt a.rank n) (nat_lt b.rank n) (and_parts (not (a.rank == b.rank)) (nat_lt a.rank n && nat_lt b.rank n) (pair (is_pair n a b) refl)).1
+    both = and_parts (nat_lt a.rank n) (nat_lt b.rank n)
+        (and_parts (not (a.rank == b.rank)) (nat_lt a.rank n && nat_lt b.rank n) (pair (is_pair n a b) refl)).1
 
 -- the other way round
 pub turned : (n : ℕ) (a b : Endpoint) → HaveWidths n a b → HaveWidths n b a
-turned n a b w = record { few = w.few; source_is = w.target_is; target_is = w.source_is; source_last = w.target_last; target_last = w.source_last }
+turned n a b w =
+    record {
+      few = w.few;
+      source_is = w.target_is;
+      target_is = w.source_is;
+      source_last = w.target_last;
+      target_last =
+          w.source_last;
+    }
 
 -- ---- the acknowledgement at a place gives way
 
-module _ (n : ℕ) (sessions : List SessionsState) (ds : List (ℕ × List ℕ)) (links : Links) (current : ℕ → ℕ) (q : ℕ) (own s : Endpoint)
+module _ (n : ℕ) (sessions : List SessionsState) (ds : List (ℕ × List ℕ)) (links : Links) (current : ℕ → ℕ) (q : ℕ)
+    (own s : Endpoint)
     (number held : ℕ) (new : ℕ × List ℕ) (ack : IsReadAck n own s number held)
-    (there : slice_get ds q ≡ Some (s.rank, ack_bytes (place_of n own) s number held)) (more : number < (links s own).handed)
+    (there : slice_get ds q ≡ Some (s.rank, ack_bytes (place_of n own) s number held))
+    (more : number < (links s own).handed)
     (true_now : AreTrue n sessions (ds ++ new ∷ []) links current) where
   -- the old one
   abbrev gone : ℕ × List ℕ
   gone = (s.rank, ack_bytes (place_of n own) s number held)
 
   -- the frame that a link accepted under a number is another datagram
-  frame_stays : (a b : Endpoint) (k target : ℕ) (f : FrameText) → HaveWidths n a b → slice_get (links a b).accepted k ≡ Some f → IsAmong (ds ++ new ∷ []) (target, wire n a b k f)
+  frame_stays : (a b : Endpoint) (k target : ℕ) (f : FrameText) → HaveWidths n a b → slice_get (links a b).accepted k ≡
+      Some f → IsAmong (ds ++ new ∷ []) (target, wire n a b k f)
       → IsAmong (slice_set ds q new) (target, wire n a b k f)
   frame_stays a b k target f widths accepted sent =
       let link : IsLink (links a b) = true_now.sound a b in
       let below : k < length (links a b).accepted = slice_get_within (links a b).accepted k f accepted in
       among_moved ds q (target, wire n a b k f) gone new there
-      (λ same. wire_is_no_ack n a b own s k f number held widths (All_get CanBeSent (links a b).accepted k f link.sent accepted) (omega (arith, below, link.numbered)) ack
+      (λ same. wire_is_no_ack n a b own s k f number held widths
+      (All_get CanBeSent (links a b).accepted k f link.sent accepted) (omega (arith, below, link.numbered)) ack
       (ap (λ (t : ℕ × List ℕ). t.1) same)) sent
 
   -- so is the acknowledgement of just so many frames as were handed up
-  ack_stays : (a b : Endpoint) → HaveWidths n a b → IsAcknowledged n (ds ++ new ∷ []) a b (links a b).handed → IsAcknowledged n (slice_set ds q new) a b (links a b).handed
+  ack_stays : (a b : Endpoint) → HaveWidths n a b → IsAcknowledged n (ds ++ new ∷ []) a b (links a b).handed →
+      IsAcknowledged n (slice_set ds q new) a b (links a b).handed
   ack_stays a b widths k =
       let link : IsLink (links a b) = true_now.sound a b in
       record {
@@ -151,14 +181,21 @@ module _ (n : ℕ) (sessions : List SessionsState) (ds : List (ℕ × List ℕ))
         width = k.width;
         sent = among_moved ds q (a.rank, ack_bytes (place_of n b) a (links a b).handed k.held) gone new there
             (λ same. differs (same_ack n b a own s (links a b).handed k.held number held
-            (record { widths = turned n a b widths; numbered = omega (arith, link.reach, link.numbered); even = k.even; width = k.width }) ack
+            (record {
+              widths = turned n a b widths;
+              numbered = omega (arith, link.reach, link.numbered);
+              even =
+                  k.even;
+              width = k.width;
+            }) ack
             (ap (λ (t : ℕ × List ℕ). t.1) same))) k.sent;
       }
     where
       differs : IsSameAck b a own s (links a b).handed number → ⊥
       differs is =
           let handed : (links s own).handed ≡ number =
-          ap (λ (x : Endpoint). (links x own).handed) (sym is.target) ∙ ap (λ (y : Endpoint). (links a y).handed) (sym is.source) ∙ is.numbers in
+          ap (λ (x : Endpoint). (links x own).handed) (sym is.target) ∙
+          ap (λ (y : Endpoint). (links a y).handed) (sym is.source) ∙ is.numbers in
           omega (arith, handed, more)
 
   -- whatever was handed up is witnessed still
@@ -174,22 +211,35 @@ module _ (n : ℕ) (sessions : List SessionsState) (ds : List (ℕ × List ℕ))
       by_some : 0 < (links a b).handed → IsWitnessed n (slice_set ds q new) a b (links a b)
       by_some some =
           let widths : HaveWidths n a b = heard_widths n sessions (ds ++ new ∷ []) links current a b true_now some in
-          record { acknowledged = acknowledged widths w.acknowledged; frames = λ k lt. emitted widths k (w.frames k lt) }
+          record {
+            acknowledged = acknowledged widths w.acknowledged;
+            frames =
+                λ k lt. emitted widths k (w.frames k lt);
+          }
         where
-          acknowledged : HaveWidths n a b → ((links a b).handed ≡ 0) ⊎ IsAcknowledged n (ds ++ new ∷ []) a b (links a b).handed
+          acknowledged : HaveWidths n a b →
+              ((links a b).handed ≡ 0) ⊎ IsAcknowledged n (ds ++ new ∷ []) a b (links a b).handed
               → ((links a b).handed ≡ 0) ⊎ IsAcknowledged n (slice_set ds q new) a b (links a b).handed
           acknowledged widths (inl none) = inl none
           acknowledged widths (inr k) = inr (ack_stays a b widths k)
 
-          emitted : HaveWidths n a b → (k : ℕ) → IsEmitted n (ds ++ new ∷ []) a b (links a b) k → IsEmitted n (slice_set ds q new) a b (links a b) k
-          emitted widths k e = record { frame = e.frame; accepted = e.accepted; sent = frame_stays a b k b.rank e.frame widths e.accepted e.sent }
+          emitted : HaveWidths n a b → (k : ℕ) → IsEmitted n (ds ++ new ∷ []) a b (links a b) k →
+              IsEmitted n (slice_set ds q new) a b (links a b) k
+          emitted widths k e =
+              record {
+                frame = e.frame;
+                accepted = e.accepted;
+                sent =
+                    frame_stays a b k b.rank e.frame widths e.accepted e.sent;
+              }
 
   -- whatever is held was emitted still
   held_still : (y : ℕ) (e : SessionsState) → slice_get sessions y ≡ Some e → AreHeldEmitted n (slice_set ds q new) y e
   held_still y e here x place bytes x_is apart holds =
       subst (λ (b : List ℕ). IsAmong (slice_set ds q new) (y, b)) (sym h.spelled)
       (frame_stays (at x k) (at y (current y)) ((peer_at e.peers x).receiver.next + place) y h.frame widths h.accepted
-      (subst (λ (b : List ℕ). IsAmong (ds ++ new ∷ []) (y, b)) h.spelled (true_now.held y e here x place bytes x_is apart holds)))
+      (subst (λ (b : List ℕ). IsAmong (ds ++ new ∷ []) (y, b)) h.spelled
+      (true_now.held y e here x place bytes x_is apart holds)))
     where
       k : ℕ
       k = slice_index e.known x
@@ -197,7 +247,8 @@ module _ (n : ℕ) (sessions : List SessionsState) (ds : List (ℕ × List ℕ))
       tells : PeerTells n current (at y (current y)) x k (peer_at e.peers x) links
       tells = (true_now.tells y e here).peers x x_is apart
 
-      h : IsHeldOf n (at x k) (at y (current y)) ((peer_at e.peers x).receiver.next + place) (links (at x k) (at y (current y))) bytes
+      h : IsHeldOf n (at x k) (at y (current y)) ((peer_at e.peers x).receiver.next + place)
+          (links (at x k) (at y (current y))) bytes
       h = tells.receiver.held place bytes holds
 
       widths : HaveWidths n (at x k) (at y (current y))

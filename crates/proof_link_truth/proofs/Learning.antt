@@ -1,6 +1,7 @@
--- A rank that learns a later incarnation of another one starts both directions of their session anew, as no link of that
--- incarnation has begun.
-use Rattle.std.proofs.Common.{◌≡◌, ℕ, ◌<◌, ◌≤◌, Bool, true, false, max, List, [], length, ◌==◌, slice_index, slice_set, refl, sym, ap, ◌∙◌, arith}
+-- A rank that learns a later incarnation of another one starts both directions of their session anew, as no link of
+-- that incarnation has begun.
+use Rattle.std.proofs.Common.{◌≡◌, ℕ, ◌<◌, ◌≤◌, Bool, true, false, max, List, [], length, ◌==◌, slice_index, slice_set}
+use Rattle.std.proofs.Common.{refl, sym, ap, ◌∙◌, arith}
 use Rattle.std.proofs.lemmas.Bool.{eqb-false}
 use Rattle.std.proofs.lemmas.List.{get_or-set_other, get_or-set_same, length-set}
 use Rattle.vocabulary.specs.declared.endpoint.Endpoint.{Endpoint}
@@ -24,18 +25,24 @@ none_tells : (n : ℕ) (s d : Endpoint) (accepted : List FrameText) → accepted
 none_tells n s d accepted none = sym (ap (wires n s d 0) none)
 
 -- the new session with a later incarnation of a rank
-pub new_session_tells : (n x k i : ℕ) (current : ℕ → ℕ) (own : Endpoint) (p : Peer) (links : Links) → k < i → i ≤ current x
+pub new_session_tells : (n x k i : ℕ) (current : ℕ → ℕ) (own : Endpoint) (p : Peer) (links : Links) → k < i →
+    i ≤ current x
     → PeerTells n current own x k p links → PeerTells n current own x i (new_session p) links
 new_session_tells n x k i current own p links above begun tells = record {
   begun = begun;
-  sender = record { kept = none_tells n own (at x i) (links own (at x i)).accepted (tells.no_accepted i above); below = omega arith };
+  sender = record {
+    kept = none_tells n own (at x i) (links own (at x i)).accepted (tells.no_accepted i above);
+    below =
+        omega arith;
+  };
   receiver = receiver_new n (at x i) own (links (at x i) own) (tells.no_handed i above);
   no_accepted = λ j beyond. tells.no_accepted j (omega (arith, above, beyond));
   no_handed = λ j beyond. tells.no_handed j (omega (arith, above, beyond));
 }
 
 -- a later incarnation is what is known then
-pub learned_known : (known : List ℕ) (x i : ℕ) → x < length known → slice_index known x ≤ i → IsKnown known (slice_set known x (max (slice_index known x) i)) x i
+pub learned_known : (known : List ℕ) (x i : ℕ) → x < length known → slice_index known x ≤ i →
+    IsKnown known (slice_set known x (max (slice_index known x) i)) x i
 learned_known known x i within above = record {
   width = length-set known x (max (slice_index known x) i);
   here = get_or-set_same known x (max (slice_index known x) i) 0 within ∙ omega (arith, above);
@@ -43,23 +50,31 @@ learned_known known x i within above = record {
 }
 
 -- sessions that learnt a later incarnation hold what the same links hold
-pub learned_tells : (n r : ℕ) (current : ℕ → ℕ) (links : Links) (old : SessionsState) (s : Endpoint) → SessionsTell n current r old links → s.rank < n
-    → (s.rank == r) ≡ false → slice_index old.known s.rank < s.incarnation → s.incarnation ≤ current s.rank → SessionsTell n current r (taught true old s) links
+pub learned_tells : (n r : ℕ) (current : ℕ → ℕ) (links : Links) (old : SessionsState) (s : Endpoint) →
+    SessionsTell n current r old links → s.rank < n
+    → (s.rank == r) ≡ false → slice_index old.known s.rank < s.incarnation → s.incarnation ≤ current s.rank →
+    SessionsTell n current r (taught true old s) links
 learned_tells n r current links old s tells s_is apart above begun =
     let x : ℕ = s.rank in
     let i : ℕ = s.incarnation in
-    sessions_know n r x i current links links old (taught true old s) (new_session (peer_at old.peers x)) tells s_is apart
-    (new_session_tells n x (slice_index old.known x) i current (at r (current r)) (peer_at old.peers x) links above begun (tells.peers x s_is apart))
-    (λ y j o other p. p) refl (learned_known old.known x i (omega (arith, s_is, tells.width)) (omega (arith, above))) refl
+    sessions_know n r x i current links links old (taught true old s) (new_session (peer_at old.peers x)) tells s_is
+    apart
+    (new_session_tells n x (slice_index old.known x) i current (at r (current r)) (peer_at old.peers x) links above
+    begun (tells.peers x s_is apart))
+    (λ y j o other p. p) refl (learned_known old.known x i (omega (arith, s_is, tells.width)) (omega (arith, above)))
+    refl
 
 -- and so do sessions that heard a word, which may have taught nothing
-pub taught_tells : (n r : ℕ) (current : ℕ → ℕ) (links : Links) (old : SessionsState) (s : Endpoint) (lesson : Bool) → SessionsTell n current r old links
+pub taught_tells : (n r : ℕ) (current : ℕ → ℕ) (links : Links) (old : SessionsState) (s : Endpoint) (lesson : Bool) →
+    SessionsTell n current r old links
     → IsHeard n r current old.known s lesson → SessionsTell n current r (taught lesson old s) links
-taught_tells n r current links old s true tells heard = learned_tells n r current links old s tells heard.there heard.apart heard.incarnation heard.begun
+taught_tells n r current links old s true tells heard =
+    learned_tells n r current links old s tells heard.there heard.apart heard.incarnation heard.begun
 taught_tells n r current links old s false tells heard = tells
 
 -- a new session holds nothing
-pub taught_held : (n r : ℕ) (datagrams : List (ℕ × List ℕ)) (old : SessionsState) (s : Endpoint) (lesson : Bool) → AreHeldEmitted n datagrams r old
+pub taught_held : (n r : ℕ) (datagrams : List (ℕ × List ℕ)) (old : SessionsState) (s : Endpoint) (lesson : Bool) →
+    AreHeldEmitted n datagrams r old
     → s.rank < length old.peers → AreHeldEmitted n datagrams r (taught lesson old s)
 taught_held n r datagrams old s true held within =
     held_with n r s.rank datagrams old (taught true old s) (new_session (peer_at old.peers s.rank)) held within
@@ -67,12 +82,14 @@ taught_held n r datagrams old s true held within =
 taught_held n r datagrams old s false held within = held
 
 -- once a word was heard, its endpoint is the known one
-pub taught_is : (known : List ℕ) (s : Endpoint) (lesson : Bool) → s.rank < length known → IsLesson lesson (slice_index known s.rank) s.incarnation
+pub taught_is : (known : List ℕ) (s : Endpoint) (lesson : Bool) → s.rank < length known →
+    IsLesson lesson (slice_index known s.rank) s.incarnation
     → slice_index (taught_known lesson known s) s.rank ≡ s.incarnation
 taught_is known s true within above = (learned_known known s.rank s.incarnation within (omega (arith, above))).here
 taught_is known s false within same = same
 
 -- the session that a word meets
-pub taught_peer : (peers : List Peer) (x : ℕ) (lesson : Bool) → x < length peers → peer_at (taught_peers lesson peers x) x ≡ session_met lesson (peer_at peers x)
+pub taught_peer : (peers : List Peer) (x : ℕ) (lesson : Bool) → x < length peers →
+    peer_at (taught_peers lesson peers x) x ≡ session_met lesson (peer_at peers x)
 taught_peer peers x true within = peer_set peers x (new_session (peer_at peers x)) within
 taught_peer peers x false within = refl

@@ -1,5 +1,6 @@
 -- The world before anything happened, and sessions that are new.
-use Rattle.std.proofs.Common.{◌≡◌, ℕ, zero, suc, ◌+◌, ◌<◌, ◌==◌, false, List, [], length, replicate, Some, slice_get, slice_index, slice_set, refl, sym, ap, ◌∙◌, subst, arith, inl}
+use Rattle.std.proofs.Common.{◌≡◌, ℕ, zero, suc, ◌+◌, ◌<◌, ◌==◌, false, List, [], length, replicate, Some, slice_get}
+use Rattle.std.proofs.Common.{slice_index, slice_set, refl, sym, ap, ◌∙◌, subst, arith, inl}
 use Rattle.std.proofs.lemmas.Bool.{eqb-false}
 use Rattle.std.proofs.lemmas.List.{get_or-replicate, get_or-set_other, length-replicate, length-set}
 use Rattle.std.proofs.lemmas.Option.{same_Some}
@@ -24,7 +25,8 @@ new_at (suc n) (suc x) = new_at n x
 
 -- each other rank is known at its first incarnation
 first_known : (n r i x : ℕ) → x < n → (x == r) ≡ false → slice_index (slice_set (replicate n 0) r i) x ≡ 0
-first_known n r i x x_is apart = get_or-set_other (replicate n 0) r x i 0 (eqb-false x r apart) ∙ get_or-replicate n x 0 0 x_is
+first_known n r i x x_is apart = get_or-set_other (replicate n 0) r x i 0 (eqb-false x r apart) ∙
+    get_or-replicate n x 0 0 x_is
 
 -- of an endpoint nothing was accepted, and nothing was handed up there
 pub record IsUnheard (own : Endpoint) (links : Links) : Type 0 where
@@ -32,10 +34,14 @@ pub record IsUnheard (own : Endpoint) (links : Links) : Type 0 where
   pub handed : (s : Endpoint) → (links s own).handed ≡ 0
 
 -- its new session with a rank
-new_tells : (n x : ℕ) (current : ℕ → ℕ) (own : Endpoint) (links : Links) → IsUnheard own links → PeerTells n current own x 0 new_peer links
+new_tells : (n x : ℕ) (current : ℕ → ℕ) (own : Endpoint) (links : Links) → IsUnheard own links →
+    PeerTells n current own x 0 new_peer links
 new_tells n x current own links none = record {
   begun = omega arith;
-  sender = record { kept = sym (ap (λ (fs : List FrameText). wires n own (at x 0) 0 fs) (none.accepted (at x 0))); below = omega arith };
+  sender = record {
+    kept = sym (ap (λ (fs : List FrameText). wires n own (at x 0) 0 fs) (none.accepted (at x 0)));
+    below = omega arith;
+  };
   receiver = receiver_new n (at x 0) own (links (at x 0) own) (none.handed (at x 0));
   no_accepted = λ i above. none.accepted (at x i);
   no_handed = λ i above. none.handed (at x i);
@@ -49,21 +55,27 @@ new_sessions_tell n r current links none = record {
   each = length-replicate n new_peer;
   width = length-set (replicate n 0) r (current r) ∙ length-replicate n 0;
   peers = λ x x_is apart.
-      subst (λ (k : ℕ). PeerTells n current (at r (current r)) x k (peer_at (replicate n new_peer) x) links) (sym (first_known n r (current r) x x_is apart))
-      (subst (λ (p : Peer). PeerTells n current (at r (current r)) x 0 p links) (sym (new_at n x)) (new_tells n x current (at r (current r)) links none));
+      subst (λ (k : ℕ). PeerTells n current (at r (current r)) x k (peer_at (replicate n new_peer) x) links)
+      (sym (first_known n r (current r) x x_is apart))
+      (subst (λ (p : Peer). PeerTells n current (at r (current r)) x 0 p links) (sym (new_at n x))
+      (new_tells n x current (at r (current r)) links none));
   itself = ap (λ (p : Peer). p.sender.frames) (new_at n r);
 }
 
 -- and hold nothing
-pub new_held : (n r : ℕ) (datagrams : List (ℕ × List ℕ)) (own : Endpoint) → AreHeldEmitted n datagrams r (opening (place_of n own))
+pub new_held : (n r : ℕ) (datagrams : List (ℕ × List ℕ)) (own : Endpoint) →
+    AreHeldEmitted n datagrams r (opening (place_of n own))
 new_held n r datagrams own x place bytes x_is apart there =
     absurd (none_held place bytes (ap (λ (p : Peer). held_at p.receiver.held place) (sym (new_at n x)) ∙ there))
 
 -- at each place stand the sessions of its rank
-stands : (n rank k r : ℕ) (e : SessionsState) → slice_get (opening_sessions n rank k) r ≡ Some e → e ≡ opening (place_of n (at (rank + r) 0))
+stands : (n rank k r : ℕ) (e : SessionsState) → slice_get (opening_sessions n rank k) r ≡ Some e →
+    e ≡ opening (place_of n (at (rank + r) 0))
 stands n rank zero r e h = absurd (grind arith)
-stands n rank (suc k) zero e h = sym (same_Some (opening (place_of n (at rank 0))) e h) ∙ ap (λ (m : ℕ). opening (place_of n (at m 0))) (omega arith)
-stands n rank (suc k) (suc r) e h = stands n (suc rank) k r e h ∙ ap (λ (m : ℕ). opening (place_of n (at m 0))) (omega arith)
+stands n rank (suc k) zero e h = sym (same_Some (opening (place_of n (at rank 0))) e h) ∙
+    ap (λ (m : ℕ). opening (place_of n (at m 0))) (omega arith)
+stands n rank (suc k) (suc r) e h = stands n (suc rank) k r e h ∙
+    ap (λ (m : ℕ). opening (place_of n (at m 0))) (omega arith)
 
 -- one for each rank
 many : (n rank k : ℕ) → length (opening_sessions n rank k) ≡ k

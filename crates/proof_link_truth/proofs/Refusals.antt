@@ -1,5 +1,6 @@
 -- A datagram of the world that isn't heard leaves the sessions as they were, but that a reset may go out.
-use Rattle.std.proofs.Common.{◌≡◌, ℕ, ◌<◌, Bool, true, false, List, [], ◌∷◌, ◌++◌, Option, Some, None, Result, Ok, Err, ◌==◌, refl, sym, ap, ◌∙◌, subst, arith, inl, inr}
+use Rattle.std.proofs.Common.{◌≡◌, ℕ, ◌<◌, Bool, true, false, List, [], ◌∷◌, ◌++◌, Option, Some, None, Result, Ok, Err}
+use Rattle.std.proofs.Common.{◌==◌, refl, sym, ap, ◌∙◌, subst, arith, inl, inr}
 use Rattle.std.specs.List.{AllByRecursion}
 use Rattle.vocabulary.specs.declared.endpoint.Endpoint.{Endpoint}
 use Rattle.datagram.specs.Spelling.{AckBody, BodyText, DatagramText, FrameBody, ResetBody}
@@ -50,14 +51,19 @@ same_unheard : (e u : Unheard) → refused e ≡ Err u → e ≡ u
 same_unheard e u is = ap (unheard_or u) is
 
 -- a word of the link
-said_back : (s : Endpoint) (lesson : Bool) (o : Result WordText SessionRefusal) (u : Unheard) → said s lesson o ≡ Err u → IsBack s u.reset
+said_back : (s : Endpoint) (lesson : Bool) (o : Result WordText SessionRefusal) (u : Unheard) →
+    said s lesson o ≡ Err u → IsBack s u.reset
 said_back s lesson (Ok w) u is = absurd cc
-said_back s lesson (Err e) u is = subst (λ (x : Unheard). IsBack s x.reset) (same_unheard (record { refused = _; reset = None }) u is) tt
+said_back s lesson (Err e) u is =
+    subst (λ (x : Unheard). IsBack s x.reset) (same_unheard (record { refused = _; reset = None }) u is) tt
 
 -- what isn't meant for the rank
-unmeant_back : (e : judging.IncarnationRefusal) (s : Endpoint) (b : BodyText) (u : Unheard) → unmeant {A = HeardText} e s b ≡ Err u → IsBack s u.reset
-unmeant_back judgings.StaleTarget s (FrameBody t) u is = subst (λ (x : Unheard). IsBack s x.reset) (same_unheard _ u is) refl
-unmeant_back judgings.StaleTarget s (AckBody held) u is = subst (λ (x : Unheard). IsBack s x.reset) (same_unheard _ u is) refl
+unmeant_back : (e : judging.IncarnationRefusal) (s : Endpoint) (b : BodyText) (u : Unheard) →
+    unmeant {A = HeardText} e s b ≡ Err u → IsBack s u.reset
+unmeant_back judgings.StaleTarget s (FrameBody t) u is =
+    subst (λ (x : Unheard). IsBack s x.reset) (same_unheard _ u is) refl
+unmeant_back judgings.StaleTarget s (AckBody held) u is =
+    subst (λ (x : Unheard). IsBack s x.reset) (same_unheard _ u is) refl
 unmeant_back judgings.StaleTarget s ResetBody u is = subst (λ (x : Unheard). IsBack s x.reset) (same_unheard _ u is) tt
 unmeant_back judgings.StaleSource s b u is = subst (λ (x : Unheard). IsBack s x.reset) (same_unheard _ u is) tt
 unmeant_back judgings.ForeignJob s b u is = subst (λ (x : Unheard). IsBack s x.reset) (same_unheard _ u is) tt
@@ -66,16 +72,21 @@ unmeant_back judgings.Limit s b u is = subst (λ (x : Unheard). IsBack s x.reset
 unmeant_back judgings.OutOfMemory s b u is = subst (λ (x : Unheard). IsBack s x.reset) (same_unheard _ u is) tt
 
 -- whatever a datagram of s isn't heard for
-judged_back : (n : ℕ) (old : SessionsState) (s d : Endpoint) (q : ℕ) (b : BodyText) (bytes : List ℕ) (u : Unheard) (j : Result Judgement judging.IncarnationRefusal)
+judged_back : (n : ℕ) (old : SessionsState) (s d : Endpoint) (q : ℕ) (b : BodyText) (bytes : List ℕ) (u : Unheard)
+    (j : Result Judgement judging.IncarnationRefusal)
     → heard_by j old (word n s d q b) bytes ≡ Err u → IsBack s u.reset
-judged_back n old s d q b bytes u (Ok Current) is = said_back s false (word_of (session_met false (peer_at old.peers s.rank)) q b bytes) u is
-judged_back n old s d q b bytes u (Ok (Learn i)) is = said_back s true (word_of (session_met true (peer_at old.peers s.rank)) q b bytes) u is
+judged_back n old s d q b bytes u (Ok Current) is =
+    said_back s false (word_of (session_met false (peer_at old.peers s.rank)) q b bytes) u is
+judged_back n old s d q b bytes u (Ok (Learn i)) is =
+    said_back s true (word_of (session_met true (peer_at old.peers s.rank)) q b bytes) u is
 judged_back n old s d q b bytes u (Err e) is = unmeant_back e s b u is
 
 -- ---- it leaves the links true
 
-module _ (n r : ℕ) (sessions : List SessionsState) (datagrams : List (ℕ × List ℕ)) (links : Links) (current : ℕ → ℕ) (old : SessionsState) (s d : Endpoint)
-    (true_now : AreTrue n sessions datagrams links current) (stands : IsAt sessions r old) (begun : AreBegun n s d current) (to : d.rank ≡ r) where
+module _ (n r : ℕ) (sessions : List SessionsState) (datagrams : List (ℕ × List ℕ)) (links : Links) (current : ℕ →
+    ℕ) (old : SessionsState) (s d : Endpoint)
+    (true_now : AreTrue n sessions datagrams links current) (stands : IsAt sessions r old)
+    (begun : AreBegun n s d current) (to : d.rank ≡ r) where
   -- what the rank's sessions hold
   tells : SessionsTell n current r old links
   tells = true_now.tells r old stands.there
@@ -102,26 +113,35 @@ module _ (n r : ℕ) (sessions : List SessionsState) (datagrams : List (ℕ × L
       (rest_is_true n r sessions datagrams links current old true_now stands)
 
   -- a reset goes out
-  reset_leaves : (new : SessionsState) → new ≡ record old { out = old.out ++ (s.rank, reset_bytes old.place s) ∷ [] } → LeavesTrue n sessions datagrams r new links current
+  reset_leaves : (new : SessionsState) → new ≡ record old { out = old.out ++ (s.rank, reset_bytes old.place s) ∷ [] } →
+      LeavesTrue n sessions datagrams r new links current
   reset_leaves new is =
       let told : AllByRecursion (IsTold n links current) (old.out ++ (s.rank, reset_bytes old.place s) ∷ []) =
-      subst (λ (out : List (ℕ × List ℕ)). AllByRecursion (IsTold n links current) (out ++ (s.rank, reset_bytes old.place s) ∷ [])) (sym stands.out) (reset_is_told, tt) in
+      subst (λ (out : List (ℕ × List ℕ)). AllByRecursion (IsTold n links current) (out ++
+      (s.rank, reset_bytes old.place s) ∷ [])) (sym stands.out) (reset_is_told, tt) in
       subst (λ (e : SessionsState). LeavesTrue n sessions datagrams r e links current) (sym is)
-      (stays n r sessions datagrams links current old (record old { out = old.out ++ (s.rank, reset_bytes old.place s) ∷ [] }) true_now tells (true_now.held r old stands.there) refl refl refl told)
+      (stays n r sessions datagrams links current old
+      (record old { out = old.out ++ (s.rank, reset_bytes old.place s) ∷ [] }) true_now tells
+      (true_now.held r old stands.there) refl refl refl told)
 
   -- by whether a reset is to go out
-  turned_away : (to_whom : Option Endpoint) (e why : SessionRefusal) (new : SessionsState) → IsBack s to_whom → TurnedAway to_whom e old why new
+  turned_away : (to_whom : Option Endpoint) (e why : SessionRefusal) (new : SessionsState) → IsBack s to_whom →
+      TurnedAway to_whom e old why new
       → LeavesTrue n sessions datagrams r new links current
   turned_away None e why new is gives = stays_true new gives.1
   turned_away (Some x) e why new is (inl gives) =
-      reset_leaves new (subst (λ (y : Endpoint). new ≡ record old { out = old.out ++ (y.rank, reset_bytes old.place y) ∷ [] }) is gives.1)
+      reset_leaves new
+      (subst (λ (y : Endpoint). new ≡ record old { out = old.out ++ (y.rank, reset_bytes old.place y) ∷ [] }) is
+      gives.1)
   turned_away (Some x) e why new is (inr gives) = stays_true new gives.1
 
 -- the law of refusals
 pub refusals_are_true : RefusalsAreTrue
-refusals_are_true n r number bytes sessions datagrams links current old new unheard why true_now stands there hears gives =
+refusals_are_true n r number bytes sessions datagrams links current old new unheard why true_now stands there hears
+    gives =
     let c : IsComing n r datagrams links current bytes = is_coming n r number bytes sessions datagrams links current true_now there in
     let text : DatagramText = word n c.source c.target c.says.number c.says.body in
-    turned_away n r sessions datagrams links current old c.source c.target true_now stands c.begun c.to unheard.reset unheard.refused why new
+    turned_away n r sessions datagrams links current old c.source c.target true_now stands c.begun c.to unheard.reset
+    unheard.refused why new
     (judged_back n old c.source c.target c.says.number c.says.body bytes unheard (judgement (knowledge old) text.header)
     (sym (heard_read old bytes text c.says.read) ∙ hears)) gives

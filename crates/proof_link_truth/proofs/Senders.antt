@@ -1,5 +1,7 @@
 -- What one sender keeps of its link, and what it sends.
-use Rattle.std.proofs.Common.{◌≡◌, ℕ, ◌+◌, ◌-◌, ◌<◌, ◌≤◌, Bool, true, false, cond, leb, nat_le, ◌==◌, List, [], ◌∷◌, ◌++◌, length, drop, Option, Some, None, slice_get, refl, sym, ap, subst, ◌∙◌, inl, inr, arith}
+use Rattle.std.proofs.Common.{◌≡◌, ℕ, ◌+◌, ◌-◌, ◌<◌, ◌≤◌, Bool, true, false, cond, leb, nat_le, ◌==◌, List, [], ◌∷◌}
+use Rattle.std.proofs.Common.{◌++◌, length, drop, Option, Some, None, slice_get, refl, sym, ap, subst, ◌∙◌, inl, inr}
+use Rattle.std.proofs.Common.{arith}
 use Rattle.std.specs.List.{AllByRecursion}
 use Rattle.std.specs.Option.{option_map}
 use Rattle.std.proofs.lemmas.Bool.{cases_lt, leb-true}
@@ -21,21 +23,26 @@ use Rattle.proof_link_truth.proofs.Lists.{All_flat}
 use Rattle.proof_link_truth.proofs.Wires.{IsWire, wires_get, wires_length, wires_push}
 
 -- the next number is how many frames the link accepted
-pub next_is : (n : ℕ) (s d : Endpoint) (sender : SenderState) (link : Link) → SenderTells n s d sender link → link.handed ≤ length link.accepted → next_number sender ≡ length link.accepted
+pub next_is : (n : ℕ) (s d : Endpoint) (sender : SenderState) (link : Link) → SenderTells n s d sender link →
+    link.handed ≤ length link.accepted → next_number sender ≡ length link.accepted
 next_is n s d sender link tells reach =
     let kept : length sender.frames ≡ length link.accepted - sender.lowest =
     sym (length-map sender.frames (λ (f : OutFrame). f.bytes)) ∙ ap (λ (t : List (List ℕ)). length t) tells.kept
-    ∙ length-drop sender.lowest (wires n s d 0 link.accepted) ∙ ap (λ (k : ℕ). k - sender.lowest) (wires_length n s d 0 link.accepted)
+    ∙ length-drop sender.lowest (wires n s d 0 link.accepted) ∙
+    ap (λ (k : ℕ). k - sender.lowest) (wires_length n s d 0 link.accepted)
     in
     omega (arith, kept, reach, tells.below)
 
 -- a new frame, under the next number
-pub accept_tells : (n : ℕ) (s d : Endpoint) (sender : SenderState) (link : Link) (f : FrameText) (bytes : List ℕ) → SenderTells n s d sender link → link.handed ≤ length link.accepted
-    → bytes ≡ wire n s d (length link.accepted) f → SenderTells n s d (after_accept sender bytes) (record link { accepted = link.accepted ++ f ∷ [] })
+pub accept_tells : (n : ℕ) (s d : Endpoint) (sender : SenderState) (link : Link) (f : FrameText) (bytes : List ℕ) →
+    SenderTells n s d sender link → link.handed ≤ length link.accepted
+    → bytes ≡ wire n s d (length link.accepted) f →
+    SenderTells n s d (after_accept sender bytes) (record link { accepted = link.accepted ++ f ∷ [] })
 accept_tells n s d sender link f bytes tells reach is =
     let within : sender.lowest ≤ length (wires n s d 0 link.accepted) = omega (arith, wires_length n s d 0 link.accepted, reach, tells.below) in
     let last : wires n s d 0 link.accepted ++ bytes ∷ [] ≡ wires n s d 0 (link.accepted ++ f ∷ []) =
-    ap (λ (b : List ℕ). wires n s d 0 link.accepted ++ b ∷ []) (is ∙ ap (λ (k : ℕ). wire n s d k f) (omega arith)) ∙ sym (wires_push n s d 0 link.accepted f)
+    ap (λ (b : List ℕ). wires n s d 0 link.accepted ++ b ∷ []) (is ∙ ap (λ (k : ℕ). wire n s d k f) (omega arith)) ∙
+    sym (wires_push n s d 0 link.accepted f)
     in
     record {
       kept = bytes_after_accept sender bytes
@@ -46,33 +53,47 @@ accept_tells n s d sender link f bytes tells reach is =
     }
 
 -- an acknowledgement of what was handed up, where it leaves this number as the lowest one
-acked_to : (n : ℕ) (s d : Endpoint) (sender : SenderState) (link : Link) (k held : ℕ) → SenderTells n s d sender link → k ≤ link.handed
-    → sender.lowest + (k - sender.lowest) ≡ (after_ack sender k held).lowest → SenderTells n s d (after_ack sender k held) link
+acked_to : (n : ℕ) (s d : Endpoint) (sender : SenderState) (link : Link) (k held : ℕ) → SenderTells n s d sender link →
+    k ≤ link.handed
+    → sender.lowest + (k - sender.lowest) ≡ (after_ack sender k held).lowest →
+    SenderTells n s d (after_ack sender k held) link
 acked_to n s d sender link k held tells le lowest_is = record {
-  kept = bytes_after_ack sender k held ∙ ap (drop (k - sender.lowest)) tells.kept ∙ drop-drop (k - sender.lowest) sender.lowest (wires n s d 0 link.accepted)
+  kept = bytes_after_ack sender k held ∙ ap (drop (k - sender.lowest)) tells.kept ∙
+      drop-drop (k - sender.lowest) sender.lowest (wires n s d 0 link.accepted)
       ∙ ap (λ (m : ℕ). drop m (wires n s d 0 link.accepted)) lowest_is;
   below = omega (arith, lowest_is, tells.below);
 }
 
 -- what it says is held changes nothing of that
-pub ack_tells : (n : ℕ) (s d : Endpoint) (sender : SenderState) (link : Link) (k held : ℕ) → SenderTells n s d sender link → k ≤ link.handed
+pub ack_tells : (n : ℕ) (s d : Endpoint) (sender : SenderState) (link : Link) (k held : ℕ) →
+    SenderTells n s d sender link → k ≤ link.handed
     → SenderTells n s d (after_ack sender k held) link
 ack_tells n s d sender link k held tells le =
     elim (cases_lt sender.lowest k) [
-      | inl lt ↦ acked_to n s d sender link k held tells le (omega (arith, lowest_after_ack sender k held, lowest_passed sender k (omega (arith, lt))))
-      | inr passed ↦ acked_to n s d sender link k held tells le (omega (arith, lowest_after_ack sender k held, ap (λ (t : SenderState). t.lowest) (is_passed sender k passed)))
+      | inl lt ↦ acked_to n s d sender link k held tells le
+          (omega (arith, lowest_after_ack sender k held, lowest_passed sender k (omega (arith, lt))))
+      | inr passed ↦ acked_to n s d sender link k held tells le
+          (omega (
+            arith,
+            lowest_after_ack sender k held,
+            ap (λ (t : SenderState). t.lowest) (is_passed sender k passed),
+          ))
     ]
 
 -- a tick
-pub due_tells : (n : ℕ) (s d : Endpoint) (sender : SenderState) (link : Link) (now : ℕ) → SenderTells n s d sender link → SenderTells n s d (after_due sender now) link
+pub due_tells : (n : ℕ) (s d : Endpoint) (sender : SenderState) (link : Link) (now : ℕ) →
+    SenderTells n s d sender link → SenderTells n s d (after_due sender now) link
 due_tells n s d sender link now tells = record {
-  kept = bytes_after_due sender now ∙ tells.kept ∙ ap (λ (m : ℕ). drop m (wires n s d 0 link.accepted)) (sym (lowest_after_due sender now));
+  kept = bytes_after_due sender now ∙ tells.kept ∙
+      ap (λ (m : ℕ). drop m (wires n s d 0 link.accepted)) (sym (lowest_after_due sender now));
   below = omega (arith, tells.below, lowest_after_due sender now);
 }
 
 -- the bytes that are kept under a number are those of the frame that was accepted under it
-kept_is_accepted : (n : ℕ) (s d : Endpoint) (sender : SenderState) (link : Link) (q : ℕ) (bytes : List ℕ) → SenderTells n s d sender link → (t : Bool) → leb sender.lowest q ≡ t
-    → cond t (option_map (λ (f : OutFrame). f.bytes) (slice_get sender.frames (q - sender.lowest))) None ≡ Some bytes → IsWire n s d q link.accepted q bytes
+kept_is_accepted : (n : ℕ) (s d : Endpoint) (sender : SenderState) (link : Link) (q : ℕ) (bytes : List ℕ) →
+    SenderTells n s d sender link → (t : Bool) → leb sender.lowest q ≡ t
+    → cond t (option_map (λ (f : OutFrame). f.bytes) (slice_get sender.frames (q - sender.lowest))) None ≡ Some bytes →
+    IsWire n s d q link.accepted q bytes
 kept_is_accepted n s d sender link q bytes tells true le e =
     let there : sender.lowest + (q - sender.lowest) ≡ q = omega (arith, leb-true sender.lowest q le) in
     let got : slice_get (wires n s d 0 link.accepted) q ≡ Some bytes =
@@ -108,15 +129,18 @@ is_told n s d links current bytes begun tells = record {
 }
 
 -- a frame that goes out is told
-frame_is_told : (n : ℕ) (s d : Endpoint) (links : Links) (current : ℕ → ℕ) (q : ℕ) (o : Option (List ℕ)) → AreBegun n s d current
-    → ((bytes : List ℕ) → o ≡ Some bytes → IsWire n s d q (links s d).accepted q bytes) → AllByRecursion (IsTold n links current) (frame_out d.rank o)
+frame_is_told : (n : ℕ) (s d : Endpoint) (links : Links) (current : ℕ → ℕ) (q : ℕ) (o : Option (List ℕ)) →
+    AreBegun n s d current
+    → ((bytes : List ℕ) → o ≡ Some bytes → IsWire n s d q (links s d).accepted q bytes) →
+    AllByRecursion (IsTold n links current) (frame_out d.rank o)
 frame_is_told n s d links current q None begun says = tt
 frame_is_told n s d links current q (Some bytes) begun says =
     let w = says bytes refl in
     (is_told n s d links current bytes begun (TellsFrame q w.frame w.there w.bytes_are), tt)
 
 -- whatever numbers go out, each frame is told
-pub frames_are_told : (n : ℕ) (s d : Endpoint) (sender : SenderState) (links : Links) (current : ℕ → ℕ) (numbers : List ℕ) → AreBegun n s d current
+pub frames_are_told : (n : ℕ) (s d : Endpoint) (sender : SenderState) (links : Links) (current : ℕ →
+    ℕ) (numbers : List ℕ) → AreBegun n s d current
     → SenderTells n s d sender (links s d) → AllByRecursion (IsTold n links current) (frames_out d.rank sender numbers)
 frames_are_told n s d sender links current numbers begun tells =
     All_flat (IsTold n links current) (λ (q : ℕ). frame_out d.rank (frame_at sender q)) numbers (λ q.
@@ -126,11 +150,15 @@ frames_are_told n s d sender links current numbers begun tells =
 -- where no frame is kept, none goes out
 pub none_out : (d : ℕ) (sender : SenderState) (numbers : List ℕ) → sender.frames ≡ [] → frames_out d sender numbers ≡ []
 none_out d sender [] empty = refl
-none_out d sender (q ∷ qs) empty = ap (λ (t : List (ℕ × List ℕ)). t ++ frames_out d sender qs) (nothing (nat_le sender.lowest q)) ∙ none_out d sender qs empty
+none_out d sender (q ∷ qs) empty =
+    ap (λ (t : List (ℕ × List ℕ)). t ++ frames_out d sender qs) (nothing (nat_le sender.lowest q)) ∙
+    none_out d sender qs empty
   where
     gone : option_map (λ (f : OutFrame). f.bytes) (slice_get sender.frames (q - sender.lowest)) ≡ None
     gone = ap (λ (t : List OutFrame). option_map (λ (f : OutFrame). f.bytes) (slice_get t (q - sender.lowest))) empty
 
-    nothing : (t : Bool) → frame_out d (cond t (option_map (λ (f : OutFrame). f.bytes) (slice_get sender.frames (q - sender.lowest))) None) ≡ []
+    nothing : (t : Bool) →
+        frame_out d (cond t (option_map (λ (f : OutFrame). f.bytes) (slice_get sender.frames (q - sender.lowest))) None)
+        ≡ []
     nothing true = ap (frame_out d) gone
     nothing false = refl

@@ -14,7 +14,8 @@ use Rattle.proof_link_truth.proofs.Lists.{All_get}
 use Rattle.proof_link_truth.proofs.Reading.{HaveWidths, ack_is_read, frame_is_read, reset_is_read}
 
 -- this frame was accepted under this number, can be spelled, and was emitted
-pub record SaysFrame (n : ℕ) (datagrams : List (ℕ × List ℕ)) (s d : Endpoint) (links : Links) (q : ℕ) (frame : FrameText) (bytes : List ℕ) : Type 0 where
+pub record SaysFrame (n : ℕ) (datagrams : List (ℕ × List ℕ)) (s d : Endpoint) (links : Links) (q : ℕ)
+    (frame : FrameText) (bytes : List ℕ) : Type 0 where
   pub there : slice_get (links s d).accepted q ≡ Some frame
   pub carried : CanBeSent frame
   pub spelled : bytes ≡ wire n s d q frame
@@ -31,15 +32,18 @@ abbrev pub word : (n : ℕ) (s d : Endpoint) (q : ℕ) → BodyText → Datagram
 word n s d q b = record { header = header_to (place_of n s) d q; body = b }
 
 -- bytes that are read as a word that is true
-pub record IsWord (n : ℕ) (datagrams : List (ℕ × List ℕ)) (s d : Endpoint) (links : Links) (bytes : List ℕ) : Type 0 where
+pub record IsWord (n : ℕ) (datagrams : List (ℕ × List ℕ)) (s d : Endpoint) (links : Links) (bytes : List ℕ) : Type
+    0 where
   pub number : ℕ
   pub body : BodyText
   pub says : Says n datagrams s d links number body bytes
   pub read : datagram_of bytes ≡ Ok (word n s d number body)
 
 -- a frame of a link
-frame_is_word : (n : ℕ) (datagrams : List (ℕ × List ℕ)) (s d : Endpoint) (links : Links) (bytes : List ℕ) (q : ℕ) (f : FrameText) → HaveWidths n s d → IsLink (links s d) → CanBeSent f
-    → slice_get (links s d).accepted q ≡ Some f → bytes ≡ wire n s d q f → IsAmong datagrams (d.rank, bytes) → IsWord n datagrams s d links bytes
+frame_is_word : (n : ℕ) (datagrams : List (ℕ × List ℕ)) (s d : Endpoint) (links : Links) (bytes : List ℕ) (q : ℕ)
+    (f : FrameText) → HaveWidths n s d → IsLink (links s d) → CanBeSent f
+    → slice_get (links s d).accepted q ≡ Some f → bytes ≡ wire n s d q f → IsAmong datagrams (d.rank, bytes) →
+    IsWord n datagrams s d links bytes
 frame_is_word n datagrams s d links bytes q f w link can there is emitted =
     let below : q < length (links s d).accepted = slice_get_within (links s d).accepted q f there in
     let numbered : q < 2 ^ 64 = omega (arith, below, link.numbered) in
@@ -51,13 +55,21 @@ frame_is_word n datagrams s d links bytes q f w link can there is emitted =
     }
 
 -- whatever is told is a word
-pub told_is_word : (n : ℕ) (datagrams : List (ℕ × List ℕ)) (s d : Endpoint) (links : Links) (bytes : List ℕ) → HaveWidths n s d → ((a b : Endpoint) → IsLink (links a b))
+pub told_is_word : (n : ℕ) (datagrams : List (ℕ × List ℕ)) (s d : Endpoint) (links : Links) (bytes : List ℕ) →
+    HaveWidths n s d → ((a b : Endpoint) → IsLink (links a b))
     → Tells n s d links bytes → IsAmong datagrams (d.rank, bytes) → IsWord n datagrams s d links bytes
 told_is_word n datagrams s d links bytes w sound (TellsFrame number frame there is) emitted =
-    frame_is_word n datagrams s d links bytes number frame w (sound s d) (All_get CanBeSent (links s d).accepted number frame (sound s d).sent there) there is emitted
+    frame_is_word n datagrams s d links bytes number frame w (sound s d)
+    (All_get CanBeSent (links s d).accepted number frame (sound s d).sent there) there is emitted
 told_is_word n datagrams s d links bytes w sound (TellsAck number held there even width is) emitted =
     let link : IsLink (links d s) = sound d s in
     let numbered : number < 2 ^ 64 = omega (arith, there, link.reach, link.numbered) in
-    record { number = number; body = AckBody held; says = there; read = ap datagram_of is ∙ ack_is_read n s d number held w numbered even width }
+    record {
+      number = number;
+      body = AckBody held;
+      says = there;
+      read =
+          ap datagram_of is ∙ ack_is_read n s d number held w numbered even width;
+    }
 told_is_word n datagrams s d links bytes w sound (TellsReset is) emitted =
     record { number = 0; body = ResetBody; says = refl; read = ap datagram_of is ∙ reset_is_read n s d w }

@@ -1,5 +1,6 @@
 -- What an event of a rank does to the links of its world.
-use Rattle.std.specs.Prelude.{◌≡◌, ℕ, zero, suc, ◌+◌, ◌<◌, ◌≤◌, Bool, true, false, List, [], ◌∷◌, ◌++◌, Option, Some, None, Ok, Err, map, slice_get, slice_set, slice_index, ◌==◌}
+use Rattle.std.specs.Prelude.{◌≡◌, ℕ, zero, suc, ◌+◌, ◌<◌, ◌≤◌, Bool, true, false, List, [], ◌∷◌, ◌++◌, Option, Some}
+use Rattle.std.specs.Prelude.{None, Ok, Err, map, slice_get, slice_set, slice_index, ◌==◌}
 use Rattle.std.specs.List.{AllByRecursion}
 use Rattle.vocabulary.specs.declared.endpoint.Endpoint.{Endpoint}
 use Rattle.vocabulary.specs.Endpoints.{last_incarnation}
@@ -10,7 +11,8 @@ use Rattle.sessions.specs.declared.heard.Unheard.{Unheard}
 use Rattle.sessions.specs.Events.{Sending, TurnedAway, after_event, after_heard, sends_limit}
 use Rattle.reliable_link.specs.ReceiverState.{held_at}
 use Rattle.sessions.specs.Peers.{peer_at}
-use Rattle.sessions.specs.Heard.{Acknowledges, EarlyText, Follows, Hands, HeardText, Holds, Nothing, Repeats, WordText, heard_of}
+use Rattle.sessions.specs.Heard.{Acknowledges, EarlyText, Follows, Hands, HeardText, Holds, Nothing, Repeats, WordText}
+use Rattle.sessions.specs.Heard.{heard_of}
 use Rattle.sessions.specs.SessionsState.{SessionsState, known_endpoint, opening}
 use Rattle.sessions.specs.Ticks.{after_tick}
 use Rattle.link_truth.specs.Links.{Links, accept_all, handed_on, in_flight}
@@ -75,7 +77,8 @@ pub record IsNext (links : Links) (s d : Endpoint) (frame : FrameText) : Type 0 
   pub next : slice_get (links s d).accepted (links s d).handed ≡ Some frame
   pub carried : CanBeSent frame
 
--- a frame of the link from s to d is one of the 63 behind the next one, and its datagram's bytes are those of its number
+-- a frame of the link from s to d is one of the 63 behind the next one, and its datagram's bytes are those of its
+-- number
 pub record IsBehind (n : ℕ) (links : Links) (s d : Endpoint) (e : EarlyText) : Type 0 where
   pub above : (links s d).handed < e.number
   pub near : e.number < (links s d).handed + 64
@@ -144,8 +147,8 @@ abbrev pub links_heard : Links → (own : Endpoint) → Option HeardText → Lin
 links_heard links own None = links
 links_heard links own (Some h) = links_heeded links h.source own h.word
 
--- What is heard is handed up where it is a frame, and what is sent is accepted by the link to the known endpoint of its rank,
--- unless a number would be the last one
+-- What is heard is handed up where it is a frame, and what is sent is accepted by the link to the known endpoint of its
+-- rank, unless a number would be the last one
 abbrev pub EventsAreTrue : Type 0
 EventsAreTrue =
     (n r : ℕ) (sessions : List SessionsState) (datagrams : List (ℕ × List ℕ)) (links : Links) (current : ℕ → ℕ)
@@ -153,7 +156,8 @@ EventsAreTrue =
     AreTrue n sessions datagrams links current → IsAt sessions r old → Comes datagrams r old heard →
     MaySendAll n r sendings → sends_limit (after_heard old heard) sendings ≡ None →
     LeavesTrue n sessions datagrams r (after_event old heard sendings)
-    (accept_all (links_heard links (at r (current r)) heard) (at r (current r)) (all_addressed (after_heard old heard).known sendings))
+    (accept_all (links_heard links (at r (current r)) heard) (at r (current r))
+    (all_addressed (after_heard old heard).known sendings))
     current
 
 -- ---- what changes no link
@@ -163,7 +167,8 @@ abbrev pub RestIsTrue : Type 0
 RestIsTrue =
     (n r : ℕ) (sessions : List SessionsState) (datagrams : List (ℕ × List ℕ)) (links : Links) (current : ℕ → ℕ)
     (old : SessionsState) →
-    AreTrue n sessions datagrams links current → IsAt sessions r old → LeavesTrue n sessions datagrams r old links current
+    AreTrue n sessions datagrams links current → IsAt sessions r old →
+    LeavesTrue n sessions datagrams r old links current
 
 -- A datagram that isn't heard leaves the links true, and so does the reset that may go out with it
 abbrev pub RefusalsAreTrue : Type 0
@@ -202,7 +207,8 @@ abbrev pub IdleIsStill : Type 0
 IdleIsStill =
     (n : ℕ) (sessions : List SessionsState) (datagrams : List (ℕ × List ℕ)) (links : Links) (current : ℕ → ℕ) →
     AreTrue n sessions datagrams links current → AreQuiet sessions → (s d : Endpoint) →
-    s.incarnation ≡ current s.rank → d.incarnation ≡ current d.rank → Knows sessions s.rank d → Knows sessions d.rank s →
+    s.incarnation ≡ current s.rank → d.incarnation ≡ current d.rank → Knows sessions s.rank d →
+    Knows sessions d.rank s →
     in_flight (links s d) ≡ []
 
 -- and neither holds a frame of the other that waits for its turn
@@ -212,4 +218,5 @@ IdleHoldsNothing =
     (own other : SessionsState) →
     AreTrue n sessions datagrams links current → AreQuiet sessions → slice_get sessions r ≡ Some own →
     slice_get sessions x ≡ Some other → (x == r) ≡ false → slice_index own.known x ≡ other.place.endpoint.incarnation →
-    slice_index other.known r ≡ own.place.endpoint.incarnation → held_at (peer_at own.peers x).receiver.held place ≡ None
+    slice_index other.known r ≡ own.place.endpoint.incarnation → held_at (peer_at own.peers x).receiver.held place ≡
+    None

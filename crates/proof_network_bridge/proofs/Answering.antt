@@ -1,5 +1,6 @@
 -- An answer to a payload that a rank announced is followed: all its pieces go out.
-use Rattle.std.proofs.Common.{◌≡◌, ℕ, zero, suc, ◌+◌, ◌-◌, ◌^◌, ◌<◌, ◌≤◌, Bool, true, false, ◌==◌, List, [], ◌∷◌, Option, Some, None, Ok, is_some, length, map, refl, sym, ap, subst, ◌∙◌, arith}
+use Rattle.std.proofs.Common.{◌≡◌, ℕ, zero, suc, ◌+◌, ◌-◌, ◌^◌, ◌<◌, ◌≤◌, Bool, true, false, ◌==◌, List, [], ◌∷◌}
+use Rattle.std.proofs.Common.{Option, Some, None, Ok, is_some, length, map, refl, sym, ap, subst, ◌∙◌, arith}
 use Rattle.std.specs.Prelude.{option_map, slice_get}
 use Rattle.std.specs.List.{AllByRecursion}
 use Rattle.std.proofs.lemmas.Bool.{and_parts, eqb-false, eqb-true}
@@ -9,7 +10,8 @@ use Rattle.collective_transfers.specs.Payloads.{Announced, is_to}
 use Rattle.collective_transfers.specs.State as payloads
 use Rattle.collective_transfers.specs.State.{after_answer, announced_at, announced_to, place_to, without}
 use Rattle.datagram.specs.Spelling.{ClearFrame, ClearText, DataFrame, FrameText}
-use Rattle.engine.specs.Datagrams.{AnswerGives, after_answered, answer_fault, data_for, data_of, data_sent, ended_by, frame_in, groups_met, is_to_collective, payloads_met, unwanted}
+use Rattle.engine.specs.Datagrams.{AnswerGives, after_answered, answer_fault, data_for, data_of, data_sent, ended_by}
+use Rattle.engine.specs.Datagrams.{frame_in, groups_met, is_to_collective, payloads_met, unwanted}
 use Rattle.engine_calls.specs.EngineState.{EngineState, or_before}
 use Rattle.engine_calls.specs.Frames.{sending_of}
 use Rattle.engine_calls.specs.Refusals.{fault_of_sessions}
@@ -20,7 +22,8 @@ use Rattle.proof_engine_view.specs.Frames.{endpoint_of}
 use Rattle.proof_engine_view.specs.Shown.{IsShown}
 use Rattle.proof_engine_view.specs.Standing.{CanLeave}
 use Rattle.proof_engine_view.specs.Transfers.{Transfer}
-use Rattle.proof_group_network.specs.Carried.{Announces, Answers, BringsPart, Carried, OfMessages, OfNotices, Sessions, in_parts, parts_from}
+use Rattle.proof_group_network.specs.Carried.{Announces, Answers, BringsPart, Carried, OfMessages, OfNotices, Sessions}
+use Rattle.proof_group_network.specs.Carried.{in_parts, parts_from}
 use Rattle.proof_group_network.specs.Happened.{IsAfter, met_core}
 use Rattle.proof_group_network.specs.Network.{GroupNetwork}
 use Rattle.proof_group_network.specs.NoticesStand.{heard_member}
@@ -70,10 +73,12 @@ record IsKept (p : payloads.State) (rank transfer : ℕ) : Type 0 where
   target : payload.target ≡ rank
   number : payload.transfer ≡ transfer
 
-is_kept : (p : payloads.State) (rank transfer : ℕ) → is_some (announced_to p rank transfer) ≡ true → IsKept p rank transfer
+is_kept : (p : payloads.State) (rank transfer : ℕ) → is_some (announced_to p rank transfer) ≡ true →
+    IsKept p rank transfer
 is_kept p rank transfer is = go (place_to rank transfer p.announced) refl is
   where
-    at : (i : ℕ) → place_to rank transfer p.announced ≡ Some i → Passes (is_to rank transfer) p.announced i → IsKept p rank transfer
+    at : (i : ℕ) → place_to rank transfer p.announced ≡ Some i → Passes (is_to rank transfer) p.announced i →
+        IsKept p rank transfer
     at i e q =
         let t = and_parts (q.element.target == rank) (q.element.transfer == transfer) q.passes in
         record {
@@ -85,7 +90,8 @@ is_kept p rank transfer is = go (place_to rank transfer p.announced) refl is
           number = eqb-true q.element.transfer transfer t.1;
         }
 
-    go : (o : Option ℕ) → place_to rank transfer p.announced ≡ o → is_some (announced_at p.announced o) ≡ true → IsKept p rank transfer
+    go : (o : Option ℕ) → place_to rank transfer p.announced ≡ o → is_some (announced_at p.announced o) ≡ true →
+        IsKept p rank transfer
     go None e h = absurd cc
     go (Some i) e h = at i e (position_passes (is_to rank transfer) p.announced i e)
 
@@ -94,25 +100,30 @@ record IsAsked (lesson : Bool) (p : payloads.State) (rank transfer : ℕ) : Type
   plain : lesson ≡ false
   kept : IsKept p rank transfer
 
-is_asked : (lesson : Bool) (p : payloads.State) (rank transfer : ℕ) → is_to_collective lesson p rank transfer ≡ true → IsAsked lesson p rank transfer
+is_asked : (lesson : Bool) (p : payloads.State) (rank transfer : ℕ) → is_to_collective lesson p rank transfer ≡ true →
+    IsAsked lesson p rank transfer
 is_asked true p rank transfer is = absurd cc
 is_asked false p rank transfer is = record { plain = refl; kept = is_kept p rank transfer is }
 
 -- the notice of the session with the endpoint that asks for it, which the payload is
-record IsAskedFor (sessions : Sessions) (said : Saying) (own s : Endpoint) (transfer : ℕ) (bytes : List ℕ) : Type 0 where
+record IsAskedFor (sessions : Sessions) (said : Saying) (own s : Endpoint) (transfer : ℕ)
+    (bytes : List ℕ) : Type 0 where
   message : CollectiveMessage
   notice : IsLargeNotice sessions said own s transfer message
   bytes_are : bytes ≡ bytes_of_message message
   short : length bytes ≤ send_limit
 
-is_asked_for : (sessions : Sessions) (said : Saying) (own s : Endpoint) (known : List ℕ) (p : payloads.State) (transfer : ℕ) → ArePayloads sessions said own known p → (k : IsKept p s.rank transfer) → endpoint_of known s.rank ≡ s →
+is_asked_for : (sessions : Sessions) (said : Saying) (own s : Endpoint) (known : List ℕ) (p : payloads.State)
+    (transfer : ℕ) → ArePayloads sessions said own known p → (k : IsKept p s.rank transfer) →
+    endpoint_of known s.rank ≡ s →
     IsAskedFor sessions said own s transfer k.payload.bytes
 is_asked_for sessions said own s known p transfer all k source =
     record {
       message = a.message;
       notice = subst (λ (d : Endpoint). IsLargeNotice sessions said own d transfer a.message) source
           (subst (λ (rank : ℕ). IsLargeNotice sessions said own (endpoint_of known rank) transfer a.message) k.target
-          (subst (λ (number : ℕ). IsLargeNotice sessions said own (endpoint_of known k.payload.target) number a.message) k.number a.notice));
+          (subst (λ (number : ℕ). IsLargeNotice sessions said own (endpoint_of known k.payload.target) number a.message)
+          k.number a.notice));
       bytes_are = a.bytes;
       short = a.short;
     }
@@ -133,7 +144,8 @@ notice_number (LargeMessage t) = 0
 notice_number (LargeNotice i) = i
 
 -- no answer to a message has the number of a notice: it would have any serial
-no_message : (back : List sessions_announced.Announced) (transfer i : ℕ) (t u : Transfer) (f : Frame) (a b : Bool) → slice_get back transfer ≡ Some (LargeNotice i) → slice_get (transfers_as 0 back) transfer ≡ Some t →
+no_message : (back : List sessions_announced.Announced) (transfer i : ℕ) (t u : Transfer) (f : Frame) (a b : Bool) →
+    slice_get back transfer ≡ Some (LargeNotice i) → slice_get (transfers_as 0 back) transfer ≡ Some t →
     slice_get (transfers_as 1 back) transfer ≡ Some u → f ≡ Cts t.serial a → f ≡ Cts u.serial b → ⊥
 no_message back transfer i t u f a b named first second is_first is_second =
     let zero_is : 0 ≡ t.serial = ap (λ (x : Transfer). x.serial) (same_Some (transfer_as 0 (LargeNotice i)) t (sym (as_transfer 0) ∙ first)) in
@@ -141,22 +153,32 @@ no_message back transfer i t u f a b named first second is_first is_second =
     let same : t.serial ≡ u.serial = ap answered_serial (sym is_first ∙ is_second) in
     omega (arith, zero_is, one_is, same)
   where
-    as_transfer : (serial : ℕ) → slice_get (transfers_as serial back) transfer ≡ Some (transfer_as serial (LargeNotice i))
-    as_transfer serial = slice_get-map (transfer_as serial) back transfer ∙ ap (λ (o : Option sessions_announced.Announced). option_map (transfer_as serial) o) named
+    as_transfer : (serial : ℕ) → slice_get (transfers_as serial back) transfer ≡
+        Some (transfer_as serial (LargeNotice i))
+    as_transfer serial = slice_get-map (transfer_as serial) back transfer ∙
+        ap (λ (o : Option sessions_announced.Announced). option_map (transfer_as serial) o) named
 
 -- the answer that the session hands up next is to that notice
-is_of_answer : (w : GroupNetwork) (said : Saying) (texts : LinksOf FrameText) (sessions : Sessions) (own s : Endpoint) (t : ClearText) (i : ℕ) → AreJoined w said texts sessions →
-    slice_get (texts s own).accepted (texts s own).handed ≡ Some (ClearFrame t) → slice_get (all_announced sessions own s) t.transfer ≡ Some (LargeNotice i) → IsNext sessions s own (Answers i)
+is_of_answer : (w : GroupNetwork) (said : Saying) (texts : LinksOf FrameText) (sessions : Sessions) (own s : Endpoint)
+    (t : ClearText) (i : ℕ) → AreJoined w said texts sessions →
+    slice_get (texts s own).accepted (texts s own).handed ≡ Some (ClearFrame t) →
+    slice_get (all_announced sessions own s) t.transfer ≡ Some (LargeNotice i) → IsNext sessions s own (Answers i)
 is_of_answer w said texts sessions own s t i j next named = go next_is.carried next_is.there next_is.stands
   where
-    next_is : carrying.IsNext (all_announced sessions s own) (all_announced sessions own s) (said s own) (sessions s own) (ClearFrame t)
-    next_is = next_stands (all_announced sessions s own) (all_announced sessions own s) (said s own) (texts s own) (sessions s own) (ClearFrame t) (j.alike s own) next
+    next_is : carrying.IsNext (all_announced sessions s own) (all_announced sessions own s) (said s own)
+        (sessions s own) (ClearFrame t)
+    next_is = next_stands (all_announced sessions s own) (all_announced sessions own s) (said s own) (texts s own)
+        (sessions s own) (ClearFrame t) (j.alike s own) next
 
-    go : (x : Carried) → IsNext sessions s own x → StandsForCarried (all_announced sessions s own) (all_announced sessions own s) (said s own) (ClearFrame t) x → IsNext sessions s own (Answers i)
+    go : (x : Carried) → IsNext sessions s own x →
+        StandsForCarried (all_announced sessions s own) (all_announced sessions own s) (said s own) (ClearFrame t) x →
+        IsNext sessions s own (Answers i)
     go (Answers k) at stands =
-        subst (λ (number : ℕ). IsNext sessions s own (Answers number)) (ap notice_number (same_Some (LargeNotice k) (LargeNotice i) (sym stands.0 ∙ named))) at
+        subst (λ (number : ℕ). IsNext sessions s own (Answers number))
+        (ap notice_number (same_Some (LargeNotice k) (LargeNotice i) (sym stands.0 ∙ named))) at
     go (OfMessages f) at stands =
-        absurd (no_message (all_announced sessions own s) t.transfer i (stands 0).transfer (stands 1).transfer f _ _ named (stands 0).announced (stands 1).announced (stands 0).frame_is (stands 1).frame_is)
+        absurd (no_message (all_announced sessions own s) t.transfer i (stands 0).transfer (stands 1).transfer f _ _
+        named (stands 0).announced (stands 1).announced (stands 0).frame_is (stands 1).frame_is)
     go (OfNotices k) at stands = absurd stands.2
     go (Announces k) at stands = absurd stands.2
     go (BringsPart k part) at stands = absurd stands.2
@@ -164,38 +186,58 @@ is_of_answer w said texts sessions own s t i j next named = go next_is.carried n
 -- ---- what goes out
 
 -- the data go to the endpoint at which the rank is known
-pieces_addressed : (known : List ℕ) (rank transfer : ℕ) (d : Endpoint) → known_endpoint known rank ≡ d → (ps : List (ℕ × List ℕ)) →
-    all_addressed known (map sending_of (data_frames rank transfer ps)) ≡ map (λ (p : ℕ × List ℕ). (d, DataFrame (record { transfer = transfer; offset = p.0; bytes = p.1 }))) ps
+pieces_addressed : (known : List ℕ) (rank transfer : ℕ) (d : Endpoint) → known_endpoint known rank ≡ d →
+    (ps : List (ℕ × List ℕ)) →
+    all_addressed known (map sending_of (data_frames rank transfer ps)) ≡
+    map (λ (p : ℕ × List ℕ). (d, DataFrame (record { transfer = transfer; offset = p.0; bytes = p.1 }))) ps
 pieces_addressed known rank transfer d is [] = refl
 pieces_addressed known rank transfer d is (p ∷ ps) =
-    ap (λ (e : Endpoint). (e, DataFrame (record { transfer = transfer; offset = p.0; bytes = p.1 })) ∷ all_addressed known (map sending_of (data_frames rank transfer ps))) is
-    ∙ ap (λ (ts : List (Endpoint × FrameText)). (d, DataFrame (record { transfer = transfer; offset = p.0; bytes = p.1 })) ∷ ts) (pieces_addressed known rank transfer d is ps)
+    ap (λ (e : Endpoint). (e, DataFrame (record { transfer = transfer; offset = p.0; bytes = p.1 })) ∷
+    all_addressed known (map sending_of (data_frames rank transfer ps))) is
+    ∙ ap (λ (ts : List (Endpoint × FrameText)).
+    (d, DataFrame (record { transfer = transfer; offset = p.0; bytes = p.1 })) ∷ ts)
+    (pieces_addressed known rank transfer d is ps)
 
 -- data that can go can leave for another rank
-can_leave : (p : Place) (rank number : ℕ) → (rank ≡ p.endpoint.rank → ⊥) → number < 2 ^ 32 → (ps : List (ℕ × List ℕ)) → AllByRecursion (CanGo p.size) (data_frames rank number ps) → AllByRecursion (CanLeave p) (data_frames rank number ps)
+can_leave : (p : Place) (rank number : ℕ) → (rank ≡ p.endpoint.rank → ⊥) → number < 2 ^ 32 → (ps : List (ℕ × List ℕ)) →
+    AllByRecursion (CanGo p.size) (data_frames rank number ps) →
+    AllByRecursion (CanLeave p) (data_frames rank number ps)
 can_leave p rank number apart width [] all = tt
 can_leave p rank number apart width (x ∷ xs) all =
     let within : x.0 + 1024 ≤ 1048576 = all.0.fits.within in
-    let offset : x.0 < 2 ^ 32 = omega (arith, within) in
-    (record { there = all.0.there; apart = apart; fits = all.0.fits; width = record { transfer = width; offset = offset } }, can_leave p rank number apart width xs all.1)
+    let offset : x.0 < 2 ^ 32 = omega (arith, within) in (
+      record {
+        there = all.0.there;
+        apart = apart;
+        fits = all.0.fits;
+        width =
+            record { transfer = width; offset = offset };
+      },
+      can_leave p rank number apart width xs all.1,
+    )
 
 -- the parts of a notice announce nothing
-parts_silent : (d : Endpoint) (i part more : ℕ) → AllByRecursion IsSilent (map (λ (c : Carried). (d, c)) (parts_from i part more))
+parts_silent : (d : Endpoint) (i part more : ℕ) →
+    AllByRecursion IsSilent (map (λ (c : Carried). (d, c)) (parts_from i part more))
 parts_silent d i part zero = (λ rest. refl, tt)
 parts_silent d i part (suc more) = (λ rest. refl, parts_silent d i (suc part) more)
 
 -- ---- what is left
 
 -- the others stay what they are
-left : (sessions : Sessions) (said : Saying) (own : Endpoint) (known : List ℕ) (p : payloads.State) (rank transfer : ℕ) → ArePayloads sessions said own known p → ArePayloads sessions said own known (after_answer p rank transfer)
-left sessions said own known p rank transfer all = record { announced = go (place_to rank transfer p.announced); coming = all.coming }
+left : (sessions : Sessions) (said : Saying) (own : Endpoint) (known : List ℕ) (p : payloads.State)
+    (rank transfer : ℕ) → ArePayloads sessions said own known p →
+    ArePayloads sessions said own known (after_answer p rank transfer)
+left sessions said own known p rank transfer all =
+    record { announced = go (place_to rank transfer p.announced); coming = all.coming }
   where
     go : (o : Option ℕ) → AllByRecursion (IsAnnouncedPayload sessions said own known) (without p.announced o)
     go None = all.announced
     go (Some i) = removed (IsAnnouncedPayload sessions said own known) p.announced i all.announced
 
 -- beside its payloads the engine is as the word alone leaves it
-stays : (old : EngineState) (h : HeardText) (t : ClearText) (sendings : List Sending) → h.lesson ≡ false → data_for old.payloads h t ≡ sendings → IsAlone old (after_answered old h t) h sendings
+stays : (old : EngineState) (h : HeardText) (t : ClearText) (sendings : List Sending) → h.lesson ≡ false →
+    data_for old.payloads h t ≡ sendings → IsAlone old (after_answered old h t) h sendings
 stays old h t sendings plain are = record {
   queues = λ a known core shown. subst (λ (c : CoreState). IsShown a c known core) core_is shown;
   place = ap (λ (c : CoreState). c.place) (sym core_is);
@@ -211,11 +253,14 @@ stays old h t sendings plain are = record {
 -- ---- an answer
 
 -- it is followed
-taken_step : (n r : ℕ) (engines : List EngineState) (u : GroupNetwork) (T : SessionsState → LinksOf FrameText → Type 0) (old : EngineState) (h : HeardText) (t : ClearText) → IsHearing n r engines u T old h →
-    frame_in h.word ≡ Some (ClearFrame t) → is_to_collective h.lesson old.payloads h.source.rank t.transfer ≡ true → answer_fault old.payloads old.sessions h t ≡ None →
+taken_step : (n r : ℕ) (engines : List EngineState) (u : GroupNetwork) (T : SessionsState → LinksOf FrameText → Type 0)
+    (old : EngineState) (h : HeardText) (t : ClearText) → IsHearing n r engines u T old h →
+    frame_in h.word ≡ Some (ClearFrame t) → is_to_collective h.lesson old.payloads h.source.rank t.transfer ≡ true →
+    answer_fault old.payloads old.sessions h t ≡ None →
     IsStepped n r engines u h.source T (after_answered old h t)
 taken_step n r engines u T old h t x is ours fine =
-    alone_step n r engines u T old (after_answered old h t) h (ClearFrame t) sendings (in_parts s number more) x is (stays old h t sendings asked.plain sendings_are) may free
+    alone_step n r engines u T old (after_answered old h t) h (ClearFrame t) sendings (in_parts s number more) x is
+    (stays old h t sendings asked.plain sendings_are) may free
     (parts_silent s number 0 more) carried kept
   where
     own : Endpoint
@@ -240,7 +285,9 @@ taken_step n r engines u T old h t x is ours fine =
     asked = is_asked h.lesson old.payloads s.rank t.transfer ours
 
     before : ArePayloads o.sessions o.said own known old.payloads
-    before = subst (λ (lesson : Bool). ArePayloads o.sessions o.said own known (payloads_met old.payloads (taught s lesson))) asked.plain o.payloads
+    before = subst
+        (λ (lesson : Bool). ArePayloads o.sessions o.said own known (payloads_met old.payloads (taught s lesson)))
+        asked.plain o.payloads
 
     p : IsAskedFor o.sessions o.said own s t.transfer asked.kept.payload.bytes
     p = is_asked_for o.sessions o.said own s known old.payloads t.transfer before asked.kept source
@@ -262,14 +309,16 @@ taken_step n r engines u T old h t x is ours fine =
 
     free : fault_of_sessions (event_limit old.sessions (Some h) sendings) ≡ None
     free = subst (λ (fs : List Sending). fault_of_sessions (event_limit old.sessions (Some h) fs) ≡ None) sendings_are
-        (neither_fault (unwanted t.clearance) (fault_of_sessions (event_limit old.sessions (Some h) (data_for old.payloads h t))) fine).1
+        (neither_fault (unwanted t.clearance)
+        (fault_of_sessions (event_limit old.sessions (Some h) (data_for old.payloads h t))) fine).1
 
     limit : length bytes ≤ 1048576
     limit = subst (λ (bs : List ℕ). length bs ≤ 1048576) p.bytes_are p.short
 
     may : MaySendAll n r sendings
     may = may_send n own (data_frames s.rank t.transfer (pieces_of bytes))
-        (can_leave (place_of n own) s.rank t.transfer (eqb-false s.rank r o.apart) says.carried.width.transfer (pieces_of bytes) (data_go n s.rank t.transfer bytes o.source limit))
+        (can_leave (place_of n own) s.rank t.transfer (eqb-false s.rank r o.apart) says.carried.width.transfer
+        (pieces_of bytes) (data_go n s.rank t.transfer bytes o.source limit))
 
     next : IsNext o.sessions s own (Answers number)
     next = is_of_answer u o.said x.texts o.sessions own s t number o.between says.next p.notice.named
@@ -277,23 +326,32 @@ taken_step n r engines u T old h t x is ours fine =
     some : 0 < length bytes
     some = omega (arith, p.notice.large)
 
-    carried : (after : GroupNetwork) → IsAfter u after own (met_core u r s) u.net.link (heard_member u r s) u.notices [] →
-        AreJoined after o.said (accept_all (handed_on x.texts s own) own (all_addressed known sendings)) (accept_all (handed_on o.sessions s own) own (in_parts s number more))
+    carried : (after : GroupNetwork) →
+        IsAfter u after own (met_core u r s) u.net.link (heard_member u r s) u.notices [] →
+        AreJoined after o.said (accept_all (handed_on x.texts s own) own (all_addressed known sendings))
+        (accept_all (handed_on o.sessions s own) own (in_parts s number more))
     carried after happened =
-        subst (λ (ts : List (Endpoint × FrameText)). AreJoined after o.said (accept_all (handed_on x.texts s own) own ts) (accept_all (handed_on o.sessions s own) own (in_parts s number more)))
+        subst (λ (ts : List (Endpoint × FrameText)). AreJoined after o.said
+        (accept_all (handed_on x.texts s own) own ts)
+        (accept_all (handed_on o.sessions s own) own (in_parts s number more)))
         (sym (pieces_addressed known s.rank t.transfer s source (pieces_of bytes)))
-        (answers_are_carried u after o.said x.texts o.sessions s own (met_core u r s) (heard_member u r s) [] number t.transfer p.message o.between next p.notice.named p.notice.there some happened)
+        (answers_are_carried u after o.said x.texts o.sessions s own (met_core u r s) (heard_member u r s)
+        [] number t.transfer p.message o.between next p.notice.named p.notice.there some happened)
 
     sessions : Sessions
     sessions = accept_all (handed_on o.sessions s own) own (in_parts s number more)
 
     kept : ArePayloads sessions o.said own known (after_answer old.payloads s.rank t.transfer)
     kept =
-        payloads_grow o.sessions sessions o.said o.said own known (after_answer old.payloads s.rank t.transfer) (only_handed o.sessions s own (in_parts s number more)).grow (said_same o.said)
+        payloads_grow o.sessions sessions o.said o.said own known (after_answer old.payloads s.rank t.transfer)
+        (only_handed o.sessions s own (in_parts s number more)).grow (said_same o.said)
         (left o.sessions o.said own known old.payloads s.rank t.transfer before)
 
 -- an answer to a payload of a collective that the rank announced is followed
-pub answer_step : (n r : ℕ) (engines : List EngineState) (u : GroupNetwork) (T : SessionsState → LinksOf FrameText → Type 0) (old mid : EngineState) (h : HeardText) (t : ClearText) → IsHearing n r engines u T old h →
-    frame_in h.word ≡ Some (ClearFrame t) → is_to_collective h.lesson old.payloads h.source.rank t.transfer ≡ true → AnswerGives old h t (Ok tt) mid → IsStepped n r engines u h.source T mid
+pub answer_step : (n r : ℕ) (engines : List EngineState) (u : GroupNetwork) (T : SessionsState → LinksOf FrameText →
+    Type 0) (old mid : EngineState) (h : HeardText) (t : ClearText) → IsHearing n r engines u T old h →
+    frame_in h.word ≡ Some (ClearFrame t) → is_to_collective h.lesson old.payloads h.source.rank t.transfer ≡ true →
+    AnswerGives old h t (Ok tt) mid → IsStepped n r engines u h.source T mid
 answer_step n r engines u T old mid h t x is ours gives =
-    subst (λ (e : EngineState). IsStepped n r engines u h.source T e) (sym gives.1) (taken_step n r engines u T old h t x is ours gives.0)
+    subst (λ (e : EngineState). IsStepped n r engines u h.source T e) (sym gives.1)
+    (taken_step n r engines u T old h t x is ours gives.0)

@@ -11,10 +11,18 @@ use Rattle.proof_link_truth.specs.Events.{MaySendAll, all_addressed}
 use Rattle.link_truth.specs.Wire.{place_of}
 
 -- what can leave a rank may be sent
-pub may_send : (n : ℕ) (own : Endpoint) (fs : List FrameFor) → AllByRecursion (CanLeave (place_of n own)) fs → MaySendAll n own.rank (map sending_of fs)
+pub may_send : (n : ℕ) (own : Endpoint) (fs : List FrameFor) → AllByRecursion (CanLeave (place_of n own)) fs →
+    MaySendAll n own.rank (map sending_of fs)
 may_send n own [] all = tt
-may_send n own (f ∷ fs) all =
-    (record { there = all.0.there; apart = ne_eqb f.rank own.rank all.0.apart; carried = record { fits = all.0.fits; width = all.0.width } }, may_send n own fs all.1)
+may_send n own (f ∷ fs) all = (
+  record {
+    there = all.0.there;
+    apart = ne_eqb f.rank own.rank all.0.apart;
+    carried =
+        record { fits = all.0.fits; width = all.0.width };
+  },
+  may_send n own fs all.1,
+)
 
 -- it goes to the known endpoints
 pub all_same : (known : List ℕ) (fs : List FrameFor) → all_addressed known (map sending_of fs) ≡ all_gone known fs

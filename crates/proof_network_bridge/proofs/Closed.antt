@@ -19,7 +19,8 @@ use Rattle.proof_group_network.proofs.HappeningSteps.{queue_calls_happen, questi
 use Rattle.proof_group_network.proofs.SessionParts.{new_sessions_are_part}
 use Rattle.proof_group_network.proofs.UnbornMembers.{unborn_are_new}
 use Rattle.proof_link_truth.proofs.Datagrams.{hearing_is_true}
-use Rattle.proof_link_truth.proofs.Deliveries.{deliveries_begin, discards_are_true, turns_are_true, turns_tell_the_truth}
+use Rattle.proof_link_truth.proofs.Deliveries.{deliveries_begin, discards_are_true, turns_are_true}
+use Rattle.proof_link_truth.proofs.Deliveries.{turns_tell_the_truth}
 use Rattle.proof_link_truth.proofs.Idle.{idle_is_still}
 use Rattle.proof_link_truth.proofs.Openings.{opening_is_true}
 use Rattle.proof_link_truth.proofs.Refusals.{refusals_are_true}
@@ -28,10 +29,13 @@ use Rattle.proof_link_truth.proofs.Restarts.{restarts_are_true}
 use Rattle.proof_link_truth.proofs.Sendings.{events_are_true, rest_is_true}
 use Rattle.proof_link_truth.proofs.Ticks.{ticks_are_true}
 use Rattle.proof_session_carrying.proofs.EventSteps.{entries_are_carried}
-use Rattle.proof_session_carrying.proofs.MessageSteps.{others_are_carried, queue_calls_are_carried, still_texts_are_quiet}
+use Rattle.proof_session_carrying.proofs.MessageSteps.{others_are_carried, queue_calls_are_carried}
+use Rattle.proof_session_carrying.proofs.MessageSteps.{still_texts_are_quiet}
 use Rattle.proof_network_runs.proofs.GoingOn.{one_group_along_runs, runs_show_all}
-use Rattle.proof_network_bridge.specs.Following.{CallsFollow, DatagramsFollow, FollowingIsRun, OpeningFollows, RefusalsFollow, RestartsFollow, TicksFollow}
-use Rattle.proof_network_bridge.specs.GoingOn.{CallsFollowOn, DatagramsFollowOn, EnginesShareGroups, FollowingIsEachRun, OpeningFollowsNone, RefusalsStand, RestartsFollowOn, TicksStand}
+use Rattle.proof_network_bridge.specs.Following.{CallsFollow, DatagramsFollow, FollowingIsRun, OpeningFollows}
+use Rattle.proof_network_bridge.specs.Following.{RefusalsFollow, RestartsFollow, TicksFollow}
+use Rattle.proof_network_bridge.specs.GoingOn.{CallsFollowOn, DatagramsFollowOn, EnginesShareGroups, FollowingIsEachRun}
+use Rattle.proof_network_bridge.specs.GoingOn.{OpeningFollowsNone, RefusalsStand, RestartsFollowOn, TicksStand}
 use Rattle.proof_network_bridge.specs.Joined.{opening_engines}
 use Rattle.proof_network_bridge.proofs.Calls as calls
 use Rattle.proof_network_bridge.proofs.Calls.{CoreCallsFollow, EntriesFollow, LooksFollow, QuestionsFollow}
@@ -56,7 +60,9 @@ opening_follows n few = followed n [] (opening_engines n 0 n) [] [] (opening_fol
 -- each kind of calls
 core_calls_follow : CoreCallsFollow
 core_calls_follow =
-    core_calls.core_calls_follow (calls_are_shown posts_match arrivals_match takes_match outcomes_agree own_outcomes_agree announcements_agree) events_are_true queue_calls_happen
+    core_calls.core_calls_follow
+    (calls_are_shown posts_match arrivals_match takes_match outcomes_agree own_outcomes_agree announcements_agree)
+    events_are_true queue_calls_happen
     queue_calls_are_carried taken_faultless
 
 entries_follow : EntriesFollow
@@ -66,7 +72,8 @@ questions_follow : QuestionsFollow
 questions_follow = questions.questions_follow rest_is_true questions_happen others_are_carried taken_faultless
 
 looks_follow : LooksFollow
-looks_follow = looks.looks_follow (looks_are_shown takes_match) rest_is_true queue_calls_happen others_are_carried taken_faultless
+looks_follow =
+    looks.looks_follow (looks_are_shown takes_match) rest_is_true queue_calls_happen others_are_carried taken_faultless
 
 pub calls_follow_on : CallsFollowOn
 calls_follow_on = calls.calls_follow core_calls_follow entries_follow questions_follow looks_follow
@@ -74,7 +81,9 @@ calls_follow_on = calls.calls_follow core_calls_follow entries_follow questions_
 -- whoever is followed by some happenings is followed
 pub calls_follow : CallsFollow
 calls_follow n r engines datagrams history old mid call reply f there taken gives =
-    followed_on n r f.happenings _ _ _ (calls_follow_on n r f.happenings engines datagrams history old mid call reply (by_happenings n engines datagrams history f) there taken gives)
+    followed_on n r f.happenings _ _ _
+    (calls_follow_on n r f.happenings engines datagrams history old mid call reply
+    (by_happenings n engines datagrams history f) there taken gives)
 
 -- each kind of frame of messages is taken in as it is in the network
 news_follow : NewsAreShown
@@ -100,28 +109,37 @@ datagrams_follow_on = delivering.datagrams_follow news_follow wakes_are_shown (r
 
 pub datagrams_follow : DatagramsFollow
 datagrams_follow n r number bytes engines datagrams history old mid f there emitted gives =
-    followed_on n r f.happenings _ _ _ (datagrams_follow_on n r number bytes f.happenings engines datagrams history old mid (by_happenings n engines datagrams history f) there emitted gives)
+    followed_on n r f.happenings _ _ _
+    (datagrams_follow_on n r number bytes f.happenings engines datagrams history old mid
+    (by_happenings n engines datagrams history f) there emitted gives)
 
 pub refusals_stand : RefusalsStand
 refusals_stand = unanswered.refusals_stand rest_is_true refusals_are_true
 
 pub refusals_follow : RefusalsFollow
 refusals_follow n r number bytes engines datagrams history old mid why f there emitted gives =
-    followed n f.happenings _ _ _ (refusals_stand n r number bytes f.happenings engines datagrams history old mid why (by_happenings n engines datagrams history f) there emitted gives)
+    followed n f.happenings _ _ _
+    (refusals_stand n r number bytes f.happenings engines datagrams history old mid why
+    (by_happenings n engines datagrams history f) there emitted gives)
 
 pub ticks_stand : TicksStand
 ticks_stand = unanswered.ticks_stand ticks_are_true
 
 pub ticks_follow : TicksFollow
 ticks_follow n r now engines datagrams history old mid f there gives =
-    followed n f.happenings _ _ _ (ticks_stand n r now f.happenings engines datagrams history old mid (by_happenings n engines datagrams history f) there gives)
+    followed n f.happenings _ _ _
+    (ticks_stand n r now f.happenings engines datagrams history old mid
+    (by_happenings n engines datagrams history f) there gives)
 
 pub restarts_follow_on : RestartsFollowOn
-restarts_follow_on = opening.restarts_follow opening_is_shown openings_are_shown restarts_are_true restarts_happen unborn_are_new
+restarts_follow_on =
+    opening.restarts_follow opening_is_shown openings_are_shown restarts_are_true restarts_happen unborn_are_new
 
 pub restarts_follow : RestartsFollow
 restarts_follow n r engines datagrams history old f there few =
-    followed_on n r f.happenings _ _ _ (restarts_follow_on n r f.happenings engines datagrams history old (by_happenings n engines datagrams history f) there few)
+    followed_on n r f.happenings _ _ _
+    (restarts_follow_on n r f.happenings engines datagrams history old (by_happenings n engines datagrams history f)
+    there few)
 
 seen_laws : SeenLaws
 seen_laws = record {

@@ -1,5 +1,6 @@
 -- What is true of the sessions of a world's engines.
-use Rattle.std.proofs.Common.{◌≡◌, ℕ, zero, suc, List, [], ◌∷◌, ◌++◌, Option, Some, None, refl, sym, ap, subst, ◌∙◌, arith, inl, inr}
+use Rattle.std.proofs.Common.{◌≡◌, ℕ, zero, suc, List, [], ◌∷◌, ◌++◌, Option, Some, None, refl, sym, ap, subst, ◌∙◌}
+use Rattle.std.proofs.Common.{arith, inl, inr}
 use Rattle.std.specs.Prelude.{option_map, slice_get, slice_set}
 use Rattle.std.proofs.lemmas.List.{map-set}
 use Rattle.std.proofs.lemmas.Option.{same_Some, slice_get-map}
@@ -18,9 +19,11 @@ use Rattle.observation.specs.Sessions.{sessions_in}
 -- ---- the sessions of engines
 
 -- those of the engine at a rank stand there
-pub sessions_there : (engines : List EngineState) (r : ℕ) (e : EngineState) → slice_get engines r ≡ Some e → slice_get (sessions_in engines) r ≡ Some e.sessions
+pub sessions_there : (engines : List EngineState) (r : ℕ) (e : EngineState) → slice_get engines r ≡ Some e →
+    slice_get (sessions_in engines) r ≡ Some e.sessions
 sessions_there engines r e there =
-    slice_get-map (λ (x : EngineState). x.sessions) engines r ∙ ap (λ (o : Option EngineState). option_map (λ (x : EngineState). x.sessions) o) there
+    slice_get-map (λ (x : EngineState). x.sessions) engines r ∙
+    ap (λ (o : Option EngineState). option_map (λ (x : EngineState). x.sessions) o) there
 
 -- an engine with these sessions
 pub record IsOf (engines : List EngineState) (r : ℕ) (s : SessionsState) : Type 0 where
@@ -29,7 +32,8 @@ pub record IsOf (engines : List EngineState) (r : ℕ) (s : SessionsState) : Typ
   pub sessions_are : engine.sessions ≡ s
 
 -- sessions that stand at a rank are those of an engine there
-pub engine_there : (engines : List EngineState) (r : ℕ) (s : SessionsState) → slice_get (sessions_in engines) r ≡ Some s → IsOf engines r s
+pub engine_there : (engines : List EngineState) (r : ℕ) (s : SessionsState) → slice_get (sessions_in engines) r ≡
+    Some s → IsOf engines r s
 engine_there [] r s is = absurd (grind arith)
 engine_there (e ∷ es) zero s is = record { engine = e; there = refl; sessions_are = same_Some e.sessions s is }
 engine_there (e ∷ es) (suc r) s is =
@@ -37,15 +41,18 @@ engine_there (e ∷ es) (suc r) s is =
     record { engine = o.engine; there = o.there; sessions_are = o.sessions_are }
 
 -- the sessions once one engine is another
-pub sessions_set : (engines : List EngineState) (r : ℕ) (e : EngineState) → sessions_in (slice_set engines r e) ≡ slice_set (sessions_in engines) r e.sessions
+pub sessions_set : (engines : List EngineState) (r : ℕ) (e : EngineState) → sessions_in (slice_set engines r e) ≡
+    slice_set (sessions_in engines) r e.sessions
 sessions_set engines r e = map-set (λ (x : EngineState). x.sessions) engines r e
 
 -- what is true once the sessions of an engine did something is true of the engines
-pub leaves_engines : (n r : ℕ) (engines : List EngineState) (datagrams : List (ℕ × List ℕ)) (mid : EngineState) (links : Links) (current : ℕ → ℕ)
+pub leaves_engines : (n r : ℕ) (engines : List EngineState) (datagrams : List (ℕ × List ℕ)) (mid : EngineState)
+    (links : Links) (current : ℕ → ℕ)
     → LeavesTrue n (sessions_in engines) datagrams r mid.sessions links current
     → AreTrue n (sessions_in (slice_set engines r (emptied mid))) (datagrams ++ mid.sessions.out) links current
 leaves_engines n r engines datagrams mid links current truth =
-    subst (λ (ss : List SessionsState). AreTrue n ss (datagrams ++ mid.sessions.out) links current) (sym (sessions_set engines r (emptied mid))) truth
+    subst (λ (ss : List SessionsState). AreTrue n ss (datagrams ++ mid.sessions.out) links current)
+    (sym (sessions_set engines r (emptied mid))) truth
 
 -- ---- faults
 
@@ -74,7 +81,11 @@ sends_keep s (f ∷ fs) =
     record { place = rest.place; known = rest.known }
 
 -- and where they turn something away
-pub away_keeps : (old new : SessionsState) (to : Option Endpoint) (e why : lower.SessionRefusal) → TurnedAway to e old why new → Keeps old new
-away_keeps old new None e why gives = record { place = ap (λ (s : SessionsState). s.place) gives.1; known = ap (λ (s : SessionsState). s.known) gives.1 }
-away_keeps old new (Some x) e why (inl gives) = record { place = ap (λ (s : SessionsState). s.place) gives.1; known = ap (λ (s : SessionsState). s.known) gives.1 }
-away_keeps old new (Some x) e why (inr gives) = record { place = ap (λ (s : SessionsState). s.place) gives.1; known = ap (λ (s : SessionsState). s.known) gives.1 }
+pub away_keeps : (old new : SessionsState) (to : Option Endpoint) (e why : lower.SessionRefusal) →
+    TurnedAway to e old why new → Keeps old new
+away_keeps old new None e why gives =
+    record { place = ap (λ (s : SessionsState). s.place) gives.1; known = ap (λ (s : SessionsState). s.known) gives.1 }
+away_keeps old new (Some x) e why (inl gives) =
+    record { place = ap (λ (s : SessionsState). s.place) gives.1; known = ap (λ (s : SessionsState). s.known) gives.1 }
+away_keeps old new (Some x) e why (inr gives) =
+    record { place = ap (λ (s : SessionsState). s.place) gives.1; known = ap (λ (s : SessionsState). s.known) gives.1 }

@@ -36,12 +36,14 @@ use Rattle.proof_network_bridge.proofs.Worlds.{place_is}
 -- ---- what the two halves say of a word
 
 -- both know the same once they heard it
-pub known_alike : (lesson : Bool) (known : List ℕ) (s : Endpoint) → taught_known lesson known s ≡ known_after lesson known s
+pub known_alike : (lesson : Bool) (known : List ℕ) (s : Endpoint) → taught_known lesson known s ≡
+    known_after lesson known s
 known_alike true known s = refl
 known_alike false known s = refl
 
 -- a lesson is what the test of incarnations says
-lesson_is : (lesson : Bool) (known incarnation : ℕ) → IsLesson lesson known incarnation → nat_lt known incarnation ≡ lesson
+lesson_is : (lesson : Bool) (known incarnation : ℕ) → IsLesson lesson known incarnation →
+    nat_lt known incarnation ≡ lesson
 lesson_is true known incarnation above = lt-ltb known incarnation above
 lesson_is false known incarnation same = le-ltb known incarnation (omega (arith, same))
 
@@ -51,15 +53,23 @@ lesson_fresh true known incarnation above = omega (arith, above)
 lesson_fresh false known incarnation same = omega (arith, same)
 
 -- the word of another rank that the engine hears is one that the network takes in
-pub is_word : (n r : ℕ) (engines : List EngineState) (datagrams : List (ℕ × List ℕ)) (w : GroupNetwork) (old : EngineState) (s : Endpoint) (lesson : Bool) → IsJoined n engines datagrams w →
+pub is_word : (n r : ℕ) (engines : List EngineState) (datagrams : List (ℕ × List ℕ)) (w : GroupNetwork)
+    (old : EngineState) (s : Endpoint) (lesson : Bool) → IsJoined n engines datagrams w →
     slice_get engines r ≡ Some old → below.IsHeard n r w.net.current old.sessions.known s lesson → IsWord n r w s
 is_word n r engines datagrams w old s lesson j there h =
     let known : (w.net.core (here w.net r)).known s.rank ≡ slice_index old.sessions.known s.rank = ((j.held r old there).queues 0).known_alike s.rank in
     let fresh = lesson_fresh lesson (slice_index old.sessions.known s.rank) s.incarnation h.incarnation in
-    record { there = (place_is n r engines datagrams w old j there).0; apart = h.apart; begun = h.begun; fresh = omega (arith, known, fresh) }
+    record {
+      there = (place_is n r engines datagrams w old j there).0;
+      apart = h.apart;
+      begun = h.begun;
+      fresh =
+          omega (arith, known, fresh);
+    }
 
 -- and one that the core takes for another rank's
-pub is_from_other : (n r : ℕ) (current : ℕ → ℕ) (old : CoreState) (known : List ℕ) (news : NewsText) → old.place ≡ place_of n (at r (current r)) →
+pub is_from_other : (n r : ℕ) (current : ℕ → ℕ) (old : CoreState) (known : List ℕ) (news : NewsText) →
+    old.place ≡ place_of n (at r (current r)) →
     below.IsHeard n r current known news.source news.lesson → IsFromOther old known news
 is_from_other n r current old known news place h =
     let size_is : old.place.size ≡ n = ap (λ (p : Place). p.size) place in
@@ -78,10 +88,13 @@ abbrev pub taught : Endpoint → (lesson : Bool) → Option Endpoint
 taught s lesson = if lesson then Some s else None
 
 -- the lesson that the network's rank learns is the one that the engine's learns
-pub lesson_same : (n r : ℕ) (w : GroupNetwork) (sessions : Sessions) (old : EngineState) (s : Endpoint) (lesson : Bool) → IsHeldBy w sessions r old → below.IsHeard n r w.net.current old.sessions.known s lesson → lesson_at w r s ≡ taught s lesson
+pub lesson_same : (n r : ℕ) (w : GroupNetwork) (sessions : Sessions) (old : EngineState) (s : Endpoint)
+    (lesson : Bool) → IsHeldBy w sessions r old → below.IsHeard n r w.net.current old.sessions.known s lesson →
+    lesson_at w r s ≡ taught s lesson
 lesson_same n r w sessions old s lesson held h =
     ap (λ (b : Bool). if b then Some s else None)
-    (ap (λ (k : ℕ). nat_lt k s.incarnation) ((held.queues 0).known_alike s.rank) ∙ lesson_is lesson (slice_index old.sessions.known s.rank) s.incarnation h.incarnation)
+    (ap (λ (k : ℕ). nat_lt k s.incarnation) ((held.queues 0).known_alike s.rank) ∙
+    lesson_is lesson (slice_index old.sessions.known s.rank) s.incarnation h.incarnation)
 
 -- an ending that comes first
 or_before_none : (o before : Option Ending) → before ≡ None → or_before o before ≡ o
@@ -89,14 +102,17 @@ or_before_none (Some x) before is = refl
 or_before_none None before is = is
 
 -- the ending that a lesson gives
-pub ended_alike : (g : GroupsState) (o : Option Endpoint) (before : Option Ending) → before ≡ None → or_before (ended_by g o) before ≡ lesson_ends g.collective g.contexts o
+pub ended_alike : (g : GroupsState) (o : Option Endpoint) (before : Option Ending) → before ≡ None →
+    or_before (ended_by g o) before ≡ lesson_ends g.collective g.contexts o
 ended_alike g None before is = is
-ended_alike g (Some a) before is = or_before_none (collective_calls.lesson_ending g.collective g.contexts a.rank a.incarnation) before is
+ended_alike g (Some a) before is =
+    or_before_none (collective_calls.lesson_ending g.collective g.contexts a.rank a.incarnation) before is
 
 -- ---- what is seen
 
 -- the answer that is ready is the same, where each of its two halves is
-pub told_alike : (own : Endpoint) (o : Option Ending) (k : Option (completions.Answer × List ℕ)) (c : Option Answer) → told own None k ≡ in_queues.told_completion own c →
+pub told_alike : (own : Endpoint) (o : Option Ending) (k : Option (completions.Answer × List ℕ)) (c : Option Answer) →
+    told own None k ≡ in_queues.told_completion own c →
     told_of own None (ready_by (option_map ending_is o) k) ≡ told_completion own (completion_by o c)
 told_alike own (Some x) k c h = refl
 told_alike own None None None h = refl

@@ -1,5 +1,6 @@
 -- A rank that hears another one learns first what that teaches, and stands in the middle of its word.
-use Rattle.std.proofs.Common.{◌≡◌, ℕ, zero, suc, ◌≤◌, Bool, true, false, max, nat_lt, List, [], ◌∷◌, Option, None, refl, sym, ap, subst, ◌∙◌, arith}
+use Rattle.std.proofs.Common.{◌≡◌, ℕ, zero, suc, ◌≤◌, Bool, true, false, max, nat_lt, List, [], ◌∷◌, Option, None, refl}
+use Rattle.std.proofs.Common.{sym, ap, subst, ◌∙◌, arith}
 use Rattle.std.specs.Prelude.{slice_index, slice_set}
 use Rattle.std.proofs.lemmas.Bool.{eqb-false, le-ltb}
 use Rattle.datagram.specs.Spelling.{FrameText}
@@ -46,7 +47,8 @@ raised (y ∷ ys) (suc k) v zero h = omega arith
 raised (y ∷ ys) (suc k) v (suc x) h = raised ys k v x h
 
 -- by a lesson no rank is known at less
-taught_more : (lesson : Bool) (known : List ℕ) (s : Endpoint) (x : ℕ) → slice_index known x ≤ slice_index (taught_known lesson known s) x
+taught_more : (lesson : Bool) (known : List ℕ) (s : Endpoint) (x : ℕ) →
+    slice_index known x ≤ slice_index (taught_known lesson known s) x
 taught_more true known s x = raised known s.rank (max (slice_index known s.rank) s.incarnation) x (omega arith)
 taught_more false known s x = omega arith
 
@@ -58,17 +60,21 @@ learns_none known s m is =
     rw plain refl
 
 -- so what is held is held when it is heard again
-pub taught_nothing : (u : GroupNetwork) (r : ℕ) (s : Endpoint) (sessions : Sessions) (e : EngineState) → (u.net.core (here u.net r)).known s.rank ≡ s.incarnation →
-    IsHolding sessions (here u.net r) e (u.net.core (here u.net r)) (u.member (here u.net r)) → IsHolding sessions (here u.net r) e (met_core u r s) (heard_member u r s)
+pub taught_nothing : (u : GroupNetwork) (r : ℕ) (s : Endpoint) (sessions : Sessions) (e : EngineState) →
+    (u.net.core (here u.net r)).known s.rank ≡ s.incarnation →
+    IsHolding sessions (here u.net r) e (u.net.core (here u.net r)) (u.member (here u.net r)) →
+    IsHolding sessions (here u.net r) e (met_core u r s) (heard_member u r s)
 taught_nothing u r s sessions e known h =
     subst (λ (k : Core). IsHolding sessions own e k (heard_member u r s)) (sym (met_known (u.net.core own) s known))
-    (subst (λ (m : Member). IsHolding sessions own e (u.net.core own) m) (sym (learns_none (u.net.core own).known s (u.member own) known)) h)
+    (subst (λ (m : Member). IsHolding sessions own e (u.net.core own) m)
+    (sym (learns_none (u.net.core own).known s (u.member own) known)) h)
   where
     own : Endpoint
     own = here u.net r
 
 -- and what comes from it is from another rank, and no lesson
-pub from_known : (n r : ℕ) (engines : List EngineState) (current : ℕ → ℕ) (u : GroupNetwork) (texts : LinksOf FrameText) (s : Endpoint) (e : EngineState) (text : Option FrameText) → IsOpen n r engines current u texts s e →
+pub from_known : (n r : ℕ) (engines : List EngineState) (current : ℕ → ℕ) (u : GroupNetwork) (texts : LinksOf FrameText)
+    (s : Endpoint) (e : EngineState) (text : Option FrameText) → IsOpen n r engines current u texts s e →
     IsFromOther e.core e.sessions.known (news s false text)
 from_known n r engines current u texts s e text o =
     let place : e.core.place ≡ place_of n (at r (current r)) = o.held.placed ∙ o.told.place in
@@ -85,11 +91,16 @@ from_known n r engines current u texts s e text o =
 -- ---- the lesson
 
 -- the core hears of a word without a frame
-heard_alone : NewsAreShown → (n r : ℕ) (engines : List EngineState) (current : ℕ → ℕ) (u : GroupNetwork) (texts : LinksOf FrameText) (old : EngineState) (s : Endpoint) (lesson : Bool) → MeetingsStand u.net →
-    (m : IsMidway n r engines current u texts old) → AreTold n r current texts old.sessions → IsFromOther old.core old.sessions.known (news s lesson None) → (serial : ℕ) →
-    IsHeard (announcements_in serial m.sessions (at r (current r))) old.core old.sessions.known (u.net.core (at r (current r))) (news s lesson None) None
+heard_alone : NewsAreShown →
+    (n r : ℕ) (engines : List EngineState) (current : ℕ → ℕ) (u : GroupNetwork) (texts : LinksOf FrameText)
+    (old : EngineState) (s : Endpoint) (lesson : Bool) → MeetingsStand u.net →
+    (m : IsMidway n r engines current u texts old) → AreTold n r current texts old.sessions →
+    IsFromOther old.core old.sessions.known (news s lesson None) → (serial : ℕ) →
+    IsHeard (announcements_in serial m.sessions (at r (current r))) old.core old.sessions.known
+    (u.net.core (at r (current r))) (news s lesson None) None
 heard_alone shows n r engines current u texts old s lesson meetings m told other serial =
-    shows (announcements_in serial m.sessions own) old.core old.sessions.known (u.net.core own) (news s lesson None) None (m.held.queues serial) (record {
+    shows (announcements_in serial m.sessions own) old.core old.sessions.known (u.net.core own)
+    (news s lesson None) None (m.held.queues serial) (record {
       other = other;
       meant = tt;
       within = tt;
@@ -102,10 +113,16 @@ heard_alone shows n r engines current u texts old s lesson meetings m told other
     own = at r (current r)
 
 -- what is said of the network once the word was heard is said of the engine that learnt its lesson
-pub opens_by : NewsAreShown → (n r : ℕ) (engines : List EngineState) (current : ℕ → ℕ) (u after : GroupNetwork) (texts : LinksOf FrameText) (old : EngineState) (h : HeardText) → MeetingsStand u.net →
-    (m : IsMidway n r engines current u texts old) → AreTold n r current texts old.sessions → below.IsHeard n r current old.sessions.known h.source h.lesson →
-    IsAfter u after (at r (current r)) (met (u.net.core (at r (current r))) h.source) u.net.link (hear_member (u.net.core (at r (current r))).known h.source (u.member (at r (current r)))) u.notices [] →
-    collectives.IsShown (at r (current r)) (opened old h).groups.collective (opened old h).groups.contexts (hear_member (u.net.core (at r (current r))).known h.source (u.member (at r (current r)))) (opened old h).ended →
+pub opens_by : NewsAreShown →
+    (n r : ℕ) (engines : List EngineState) (current : ℕ → ℕ) (u after : GroupNetwork) (texts : LinksOf FrameText)
+    (old : EngineState) (h : HeardText) → MeetingsStand u.net →
+    (m : IsMidway n r engines current u texts old) → AreTold n r current texts old.sessions →
+    below.IsHeard n r current old.sessions.known h.source h.lesson →
+    IsAfter u after (at r (current r)) (met (u.net.core (at r (current r))) h.source) u.net.link
+    (hear_member (u.net.core (at r (current r))).known h.source (u.member (at r (current r)))) u.notices [] →
+    collectives.IsShown (at r (current r)) (opened old h).groups.collective (opened old h).groups.contexts
+    (hear_member (u.net.core (at r (current r))).known h.source (u.member (at r (current r))))
+    (opened old h).ended →
     IsOpen n r engines current after texts h.source (opened old h)
 opens_by shows n r engines current u after texts old h meetings m told heard a groups =
     record {
@@ -119,10 +136,12 @@ opens_by shows n r engines current u after texts old h meetings m told heard a g
       sessions = m.sessions;
       said = m.said;
       between = others_are_carried u after m.said texts m.sessions own core member [] m.between a;
-      others = others_after r engines current u after core u.net.link member u.notices [] m.sessions m.sessions m.said m.said m.others a (only_same m.sessions own) (said_same m.said);
+      others = others_after r engines current u after core u.net.link member u.notices [] m.sessions m.sessions m.said
+          m.said m.others a (only_same m.sessions own) (said_same m.said);
       source = heard.there;
       apart = heard.apart;
-      known = ap (λ (known : List ℕ). slice_index known s.rank) (known_alike h.lesson old.sessions.known s) ∙ source_incarnation old.core old.sessions.known heard_news (m.held.queues 0).width other;
+      known = ap (λ (known : List ℕ). slice_index known s.rank) (known_alike h.lesson old.sessions.known s) ∙
+          source_incarnation old.core old.sessions.known heard_news (m.held.queues 0).width other;
       completion = (alone 0).completion ∙ m.completion;
       held = subst (λ (k : Core). IsHolding m.sessions own (opened old h) k (after.member own)) (sym a.core_is)
           (subst (λ (y : Member). IsHolding m.sessions own (opened old h) core y) (sym a.member_is) (record {
@@ -130,7 +149,9 @@ opens_by shows n r engines current u after texts old h meetings m told heard a g
             groups = groups;
             placed = (alone 0).place ∙ m.held.placed;
           }));
-      payloads = subst (λ (known : List ℕ). ArePayloads m.sessions m.said own known (opened old h).payloads) (sym (known_alike h.lesson old.sessions.known s))
+      payloads =
+          subst (λ (known : List ℕ). ArePayloads m.sessions m.said own known (opened old h).payloads)
+          (sym (known_alike h.lesson old.sessions.known s))
           (payloads_taught m.sessions m.said own old.sessions.known old.payloads s h.lesson m.payloads);
     }
   where
@@ -152,10 +173,14 @@ opens_by shows n r engines current u after texts old h meetings m told heard a g
     other : IsFromOther old.core old.sessions.known heard_news
     other = is_from_other n r current old.core old.sessions.known heard_news (m.held.placed ∙ told.place) heard
 
-    alone : (serial : ℕ) → IsHeard (announcements_in serial m.sessions own) old.core old.sessions.known (u.net.core own) heard_news None
+    alone : (serial : ℕ) →
+        IsHeard (announcements_in serial m.sessions own) old.core old.sessions.known (u.net.core own) heard_news None
     alone serial = heard_alone shows n r engines current u texts old s h.lesson meetings m told other serial
 
-    queues : (serial : ℕ) → IsShown (announcements_in serial m.sessions own) (after_lesson h.lesson old.core s) (taught_known h.lesson old.sessions.known s) core
+    queues : (serial : ℕ) →
+        IsShown (announcements_in serial m.sessions own) (after_lesson h.lesson old.core s)
+        (taught_known h.lesson old.sessions.known s) core
     queues serial =
-        subst (λ (known : List ℕ). IsShown (announcements_in serial m.sessions own) (after_lesson h.lesson old.core s) known core) (sym (known_alike h.lesson old.sessions.known s))
+        subst (λ (known : List ℕ). IsShown (announcements_in serial m.sessions own) (after_lesson h.lesson old.core s)
+        known core) (sym (known_alike h.lesson old.sessions.known s))
         (shown_out serial m.sessions own [] (after_lesson h.lesson old.core s) _ core (alone serial).shown)

@@ -1,9 +1,11 @@
 -- What an engine refuses it refuses for a reason of the network's too, and what it takes has no fault there.
-use Rattle.std.proofs.Common.{◌≡◌, ℕ, Bool, true, false, ◌||◌, List, Option, Some, None, refl, sym, ap, ◌∙◌, subst, is_some, arith}
+use Rattle.std.proofs.Common.{◌≡◌, ℕ, Bool, true, false, ◌||◌, List, Option, Some, None, refl, sym, ap, ◌∙◌, subst}
+use Rattle.std.proofs.Common.{is_some, arith}
 use Rattle.std.specs.Prelude.{slice_get}
 use Rattle.collective_messages.specs.declared.entry.Entry as collective
 use Rattle.communicators.specs.declared.question.Question.{Question}
-use Rattle.engine_calls.specs.Calls.{AskingGives, CallGives, CoreGives, EnteringGives, IsAnswered, IsEntered, IsLooked, IsRefused, IsTaken, IsTold, LookingGives, WhyRefused}
+use Rattle.engine_calls.specs.Calls.{AskingGives, CallGives, CoreGives, EnteringGives, IsAnswered, IsEntered, IsLooked}
+use Rattle.engine_calls.specs.Calls.{IsRefused, IsTaken, IsTold, LookingGives, WhyRefused}
 use Rattle.engine_calls.specs.EngineState.{EngineState, member_of}
 use Rattle.engine_calls.specs.Faults.{broken, fault_of, free_fault, is_busy}
 use Rattle.engine_calls.specs.Refusals.{first_fault}
@@ -30,7 +32,8 @@ use Rattle.proof_network_bridge.proofs.Members.{are_in_world, busy_same, held_sa
 use Rattle.proof_network_bridge.proofs.Refusals.{by_rule, free_faultless, free_reason}
 use Rattle.proof_network_bridge.proofs.Routed.{IsFree}
 use Rattle.proof_network_bridge.proofs.Worlds.{place_is}
-use Rattle.proof_network_bridge.specs.Alone.{EnginesAreRanks, EnginesJudgeAsTheMachine, EnginesRefuseAsTheMachine, EnginesTakeNoFault, IsRank}
+use Rattle.proof_network_bridge.specs.Alone.{EnginesAreRanks, EnginesJudgeAsTheMachine, EnginesRefuseAsTheMachine}
+use Rattle.proof_network_bridge.specs.Alone.{EnginesTakeNoFault, IsRank}
 use Rattle.observation.specs.Faults.{IsFaultless}
 use Rattle.proof_network_bridge.specs.Joined.{IsFollowed, network_after}
 use Rattle.observation.specs.EngineCalls.{call_meant, call_seen}
@@ -47,7 +50,8 @@ use Rattle.vocabulary.specs.declared.envelope.Status.{Status}
 -- ---- WHAT A CALL GAVE
 
 -- a call of point to point, or on requests, that was taken was answered
-pub answered : (old new : EngineState) (call : Call) (reply : Reply) → IsTaken reply → CoreGives old call reply new → IsAnswered old call reply new
+pub answered : (old new : EngineState) (call : Call) (reply : Reply) → IsTaken reply → CoreGives old call reply new →
+    IsAnswered old call reply new
 answered old new call (replies.Refused why back) taken gives = absurd taken
 answered old new call (replies.Started q) taken gives = gives
 answered old new call (replies.Done o) taken gives = gives
@@ -60,7 +64,8 @@ answered old new call (replies.Probed found) taken gives = gives
 answered old new call (replies.Matched found) taken gives = gives
 
 -- a collective that was taken was entered
-pub entered : (old new : EngineState) (comm : Option ℕ) (x : collective.Entry) (reply : Reply) → IsTaken reply → EnteringGives old comm x reply new → IsEntered old comm x reply new
+pub entered : (old new : EngineState) (comm : Option ℕ) (x : collective.Entry) (reply : Reply) → IsTaken reply →
+    EnteringGives old comm x reply new → IsEntered old comm x reply new
 entered old new comm x (replies.Refused why back) taken gives = absurd taken
 entered old new comm x (replies.Started q) taken gives = gives
 entered old new comm x (replies.Done o) taken gives = gives
@@ -73,12 +78,14 @@ entered old new comm x (replies.Probed found) taken gives = gives
 entered old new comm x (replies.Matched found) taken gives = gives
 
 -- a question that was taken was answered with a fact
-pub record IsAnsweredWith (old : EngineState) (comm : Option ℕ) (q : Question) (reply : Reply) (new : EngineState) : Type 0 where
+pub record IsAnsweredWith (old : EngineState) (comm : Option ℕ) (q : Question) (reply : Reply)
+    (new : EngineState) : Type 0 where
   pub fact : Fact
   pub reply_is : reply ≡ replies.Fact fact
   pub told : IsTold old comm q fact new
 
-pub asked : (old new : EngineState) (comm : Option ℕ) (q : Question) (reply : Reply) → IsTaken reply → AskingGives old comm q reply new → IsAnsweredWith old comm q reply new
+pub asked : (old new : EngineState) (comm : Option ℕ) (q : Question) (reply : Reply) → IsTaken reply →
+    AskingGives old comm q reply new → IsAnsweredWith old comm q reply new
 asked old new comm q (replies.Refused why back) taken gives = absurd taken
 asked old new comm q (replies.Started r) taken gives = absurd gives
 asked old new comm q (replies.Done o) taken gives = absurd gives
@@ -96,7 +103,8 @@ pub record IsLookedWith (old : EngineState) (p : Probe) (reply : Reply) (new : E
   pub reply_is : reply ≡ replies.Probed found
   pub looked : IsLooked old p found new
 
-pub looked : (old new : EngineState) (p : Probe) (reply : Reply) → IsTaken reply → LookingGives old p reply new → IsLookedWith old p reply new
+pub looked : (old new : EngineState) (p : Probe) (reply : Reply) → IsTaken reply → LookingGives old p reply new →
+    IsLookedWith old p reply new
 looked old new p (replies.Refused why back) taken gives = absurd taken
 looked old new p (replies.Started r) taken gives = absurd gives
 looked old new p (replies.Done o) taken gives = absurd gives
@@ -109,7 +117,8 @@ looked old new p (replies.Matched found) taken gives = absurd gives
 looked old new p (replies.Probed found) taken gives = record { found = found; reply_is = refl; looked = gives }
 
 -- whatever was taken met no rule and no limit
-allowed : (old new : EngineState) (call : Call) (reply : Reply) → IsTaken reply → CallGives old call reply new → fault_of old call ≡ None
+allowed : (old new : EngineState) (call : Call) (reply : Reply) → IsTaken reply → CallGives old call reply new →
+    fault_of old call ≡ None
 allowed old new (calls.Isend s) reply taken gives = (answered old new (calls.Isend s) reply taken gives).allowed
 allowed old new (calls.Irecv v) reply taken gives = (answered old new (calls.Irecv v) reply taken gives).allowed
 allowed old new (calls.Wait q) reply taken gives = (answered old new (calls.Wait q) reply taken gives).allowed
@@ -119,12 +128,14 @@ allowed old new (calls.Waitall qs) reply taken gives = (answered old new (calls.
 allowed old new (calls.Cancel q) reply taken gives = (answered old new (calls.Cancel q) reply taken gives).allowed
 allowed old new (calls.Iprobe p) reply taken gives = (looked old new p reply taken gives).looked.allowed
 allowed old new (calls.Improbe p) reply taken gives = (answered old new (calls.Improbe p) reply taken gives).allowed
-allowed old new (calls.Mrecv q into) reply taken gives = (answered old new (calls.Mrecv q into) reply taken gives).allowed
+allowed old new (calls.Mrecv q into) reply taken gives =
+    (answered old new (calls.Mrecv q into) reply taken gives).allowed
 allowed old new (calls.Enter comm x) reply taken gives = (entered old new comm x reply taken gives).allowed
 allowed old new (calls.Ask comm q) reply taken gives = (asked old new comm q reply taken gives).told.allowed
 
 -- what was refused was so for its first rule or limit, or for want of room
-refused : (old new : EngineState) (call : Call) (why : Refusal) (back : Call) → CallGives old call (replies.Refused why back) new → IsRefused old call why back new
+refused : (old new : EngineState) (call : Call) (why : Refusal) (back : Call) →
+    CallGives old call (replies.Refused why back) new → IsRefused old call why back new
 refused old new (calls.Isend s) why back gives = gives
 refused old new (calls.Irecv v) why back gives = gives
 refused old new (calls.Wait q) why back gives = gives
@@ -150,7 +161,8 @@ none_there None h = refl
 none_there (Some x) h = absurd cc
 
 -- what it holds, while no earlier call of it is blocked
-free_at : (a : Announcements) (own : Endpoint) (e : EngineState) (core : Core) (m : Member) → IsHeldAs a own e core m → is_busy e ≡ false → AreInWorld e.core.place.size m.membership →
+free_at : (a : Announcements) (own : Endpoint) (e : EngineState) (core : Core) (m : Member) → IsHeldAs a own e core m →
+    is_busy e ≡ false → AreInWorld e.core.place.size m.membership →
     IsFree a e core m.membership
 free_at a own e core m h idle inside =
     let two = neither (is_some e.core.blocked) (is_within (member_of e.groups).present) idle in
@@ -164,54 +176,75 @@ free_at a own e core m h idle inside =
     }
 
 -- its communicators are of ranks of world
-inside_world : (n r : ℕ) (engines : List EngineState) (datagrams : List (ℕ × List ℕ)) (history : List Entry) (e : EngineState) (f : IsFollowed n engines datagrams history) → slice_get engines r ≡ Some e →
-    AreInWorld e.core.place.size ((network_after n f.happenings).member (here (network_after n f.happenings).net r)).membership
+inside_world : (n r : ℕ) (engines : List EngineState) (datagrams : List (ℕ × List ℕ)) (history : List Entry)
+    (e : EngineState) (f : IsFollowed n engines datagrams history) → slice_get engines r ≡ Some e →
+    AreInWorld e.core.place.size
+    ((network_after n f.happenings).member (here (network_after n f.happenings).net r)).membership
 inside_world n r engines datagrams history e f there =
     let w : GroupNetwork = network_after n f.happenings in
     let place = place_is n r engines datagrams w e f.joined there in
     let size : e.core.place.size ≡ n = ap (λ (p : Place). p.size) ((f.joined.held r e there).placed ∙ place.1) in
     subst (λ (k : ℕ). AreInWorld k (w.member (here w.net r)).membership) (sym size)
-    (are_in_world n (w.member (here w.net r)).membership ((notices_stand n f.happenings (omega (arith, f.few))).held r place.0))
+    (are_in_world n (w.member (here w.net r)).membership
+    ((notices_stand n f.happenings (omega (arith, f.few))).held r place.0))
 
 -- while an earlier call is blocked, the machine's first fault is 6
-busy_fault : (a : Announcements) (own : Endpoint) (e : EngineState) (core : Core) (m : Member) (c : machine.Call) → IsHeldAs a own e core m → is_busy e ≡ true →
+busy_fault : (a : Announcements) (own : Endpoint) (e : EngineState) (core : Core) (m : Member) (c : machine.Call) →
+    IsHeldAs a own e core m → is_busy e ≡ true →
     fault own (view blank core) m.membership c ≡ Some 6
 busy_fault a own e core m c h busy =
-    ap (λ (b : Bool). fault_by b (λ k. standing (slice_get (view blank core).requests k)) own core.known m.membership c) (busy_same a own e core m h.queues h.groups ∙ busy)
+    ap (λ (b : Bool). fault_by b (λ k. standing (slice_get (view blank core).requests k)) own core.known m.membership c)
+    (busy_same a own e core m h.queues h.groups ∙ busy)
 
 -- ---- AN ENGINE ALONE
 
--- a call that an engine refuses has the fault of its own part of the machine; or that finds none, and the number is 13 or 14
-refused_alone : (a : Announcements) (own : Endpoint) (e mid : EngineState) (core : Core) (m : Member) (call back : Call) (why : Refusal) → IsHeldAs a own e core m → AreInWorld e.core.place.size m.membership →
-    CallGives e call (replies.Refused why back) mid → IsReason (fault own (view blank core) m.membership (call_meant e.core call)) why
-refused_alone a own e mid core m call back why h inside gives = go (is_busy e) refl (refused e mid call why back gives).reason
+-- a call that an engine refuses has the fault of its own part of the machine; or that finds none, and the number is 13
+-- or 14
+refused_alone : (a : Announcements) (own : Endpoint) (e mid : EngineState) (core : Core) (m : Member) (call back : Call)
+    (why : Refusal) → IsHeldAs a own e core m → AreInWorld e.core.place.size m.membership →
+    CallGives e call (replies.Refused why back) mid →
+    IsReason (fault own (view blank core) m.membership (call_meant e.core call)) why
+refused_alone a own e mid core m call back why h inside gives =
+    go (is_busy e) refl (refused e mid call why back gives).reason
   where
-    go : (b : Bool) → is_busy e ≡ b → WhyRefused (first_fault (broken b refusals.Request) (free_fault e call)) e call why →
+    go : (b : Bool) → is_busy e ≡ b →
+        WhyRefused (first_fault (broken b refusals.Request) (free_fault e call)) e call why →
         IsReason (fault own (view blank core) m.membership (call_meant e.core call)) why
-    go true busy because = by_rule (fault own (view blank core) m.membership (call_meant e.core call)) refusals.Request why because (busy_fault a own e core m (call_meant e.core call) h busy)
-    go false idle because = free_reason a own e core m.membership call why (free_at a own e core m h idle inside) h.groups.own because
+    go true busy because =
+        by_rule (fault own (view blank core) m.membership (call_meant e.core call)) refusals.Request why because
+        (busy_fault a own e core m (call_meant e.core call) h busy)
+    go false idle because =
+        free_reason a own e core m.membership call why (free_at a own e core m h idle inside) h.groups.own because
 
 -- a call that meets no rule and no limit has no fault there, and names no request of another engine
-allowed_alone : (a : Announcements) (own : Endpoint) (e : EngineState) (core : Core) (m : Member) (call : Call) → IsHeldAs a own e core m → AreInWorld e.core.place.size m.membership → fault_of e call ≡ None →
+allowed_alone : (a : Announcements) (own : Endpoint) (e : EngineState) (core : Core) (m : Member) (call : Call) →
+    IsHeldAs a own e core m → AreInWorld e.core.place.size m.membership → fault_of e call ≡ None →
     IsFaultless (fault own (view blank core) m.membership (call_seen call)) e.core call
 allowed_alone a own e core m call h inside fine = go (is_busy e) refl fine
   where
-    go : (b : Bool) → is_busy e ≡ b → first_fault (broken b refusals.Request) (free_fault e call) ≡ None → IsFaultless (fault own (view blank core) m.membership (call_seen call)) e.core call
+    go : (b : Bool) → is_busy e ≡ b → first_fault (broken b refusals.Request) (free_fault e call) ≡ None →
+        IsFaultless (fault own (view blank core) m.membership (call_seen call)) e.core call
     go true busy none = absurd cc
-    go false idle none = free_faultless a own e core m.membership call (free_at a own e core m h idle inside) h.groups.own none
+    go false idle none =
+        free_faultless a own e core m.membership call (free_at a own e core m h idle inside) h.groups.own none
 
 -- a rank holds what its core and its member hold
-rank_holds : (e : EngineState) (core : Core) (m : Member) → (r : IsRank e core m) → IsHeldAs r.announced e.sessions.place.endpoint e core m
+rank_holds : (e : EngineState) (core : Core) (m : Member) → (r : IsRank e core m) →
+    IsHeldAs r.announced e.sessions.place.endpoint e core m
 rank_holds e core m r = record { queues = r.queues; groups = r.groups; placed = r.placed }
 
 pub engines_refuse_as_the_machine : EnginesRefuseAsTheMachine
-engines_refuse_as_the_machine e mid core m call back why r gives = refused_alone r.announced e.sessions.place.endpoint e mid core m call back why (rank_holds e core m r) r.inside gives
+engines_refuse_as_the_machine e mid core m call back why r gives =
+    refused_alone r.announced e.sessions.place.endpoint e mid core m call back why (rank_holds e core m r) r.inside
+    gives
 
 pub engines_judge_as_the_machine : EnginesJudgeAsTheMachine
-engines_judge_as_the_machine e core m call r fine = allowed_alone r.announced e.sessions.place.endpoint e core m call (rank_holds e core m r) r.inside fine
+engines_judge_as_the_machine e core m call r fine =
+    allowed_alone r.announced e.sessions.place.endpoint e core m call (rank_holds e core m r) r.inside fine
 
 pub engines_take_no_fault : EnginesTakeNoFault
-engines_take_no_fault e mid core m call reply r taken gives = engines_judge_as_the_machine e core m call r (allowed e mid call reply taken gives)
+engines_take_no_fault e mid core m call reply r taken gives =
+    engines_judge_as_the_machine e core m call r (allowed e mid call reply taken gives)
 
 -- ---- AN ENGINE OF A WORLD
 
@@ -228,37 +261,56 @@ engines_are_ranks n r engines datagrams history e f there =
       rank = record {
         announced = announcements_in 0 f.joined.sessions own;
         queues = h.queues;
-        groups = subst (λ (x : Endpoint). collectives.IsShown x e.groups.collective e.groups.contexts (w.member own) None) endpoint h.groups;
+        groups = subst
+            (λ (x : Endpoint). collectives.IsShown x e.groups.collective e.groups.contexts (w.member own) None) endpoint
+            h.groups;
         placed = h.placed;
         inside = inside_world n r engines datagrams history e f there;
       };
     }
 
--- a call that the engine refuses has the network's first fault, by its number; or the network finds none, and the number is 13 or 14
-pub refused_reason : (n r : ℕ) (engines : List EngineState) (datagrams : List (ℕ × List ℕ)) (history : List Entry) (e mid : EngineState) (call back : Call) (why : Refusal) →
-    (f : IsFollowed n engines datagrams history) → slice_get engines r ≡ Some e → CallGives e call (replies.Refused why back) mid →
-    IsReason (fault (here (network_after n f.happenings).net r) (view blank ((network_after n f.happenings).net.core (here (network_after n f.happenings).net r)))
-    ((network_after n f.happenings).member (here (network_after n f.happenings).net r)).membership (call_meant e.core call)) why
+-- a call that the engine refuses has the network's first fault, by its number; or the network finds none, and the
+-- number is 13 or 14
+pub refused_reason : (n r : ℕ) (engines : List EngineState) (datagrams : List (ℕ × List ℕ)) (history : List Entry)
+    (e mid : EngineState) (call back : Call) (why : Refusal) →
+    (f : IsFollowed n engines datagrams history) → slice_get engines r ≡ Some e →
+    CallGives e call (replies.Refused why back) mid →
+    IsReason (fault (here (network_after n f.happenings).net r)
+    (view blank ((network_after n f.happenings).net.core (here (network_after n f.happenings).net r)))
+    ((network_after n f.happenings).member (here (network_after n f.happenings).net r)).membership
+    (call_meant e.core call)) why
 refused_reason n r engines datagrams history e mid call back why f there gives =
     let w : GroupNetwork = network_after n f.happenings in
     let own : Endpoint = here w.net r in
-    refused_alone (announcements_in 0 f.joined.sessions own) own e mid (w.net.core own) (w.member own) call back why (held_at n r engines datagrams w e f.joined there 0)
+    refused_alone (announcements_in 0 f.joined.sessions own) own e mid (w.net.core own) (w.member own) call back why
+    (held_at n r engines datagrams w e f.joined there 0)
     (inside_world n r engines datagrams history e f there) gives
 
 -- a call that meets no rule and no limit has no fault there, and names no request of another engine
-pub allowed_faultless : (n r : ℕ) (engines : List EngineState) (datagrams : List (ℕ × List ℕ)) (history : List Entry) (e : EngineState) (call : Call) → (f : IsFollowed n engines datagrams history) →
+pub allowed_faultless : (n r : ℕ) (engines : List EngineState) (datagrams : List (ℕ × List ℕ)) (history : List Entry)
+    (e : EngineState) (call : Call) → (f : IsFollowed n engines datagrams history) →
     slice_get engines r ≡ Some e → fault_of e call ≡ None →
-    IsFaultless (fault (here (network_after n f.happenings).net r) (view blank ((network_after n f.happenings).net.core (here (network_after n f.happenings).net r)))
-    ((network_after n f.happenings).member (here (network_after n f.happenings).net r)).membership (call_seen call)) e.core call
+    IsFaultless
+    (fault (here (network_after n f.happenings).net r)
+    (view blank ((network_after n f.happenings).net.core (here (network_after n f.happenings).net r)))
+    ((network_after n f.happenings).member (here (network_after n f.happenings).net r)).membership (call_seen call))
+    e.core call
 allowed_faultless n r engines datagrams history e call f there fine =
     let w : GroupNetwork = network_after n f.happenings in
     let own : Endpoint = here w.net r in
-    allowed_alone (announcements_in 0 f.joined.sessions own) own e (w.net.core own) (w.member own) call (held_at n r engines datagrams w e f.joined there 0)
+    allowed_alone (announcements_in 0 f.joined.sessions own) own e (w.net.core own) (w.member own) call
+    (held_at n r engines datagrams w e f.joined there 0)
     (inside_world n r engines datagrams history e f there) fine
 
 -- so has one that it takes
-pub taken_faultless : (n r : ℕ) (engines : List EngineState) (datagrams : List (ℕ × List ℕ)) (history : List Entry) (e mid : EngineState) (call : Call) (reply : Reply) →
-    (f : IsFollowed n engines datagrams history) → slice_get engines r ≡ Some e → IsTaken reply → CallGives e call reply mid →
-    IsFaultless (fault (here (network_after n f.happenings).net r) (view blank ((network_after n f.happenings).net.core (here (network_after n f.happenings).net r)))
-    ((network_after n f.happenings).member (here (network_after n f.happenings).net r)).membership (call_seen call)) e.core call
-taken_faultless n r engines datagrams history e mid call reply f there taken gives = allowed_faultless n r engines datagrams history e call f there (allowed e mid call reply taken gives)
+pub taken_faultless : (n r : ℕ) (engines : List EngineState) (datagrams : List (ℕ × List ℕ)) (history : List Entry)
+    (e mid : EngineState) (call : Call) (reply : Reply) →
+    (f : IsFollowed n engines datagrams history) → slice_get engines r ≡ Some e → IsTaken reply →
+    CallGives e call reply mid →
+    IsFaultless
+    (fault (here (network_after n f.happenings).net r)
+    (view blank ((network_after n f.happenings).net.core (here (network_after n f.happenings).net r)))
+    ((network_after n f.happenings).member (here (network_after n f.happenings).net r)).membership (call_seen call))
+    e.core call
+taken_faultless n r engines datagrams history e mid call reply f there taken gives =
+    allowed_faultless n r engines datagrams history e call f there (allowed e mid call reply taken gives)

@@ -1,4 +1,5 @@
--- An engine alone, without a world: why it refuses a call, and that it takes none with a fault, by its own part of the machine.
+-- An engine alone, without a world: why it refuses a call, and that it takes none with a fault, by its own part of the
+-- machine.
 use Rattle.std.specs.Prelude.{◌≡◌, ℕ, List, Option, Some, None, slice_get}
 use Rattle.engine_calls.specs.Calls.{CallGives, IsTaken}
 use Rattle.engine_calls.specs.EngineState.{EngineState}
@@ -22,9 +23,9 @@ use Rattle.observation.specs.Faults.{IsFaultless}
 use Rattle.proof_network_bridge.specs.Joined.{IsFollowed}
 use Rattle.observation.specs.EngineCalls.{call_meant, call_seen}
 
--- An engine is a rank: it holds the requests and messages that this core holds, and knows the ranks as the core does; it holds the
--- communicators that this member holds, and is in the same collective; and these are of ranks of its job. `progress_on_announcement` are the
--- numbers of large messages
+-- An engine is a rank: it holds the requests and messages that this core holds, and knows the ranks as the core does;
+-- it holds the communicators that this member holds, and is in the same collective; and these are of ranks of its job.
+-- `progress_on_announcement` are the numbers of large messages
 pub record IsRank (e : EngineState) (core : Core) (m : Member) : Type 0 where
   pub announced : Announcements
   pub queues : IsShown announced e.core e.sessions.known core
@@ -36,7 +37,8 @@ pub record IsRank (e : EngineState) (core : Core) (m : Member) : Type 0 where
 abbrev pub fault_alone : EngineState → Core → Member → machine.Call → Option ℕ
 fault_alone e core m call = fault e.sessions.place.endpoint (view blank core) m.membership call
 
--- a call that an engine refuses has the machine's first fault, by its number; or the machine finds none, and the number is 13 or 14
+-- a call that an engine refuses has the machine's first fault, by its number; or the machine finds none, and the number
+-- is 13 or 14
 abbrev pub EnginesRefuseAsTheMachine : Type 0
 EnginesRefuseAsTheMachine =
     (e mid : EngineState) (core : Core) (m : Member) (call back : Call) (why : Refusal) → IsRank e core m →

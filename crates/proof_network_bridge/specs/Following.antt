@@ -1,5 +1,6 @@
 -- A world of engines follows the pure network with communicators, event by event.
-use Rattle.std.specs.Prelude.{◌≡◌, ℕ, suc, ◌<◌, ◌≤◌, List, [], ◌∷◌, ◌++◌, Option, Some, None, Ok, Err, slice_get, slice_set, slice_index}
+use Rattle.std.specs.Prelude.{◌≡◌, ℕ, suc, ◌<◌, ◌≤◌, List, [], ◌∷◌, ◌++◌, Option, Some, None, Ok, Err, slice_get}
+use Rattle.std.specs.Prelude.{slice_set, slice_index}
 use Rattle.incarnation.specs.declared.place.Place.{Place}
 use Rattle.point_to_point_calls.specs.declared.refusal.Refusal.{Refusal}
 use Rattle.point_to_point.specs.CoreState.{CoreState}
@@ -31,7 +32,6 @@ use Rattle.proof_network_bridge.specs.Joined.{IsFollowed, opening_engines}
 use Rattle.observation.specs.Sessions.{sessions_in}
 use Rattle.observation.specs.EngineCalls.{call_meant, call_seen, told_call, told_completion}
 pub use Rattle.observation.specs.Faults.{fault_in, IsFaultless, AnswersNone, LooksInVain, SearchesInVain}
-
 
 -- ---- what an event is to an engine
 
@@ -72,7 +72,8 @@ CallsFollow =
     CallGives old call reply mid →
     LeavesFollowed n engines datagrams r mid
     (history ++
-    (told_call old.sessions.place.endpoint call (Some reply) ++ told_completion old.sessions.place.endpoint (completion_of mid)))
+    (told_call old.sessions.place.endpoint call (Some reply) ++
+    told_completion old.sessions.place.endpoint (completion_of mid)))
 
 -- A datagram that a rank takes in is followed, and what is seen of it is the answer to a call that was blocked
 abbrev pub DatagramsFollow : Type 0
@@ -81,7 +82,8 @@ DatagramsFollow =
     (history : List machine.Entry) (old mid : EngineState) →
     IsFollowed n engines datagrams history → slice_get engines r ≡ Some old →
     slice_get datagrams number ≡ Some (r, bytes) → TakesDatagram old bytes mid →
-    LeavesFollowed n engines datagrams r mid (history ++ told_completion old.sessions.place.endpoint (completion_of mid))
+    LeavesFollowed n engines datagrams r mid
+    (history ++ told_completion old.sessions.place.endpoint (completion_of mid))
 
 -- nothing is seen of a datagram that is refused, though a reset may go out
 abbrev pub RefusalsFollow : Type 0
@@ -98,7 +100,8 @@ TicksFollow =
     (n r now : ℕ) (engines : List EngineState) (datagrams : List (ℕ × List ℕ)) (history : List machine.Entry)
     (old mid : EngineState) →
     IsFollowed n engines datagrams history → slice_get engines r ≡ Some old → TakesTick old now mid →
-    LeavesFollowed n engines datagrams r mid (history ++ told_completion old.sessions.place.endpoint (completion_of mid))
+    LeavesFollowed n engines datagrams r mid
+    (history ++ told_completion old.sessions.place.endpoint (completion_of mid))
 
 -- the place of the next incarnation of a rank
 abbrev pub next_place : Place → Place
@@ -106,7 +109,6 @@ next_place p = record {
   endpoint = record { rank = p.endpoint.rank; incarnation = suc p.endpoint.incarnation };
   size = p.size;
   job = p.job;
-
 }
 
 -- a rank is started anew
@@ -120,9 +122,9 @@ RestartsFollow =
     (history ++ machine.Restarted r ∷ [])
 
 -- A history is seen of a run of the machine of queues and groups among n ranks. The run ends with each rank at the
--- incarnation of its engine, which knows there what its engine knows; a call that its engine refuses has a reason there, and
--- one that it takes has no fault; and where their sessions are quiet, the run has come to a state that meets the machine's quiet
--- clauses
+-- incarnation of its engine, which knows there what its engine knows; a call that its engine refuses has a reason
+-- there, and one that it takes has no fault; and where their sessions are quiet, the run has come to a state that meets
+-- the machine's quiet clauses
 pub record IsSeenOfMachine (n : ℕ) (engines : List EngineState) (history : List machine.Entry) : Type 0 where
   pub events : List machine.Event
   pub run : IsRun n (machine_opening n) events
@@ -134,8 +136,10 @@ pub record IsSeenOfMachine (n : ℕ) (engines : List EngineState) (history : Lis
   -- the endpoint there knows each rank at the incarnation at which its engine knows it
   pub knows :
       (r : ℕ) (e : EngineState) → slice_get engines r ≡ Some e → (x : ℕ) →
-      ((after_run (machine_opening n) events).queues.at e.sessions.place.endpoint).known x ≡ slice_index e.sessions.known x
-  -- a call that the engine refuses has the machine's first fault there, by its number; or the machine finds none, and the number is
+      ((after_run (machine_opening n) events).queues.at e.sessions.place.endpoint).known x ≡
+      slice_index e.sessions.known x
+  -- a call that the engine refuses has the machine's first fault there, by its number; or the machine finds none, and
+  -- the number is
   -- 13 or 14
   pub refuses :
       (r : ℕ) (e mid : EngineState) (call back : Call) (why : Refusal) → slice_get engines r ≡ Some e →
@@ -145,7 +149,8 @@ pub record IsSeenOfMachine (n : ℕ) (engines : List EngineState) (history : Lis
   pub takes :
       (r : ℕ) (e mid : EngineState) (call : Call) (reply : Reply) → slice_get engines r ≡ Some e → IsTaken reply →
       CallGives e call reply mid →
-      IsFaultless (fault_in (after_run (machine_opening n) events) e.sessions.place.endpoint (call_seen call)) e.core call
+      IsFaultless (fault_in (after_run (machine_opening n) events) e.sessions.place.endpoint (call_seen call)) e.core
+      call
   -- the endpoint there holds the communicators that its engine holds
   pub holds :
       (r : ℕ) (e : EngineState) → slice_get engines r ≡ Some e →
@@ -154,11 +159,13 @@ pub record IsSeenOfMachine (n : ℕ) (engines : List EngineState) (history : Lis
   pub one_group :
       (r x : ℕ) (e d : EngineState) (first second : Option ℕ) (a b : Communicator) →
       slice_get engines r ≡ Some e → slice_get engines x ≡ Some d →
-      held_at (member_of e.groups) first ≡ Some a → held_at (member_of d.groups) second ≡ Some b → a.context ≡ b.context → a ≡ b
+      held_at (member_of e.groups) first ≡ Some a → held_at (member_of d.groups) second ≡ Some b →
+      a.context ≡ b.context → a ≡ b
   -- messages have all been handed up, and what was matched is finished
   pub quiet : AreQuiet (sessions_in engines) → IsAtRest (after_run (machine_opening n) events).queues
   -- a probe finds nothing only where nothing is there that such a receive would accept
-  pub finds : AreQuiet (sessions_in engines) → ProbesFindAll (after_run (machine_opening n) events).queues (AnswersNone engines)
+  pub finds : AreQuiet (sessions_in engines) →
+      ProbesFindAll (after_run (machine_opening n) events).queues (AnswersNone engines)
   -- a collective whose members are all current, know each other so and have all entered it alike was left by all
   pub leaves : AreQuiet (sessions_in engines) → CollectivesAreLeft n (after_run (machine_opening n) events)
 

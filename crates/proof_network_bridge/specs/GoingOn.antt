@@ -1,5 +1,5 @@
--- A world of engines follows the pure network with communicators and goes on from the happenings that it followed before: by one
--- more at the rank of the event, or by none.
+-- A world of engines follows the pure network with communicators and goes on from the happenings that it followed
+-- before: by one more at the rank of the event, or by none.
 use Rattle.std.specs.Prelude.{◌≡◌, ℕ, ◌<◌, ◌≤◌, List, [], ◌∷◌, ◌++◌, Some, slice_get, slice_set}
 use Rattle.engine_calls.specs.Calls.{CallGives, IsTaken}
 use Rattle.engine_calls.specs.EngineState.{EngineState, completion_of, emptied, member_of, opening}
@@ -17,13 +17,15 @@ use Rattle.proof_network_bridge.specs.Joined.{IsJoined, network_after, opening_e
 use Rattle.observation.specs.EngineCalls.{told_call, told_completion}
 
 -- these happenings lead to a network of at most 1,024 ranks that is joined to the world, and of which the same is seen
-pub record IsFollowedBy (n : ℕ) (happenings : List Happening) (engines : List EngineState) (datagrams : List (ℕ × List ℕ)) (history : List machine.Entry) : Type 0 where
+pub record IsFollowedBy (n : ℕ) (happenings : List Happening) (engines : List EngineState)
+    (datagrams : List (ℕ × List ℕ)) (history : List machine.Entry) : Type 0 where
   pub few : n ≤ 1024
   pub joined : IsJoined n engines datagrams (network_after n happenings)
   pub seen : (network_after n happenings).history ≡ history
 
 -- A world is followed on from the happenings before
-pub data IsFollowedOn (n r : ℕ) (before : List Happening) (engines : List EngineState) (datagrams : List (ℕ × List ℕ)) (history : List machine.Entry) : Type 0 where
+pub data IsFollowedOn (n r : ℕ) (before : List Happening) (engines : List EngineState) (datagrams : List (ℕ × List ℕ))
+    (history : List machine.Entry) : Type 0 where
   -- by none
   Stands : IsFollowedBy n before engines datagrams history → IsFollowedOn n r before engines datagrams history
   -- or by one more, at rank r
@@ -33,7 +35,8 @@ pub data IsFollowedOn (n r : ℕ) (before : List Happening) (engines : List Engi
 
 -- so it is of a world in which the engine at r is the new one, out of which what it gave was taken
 abbrev pub LeavesFollowedOn :
-    (n : ℕ) → (before : List Happening) → List EngineState → List (ℕ × List ℕ) → (r : ℕ) → EngineState → List machine.Entry → Type 0
+    (n : ℕ) → (before : List Happening) → List EngineState → List (ℕ × List ℕ) →
+    (r : ℕ) → EngineState → List machine.Entry → Type 0
 LeavesFollowedOn n before engines datagrams r mid history =
     IsFollowedOn n r before (slice_set engines r (emptied mid)) (datagrams ++ mid.sessions.out) history
 
@@ -44,35 +47,44 @@ OpeningFollowsNone = (n : ℕ) → n ≤ 1024 → IsFollowedBy n [] (opening_eng
 -- a call that a rank takes is followed on, and what is seen of it is the call, its reply and what it completes
 abbrev pub CallsFollowOn : Type 0
 CallsFollowOn =
-    (n r : ℕ) (before : List Happening) (engines : List EngineState) (datagrams : List (ℕ × List ℕ)) (history : List machine.Entry)
+    (n r : ℕ) (before : List Happening) (engines : List EngineState) (datagrams : List (ℕ × List ℕ))
+    (history : List machine.Entry)
     (old mid : EngineState) (call : Call) (reply : Reply) →
-    IsFollowedBy n before engines datagrams history → slice_get engines r ≡ Some old → IsTaken reply → CallGives old call reply mid →
+    IsFollowedBy n before engines datagrams history → slice_get engines r ≡ Some old → IsTaken reply →
+    CallGives old call reply mid →
     LeavesFollowedOn n before engines datagrams r mid
     (history ++
-    (told_call old.sessions.place.endpoint call (Some reply) ++ told_completion old.sessions.place.endpoint (completion_of mid)))
+    (told_call old.sessions.place.endpoint call (Some reply) ++
+    told_completion old.sessions.place.endpoint (completion_of mid)))
 
 -- so is a datagram that it takes in
 abbrev pub DatagramsFollowOn : Type 0
 DatagramsFollowOn =
-    (n r number : ℕ) (bytes : List ℕ) (before : List Happening) (engines : List EngineState) (datagrams : List (ℕ × List ℕ))
+    (n r number : ℕ) (bytes : List ℕ) (before : List Happening) (engines : List EngineState)
+    (datagrams : List (ℕ × List ℕ))
     (history : List machine.Entry) (old mid : EngineState) →
-    IsFollowedBy n before engines datagrams history → slice_get engines r ≡ Some old → slice_get datagrams number ≡ Some (r, bytes) →
+    IsFollowedBy n before engines datagrams history → slice_get engines r ≡ Some old →
+    slice_get datagrams number ≡ Some (r, bytes) →
     TakesDatagram old bytes mid →
-    LeavesFollowedOn n before engines datagrams r mid (history ++ told_completion old.sessions.place.endpoint (completion_of mid))
+    LeavesFollowedOn n before engines datagrams r mid
+    (history ++ told_completion old.sessions.place.endpoint (completion_of mid))
 
 -- nothing happens where one is refused
 abbrev pub RefusalsStand : Type 0
 RefusalsStand =
-    (n r number : ℕ) (bytes : List ℕ) (before : List Happening) (engines : List EngineState) (datagrams : List (ℕ × List ℕ))
+    (n r number : ℕ) (bytes : List ℕ) (before : List Happening) (engines : List EngineState)
+    (datagrams : List (ℕ × List ℕ))
     (history : List machine.Entry) (old mid : EngineState) (why : Refusal) →
-    IsFollowedBy n before engines datagrams history → slice_get engines r ≡ Some old → slice_get datagrams number ≡ Some (r, bytes) →
+    IsFollowedBy n before engines datagrams history → slice_get engines r ≡ Some old →
+    slice_get datagrams number ≡ Some (r, bytes) →
     RefusesDatagram old bytes why mid →
     IsFollowedBy n before (slice_set engines r (emptied mid)) (datagrams ++ mid.sessions.out) history
 
 -- nor at a tick
 abbrev pub TicksStand : Type 0
 TicksStand =
-    (n r now : ℕ) (before : List Happening) (engines : List EngineState) (datagrams : List (ℕ × List ℕ)) (history : List machine.Entry)
+    (n r now : ℕ) (before : List Happening) (engines : List EngineState) (datagrams : List (ℕ × List ℕ))
+    (history : List machine.Entry)
     (old mid : EngineState) →
     IsFollowedBy n before engines datagrams history → slice_get engines r ≡ Some old → TakesTick old now mid →
     IsFollowedBy n before (slice_set engines r (emptied mid)) (datagrams ++ mid.sessions.out)
@@ -81,7 +93,8 @@ TicksStand =
 -- a rank is started anew
 abbrev pub RestartsFollowOn : Type 0
 RestartsFollowOn =
-    (n r : ℕ) (before : List Happening) (engines : List EngineState) (datagrams : List (ℕ × List ℕ)) (history : List machine.Entry)
+    (n r : ℕ) (before : List Happening) (engines : List EngineState) (datagrams : List (ℕ × List ℕ))
+    (history : List machine.Entry)
     (old : EngineState) →
     IsFollowedBy n before engines datagrams history → slice_get engines r ≡ Some old →
     old.sessions.place.endpoint.incarnation < last_incarnation →
@@ -89,19 +102,22 @@ RestartsFollowOn =
     (history ++ machine.Restarted r ∷ [])
 
 -- what is seen of engines is seen of this run
-pub record IsSeenBy (n : ℕ) (engines : List EngineState) (history : List machine.Entry) (events : List machine.Event) : Type 0 where
+pub record IsSeenBy (n : ℕ) (engines : List EngineState) (history : List machine.Entry) (events : List machine.Event) :
+    Type 0 where
   pub seen : IsSeenOfMachine n engines history
   pub by : seen.events ≡ events
 
 -- each run that goes with what engines follow tells all of them that some run does
 abbrev pub FollowingIsEachRun : Type 0
 FollowingIsEachRun =
-    (n : ℕ) (happenings : List Happening) (events : List machine.Event) (engines : List EngineState) (datagrams : List (ℕ × List ℕ))
+    (n : ℕ) (happenings : List Happening) (events : List machine.Event) (engines : List EngineState)
+    (datagrams : List (ℕ × List ℕ))
     (history : List machine.Entry) →
-    IsFollowedBy n happenings engines datagrams history → GoesWith n happenings events → IsSeenBy n engines history events
+    IsFollowedBy n happenings engines datagrams history → GoesWith n happenings events →
+    IsSeenBy n engines history events
 
--- one group for each context, of engines that followed one run, each up to some moment of it: of one that is there, and of one that
--- was started anew since
+-- one group for each context, of engines that followed one run, each up to some moment of it: of one that is there, and
+-- of one that was started anew since
 abbrev pub EnginesShareGroups : Type 0
 EnginesShareGroups =
     (n : ℕ) (earlier later : List Happening) (events more : List machine.Event) (engines engines' : List EngineState)

@@ -31,17 +31,19 @@ pub record IsClean (e : EngineState) : Type 0 where
   pub completion : e.core.completion ≡ None
   pub ended : e.ended ≡ None
 
--- An engine holds what the core and the member of its rank's current endpoint hold: of point to point with what its sessions know,
--- under the numbers that these sessions give, whatever serials notices have there
+-- An engine holds what the core and the member of its rank's current endpoint hold: of point to point with what its
+-- sessions know, under the numbers that these sessions give, whatever serials notices have there
 pub record IsHeldBy (w : GroupNetwork) (sessions : Sessions) (r : ℕ) (e : EngineState) : Type 0 where
-  pub queues : (serial : ℕ) → IsShown (announcements_in serial sessions (here w.net r)) e.core e.sessions.known (w.net.core (here w.net r))
+  pub queues : (serial : ℕ) →
+      IsShown (announcements_in serial sessions (here w.net r)) e.core e.sessions.known (w.net.core (here w.net r))
   pub groups : collectives.IsShown (here w.net r) e.groups.collective e.groups.contexts (w.member (here w.net r)) None
   -- all parts of an engine stand at one place
   pub placed : e.core.place ≡ e.sessions.place
 
--- Sessions and datagrams tell of the texts that links carry; those stand for what the network's sessions carry, frames of messages
--- and these messages of collectives; and each engine holds what its rank's current endpoint holds
-pub record IsJoined (n : ℕ) (engines : List EngineState) (datagrams : List (ℕ × List ℕ)) (w : GroupNetwork) : Type 0 where
+-- Sessions and datagrams tell of the texts that links carry; those stand for what the network's sessions carry, frames
+-- of messages and these messages of collectives; and each engine holds what its rank's current endpoint holds
+pub record IsJoined (n : ℕ) (engines : List EngineState) (datagrams : List (ℕ × List ℕ)) (w : GroupNetwork) : Type
+    0 where
   pub texts : LinksOf FrameText
   pub links : AreTrue n (sessions_in engines) datagrams texts w.net.current
   pub sessions : Sessions
@@ -50,7 +52,8 @@ pub record IsJoined (n : ℕ) (engines : List EngineState) (datagrams : List (�
   pub held : (r : ℕ) (e : EngineState) → slice_get engines r ≡ Some e → IsHeldBy w sessions r e
   pub clean : (r : ℕ) (e : EngineState) → slice_get engines r ≡ Some e → IsClean e
   -- the payloads of collectives that an engine keeps are notices of its sessions
-  pub payloads : (r : ℕ) (e : EngineState) → slice_get engines r ≡ Some e → ArePayloads sessions said (here w.net r) e.sessions.known e.payloads
+  pub payloads : (r : ℕ) (e : EngineState) → slice_get engines r ≡ Some e →
+      ArePayloads sessions said (here w.net r) e.sessions.known e.payloads
   -- endpoints that are to come have done nothing
   pub unborn : (d : Endpoint) → w.net.current d.rank < d.incarnation → w.net.core d ≡ new_core d
 
@@ -58,8 +61,10 @@ pub record IsJoined (n : ℕ) (engines : List EngineState) (datagrams : List (�
 abbrev pub network_after : (n : ℕ) → List Happening → GroupNetwork
 network_after n happenings = run n happenings (new_group_network n)
 
--- A list of happenings leads to a network of at most 1,024 ranks that is joined to the world, and of which the same is seen
-pub record IsFollowed (n : ℕ) (engines : List EngineState) (datagrams : List (ℕ × List ℕ)) (history : List Entry) : Type 0 where
+-- A list of happenings leads to a network of at most 1,024 ranks that is joined to the world, and of which the same is
+-- seen
+pub record IsFollowed (n : ℕ) (engines : List EngineState) (datagrams : List (ℕ × List ℕ)) (history : List Entry) : Type
+    0 where
   pub happenings : List Happening
   pub few : n ≤ 1024
   pub joined : IsJoined n engines datagrams (network_after n happenings)

@@ -1,7 +1,8 @@
 -- Runs of the machine of queues and groups whose calls are on world alone, which each rank holds first.
 use Rattle.std.specs.Prelude.{◌≡◌, ℕ, List, map, Some, None}
 use Rattle.std.specs.List.{AllByRecursion}
-use Rattle.perfect_groups.specs.Calls.{ByRequests, Call, Cancel, Improbe, Iprobe, Irecv, Isend, Mrecv, OfRequests, Test, Wait}
+use Rattle.perfect_groups.specs.Calls.{ByRequests, Call, Cancel, Improbe, Iprobe, Irecv, Isend, Mrecv, OfRequests, Test}
+use Rattle.perfect_groups.specs.Calls.{Wait}
 use Rattle.perfect_groups.specs.Events.{Called, Completed, Entry, Event, Restarted}
 use Rattle.perfect_groups.specs.Machine.{machine_opening}
 use Rattle.perfect_groups.specs.Runs.{IsRun, after_run, seen}
@@ -56,8 +57,8 @@ pub record IsRunOfQueues (n : ℕ) (history : List queue_events.Entry) (now : St
   pub tells : queue_runs.seen opening events ≡ history
   pub ends : queue_runs.after_run opening events ≡ now
 
--- While calls are on world alone, the machine of queues and groups allows no history that the machine of perfect queues doesn't
--- allow: its run is one of that machine, which ends in the same queues
+-- While calls are on world alone, the machine of queues and groups allows no history that the machine of perfect queues
+-- doesn't allow: its run is one of that machine, which ends in the same queues
 abbrev pub RunsOnWorldAreOfQueues : Type 0
 RunsOnWorldAreOfQueues =
     (n : ℕ) (events : List Event) (history : List queue_events.Entry) → IsRun n (machine_opening n) events →

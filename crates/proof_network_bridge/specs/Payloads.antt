@@ -13,15 +13,18 @@ use Rattle.rendezvous.specs.Pieces.{piece_bytes}
 use Rattle.vocabulary.specs.Limits.{eager_limit, send_limit}
 use Rattle.vocabulary.specs.declared.endpoint.Endpoint.{Endpoint}
 
--- A session of s with d announced a notice under the number of a transfer; this message is the notice, and is too long for a frame
-pub record IsLargeNotice (sessions : Sessions) (said : Saying) (s d : Endpoint) (transfer : ℕ) (m : CollectiveMessage) : Type 0 where
+-- A session of s with d announced a notice under the number of a transfer; this message is the notice, and is too long
+-- for a frame
+pub record IsLargeNotice (sessions : Sessions) (said : Saying) (s d : Endpoint) (transfer : ℕ) (m : CollectiveMessage) :
+    Type 0 where
   pub number : ℕ
   pub named : slice_get (all_announced sessions s d) transfer ≡ Some (LargeNotice number)
   pub there : slice_get (said s d) number ≡ Some m
   pub large : eager_limit < length (bytes_of_message m)
 
 -- a payload that the endpoint announced is a notice of its session with the endpoint at which its rank is known
-pub record IsAnnouncedPayload (sessions : Sessions) (said : Saying) (own : Endpoint) (known : List ℕ) (a : Announced) : Type 0 where
+pub record IsAnnouncedPayload (sessions : Sessions) (said : Saying) (own : Endpoint) (known : List ℕ)
+    (a : Announced) : Type 0 where
   pub message : CollectiveMessage
   pub notice : IsLargeNotice sessions said own (endpoint_of known a.target) a.transfer message
   pub bytes : a.bytes ≡ bytes_of_message message
@@ -29,7 +32,8 @@ pub record IsAnnouncedPayload (sessions : Sessions) (said : Saying) (own : Endpo
   pub short : length a.bytes ≤ send_limit
 
 -- a payload that comes to it is one of that endpoint's session with it, and its first pieces have come
-pub record IsComingPayload (sessions : Sessions) (said : Saying) (own : Endpoint) (known : List ℕ) (c : Coming) : Type 0 where
+pub record IsComingPayload (sessions : Sessions) (said : Saying) (own : Endpoint) (known : List ℕ)
+    (c : Coming) : Type 0 where
   pub message : CollectiveMessage
   pub notice : IsLargeNotice sessions said (endpoint_of known c.source) own c.transfer message
   pub context : c.context ≡ message.context
@@ -40,7 +44,8 @@ pub record IsComingPayload (sessions : Sessions) (said : Saying) (own : Endpoint
   pub bytes : c.bytes ≡ take (parts * piece_bytes) (bytes_of_message message)
 
 -- each that the endpoint keeps, where it knows the ranks at these incarnations
-pub record ArePayloads (sessions : Sessions) (said : Saying) (own : Endpoint) (known : List ℕ) (p : payloads.State) : Type 0 where
+pub record ArePayloads (sessions : Sessions) (said : Saying) (own : Endpoint) (known : List ℕ)
+    (p : payloads.State) : Type 0 where
   pub announced : AllByRecursion (IsAnnouncedPayload sessions said own known) p.announced
   pub coming : AllByRecursion (IsComingPayload sessions said own known) p.coming
 

@@ -16,19 +16,22 @@ use Rattle.vocabulary.specs.declared.endpoint.Endpoint.{Endpoint}
 use Rattle.proof_network_runs.specs.Runs.{local_by, machine_by}
 
 -- an endpoint's part is what arrived, and behind it what is to come
-local_is : (V : Values) (w : GroupNetwork) (q : State) (x : Endpoint) → Joined V q (views V w.net) w.net.link w.net.current → q.at x ≡ local_by V w.net x
+local_is : (V : Values) (w : GroupNetwork) (q : State) (x : Endpoint) →
+    Joined V q (views V w.net) w.net.link w.net.current → q.at x ≡ local_by V w.net x
 local_is V w q x j =
     let sim : Sim (q.at x) (views V w.net x) (coming V (λ y. w.net.link y x)) = j.each x in
     let queues : (q.at x).queue ≡ (local_by V w.net x).queue = fun_ext (λ s. fun_ext (λ c. sim.queue s c)) in
     λ t. record { requests = sim.requests t; blocked = sim.blocked t; known = sim.known t; queue = queues t }
 
 -- the whole state is the network's
-pub joined_is : (V : Values) (w : GroupNetwork) (m : Machine) → Joined V m.queues (views V w.net) w.net.link w.net.current → m.groups ≡ groups_in w → m ≡ machine_by V w
+pub joined_is : (V : Values) (w : GroupNetwork) (m : Machine) →
+    Joined V m.queues (views V w.net) w.net.link w.net.current → m.groups ≡ groups_in w → m ≡ machine_by V w
 joined_is V w m j groups =
     let at : m.queues.at ≡ local_by V w.net = fun_ext (λ x. local_is V w m.queues x j) in
     λ t. record { queues = record { at = at t; current = j.now t }; groups = groups t }
 
 -- so a run that is seen of a network ends there
-pub seen_ends : (V : Values) (n : ℕ) (history : List Entry) (w : GroupNetwork) → (s : NetworkSeen V n history (views V w.net) w.net.link w.net.current (groups_in w)) →
+pub seen_ends : (V : Values) (n : ℕ) (history : List Entry) (w : GroupNetwork) →
+    (s : NetworkSeen V n history (views V w.net) w.net.link w.net.current (groups_in w)) →
     after_run (machine_opening n) s.events ≡ machine_by V w
 seen_ends V n history w s = joined_is V w (after_run (machine_opening n) s.events) s.joined s.groups_are

@@ -8,7 +8,8 @@ use Rattle.perfect_groups.specs.Runs.{IsRun, after_run, seen}
 use Rattle.perfect_groups.specs.Soundness.{IsAmong, IsReal}
 use Rattle.perfect_queues.specs.Messages.{Message}
 use Rattle.perfect_queues.specs.State.{Local}
-use Rattle.proof_group_network.specs.Network.{Ask, GroupNetwork, Happening, IsRunOfGroups, Restarts, Word, groups_in, new_group_network, run}
+use Rattle.proof_group_network.specs.Network.{Ask, GroupNetwork, Happening, IsRunOfGroups, Restarts, Word, groups_in}
+use Rattle.proof_group_network.specs.Network.{new_group_network, run}
 use Rattle.proof_pure_network.specs.Core.{view}
 use Rattle.proof_pure_network.specs.Frames.{Values, message}
 use Rattle.proof_pure_network.specs.Links.{in_flight}
@@ -51,7 +52,8 @@ machine_in w = machine_by (values_in w.net) w
 
 -- RUNS THAT GO WITH HAPPENINGS
 
--- a run of the machine of n ranks goes with these happenings: as much is seen of both, and it leads to what their network stands for
+-- a run of the machine of n ranks goes with these happenings: as much is seen of both, and it leads to what their
+-- network stands for
 pub record GoesWith (n : ℕ) (happenings : List Happening) (events : List Event) : Type 0 where
   pub allowed : IsRun n (machine_opening n) events
   pub tells : seen (machine_opening n) events ≡ (after n happenings).history
@@ -81,7 +83,8 @@ pub record GoesOnWith (n : ℕ) (happenings : List Happening) (events : List Eve
 -- whatever run goes with some happenings, it goes on with one more, by events at the endpoint that was at its rank
 abbrev pub HappeningsGoOn : Type 0
 HappeningsGoOn =
-    (n : ℕ) (happenings : List Happening) (h : Happening) (events : List Event) → n ≤ 65536 → GoesWith n happenings events →
+    (n : ℕ) (happenings : List Happening) (h : Happening) (events : List Event) → n ≤ 65536 →
+    GoesWith n happenings events →
     GoesOnWith n (happenings ++ h ∷ []) events (here (after n happenings).net (rank_of h))
 
 -- some run goes with these happenings
@@ -105,10 +108,12 @@ RunsShowAll =
     IsShownBy n (after n happenings) events
 
 -- one group for each context: of two runs that go with happenings, of which one goes on from the other, whoever holds a
--- communicator at the end of the one, and whoever holds one at the end of the other, where their contexts are one they are one
+-- communicator at the end of the one, and whoever holds one at the end of the other, where their contexts are one they
+-- are one
 abbrev pub OneGroupAlongRuns : Type 0
 OneGroupAlongRuns =
-    (n : ℕ) (happenings later : List Happening) (events more : List Event) (x y : Endpoint) (a b : Communicator) → n ≤ 65536 →
+    (n : ℕ) (happenings later : List Happening) (events more : List Event) (x y : Endpoint) (a b : Communicator) →
+    n ≤ 65536 →
     GoesWith n happenings events → GoesWith n later (events ++ more) → IsReal x → IsReal y →
     IsAmong a ((after n happenings).member x).membership.held → IsAmong b ((after n later).member y).membership.held →
     a.context ≡ b.context → a ≡ b

@@ -1,5 +1,6 @@
 -- When the machine's state is what accounts say.
-use Rattle.std.specs.Prelude.{◌≡◌, ℕ, ◌+◌, Bool, true, false, ◌&&◌, List, [], ◌∷◌, ◌++◌, length, Option, Some, None, if◌then◌else◌, ◌==◌, slice_get}
+use Rattle.std.specs.Prelude.{◌≡◌, ℕ, ◌+◌, Bool, true, false, ◌&&◌, List, [], ◌∷◌, ◌++◌, length, Option, Some, None}
+use Rattle.std.specs.Prelude.{if◌then◌else◌, ◌==◌, slice_get}
 use Rattle.std.specs.List.{AllByRecursion}
 use Rattle.perfect_groups.specs.Calls.{Call, Irecv, Isend, Wait, Test, Cancel, Iprobe, Improbe, Mrecv, Enter, Inquire}
 use Rattle.perfect_groups.specs.Collectives.{Part}
@@ -14,7 +15,8 @@ use Rattle.vocabulary.specs.Endpoints.{is_same}
 use Rattle.vocabulary.specs.declared.endpoint.Endpoint.{Endpoint}
 use Rattle.vocabulary.specs.declared.envelope.Source.{Source}
 use Rattle.vocabulary.specs.declared.envelope.Source.TheVariants.{Any, Rank, Null}
-use Rattle.one_meaning.specs.Accounts.{Account, Accounts, Entered, ForRequests, InCollective, Waiting, awaited_of, entered_by, gone, in_context, membership_of, part_by, sent_to}
+use Rattle.one_meaning.specs.Accounts.{Account, Accounts, Entered, ForRequests, InCollective, Waiting, awaited_of}
+use Rattle.one_meaning.specs.Accounts.{entered_by, gone, in_context, membership_of, part_by, sent_to}
 use Rattle.one_meaning.specs.PairLaws.{IsPlain, queues_of}
 use Rattle.one_meaning.specs.Pairs.{Queues, resolved}
 
@@ -39,8 +41,9 @@ IsNotAny Any = ⊥
 IsNotAny (Rank r) = Unit {0}
 IsNotAny Null = Unit {0}
 
--- The calls that have one meaning: no receive from any rank (3.2.4), no test and no wait for the first of several (3.7.3, 3.7.5), no
--- probe and no receive of what a probe took out (3.8.1 to 3.8.3), and no cancel (3.8.4). A receive may be of any tag
+-- The calls that have one meaning: no receive from any rank (3.2.4), no test and no wait for the first of several
+-- (3.7.3, 3.7.5), no probe and no receive of what a probe took out (3.8.1 to 3.8.3), and no cancel (3.8.4). A receive
+-- may be of any tag
 abbrev pub IsCovered : Call → Type 0
 IsCovered (Isend mode comm to tag from) = Unit {0}
 IsCovered (Irecv comm source tag into) = IsNotAny source
@@ -53,8 +56,8 @@ IsCovered (Mrecv message into) = ⊥
 IsCovered (Enter comm c) = Unit {0}
 IsCovered (Inquire comm q) = Unit {0}
 
--- Rank r's part of the queues is what its account says, where these messages were sent to it: whatever is still sent and posted,
--- requests will become what they are to become by the account
+-- Rank r's part of the queues is what its account says, where these messages were sent to it: whatever is still sent
+-- and posted, requests will become what they are to become by the account
 pub record HasQueues (r : ℕ) (l : Local) (a : Account) (q : Queues) : Type 0 where
   pub known : l.known ≡ knows_at_first (first_endpoint r)
   pub blocked : l.blocked ≡ awaited_of a.waiting
@@ -62,7 +65,8 @@ pub record HasQueues (r : ℕ) (l : Local) (a : Account) (q : Queues) : Type 0 w
   pub count : length l.requests ≡ length a.started
   pub plain : IsPlain l
   pub pairs : (coming : Queues) (more : List Request) →
-      resolved (queues_of l coming) (l.requests ++ more) ≡ all_changed gone (resolved (λ s c. q s c ++ coming s c) (a.started ++ more)) a.used
+      resolved (queues_of l coming) (l.requests ++ more) ≡
+      all_changed gone (resolved (λ s c. q s c ++ coming s c) (a.started ++ more)) a.used
 
 -- all ranks' are, and none was started anew
 pub record HaveQueues (all : Accounts) (s : State) : Type 0 where
@@ -103,10 +107,12 @@ ahead made e (Some (InCollective c k p)) =
     ahead_if (is_same e (first_of c.members e) && is_making p.record_is.kind) (count_made (made c.context k))
 
 -- a rank that is in a collective has entered it so, when the serial of its next context was this
-pub record IsInsideOf (n : ℕ) (all : Accounts) (g : Groups) (x : ℕ) (i : ℕ) (c : Communicator) (k : ℕ) (p : Part) : Type 0 where
+pub record IsInsideOf (n : ℕ) (all : Accounts) (g : Groups) (x : ℕ) (i : ℕ) (c : Communicator) (k : ℕ)
+    (p : Part) : Type 0 where
   pub there : IsThere n g.made c
   pub filled : IsFilled c.members
-  pub entry : entered_by all c.context k (first_endpoint x) ≡ Some (record { context = c.context; part = p; serial = i })
+  pub entry : entered_by all c.context k (first_endpoint x) ≡
+      Some (record { context = c.context; part = p; serial = i })
 
 -- the same of a rank that waits for this
 abbrev pub IsInsideBy : (n : ℕ) → Accounts → Groups → (x i : ℕ) → Option Waiting → Type 0
@@ -132,11 +138,13 @@ pub record WereMade (n : ℕ) (all : Accounts) (g : Groups) (c k : ℕ) (cs : Li
   pub made_is : cs ≡ numbered maker entry.serial (new_groups part.record_is.kind comm.members parts)
 
 -- a collective that makes communicators has made them once somebody left it
-pub data IsMadeOrPresent (made : (context number : ℕ) → Option (List Communicator)) (c k : ℕ) (w : Option Waiting) : Type 0 where
+pub data IsMadeOrPresent (made : (context number : ℕ) → Option (List Communicator)) (c k : ℕ)
+    (w : Option Waiting) : Type 0 where
   WasMade : (cs : List Communicator) → made c k ≡ Some cs → IsMadeOrPresent made c k w
   IsPresent : (d : Communicator) (p : Part) → w ≡ Some (InCollective d k p) → d.context ≡ c → IsMadeOrPresent made c k w
 
--- All ranks' communicators and collectives are what their accounts say; rank r was given this ending in the present event, or none
+-- All ranks' communicators and collectives are what their accounts say; rank r was given this ending in the present
+-- event, or none
 pub record HaveGroups (n : ℕ) (all : Accounts) (g : Groups) (r : ℕ) (given : Option Ending) : Type 0 where
   pub member : (x : ℕ) → g.of (first_endpoint x) ≡ member_with (all x) (given_at r given x)
   pub free : (o : Ending) → given ≡ Some o → (all r).waiting ≡ None
@@ -144,5 +152,6 @@ pub record HaveGroups (n : ℕ) (all : Accounts) (g : Groups) (r : ℕ) (given :
   pub filled : (x : ℕ) → AllByRecursion (λ c. IsFilled c.members) (all x).held
   pub inside : (x : ℕ) → IsInsideBy n all g x (all x).serial (all x).waiting
   pub were_made : (c k : ℕ) (cs : List Communicator) → g.made c k ≡ Some cs → WereMade n all g c k cs
-  pub made_all : (x c k : ℕ) (e : Entered) → slice_get (in_context c (all x).entered) k ≡ Some e → is_making e.part.record_is.kind ≡ true → IsMadeOrPresent g.made c k (all x).waiting
+  pub made_all : (x c k : ℕ) (e : Entered) → slice_get (in_context c (all x).entered) k ≡ Some e →
+      is_making e.part.record_is.kind ≡ true → IsMadeOrPresent g.made c k (all x).waiting
   pub serial : (x : ℕ) → g.serial (first_endpoint x) ≡ (all x).serial + ahead g.made (first_endpoint x) (all x).waiting

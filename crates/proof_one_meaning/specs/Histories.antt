@@ -55,9 +55,11 @@ after_all all (v ∷ vs) = after_all (after_seen all v) vs
 
 -- the reply to a call is the one by accounts: it is given at once; or the call blocks; or its answer is ready
 pub data IsRepliedSo (all : Accounts) (r : ℕ) (call : Call) (reply : Reply) : Type 0 where
-  AtOnce : at_once r (all r) call ≡ Some reply → has_heard (has_called all r call) r reply ≡ has_called all r call → IsRepliedSo all r call reply
+  AtOnce : at_once r (all r) call ≡ Some reply → has_heard (has_called all r call) r reply ≡ has_called all r call →
+      IsRepliedSo all r call reply
   Blocks : at_once r (all r) call ≡ None → reply ≡ OfRequests Blocked → IsRepliedSo all r call reply
-  IsReady : at_once r (all r) call ≡ None → (t : Answered) → answer_at (has_called all r call) r ≡ Some t → reply ≡ as_reply t.0 → IsRepliedSo all r call reply
+  IsReady : at_once r (all r) call ≡ None → (t : Answered) → answer_at (has_called all r call) r ≡ Some t →
+      reply ≡ as_reply t.0 → IsRepliedSo all r call reply
 
 -- a call that is taken: its caller waits for nothing, and no rule refuses it
 pub record IsTakenSo (all : Accounts) (e : Endpoint) (call : Call) (reply : Reply) : Type 0 where
@@ -105,20 +107,24 @@ IsFit all (Called e call reply) = judged e.rank (all e.rank) call ≡ None
 IsFit all (Completed e a) = Unit {0}
 IsFit all (Restarted r) = Unit {0}
 
--- no two records of a collective differ once each call was made, where it has no fault, nor behind each entry, where accounts give
--- that
+-- no two records of a collective differ once each call was made, where it has no fault, nor behind each entry, where
+-- accounts give that
 abbrev pub AgreeAlong : Accounts → List Entry → Type 0
 AgreeAlong all [] = Unit {0}
 AgreeAlong all (v ∷ vs) =
-    (IsFit all v → RecordsAgree (once_called all v)) × (Justifies all v → RecordsAgree (after_seen all v) × AgreeAlong (after_seen all v) vs)
+    (IsFit all v → RecordsAgree (once_called all v)) ×
+    (Justifies all v → RecordsAgree (after_seen all v) × AgreeAlong (after_seen all v) vs)
 
--- Whatever run it is: where no rank is started anew, all calls have one meaning, and no two records of a collective differ, each entry of
--- its history is one that accounts give; and in the state that it has come to, each call has the fault that it has by accounts
+-- Whatever run it is: where no rank is started anew, all calls have one meaning, and no two records of a collective
+-- differ, each entry of its history is one that accounts give; and in the state that it has come to, each call has the
+-- fault that it has by accounts
 abbrev pub RunsAreJustified : Type 0
 RunsAreJustified =
-    (n : ℕ) (events : List Event) → n ≤ 65536 → 0 < n → IsRun n (machine_opening n) events → AreCovered (seen (machine_opening n) events) → RecordsAgree (opened n) →
+    (n : ℕ) (events : List Event) → n ≤ 65536 → 0 < n → IsRun n (machine_opening n) events →
+    AreCovered (seen (machine_opening n) events) → RecordsAgree (opened n) →
     AgreeAlong (opened n) (seen (machine_opening n) events) →
     AreJustified (opened n) (seen (machine_opening n) events)
     × ((r : ℕ) (call : Call) →
-    fault (first_endpoint r) ((after_run (machine_opening n) events).queues.at (first_endpoint r)) ((after_run (machine_opening n) events).groups.of (first_endpoint r)) call
+    fault (first_endpoint r) ((after_run (machine_opening n) events).queues.at (first_endpoint r))
+    ((after_run (machine_opening n) events).groups.of (first_endpoint r)) call
     ≡ judged r (after_all (opened n) (seen (machine_opening n) events) r) call)

@@ -1,5 +1,5 @@
--- How many messages of an endpoint name one of its own sends: of those that wait, and of those that were taken out and aren't
--- received.
+-- How many messages of an endpoint name one of its own sends: of those that wait, and of those that were taken out and
+-- aren't received.
 use Rattle.std.specs.Prelude.{◌≤◌, ℕ, ◌+◌, Bool, true, false, List, [], ◌∷◌, Some, None, ◌==◌}
 use Rattle.proof_pure_network.specs.Core.{Core}
 use Rattle.proof_pure_network.specs.Held.{Body, Held, Own, Part, Whole}

@@ -1,7 +1,9 @@
 -- What one rank does with a call, a word of another endpoint, and a frame that its link hands up.
-use Rattle.std.specs.Prelude.{ℕ, Bool, true, false, not, List, [], ◌∷◌, ◌++◌, length, map, Option, Some, None, if◌then◌else◌, nat_lt, slice_get, filter, option_and_then}
+use Rattle.std.specs.Prelude.{ℕ, Bool, true, false, not, List, [], ◌∷◌, ◌++◌, length, map, Option, Some, None}
+use Rattle.std.specs.Prelude.{if◌then◌else◌, nat_lt, slice_get, filter, option_and_then}
 use Rattle.perfect_queues.specs.Buffers.{Handed, data_of}
-use Rattle.perfect_queues.specs.Calls.{Call, Cancel, Improbe, Iprobe, Irecv, Isend, Mrecv, Test, Wait, is_eager, receiver}
+use Rattle.perfect_queues.specs.Calls.{Call, Cancel, Improbe, Iprobe, Irecv, Isend, Mrecv, Test, Wait, is_eager}
+use Rattle.perfect_queues.specs.Calls.{receiver}
 use Rattle.perfect_queues.specs.Completions.{Answer, One, Waits, answer_to, completion}
 use Rattle.vocabulary.specs.Endpoints.{is_former, is_same}
 use Rattle.vocabulary.specs.declared.mode.Mode.{Mode}
@@ -35,20 +37,23 @@ pushed_own core d = with_jobs core (core.jobs ++ Unmatched d ∷ [])
 abbrev pub own_waiting : Endpoint → (context tag : ℕ) → BasicType → List ℕ → (request : ℕ) → Held
 own_waiting e c tag basic values k = record { sender = e; context = c; tag = tag; basic = basic; body = Own k values }
 
--- a send: to the endpoint itself it comes at once; to another one, one that needn't wait for its match goes out whole; of one
--- that does the envelope goes out, and the values wait for the answer
+-- a send: to the endpoint itself it comes at once; to another one, one that needn't wait for its match goes out whole;
+-- of one that does the envelope goes out, and the values wait for the answer
 abbrev pub sends : Endpoint → Core → Endpoint → Bool → (context tag : ℕ) → BasicType → List ℕ → Bool → Effect
 sends e core d true c tag basic values true = arrived (pushed_over core) (own_message e c tag basic values)
-sends e core d true c tag basic values false = arrived (pushed_own core d) (own_waiting e c tag basic values (length core.jobs))
+sends e core d true c tag basic values false =
+    arrived (pushed_own core d) (own_waiting e c tag basic values (length core.jobs))
 sends e core d false c tag basic values true = effect (pushed_over core) ((d, Eager c tag basic values) ∷ [])
 sends e core d false c tag basic values false =
-    effect (with_jobs core (core.jobs ++ Offering d basic values ∷ [])) ((d, Rts c tag basic (length core.jobs) (length values)) ∷ [])
+    effect (with_jobs core (core.jobs ++ Offering d basic values ∷ []))
+    ((d, Rts c tag basic (length core.jobs) (length values)) ∷ [])
 
 -- a send to a rank, at the incarnation that is known; one to the null process is over at once (MPI 3.1, 3.11), and a
 -- wildcard, which is refused, is said to do no more
 abbrev pub sends_to : Mode → Endpoint → Core → (context : ℕ) → Source → (tag : Option ℕ) → BasicType → List ℕ → Effect
 sends_to mode e core c (Rank to) (Some tag) basic values =
-    sends e core (receiver core.known to) (is_same (receiver core.known to) e) c tag basic values (is_eager mode e (receiver core.known to) basic values)
+    sends e core (receiver core.known to) (is_same (receiver core.known to) e) c tag basic values
+    (is_eager mode e (receiver core.known to) basic values)
 sends_to mode e core c _ _ basic values = effect (pushed_over core) []
 
 -- the requests with these serials are closed, since their outcomes were answered

@@ -1,5 +1,5 @@
--- Examples of happenings: a message is sent, a word of its sender brings nothing of it, the next one brings it, and a further
--- one brings nothing more; and a synchronous send, whose message is taken out before it is received.
+-- Examples of happenings: a message is sent, a word of its sender brings nothing of it, the next one brings it, and a
+-- further one brings nothing more; and a synchronous send, whose message is taken out before it is received.
 use Rattle.std.specs.Prelude.{List, [], ◌∷◌, Some, None}
 use Rattle.perfect_queues.specs.Calls.{Blocked, Improbe, Isend, Irecv, Mrecv, Wait}
 use Rattle.perfect_queues.specs.Completions.{ForOne, One}
@@ -24,7 +24,8 @@ late_and_repeated =
     Word rank_0 1 1 ∷
     Ask 1 (Wait (One (Some 0))) ∷ []
 
--- rank 0 sends synchronously and waits; rank 1 takes the message out, receives it, and waits; the answer and the data come
+-- rank 0 sends synchronously and waits; rank 1 takes the message out, receives it, and waits; the answer and the data
+-- come
 abbrev pub taken_and_awaited : List Happening
 taken_and_awaited =
     Ask 0 (Isend Synchronous world (Rank 1) (Some 7) (numbers (1 ∷ 2 ∷ 3 ∷ []))) ∷

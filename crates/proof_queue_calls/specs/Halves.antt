@@ -1,12 +1,15 @@
--- How the fault of a call is that of its call of the queues, with what only its communicator says (MPI 3.1, 3.7 and 6.2).
+-- How the fault of a call is that of its call of the queues, with what only its communicator says (MPI 3.1, 3.7 and
+-- 6.2).
 use Rattle.std.specs.Prelude.{◌≡◌, ℕ, ◌<◌, true, false, ◌||◌, [], ◌∷◌, Option, Some, slice_get}
 use Rattle.vocabulary.specs.declared.endpoint.Endpoint.{Endpoint}
 use Rattle.perfect_queues.specs.Calls as queues
-use Rattle.perfect_queues.specs.Refusals.{Standing, first_fault, is_count_wrong, is_rank_wrong, is_request_wrong, is_tag_wrong, is_type_wrong, standing}
+use Rattle.perfect_queues.specs.Refusals.{Standing, first_fault, is_count_wrong, is_rank_wrong, is_request_wrong}
+use Rattle.perfect_queues.specs.Refusals.{is_tag_wrong, is_type_wrong, standing}
 use Rattle.perfect_queues.specs.State.{Local}
 use Rattle.perfect_groups.specs.Calls.{Call, held_at, queue_call}
 use Rattle.perfect_groups.specs.Communicators.{Communicator, group_of}
-use Rattle.perfect_groups.specs.Faults.{fault, is_blocked, wrong_communicator, wrong_count, wrong_incarnation, wrong_operation, wrong_rank, wrong_request, wrong_root, wrong_tag, wrong_type}
+use Rattle.perfect_groups.specs.Faults.{fault, is_blocked, wrong_communicator, wrong_count, wrong_incarnation}
+use Rattle.perfect_groups.specs.Faults.{wrong_operation, wrong_rank, wrong_request, wrong_root, wrong_tag, wrong_type}
 use Rattle.perfect_groups.specs.Membership.{Membership}
 
 -- the members of each communicator are ranks of world, of which there are n
@@ -14,8 +17,8 @@ abbrev pub AreInWorld : (n : ℕ) → Membership → Type 0
 AreInWorld n m =
     (comm : Option ℕ) (c : Communicator) (r x : ℕ) → held_at m comm ≡ Some c → slice_get (group_of c) r ≡ Some x → x < n
 
--- a call is judged by its requests and by what it hands in as its call of the queues; it is on a communicator that the caller
--- holds, and has no root and no operation
+-- a call is judged by its requests and by what it hands in as its call of the queues; it is on a communicator that the
+-- caller holds, and has no root and no operation
 pub record IsJudgedAlike (e : Endpoint) (m : Membership) (c : Call) (q : queues.Call) : Type 0 where
   pub requests : (f : ℕ → Standing) → wrong_request f c ≡ is_request_wrong f q
   pub communicator : wrong_communicator m c ≡ false
@@ -29,10 +32,11 @@ pub record IsJudgedAlike (e : Endpoint) (m : Membership) (c : Call) (q : queues.
 
 -- whatever the call, if it has a call of the queues
 abbrev pub CallsAreJudgedAlike : Type 0
-CallsAreJudgedAlike = (e : Endpoint) (m : Membership) (c : Call) (q : queues.Call) → queue_call m c ≡ Some q → IsJudgedAlike e m c q
+CallsAreJudgedAlike = (e : Endpoint) (m : Membership) (c : Call) (q : queues.Call) → queue_call m c ≡ Some q →
+    IsJudgedAlike e m c q
 
--- The first fault that both halves find: the queues' rules on requests, then theirs on what is handed in, and then the groups' rules
--- on the rank and on the member of that rank
+-- The first fault that both halves find: the queues' rules on requests, then theirs on what is handed in, and then the
+-- groups' rules on the rank and on the member of that rank
 abbrev pub fault_by_halves : (n : ℕ) → Local → Membership → Call → queues.Call → Option ℕ
 fault_by_halves n l m c q =
     first_fault (
@@ -47,5 +51,6 @@ fault_by_halves n l m c q =
 -- It is the call's fault
 abbrev pub FaultIsOfBothHalves : Type 0
 FaultIsOfBothHalves =
-    (n : ℕ) (e : Endpoint) (l : Local) (m : Membership) (c : Call) (q : queues.Call) → AreInWorld n m → queue_call m c ≡ Some q →
+    (n : ℕ) (e : Endpoint) (l : Local) (m : Membership) (c : Call) (q : queues.Call) → AreInWorld n m →
+    queue_call m c ≡ Some q →
     fault e l m c ≡ fault_by_halves n l m c q

@@ -1,5 +1,5 @@
-//! A call of the machine with groups is judged by two halves: by queues, which know contexts and ranks of world, and by groups,
-//! which know communicators.
+//! A call of the machine with groups is judged by two halves: by queues, which know contexts and ranks of world, and by
+//! groups, which know communicators.
 #![tactic(auto)]
 
 mod law;

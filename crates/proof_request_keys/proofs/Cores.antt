@@ -1,5 +1,7 @@
--- What is so of the key and the serial of each request of a core stays so through its events, where it is so of what they start.
-use Rattle.std.proofs.Common.{◌≡◌, ◌≤◌, ◌+◌, ℕ, Bool, true, false, ◌==◌, List, Option, Some, None, refl, sym, ap, subst, ◌∙◌, arith}
+-- What is so of the key and the serial of each request of a core stays so through its events, where it is so of what
+-- they start.
+use Rattle.std.proofs.Common.{◌≡◌, ◌≤◌, ◌+◌, ℕ, Bool, true, false, ◌==◌, List, Option, Some, None, refl, sym, ap, subst}
+use Rattle.std.proofs.Common.{◌∙◌, arith}
 use Rattle.std.proofs.lemmas.Option.{same_Some}
 use Rattle.datatypes.specs.Contents.{Contents}
 use Rattle.match_queues.specs.Arrivals.{arrival_of}
@@ -12,7 +14,8 @@ use Rattle.requests.specs.declared.awaited_requests.Awaited.{Awaited}
 use Rattle.requests.specs.declared.awaited_requests.Awaited.TheVariants.{AllOf, AnyOf, One}
 use Rattle.requests.specs.declared.region.Region.{Region}
 use Rattle.requests.specs.declared.table.RequestProgress.{RequestProgress}
-use Rattle.requests.specs.declared.table.RequestProgress.TheVariants.{Receiving, Collecting, Offering, TakenOut, Finished}
+use Rattle.requests.specs.declared.table.RequestProgress.TheVariants.{Receiving, Collecting, Offering, TakenOut}
+use Rattle.requests.specs.declared.table.RequestProgress.TheVariants.{Finished}
 use Rattle.requests.specs.declared.table.Request.{Request}
 use Rattle.point_to_point_calls.specs.Calls.{Starts}
 use Rattle.point_to_point_calls.specs.Hearing.{NewsText, announced_of, message_of}
@@ -32,12 +35,14 @@ use Rattle.point_to_point.specs.Arrivals.{after_any, after_frame, after_news, ke
 use Rattle.point_to_point.specs.Messages.{Receives, Searches, SearchesFrom, TakesOut, found_for, own_send_of, received}
 use Rattle.point_to_point.specs.Receiving.{IsPosting, IsReceiving, IsReceivingNothing, ReceivesFrom}
 use Rattle.point_to_point.specs.Sending.{IsSending, after_arrival, arrived_at_itself, arrived_if, waiting_of}
-use Rattle.point_to_point.specs.Waiting.{Cancels, Tests, TestsBy, Waits, WaitsBy, answered_by, cancelled, cancelled_at, after_wake, woken_by}
+use Rattle.point_to_point.specs.Waiting.{Cancels, Tests, TestsBy, Waits, WaitsBy, answered_by, cancelled, cancelled_at}
+use Rattle.point_to_point.specs.Waiting.{after_wake, woken_by}
 use Rattle.vocabulary.specs.declared.endpoint.Endpoint.{Endpoint}
 use Rattle.vocabulary.specs.declared.envelope.Source.{Source}
 use Rattle.vocabulary.specs.declared.envelope.Source.TheVariants as sources
 use Rattle.observation.specs.Requests.{message_given}
-use Rattle.proof_request_keys.proofs.Tables.{All, arrival_stays, cancel_stays, delivered_stays, own_sent_stays, receive_stays, replaces_stay, sent_stays, start_stays, use_stays}
+use Rattle.proof_request_keys.proofs.Tables.{All, arrival_stays, cancel_stays, delivered_stays, own_sent_stays}
+use Rattle.proof_request_keys.proofs.Tables.{receive_stays, replaces_stay, sent_stays, start_stays, use_stays}
 
 -- ---- events that start nothing
 
@@ -49,10 +54,21 @@ pub record StaysIn (old new : CoreState) : Type 1 where
 
 pub same_stays : (old new : CoreState) → new ≡ old → StaysIn old new
 same_stays old new same =
-    record { all = λ P all. subst (λ (c : CoreState). All P c.slots) (sym same) all; serial = ap (λ (c : CoreState). c.serial) same; place = ap (λ (c : CoreState). c.place) same }
+    record {
+      all = λ P all. subst (λ (c : CoreState). All P c.slots) (sym same) all;
+      serial =
+          ap (λ (c : CoreState). c.serial) same;
+      place = ap (λ (c : CoreState). c.place) same;
+    }
 
 pub then_stays : (a b c : CoreState) → StaysIn a b → StaysIn b c → StaysIn a c
-then_stays a b c first second = record { all = λ P all. second.all P (first.all P all); serial = second.serial ∙ first.serial; place = second.place ∙ first.place }
+then_stays a b c first second =
+    record {
+      all = λ P all. second.all P (first.all P all);
+      serial = second.serial ∙ first.serial;
+      place =
+          second.place ∙ first.place;
+    }
 
 pub as_stays : (old mid new : CoreState) → new ≡ mid → StaysIn old mid → StaysIn old new
 as_stays old mid new same stays = then_stays old mid new stays (same_stays mid new same)
@@ -60,9 +76,15 @@ as_stays old mid new same stays = then_stays old mid new stays (same_stays mid n
 -- a message came
 arrived_stays : (c : CoreState) (m : Message) → StaysIn c (after_arrival c m)
 unfolding after_arrival
-arrived_stays c m = record { all = λ P all. arrival_stays P c.slots (arrival_of c.queues m) all; serial = refl; place = refl }
+arrived_stays c m = record {
+  all = λ P all. arrival_stays P c.slots (arrival_of c.queues m) all;
+  serial = refl;
+  place =
+      refl;
+}
 
-itself_stays : (c : CoreState) (o : Option Destination) (waiting : Option Request) (elements : Contents) → StaysIn c (arrived_at_itself c o waiting elements)
+itself_stays : (c : CoreState) (o : Option Destination) (waiting : Option Request) (elements : Contents) →
+    StaysIn c (arrived_at_itself c o waiting elements)
 itself_stays c None waiting elements = same_stays c c refl
 itself_stays c (Some d) waiting elements = go (d.rank == c.place.endpoint.rank)
   where
@@ -73,11 +95,17 @@ itself_stays c (Some d) waiting elements = go (d.rank == c.place.endpoint.rank)
 -- what was heard
 taught_stays : (lesson : Bool) (c : CoreState) (s : Endpoint) → StaysIn c (after_lesson lesson c s)
 taught_stays false c s = same_stays c c refl
-taught_stays true c s = record { all = λ P all. replaces_stay P c.slots (keys_ending c s) all; serial = refl; place = refl }
+taught_stays true c s = record {
+  all = λ P all. replaces_stay P c.slots (keys_ending c s) all;
+  serial = refl;
+  place =
+      refl;
+}
 
 frame_stays : (c : CoreState) (s : Endpoint) (f : FrameText) → StaysIn c (after_frame c s f)
 frame_stays c s (EagerFrame t) = arrived_stays c (message_of s t)
-frame_stays c s (RequestFrame t) = then_stays c _ _ (record { all = λ P all. all; serial = refl; place = refl }) (arrived_stays _ (announced_of s t))
+frame_stays c s (RequestFrame t) =
+    then_stays c _ _ (record { all = λ P all. all; serial = refl; place = refl }) (arrived_stays _ (announced_of s t))
 frame_stays c s (ClearFrame t) = record { all = λ P all. sent_stays P c.slots _ all; serial = refl; place = refl }
 frame_stays c s (DataFrame t) = record { all = λ P all. delivered_stays P c.slots _ all; serial = refl; place = refl }
 
@@ -86,7 +114,8 @@ any_stays c s None = same_stays c c refl
 any_stays c s (Some f) = frame_stays c s f
 
 pub news_stay : (c : CoreState) (n : NewsText) → StaysIn c (after_news c n)
-news_stay c n = then_stays c (after_lesson n.lesson c n.source) (after_news c n) (taught_stays n.lesson c n.source) (any_stays (after_lesson n.lesson c n.source) n.source n.frame)
+news_stay c n = then_stays c (after_lesson n.lesson c n.source) (after_news c n) (taught_stays n.lesson c n.source)
+    (any_stays (after_lesson n.lesson c n.source) n.source n.frame)
 
 -- the blocked call is answered
 woken_by_stays : (c : CoreState) (o : Option Awaited) → StaysIn c (woken_by c o)
@@ -120,32 +149,44 @@ pub record IsNext (old new : CoreState) (q : Request) : Type 0 where
 
 -- A call leaves what is so of each request, where it is so of the one that it starts
 pub record GoesOn (old : CoreState) (reply : CoreReply) (new : CoreState) : Type 1 where
-  pub all : (P : ℕ → ℕ → Type 0) → ((q : Request) → request_in reply ≡ Some q → P q.key old.serial) → All P old.slots → All P new.slots
+  pub all : (P : ℕ → ℕ → Type 0) → ((q : Request) → request_in reply ≡ Some q → P q.key old.serial) → All P old.slots →
+      All P new.slots
   pub grows : old.serial ≤ new.serial
   pub next : (q : Request) → request_in reply ≡ Some q → IsNext old new q
   pub place : new.place ≡ old.place
 
 -- what starts nothing
-stays_on : (old new : CoreState) (reply : CoreReply) → ((q : Request) → request_in reply ≡ Some q → ⊥) → StaysIn old new → GoesOn old reply new
+stays_on : (old new : CoreState) (reply : CoreReply) → ((q : Request) → request_in reply ≡ Some q → ⊥) →
+    StaysIn old new → GoesOn old reply new
 stays_on old new reply none stays =
     let same : new.serial ≡ old.serial = stays.serial in
-    record { all = λ P start all. stays.all P all; grows = omega (arith, same); next = λ q is. absurd (none q is); place = stays.place }
+    record {
+      all = λ P start all. stays.all P all;
+      grows = omega (arith, same);
+      next =
+          λ q is. absurd (none q is);
+      place = stays.place;
+    }
 
 -- what starts a request
-starts_on : (old new : CoreState) (reply : CoreReply) (r : Request) → request_in reply ≡ Some r → r.serial ≡ old.serial → new.serial ≡ old.serial + 1 → new.place ≡ old.place →
+starts_on : (old new : CoreState) (reply : CoreReply) (r : Request) → request_in reply ≡ Some r →
+    r.serial ≡ old.serial → new.serial ≡ old.serial + 1 → new.place ≡ old.place →
     ((P : ℕ → ℕ → Type 0) → P r.key old.serial → All P old.slots → All P new.slots) → GoesOn old reply new
 starts_on old new reply r is serial later place all =
     record {
       all = λ P start before. all P (start r is) before;
       grows = omega (arith, later);
-      next = λ q q_is. subst (IsNext old new) (same_Some r q (sym is ∙ q_is)) (record { serial = serial; later = later });
+      next = λ q q_is. subst (IsNext old new) (same_Some r q (sym is ∙ q_is))
+          (record { serial = serial; later = later });
       place = place;
     }
 
 -- what answers with no request
-quiet_on : (old new : CoreState) (reply r : CoreReply) → reply ≡ r → request_in r ≡ None → StaysIn old new → GoesOn old reply new
+quiet_on : (old new : CoreState) (reply r : CoreReply) → reply ≡ r → request_in r ≡ None → StaysIn old new →
+    GoesOn old reply new
 quiet_on old new reply r same none stays =
-    stays_on old new reply (λ q is. (let no : None ≡ Some q = sym none ∙ ap request_in (sym same) ∙ is in absurd cc)) stays
+    stays_on old new reply (λ q is. (let no : None ≡ Some q = sym none ∙ ap request_in (sym same) ∙ is in absurd cc))
+    stays
 
 -- what goes on where nothing was started before
 then_goes_on : (a b c : CoreState) (reply : CoreReply) → StaysIn a b → GoesOn b reply c → GoesOn a reply c
@@ -155,7 +196,11 @@ then_goes_on a b c reply first second =
     record {
       all = λ P start all. second.all P (λ q is. subst (P q.key) (sym same) (start q is)) (first.all P all);
       grows = omega (arith, same, grows);
-      next = λ q is. record { serial = (second.next q is).serial ∙ same; later = (second.next q is).later ∙ ap (λ (k : ℕ). k + 1) same };
+      next = λ q is. record {
+        serial = (second.next q is).serial ∙ same;
+        later =
+            (second.next q is).later ∙ ap (λ (k : ℕ). k + 1) same;
+      };
       place = second.place ∙ first.place;
     }
 
@@ -165,15 +210,22 @@ waits_go_on : (old new : CoreState) (a : Awaited) (reply : CoreReply) → Waits 
 waits_go_on old new a reply given = go (completion old.slots a) given
   where
     go : (o : Option (Answer × List Request)) → WaitsBy old a o reply new → GoesOn old reply new
-    go None g = quiet_on old new reply replies.Blocked g.0 refl (as_stays old _ new g.1 (record { all = λ P all. all; serial = refl; place = refl }))
-    go (Some (answer, used)) g = quiet_on old new reply (replies.Done answer) g.0 refl (as_stays old _ new g.1 (record { all = λ P all. use_stays P old.slots used all; serial = refl; place = refl }))
+    go None g =
+        quiet_on old new reply replies.Blocked g.0 refl
+        (as_stays old _ new g.1 (record { all = λ P all. all; serial = refl; place = refl }))
+    go (Some (answer, used)) g =
+        quiet_on old new reply (replies.Done answer) g.0 refl
+        (as_stays old _ new g.1 (record { all = λ P all. use_stays P old.slots used all; serial = refl; place = refl }))
 
-tests_go_on : (old new : CoreState) (q : Option Request) (reply : CoreReply) → Tests old q reply new → GoesOn old reply new
+tests_go_on : (old new : CoreState) (q : Option Request) (reply : CoreReply) → Tests old q reply new →
+    GoesOn old reply new
 tests_go_on old new q reply given = go (completion old.slots (One q)) given
   where
     go : (o : Option (Answer × List Request)) → TestsBy old o reply new → GoesOn old reply new
     go None g = quiet_on old new reply replies.Pending g.0 refl (same_stays old new g.1)
-    go (Some (answer, used)) g = quiet_on old new reply (replies.Done answer) g.0 refl (as_stays old _ new g.1 (record { all = λ P all. use_stays P old.slots used all; serial = refl; place = refl }))
+    go (Some (answer, used)) g =
+        quiet_on old new reply (replies.Done answer) g.0 refl
+        (as_stays old _ new g.1 (record { all = λ P all. use_stays P old.slots used all; serial = refl; place = refl }))
 
 cancelled_stays : (old : CoreState) (q : Option Request) → StaysIn old (cancelled old q)
 cancelled_stays old None = same_stays old old refl
@@ -187,22 +239,33 @@ cancelled_stays old (Some q) = go (progress_at old.slots q.key q.serial)
     go (Some (TakenOut t)) = same_stays old old refl
     go (Some (Finished o)) = same_stays old old refl
 
-cancels_go_on : (old new : CoreState) (q : Option Request) (reply : CoreReply) → Cancels old q reply new → GoesOn old reply new
-cancels_go_on old new q reply given = quiet_on old new reply replies.Accepted given.0 refl (as_stays old _ new given.1 (cancelled_stays old q))
+cancels_go_on : (old new : CoreState) (q : Option Request) (reply : CoreReply) → Cancels old q reply new →
+    GoesOn old reply new
+cancels_go_on old new q reply given =
+    quiet_on old new reply replies.Accepted given.0 refl (as_stays old _ new given.1 (cancelled_stays old q))
 
 -- the receive of a message
-receives_go_on : (old new : CoreState) (q : Option Request) (into : Region) (reply : CoreReply) → Receives old q into reply new → GoesOn old reply new
+receives_go_on : (old new : CoreState) (q : Option Request) (into : Region) (reply : CoreReply) →
+    Receives old q into reply new → GoesOn old reply new
 receives_go_on old new None into reply given = quiet_on old new reply _ given.0 refl (same_stays old new given.1)
 receives_go_on old new (Some q) into reply given =
     then_goes_on old (received old q into) new reply
-    (record { all = λ P all. own_sent_stays P _ (own_send_of (message_in (progress_at old.slots q.key q.serial))) (receive_stays P old.slots q.key into all); serial = refl; place = refl })
+    (record {
+      all =
+          λ P all. own_sent_stays P _ (own_send_of (message_in (progress_at old.slots q.key q.serial)))
+          (receive_stays P old.slots q.key into all);
+      serial = refl;
+      place = refl;
+    })
     (waits_go_on (received old q into) new (One (Some q)) reply given)
 
 -- ---- calls that start a request
 
-send_goes_on : (old new : CoreState) (s : CoreSend) (r : Request) → IsSending old s r new → GoesOn old (replies.Started r) new
+send_goes_on : (old new : CoreState) (s : CoreSend) (r : Request) → IsSending old s r new →
+    GoesOn old (replies.Started r) new
 send_goes_on old new s r given =
-    starts_on old new (replies.Started r) r refl given.serial stays.serial stays.place (λ P start before. stays.all P (start_stays P old.slots given.started r.key _ before start given.entry))
+    starts_on old new (replies.Started r) r refl given.serial stays.serial stays.place
+    (λ P start before. stays.all P (start_stays P old.slots given.started r.key _ before start given.entry))
   where
     begun : CoreState
     begun = record old {
@@ -214,19 +277,26 @@ send_goes_on old new s r given =
     stays : StaysIn begun new
     stays =
         as_stays begun _ new given.rest
-        (itself_stays begun (destination s.target s.tag s.context) (waiting_of s.mode (is_to_itself old.place s) r) (sent_from s.from))
+        (itself_stays begun (destination s.target s.tag s.context) (waiting_of s.mode (is_to_itself old.place s) r)
+        (sent_from s.from))
 
-post_goes_on : (old new : CoreState) (v : CoreReceive) (r : Request) → IsPosting old v r new → GoesOn old (replies.Started r) new
+post_goes_on : (old new : CoreState) (v : CoreReceive) (r : Request) → IsPosting old v r new →
+    GoesOn old (replies.Started r) new
 post_goes_on old new v r given =
-    starts_on old new (replies.Started r) r refl given.serial (ap (λ (c : CoreState). c.serial) given.rest) (ap (λ (c : CoreState). c.place) given.rest)
-    (λ P start before. subst (λ (c : CoreState). All P c.slots) (sym given.rest) (own_sent_stays P given.started _ (start_stays P old.slots given.started r.key _ before start given.entry)))
+    starts_on old new (replies.Started r) r refl given.serial (ap (λ (c : CoreState). c.serial) given.rest)
+    (ap (λ (c : CoreState). c.place) given.rest)
+    (λ P start before. subst (λ (c : CoreState). All P c.slots) (sym given.rest)
+    (own_sent_stays P given.started _ (start_stays P old.slots given.started r.key _ before start given.entry)))
 
-nothing_goes_on : (old new : CoreState) (v : CoreReceive) (r : Request) → IsReceivingNothing old v r new → GoesOn old (replies.Started r) new
+nothing_goes_on : (old new : CoreState) (v : CoreReceive) (r : Request) → IsReceivingNothing old v r new →
+    GoesOn old (replies.Started r) new
 nothing_goes_on old new v r given =
-    starts_on old new (replies.Started r) r refl given.serial (ap (λ (c : CoreState). c.serial) given.rest) (ap (λ (c : CoreState). c.place) given.rest)
+    starts_on old new (replies.Started r) r refl given.serial (ap (λ (c : CoreState). c.serial) given.rest)
+    (ap (λ (c : CoreState). c.place) given.rest)
     (λ P start before. start_stays P old.slots new.slots r.key _ before start given.entry)
 
-receive_goes_on : (old new : CoreState) (v : CoreReceive) (r : Request) → IsReceiving old v r new → GoesOn old (replies.Started r) new
+receive_goes_on : (old new : CoreState) (v : CoreReceive) (r : Request) → IsReceiving old v r new →
+    GoesOn old (replies.Started r) new
 receive_goes_on old new v r given = go v.source given
   where
     go : (source : Source) → ReceivesFrom source old v r new → GoesOn old (replies.Started r) new
@@ -235,25 +305,32 @@ receive_goes_on old new v r given = go v.source given
     go sources.Null g = nothing_goes_on old new v r g
 
 -- a matching probe
-search_goes_on : (old new : CoreState) (p : CoreProbe) (reply : CoreReply) → Searches old p reply new → GoesOn old reply new
+search_goes_on : (old new : CoreState) (p : CoreProbe) (reply : CoreReply) → Searches old p reply new →
+    GoesOn old reply new
 search_goes_on old new p reply given = go p.source given
   where
     takes : (o : Option Message) → TakesOut old p o reply new → GoesOn old reply new
-    takes None g = subst (λ (x : CoreReply). GoesOn old x new) (sym g.0) (stays_on old new (replies.Matched None) (λ q is. absurd cc) (same_stays old new g.1))
+    takes None g =
+        subst (λ (x : CoreReply). GoesOn old x new) (sym g.0)
+        (stays_on old new (replies.Matched None) (λ q is. absurd cc) (same_stays old new g.1))
     takes (Some m) (r, is, g) =
         subst (λ (x : CoreReply). GoesOn old x new) (sym is)
-        (starts_on old new (replies.Matched (Some (Some r, _))) r refl g.serial (ap (λ (c : CoreState). c.serial) g.rest) (ap (λ (c : CoreState). c.place) g.rest)
+        (starts_on old new (replies.Matched (Some (Some r, _))) r refl g.serial
+        (ap (λ (c : CoreState). c.serial) g.rest) (ap (λ (c : CoreState). c.place) g.rest)
         (λ P start before. start_stays P old.slots new.slots r.key _ before start g.entry))
 
     go : (source : Source) → SearchesFrom source old p reply new → GoesOn old reply new
-    go sources.Null g = subst (λ (x : CoreReply). GoesOn old x new) (sym g.0) (stays_on old new (replies.Matched _) (λ q is. absurd cc) (same_stays old new g.1))
+    go sources.Null g =
+        subst (λ (x : CoreReply). GoesOn old x new) (sym g.0)
+        (stays_on old new (replies.Matched _) (λ q is. absurd cc) (same_stays old new g.1))
     go sources.Any g = takes (found_for old sources.Any p.tag p.context) g
     go (sources.Rank r) g = takes (found_for old (sources.Rank r) p.tag p.context) g
 
 -- ---- every call
 
 -- what starts a request is answered with it
-started : (old new : CoreState) (reply : CoreReply) (start : Request → Type 0) → ((r : Request) → start r → GoesOn old (replies.Started r) new) → Starts start reply → GoesOn old reply new
+started : (old new : CoreState) (reply : CoreReply) (start : Request → Type 0) →
+    ((r : Request) → start r → GoesOn old (replies.Started r) new) → Starts start reply → GoesOn old reply new
 started old new (replies.Started r) start on given = on r given
 started old new (replies.Refused why back) start on given = absurd given
 started old new (replies.Done a) start on given = absurd given
@@ -262,9 +339,12 @@ started old new replies.Accepted start on given = absurd given
 started old new (replies.Matched m) start on given = absurd given
 started old new replies.Blocked start on given = absurd given
 
-pub call_goes_on : (old new : CoreState) (call : CoreCall) (reply : CoreReply) → Answers old call reply new → GoesOn old reply new
-call_goes_on old new (calls.Isend s) reply given = started old new reply (λ r. IsSending old s r new) (send_goes_on old new s) given
-call_goes_on old new (calls.Irecv v) reply given = started old new reply (λ r. IsReceiving old v r new) (receive_goes_on old new v) given
+pub call_goes_on : (old new : CoreState) (call : CoreCall) (reply : CoreReply) → Answers old call reply new →
+    GoesOn old reply new
+call_goes_on old new (calls.Isend s) reply given =
+    started old new reply (λ r. IsSending old s r new) (send_goes_on old new s) given
+call_goes_on old new (calls.Irecv v) reply given =
+    started old new reply (λ r. IsReceiving old v r new) (receive_goes_on old new v) given
 call_goes_on old new (calls.Wait q) reply given = waits_go_on old new (One q) reply given
 call_goes_on old new (calls.Test q) reply given = tests_go_on old new q reply given
 call_goes_on old new (calls.Waitany qs) reply given = waits_go_on old new (AnyOf qs) reply given

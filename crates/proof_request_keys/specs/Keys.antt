@@ -15,7 +15,6 @@ use Rattle.engine.specs.Ticks.{TickGives}
 use Rattle.observation.specs.CoreCalls.{is_foreign}
 pub use Rattle.observation.specs.Requests.{message_given, request_given}
 
-
 -- ---- what is given
 
 -- ---- where it stands
@@ -25,7 +24,8 @@ abbrev pub IsApart : Request → (key : ℕ) → Option TableEntry → Type 0
 IsApart q key None = Unit {0}
 IsApart q key (Some t) = t.serial ≡ q.serial → key ≡ q.key
 
--- the request was given, so that later ones have later serials; and as long as it stands in the table, it stands under its key
+-- the request was given, so that later ones have later serials; and as long as it stands in the table, it stands under
+-- its key
 pub record IsNamed (c : CoreState) (q : Request) : Type 0 where
   pub given : q.serial < c.serial
   pub stands : (key : ℕ) → IsApart q key (slot_at c.slots key)
@@ -54,7 +54,8 @@ CallsKeepKeys =
 -- and what a call gives stands under its key
 abbrev pub GivenAreNamed : Type 0
 GivenAreNamed =
-    (old mid : EngineState) (call : Call) (reply : Reply) (q : Request) → AreGiven old.core → CallGives old call reply mid →
+    (old mid : EngineState) (call : Call) (reply : Reply) (q : Request) → AreGiven old.core →
+    CallGives old call reply mid →
     request_given reply ≡ Some q → IsNamed mid.core q
 
 -- a datagram that is taken in keeps keys

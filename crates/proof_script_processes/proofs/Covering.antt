@@ -7,7 +7,11 @@ use Rattle.derived_types.specs.Layouts.{is_beyond}
 use Rattle.engine_calls.specs.declared.call.Call.{Call}
 use Rattle.engine_calls.specs.declared.call.Call.TheVariants as calls
 use Rattle.engine_calls.specs.declared.reply.Reply.{Reply}
-use Rattle.interpreter.specs.Acting.{acts_on, asks_group, asks_rank, blocks_named, changes, compares, faulty, hands_in, hands_in_to, is_lent_at_root, makes, old_layout, places_named, receives, receives_into, receives_to_wait, request_named, requests_named, scatters_from, sends, sends_from, sends_to_wait, sets, sets_layout_of, sets_layout_unless, waits_for, waits_for_all, waits_for_several}
+use Rattle.interpreter.specs.Acting.{acts_on, asks_group, asks_rank, blocks_named, changes, compares, faulty, hands_in}
+use Rattle.interpreter.specs.Acting.{hands_in_to, is_lent_at_root, makes, old_layout, places_named, receives}
+use Rattle.interpreter.specs.Acting.{receives_into, receives_to_wait, request_named, requests_named, scatters_from}
+use Rattle.interpreter.specs.Acting.{sends, sends_from, sends_to_wait, sets, sets_layout_of, sets_layout_unless}
+use Rattle.interpreter.specs.Acting.{waits_for, waits_for_all, waits_for_several}
 use Rattle.interpreter.specs.Hearing.{hears}
 use Rattle.interpreter.specs.NamesState.{NamesState, here, is_lent, is_root, place_named, with_buffer}
 use Rattle.interpreter.specs.declared.steps.StatementCall.{StatementCall}
@@ -23,7 +27,8 @@ use Rattle.proof_one_meaning.proofs.Playing.{StaysGood}
 use Rattle.proof_one_meaning.specs.Following.{IsCovered, IsNotAny}
 use Rattle.event_loop.specs.declared.runner.RunnerStep.{RunnerStep}
 use Rattle.event_loop.specs.declared.runner.RunnerStep.TheVariants as steps
-use Rattle.script_runner.specs.ScriptRanks.{RankState, acts, does, follows, heeds, heeds_by, prints_count, prints_elements, states}
+use Rattle.script_runner.specs.ScriptRanks.{RankState, acts, does, follows, heeds, heeds_by, prints_count}
+use Rattle.script_runner.specs.ScriptRanks.{prints_elements, states}
 use Rattle.requests.specs.declared.region.Places.{Places}
 use Rattle.requests.specs.declared.table.Request.{Request}
 use Rattle.script_files.specs.declared.script.RankLine.{RankLine}
@@ -45,7 +50,9 @@ use Rattle.statements.specs.declared.layout_line.LayoutLine.{LayoutLine}
 use Rattle.vocabulary.specs.declared.mode.Mode.{Mode}
 use Rattle.vocabulary.specs.declared.mode.Mode.TheVariants as modes
 use Rattle.proof_script_processes.specs.Forgetting.{plain_request}
-use Rattle.proof_script_processes.specs.Processes.{AreCoveredLines, IsCoveredAction, IsCoveredRunning, IsCoveredStatement, next_by, next_in_script, next_told, reply_for, step_seen, tells_ranks}
+use Rattle.proof_script_processes.specs.Processes.{AreCoveredLines, IsCoveredAction, IsCoveredRunning}
+use Rattle.proof_script_processes.specs.Processes.{IsCoveredStatement, next_by, next_in_script, next_told, reply_for}
+use Rattle.proof_script_processes.specs.Processes.{step_seen, tells_ranks}
 use Rattle.proof_script_processes.proofs.Answers.{IsNext, hears_go}
 
 -- ---- what statements ask for
@@ -68,11 +75,14 @@ layout_fine : (line : LayoutLine) (o : Option Shape) (s : NamesState) → IsAske
 layout_fine line None s = tt
 layout_fine line (Some old) s = go (is_beyond (offsets_made line.form old.offsets))
   where
-    go : (b : Bool) → IsAsked (sets_layout_unless b line.name (record { basic = old.basic; offsets = offsets_made line.form old.offsets }) s).0
+    go : (b : Bool) →
+        IsAsked (sets_layout_unless b line.name
+        (record { basic = old.basic; offsets = offsets_made line.form old.offsets }) s).0
     go true = tt
     go false = tt
 
-sends_fine : (mode : Mode) (pending : Pending) (x : Sending) (comm : Option (Option ℕ)) (named : Option Places) (buffer : Option Contents) (s : NamesState) →
+sends_fine : (mode : Mode) (pending : Pending) (x : Sending) (comm : Option (Option ℕ)) (named : Option Places)
+    (buffer : Option Contents) (s : NamesState) →
     IsAsked (sends_from mode pending x comm named buffer s).0
 sends_fine mode pending x None named buffer s = tt
 sends_fine mode pending x (Some comm) None buffer s = tt
@@ -80,27 +90,33 @@ sends_fine mode pending x (Some comm) (Some named) None s = tt
 sends_fine mode pending x (Some comm) (Some named) (Some buffer) s = tt
 
 send_fine : (mode : Mode) (pending : Pending) (x : Sending) (s : NamesState) → IsAsked (sends mode pending x s).0
-send_fine mode pending x s = sends_fine mode pending x (place_named s x.communicator) (places_named s x.through) (here s x.buffer) s
+send_fine mode pending x s =
+    sends_fine mode pending x (place_named s x.communicator) (places_named s x.through) (here s x.buffer) s
 
-receives_fine : (pending : Pending) (x : Receiving) → IsNotAny x.source → (comm : Option (Option ℕ)) (named : Option Places) (buffer : Option Contents) (s : NamesState) →
+receives_fine : (pending : Pending) (x : Receiving) → IsNotAny x.source →
+    (comm : Option (Option ℕ)) (named : Option Places) (buffer : Option Contents) (s : NamesState) →
     IsAsked (receives_into pending x comm named buffer s).0
 receives_fine pending x c None named buffer s = tt
 receives_fine pending x c (Some comm) None buffer s = tt
 receives_fine pending x c (Some comm) (Some named) None s = tt
 receives_fine pending x c (Some comm) (Some named) (Some buffer) s = c
 
-receive_fine : (pending : Pending) (x : Receiving) → IsNotAny x.source → (s : NamesState) → IsAsked (receives pending x s).0
-receive_fine pending x c s = receives_fine pending x c (place_named s x.communicator) (places_named s x.through) (here s x.buffer) s
+receive_fine : (pending : Pending) (x : Receiving) → IsNotAny x.source →
+    (s : NamesState) → IsAsked (receives pending x s).0
+receive_fine pending x c s =
+    receives_fine pending x c (place_named s x.communicator) (places_named s x.through) (here s x.buffer) s
 
 waits_fine : (r : RequestName) (o : Option (Option Request)) (s : NamesState) → IsAsked (waits_for r o s).0
 waits_fine r None s = tt
 waits_fine r (Some q) s = tt
 
-all_fine : (rs : List RequestName) (o : Option (List (Option Request))) (s : NamesState) → IsAsked (waits_for_several calls.Waitall rs o s).0
+all_fine : (rs : List RequestName) (o : Option (List (Option Request))) (s : NamesState) →
+    IsAsked (waits_for_several calls.Waitall rs o s).0
 all_fine rs None s = tt
 all_fine rs (Some qs) s = tt
 
-makes_fine : (name : List ℕ) (comm : Option (Option ℕ)) (entry : Entry) (s : NamesState) → IsAsked (makes name comm entry s).0
+makes_fine : (name : List ℕ) (comm : Option (Option ℕ)) (entry : Entry) (s : NamesState) →
+    IsAsked (makes name comm entry s).0
 makes_fine name None entry s = tt
 makes_fine name (Some comm) entry s = tt
 
@@ -108,18 +124,21 @@ all_wait_fine : (comm : Option (Option ℕ)) (s : NamesState) → IsAsked (waits
 all_wait_fine None s = tt
 all_wait_fine (Some comm) s = tt
 
-handed_fine : (comm : Option ℕ) (name : Option (List ℕ)) (o : Option Entry) (s : NamesState) → IsAsked (hands_in_to comm name o s).0
+handed_fine : (comm : Option ℕ) (name : Option (List ℕ)) (o : Option Entry) (s : NamesState) →
+    IsAsked (hands_in_to comm name o s).0
 handed_fine comm name None s = tt
 handed_fine comm name (Some entry) s = tt
 
-hands_fine : (comm : Option (Option ℕ)) (lent : Bool) (name : Option (List ℕ)) (block : Option Contents) (entry : Contents → Entry) (s : NamesState) →
+hands_fine : (comm : Option (Option ℕ)) (lent : Bool) (name : Option (List ℕ)) (block : Option Contents)
+    (entry : Contents → Entry) (s : NamesState) →
     IsAsked (hands_in comm lent name block entry s).0
 hands_fine None lent name block entry s = tt
 hands_fine (Some comm) true name block entry s = tt
 hands_fine (Some comm) false name None entry s = tt
 hands_fine (Some comm) false name (Some block) entry s = handed_fine comm name (entry_with entry block) s
 
-scatters_fine : (x : Scattering) (comm : Option (Option ℕ)) (into : Option Contents) (blocks : Option (Option Contents)) (s : NamesState) → IsAsked (scatters_from x comm into blocks s).0
+scatters_fine : (x : Scattering) (comm : Option (Option ℕ)) (into : Option Contents) (blocks : Option (Option Contents))
+    (s : NamesState) → IsAsked (scatters_from x comm into blocks s).0
 scatters_fine x None into blocks s = tt
 scatters_fine x (Some comm) None blocks s = tt
 scatters_fine x (Some comm) (Some into) None s = tt
@@ -153,13 +172,21 @@ action_fine (actions.Cancel r) c s = absurd c
 action_fine (actions.Waitany rs) c s = absurd c
 action_fine (actions.Waitall rs) c s = all_fine rs (requests_named s rs) s
 action_fine (actions.Barrier x) c s = all_wait_fine (place_named s x) s
-action_fine (actions.Bcast x) c s = hands_fine (place_named s x.communicator) false (Some x.buffer) (here s x.buffer) (λ block. entries.Bcast x.root block) s
+action_fine (actions.Bcast x) c s =
+    hands_fine (place_named s x.communicator) false (Some x.buffer) (here s x.buffer)
+    (λ block. entries.Bcast x.root block) s
 action_fine (actions.Gather x) c s =
-    hands_fine (place_named s x.communicator) (is_lent_at_root s (is_root s x.communicator x.root) x.into) (Some x.into) (here s x.buffer) (λ block. entries.Gather x.root block) s
-action_fine (actions.Scatter x) c s = scatters_fine x (place_named s x.communicator) (here s x.into) (blocks_named s (is_root s x.communicator x.root) x.buffer) s
+    hands_fine (place_named s x.communicator) (is_lent_at_root s (is_root s x.communicator x.root) x.into) (Some x.into)
+    (here s x.buffer) (λ block. entries.Gather x.root block) s
+action_fine (actions.Scatter x) c s =
+    scatters_fine x (place_named s x.communicator) (here s x.into)
+    (blocks_named s (is_root s x.communicator x.root) x.buffer) s
 action_fine (actions.Reduce x) c s =
-    hands_fine (place_named s x.communicator) (is_lent_at_root s (is_root s x.communicator x.root) x.into) (Some x.into) (here s x.buffer) (λ block. entries.Reduce x.operation x.root block) s
-action_fine (actions.Allreduce x) c s = hands_fine (place_named s x.communicator) (is_lent s x.into) (Some x.into) (here s x.buffer) (λ block. entries.Allreduce x.operation block) s
+    hands_fine (place_named s x.communicator) (is_lent_at_root s (is_root s x.communicator x.root) x.into) (Some x.into)
+    (here s x.buffer) (λ block. entries.Reduce x.operation x.root block) s
+action_fine (actions.Allreduce x) c s =
+    hands_fine (place_named s x.communicator) (is_lent s x.into) (Some x.into) (here s x.buffer)
+    (λ block. entries.Allreduce x.operation block) s
 action_fine (actions.Dup name x) c s = makes_fine name (place_named s x) entries.Dup s
 action_fine (actions.Split name x) c s = makes_fine name (place_named s x.communicator) (split_by x) s
 action_fine (actions.Who x) c s = rank_fine (place_named s x) s
@@ -178,7 +205,8 @@ abbrev IsFine : Option RunnerStep → Type 0
 IsFine None = Unit {0}
 IsFine (Some step) = IsFineStep step
 
-does_fine : (number : ℕ) (asked : StatementCall) (names : NamesState) → IsAsked asked → IsFine (does number asked names).0
+does_fine : (number : ℕ) (asked : StatementCall) (names : NamesState) → IsAsked asked →
+    IsFine (does number asked names).0
 does_fine number askeds.Nothing names f = tt
 does_fine number (askeds.Call call pending) names f = f
 does_fine number (askeds.Refused refusal) names f = tt
@@ -192,14 +220,20 @@ count_fine : (number : ℕ) (o : Option (Option ℕ)) → IsFineStep (prints_cou
 count_fine number None = tt
 count_fine number (Some n) = tt
 
-states_fine : (number : ℕ) (x : ScriptStatement) → IsCoveredStatement x → (names : NamesState) → IsFine (states number x names).0
-states_fine number (statements.Action a) c names = does_fine number (acts_on a names).0 (acts_on a names).1 (action_fine a c names)
-states_fine number (statements.Send x) c names = does_fine number (sends_to_wait x names).0 (sends_to_wait x names).1 (send_fine modes.Standard (pendings.StartingToWait None) x names)
+states_fine : (number : ℕ) (x : ScriptStatement) → IsCoveredStatement x →
+    (names : NamesState) → IsFine (states number x names).0
+states_fine number (statements.Action a) c names =
+    does_fine number (acts_on a names).0 (acts_on a names).1 (action_fine a c names)
+states_fine number (statements.Send x) c names =
+    does_fine number (sends_to_wait x names).0 (sends_to_wait x names).1
+    (send_fine modes.Standard (pendings.StartingToWait None) x names)
 states_fine number (statements.Recv x) c names =
-    does_fine number (receives_to_wait x names).0 (receives_to_wait x names).1 (receive_fine (pendings.StartingToWait (Some x.buffer)) x c names)
+    does_fine number (receives_to_wait x names).0 (receives_to_wait x names).1
+    (receive_fine (pendings.StartingToWait (Some x.buffer)) x c names)
 states_fine number (statements.Print name) c names = elements_fine number (here names name)
 states_fine number statements.Status c names = tt
-states_fine number (statements.Count name) c names = count_fine number (Rattle.interpreter.specs.Acting.count_of names name)
+states_fine number (statements.Count name) c names =
+    count_fine number (Rattle.interpreter.specs.Acting.count_of names name)
 states_fine number (statements.Say words) c names = tt
 states_fine number statements.Fail c names = tt
 
@@ -210,7 +244,8 @@ follows_fine p (heards.Told told) names n = tt
 
 heeds_fine : (o : Option Pending) (reply : Reply) (names : NamesState) → IsFine (heeds_by o reply names).0
 heeds_fine None reply names = tt
-heeds_fine (Some p) reply names = follows_fine p (hears p reply names).0 (hears p reply names).1 (hears_go plain_request p reply names).1
+heeds_fine (Some p) reply names =
+    follows_fine p (hears p reply names).0 (hears p reply names).1 (hears_go plain_request p reply names).1
 
 ranks_fine : (o : Option Pending) (ranks : List ℕ) (names : NamesState) → IsFine (tells_ranks o ranks names).0
 ranks_fine None ranks names = tt
@@ -222,7 +257,8 @@ ranks_fine (Some p) ranks names = tt
 abbrev AreFine : Does → Type 0
 AreFine d = IsFineStep d.0 × AreCoveredLines d.1.lines
 
-or_fine : (rest : List RankLine) (o : Option RunnerStep) (s : RankState) (d : Does) → AreCoveredLines rest → IsFine o → AreFine d → AreFine (does_by rest o s d)
+or_fine : (rest : List RankLine) (o : Option RunnerStep) (s : RankState) (d : Does) → AreCoveredLines rest → IsFine o →
+    AreFine d → AreFine (does_by rest o s d)
 or_fine rest None s d c f g = g
 or_fine rest (Some step) s d c f g = (f, c)
 
@@ -230,9 +266,11 @@ along_fine : (lines : List RankLine) (s : RankState) → AreCoveredLines lines �
 unfolding along
 along_fine [] s c = (tt, tt)
 along_fine (line ∷ rest) s c =
-    or_fine rest (acts line s).0 (acts line s).1 (along rest (acts line s).1) c.1 (states_fine line.number line.statement c.0 s.names) (along_fine rest (acts line s).1 c.1)
+    or_fine rest (acts line s).0 (acts line s).1 (along rest (acts line s).1) c.1
+    (states_fine line.number line.statement c.0 s.names) (along_fine rest (acts line s).1 c.1)
 
-after_fine : (lines : List RankLine) (acted : Option RunnerStep × RankState) → AreCoveredLines lines → IsFine acted.0 → AreFine (does_after lines acted)
+after_fine : (lines : List RankLine) (acted : Option RunnerStep × RankState) → AreCoveredLines lines → IsFine acted.0 →
+    AreFine (does_after lines acted)
 after_fine lines acted c f = or_fine lines acted.0 acted.1 (along lines acted.1) c f (along_fine lines acted.1 c)
 
 next_fine : (s : RunnerState) (reply : Option Reply) → AreCoveredLines s.lines → AreFine (next_of s reply)
@@ -240,15 +278,24 @@ next_fine s None c = along_fine s.lines s.rank c
 next_fine s (Some reply) c = after_fine s.lines (heeds reply s.rank) c (heeds_fine s.rank.pending reply s.rank.names)
 
 told_fine : (s : RunnerState) (call : Call) (t : Told) → AreCoveredLines s.lines → AreFine (next_told s call t)
-told_fine s call (Replied (machine.OfFact (machine.Ranks ranks))) c = after_fine s.lines (tells_ranks s.rank.pending ranks s.rank.names) c (ranks_fine s.rank.pending ranks s.rank.names)
-told_fine s call (Replied (machine.OfFact (machine.Number n))) c = next_fine s (Some (reply_for call (Replied (machine.OfFact (machine.Number n))))) c
-told_fine s call (Replied (machine.OfFact (machine.Compares x))) c = next_fine s (Some (reply_for call (Replied (machine.OfFact (machine.Compares x))))) c
-told_fine s call (Replied (machine.OfRequests (queues.Started k))) c = next_fine s (Some (reply_for call (Replied (machine.OfRequests (queues.Started k))))) c
-told_fine s call (Replied (machine.OfRequests (queues.Done a))) c = next_fine s (Some (reply_for call (Replied (machine.OfRequests (queues.Done a))))) c
-told_fine s call (Replied (machine.OfRequests queues.Pending)) c = next_fine s (Some (reply_for call (Replied (machine.OfRequests queues.Pending)))) c
-told_fine s call (Replied (machine.OfRequests queues.Accepted)) c = next_fine s (Some (reply_for call (Replied (machine.OfRequests queues.Accepted)))) c
-told_fine s call (Replied (machine.OfRequests queues.Blocked)) c = next_fine s (Some (reply_for call (Replied (machine.OfRequests queues.Blocked)))) c
-told_fine s call (Replied (machine.OfCollective o)) c = next_fine s (Some (reply_for call (Replied (machine.OfCollective o)))) c
+told_fine s call (Replied (machine.OfFact (machine.Ranks ranks))) c =
+    after_fine s.lines (tells_ranks s.rank.pending ranks s.rank.names) c (ranks_fine s.rank.pending ranks s.rank.names)
+told_fine s call (Replied (machine.OfFact (machine.Number n))) c =
+    next_fine s (Some (reply_for call (Replied (machine.OfFact (machine.Number n))))) c
+told_fine s call (Replied (machine.OfFact (machine.Compares x))) c =
+    next_fine s (Some (reply_for call (Replied (machine.OfFact (machine.Compares x))))) c
+told_fine s call (Replied (machine.OfRequests (queues.Started k))) c =
+    next_fine s (Some (reply_for call (Replied (machine.OfRequests (queues.Started k))))) c
+told_fine s call (Replied (machine.OfRequests (queues.Done a))) c =
+    next_fine s (Some (reply_for call (Replied (machine.OfRequests (queues.Done a))))) c
+told_fine s call (Replied (machine.OfRequests queues.Pending)) c =
+    next_fine s (Some (reply_for call (Replied (machine.OfRequests queues.Pending)))) c
+told_fine s call (Replied (machine.OfRequests queues.Accepted)) c =
+    next_fine s (Some (reply_for call (Replied (machine.OfRequests queues.Accepted)))) c
+told_fine s call (Replied (machine.OfRequests queues.Blocked)) c =
+    next_fine s (Some (reply_for call (Replied (machine.OfRequests queues.Blocked)))) c
+told_fine s call (Replied (machine.OfCollective o)) c =
+    next_fine s (Some (reply_for call (Replied (machine.OfCollective o)))) c
 told_fine s call (Refused number) c = next_fine s (Some (reply_for call (Refused number))) c
 
 by_told_fine : (s : RunnerState) (o : Option Call) (t : Option Told) → AreCoveredLines s.lines → AreFine (next_by s o t)
@@ -258,7 +305,8 @@ by_told_fine s (Some call) (Some t) c = told_fine s call t c
 
 -- ---- scripts
 
-covered_step : (step : RunnerStep) → IsFineStep step → (call : machine.Call) → step_seen step ≡ Calls call → IsCovered call
+covered_step : (step : RunnerStep) → IsFineStep step → (call : machine.Call) → step_seen step ≡ Calls call →
+    IsCovered call
 covered_step (steps.Call c) f call e = let same : call_seen c ≡ call = cc in subst IsCovered same f
 covered_step (steps.Print line) f call e = absurd (grind arith)
 covered_step (steps.End status line) f call e = absurd (grind arith)

@@ -1,5 +1,6 @@
 -- A script's steps are bounded.
-use Rattle.std.proofs.Common.{◌≡◌, ℕ, suc, ◌+◌, ◌*◌, ◌<◌, ◌≤◌, true, false, List, [], ◌∷◌, ◌++◌, length, Option, Some, None, refl, ap, arith}
+use Rattle.std.proofs.Common.{◌≡◌, ℕ, suc, ◌+◌, ◌*◌, ◌<◌, ◌≤◌, true, false, List, [], ◌∷◌, ◌++◌, length, Option, Some}
+use Rattle.std.proofs.Common.{None, refl, ap, arith}
 use Rattle.engine_calls.specs.declared.call.Call.{Call}
 use Rattle.engine_calls.specs.declared.reply.Reply.{Reply}
 use Rattle.interpreter.specs.Hearing.{hears}
@@ -25,8 +26,11 @@ use Rattle.script_runner.specs.Running.{Does, RunnerState, along, does_after, do
 use Rattle.script_calls.specs.declared.pending.Pending.{Pending}
 use Rattle.script_calls.specs.declared.pending.Pending.TheVariants as pendings
 use Rattle.proof_script_processes.specs.Forgetting.{plain_request}
-use Rattle.proof_script_processes.specs.Processes.{IsCoveredRunning, Running, next_by, next_in_script, next_told, reply_for, running_at_start, step_seen, steps_for, steps_left, tells_ranks}
-use Rattle.proof_script_processes.specs.ScriptLaws.{AreCoveredScripts, ScriptsComeToTheirMeaning, ScriptsPlayTheirMeaning, meaning_of}
+use Rattle.proof_script_processes.specs.Processes.{IsCoveredRunning, Running, next_by, next_in_script, next_told}
+use Rattle.proof_script_processes.specs.Processes.{reply_for, running_at_start, step_seen, steps_for, steps_left}
+use Rattle.proof_script_processes.specs.Processes.{tells_ranks}
+use Rattle.proof_script_processes.specs.ScriptLaws.{AreCoveredScripts, ScriptsComeToTheirMeaning}
+use Rattle.proof_script_processes.specs.ScriptLaws.{ScriptsPlayTheirMeaning, meaning_of}
 use Rattle.proof_script_processes.proofs.Answers.{IsNext, hears_go}
 use Rattle.proof_script_processes.proofs.Covering.{scripts_stay_good}
 
@@ -76,17 +80,20 @@ GoesOn d = (status : ℕ) (line : Option ℕ) → d.0 ≡ steps.End status line 
 -- LINES
 
 line_light :
-    (rest : List RankLine) (o : Option runner.RunnerStep) (s : RankState) (d : Does) → (GoesOn d → left_of d < 3 * length rest + 3) → GoesOn (does_by rest o s d) →
+    (rest : List RankLine) (o : Option runner.RunnerStep) (s : RankState) (d : Does) →
+    (GoesOn d → left_of d < 3 * length rest + 3) → GoesOn (does_by rest o s d) →
     left_of (does_by rest o s d) < 3 * length rest + 3
 line_light rest None s d f g = f g
 line_light rest (Some step) s d f g = let u : steps_for s.pending ≤ 2 = at_most s.pending in omega (arith, u)
 
-along_light : (lines : List RankLine) (s : RankState) → GoesOn (along lines s) → left_of (along lines s) < 3 * length lines
+along_light : (lines : List RankLine) (s : RankState) → GoesOn (along lines s) →
+    left_of (along lines s) < 3 * length lines
 unfolding along
 along_light [] s g = absurd (g 0 None refl)
 along_light (line ∷ rest) s g =
     let u : left_of (does_by rest (acts line s).0 (acts line s).1 (along rest (acts line s).1)) < 3 * length rest + 3 =
-    line_light rest (acts line s).0 (acts line s).1 (along rest (acts line s).1) (λ h. more (length rest) (left_of (along rest (acts line s).1)) (along_light rest (acts line s).1 h)) g in
+    line_light rest (acts line s).0 (acts line s).1 (along rest (acts line s).1)
+    (λ h. more (length rest) (left_of (along rest (acts line s).1)) (along_light rest (acts line s).1 h)) g in
     shift (length rest) (left_of (does_by rest (acts line s).0 (acts line s).1 (along rest (acts line s).1))) u
   where
     more : (n k : ℕ) → k < 3 * n → k < 3 * n + 3
@@ -98,22 +105,27 @@ along_light (line ∷ rest) s g =
 -- ANSWERS
 
 follows_light :
-    (lines : List RankLine) (p : Pending) (h : AnswerEffect) (names : NamesState) → IsNext p h → GoesOn (does_after lines (follows h names)) →
+    (lines : List RankLine) (p : Pending) (h : AnswerEffect) (names : NamesState) → IsNext p h →
+    GoesOn (does_after lines (follows h names)) →
     left_of (does_after lines (follows h names)) < 3 * length lines + steps_for (Some p)
 follows_light lines p heards.Nothing names n g =
     let u : left_of (along lines (record { names = names; pending = None })) < 3 * length lines = along_light lines (record { names = names; pending = None }) g in omega (arith, u)
-follows_light lines p (heards.Call call q) names n g = let u : steps_for (Some q) < steps_for (Some p) = n.1 in omega (arith, u)
+follows_light lines p (heards.Call call q) names n g =
+    let u : steps_for (Some q) < steps_for (Some p) = n.1 in omega (arith, u)
 follows_light lines p (heards.Told told) names n g = let u : 1 ≤ steps_for (Some p) = at_least p in omega (arith, u)
 
 heeds_light :
-    (lines : List RankLine) (o : Option Pending) (reply : Reply) (names : NamesState) → GoesOn (does_after lines (heeds_by o reply names)) →
+    (lines : List RankLine) (o : Option Pending) (reply : Reply) (names : NamesState) →
+    GoesOn (does_after lines (heeds_by o reply names)) →
     left_of (does_after lines (heeds_by o reply names)) < 3 * length lines + steps_for o
 heeds_light lines None reply names g =
     let u : left_of (along lines (record { names = names; pending = None })) < 3 * length lines = along_light lines (record { names = names; pending = None }) g in omega (arith, u)
-heeds_light lines (Some p) reply names g = follows_light lines p (hears p reply names).0 (hears p reply names).1 (hears_go plain_request p reply names).1 g
+heeds_light lines (Some p) reply names g =
+    follows_light lines p (hears p reply names).0 (hears p reply names).1 (hears_go plain_request p reply names).1 g
 
 ranks_light :
-    (lines : List RankLine) (o : Option Pending) (ranks : List ℕ) (names : NamesState) → GoesOn (does_after lines (tells_ranks o ranks names)) →
+    (lines : List RankLine) (o : Option Pending) (ranks : List ℕ) (names : NamesState) →
+    GoesOn (does_after lines (tells_ranks o ranks names)) →
     left_of (does_after lines (tells_ranks o ranks names)) < 3 * length lines + steps_for o
 ranks_light lines None ranks names g =
     let u : left_of (along lines (record { names = names; pending = None })) < 3 * length lines = along_light lines (record { names = names; pending = None }) g in omega (arith, u)
@@ -121,27 +133,39 @@ ranks_light lines (Some p) ranks names g = let u : 1 ≤ steps_for (Some p) = at
 
 -- WHAT COMES NEXT
 
-untold_light : (s : RunnerState) → GoesOn (next_of s None) → left_of (next_of s None) < 3 * length s.lines + steps_for s.rank.pending
-untold_light s g = let u : left_of (along s.lines s.rank) < 3 * length s.lines = along_light s.lines s.rank g in omega (arith, u)
+untold_light : (s : RunnerState) → GoesOn (next_of s None) → left_of (next_of s None) < 3 * length s.lines +
+    steps_for s.rank.pending
+untold_light s g = let u : left_of (along s.lines s.rank) < 3 * length s.lines = along_light s.lines s.rank g in omega
+    (arith, u)
 
 of_light :
     (s : RunnerState) (call : Call) (t : Told) → GoesOn (next_of s (Some (reply_for call t))) →
     left_of (next_of s (Some (reply_for call t))) < 3 * length s.lines + steps_for s.rank.pending
 of_light s call t g = heeds_light s.lines s.rank.pending (reply_for call t) s.rank.names g
 
-told_light : (s : RunnerState) (call : Call) (t : Told) → GoesOn (next_told s call t) → left_of (next_told s call t) < 3 * length s.lines + steps_for s.rank.pending
-told_light s call (Replied (machine.OfFact (machine.Ranks ranks))) g = ranks_light s.lines s.rank.pending ranks s.rank.names g
-told_light s call (Replied (machine.OfFact (machine.Number n))) g = of_light s call (Replied (machine.OfFact (machine.Number n))) g
-told_light s call (Replied (machine.OfFact (machine.Compares x))) g = of_light s call (Replied (machine.OfFact (machine.Compares x))) g
-told_light s call (Replied (machine.OfRequests (queues.Started k))) g = of_light s call (Replied (machine.OfRequests (queues.Started k))) g
-told_light s call (Replied (machine.OfRequests (queues.Done a))) g = of_light s call (Replied (machine.OfRequests (queues.Done a))) g
-told_light s call (Replied (machine.OfRequests queues.Pending)) g = of_light s call (Replied (machine.OfRequests queues.Pending)) g
-told_light s call (Replied (machine.OfRequests queues.Accepted)) g = of_light s call (Replied (machine.OfRequests queues.Accepted)) g
-told_light s call (Replied (machine.OfRequests queues.Blocked)) g = of_light s call (Replied (machine.OfRequests queues.Blocked)) g
+told_light : (s : RunnerState) (call : Call) (t : Told) → GoesOn (next_told s call t) →
+    left_of (next_told s call t) < 3 * length s.lines + steps_for s.rank.pending
+told_light s call (Replied (machine.OfFact (machine.Ranks ranks))) g =
+    ranks_light s.lines s.rank.pending ranks s.rank.names g
+told_light s call (Replied (machine.OfFact (machine.Number n))) g =
+    of_light s call (Replied (machine.OfFact (machine.Number n))) g
+told_light s call (Replied (machine.OfFact (machine.Compares x))) g =
+    of_light s call (Replied (machine.OfFact (machine.Compares x))) g
+told_light s call (Replied (machine.OfRequests (queues.Started k))) g =
+    of_light s call (Replied (machine.OfRequests (queues.Started k))) g
+told_light s call (Replied (machine.OfRequests (queues.Done a))) g =
+    of_light s call (Replied (machine.OfRequests (queues.Done a))) g
+told_light s call (Replied (machine.OfRequests queues.Pending)) g =
+    of_light s call (Replied (machine.OfRequests queues.Pending)) g
+told_light s call (Replied (machine.OfRequests queues.Accepted)) g =
+    of_light s call (Replied (machine.OfRequests queues.Accepted)) g
+told_light s call (Replied (machine.OfRequests queues.Blocked)) g =
+    of_light s call (Replied (machine.OfRequests queues.Blocked)) g
 told_light s call (Replied (machine.OfCollective o)) g = of_light s call (Replied (machine.OfCollective o)) g
 told_light s call (Refused n) g = of_light s call (Refused n) g
 
-by_light : (s : RunnerState) (o : Option Call) (t : Option Told) → GoesOn (next_by s o t) → left_of (next_by s o t) < 3 * length s.lines + steps_for s.rank.pending
+by_light : (s : RunnerState) (o : Option Call) (t : Option Told) → GoesOn (next_by s o t) →
+    left_of (next_by s o t) < 3 * length s.lines + steps_for s.rank.pending
 by_light s None t g = untold_light s g
 by_light s (Some call) None g = untold_light s g
 by_light s (Some call) (Some t) g = told_light s call t g
@@ -152,17 +176,23 @@ scripts_fall p t h = by_light p.state p.last t (λ status line e. h status (ap s
 -- SCRIPTS
 
 pub scripts_come_to_their_meaning : ScriptsComeToTheirMeaning
-scripts_come_to_their_meaning n scripts = comes_to_the_end next_in_script steps_left scripts_fall n (running_at_start scripts)
+scripts_come_to_their_meaning n scripts =
+    comes_to_the_end next_in_script steps_left scripts_fall n (running_at_start scripts)
 
 pub scripts_play_their_meaning : ScriptsPlayTheirMeaning
 scripts_play_their_meaning scripts n moves now history le some covered agrees p r =
-    every_play next_in_script IsCoveredRunning scripts_stay_good n (running_at_start scripts) (meaning_of n scripts) le some covered
+    every_play next_in_script IsCoveredRunning scripts_stay_good n (running_at_start scripts) (meaning_of n scripts) le
+    some covered
     (scripts_come_to_their_meaning n scripts) agrees moves now history p r
 
 pub scripts_blocked :
-    (scripts : List (List ScriptLine)) (n moves : ℕ) (now : Players Running) (history : List Entry) → n ≤ 65536 → 0 < n → AreCoveredScripts scripts →
-    RecordsAgree (accounts (meaning_of n scripts)) → PlaysThrough next_in_script n moves (players_at_start n (running_at_start scripts)) [] now history →
-    (r : ℕ) (a : machine.Answer) → IsHistory n (history ++ Completed (first_endpoint r) a ∷ []) → ((now r).blocked ≡ true) × ((now r).ended ≡ false)
+    (scripts : List (List ScriptLine)) (n moves : ℕ) (now : Players Running) (history : List Entry) → n ≤ 65536 →
+    0 < n → AreCoveredScripts scripts →
+    RecordsAgree (accounts (meaning_of n scripts)) →
+    PlaysThrough next_in_script n moves (players_at_start n (running_at_start scripts)) [] now history →
+    (r : ℕ) (a : machine.Answer) → IsHistory n (history ++ Completed (first_endpoint r) a ∷ []) →
+    ((now r).blocked ≡ true) × ((now r).ended ≡ false)
 scripts_blocked scripts n moves now history le some covered agrees p r a is =
-    blocked_in_play next_in_script IsCoveredRunning scripts_stay_good n (running_at_start scripts) (meaning_of n scripts) le some covered
+    blocked_in_play next_in_script IsCoveredRunning scripts_stay_good n (running_at_start scripts)
+    (meaning_of n scripts) le some covered
     (scripts_come_to_their_meaning n scripts) agrees moves now history p r a is

@@ -1,5 +1,6 @@
 -- A runner follows its script's process.
-use Rattle.std.proofs.Common.{◌≡◌, ℕ, List, [], ◌∷◌, map, Option, Some, None, inl, inr, option_map, refl, sym, ap, ap₂, ◌∙◌, subst}
+use Rattle.std.proofs.Common.{◌≡◌, ℕ, List, [], ◌∷◌, map, Option, Some, None, inl, inr, option_map, refl, sym, ap, ap₂}
+use Rattle.std.proofs.Common.{◌∙◌, subst}
 use Rattle.engine_calls.specs.declared.call.Call.{Call}
 use Rattle.engine_calls.specs.declared.call.Call.TheVariants as calls
 use Rattle.engine_calls.specs.declared.reply.Reply.{Reply}
@@ -19,7 +20,8 @@ use Rattle.script_calls.specs.declared.pending.NamedMessage.{NamedMessage}
 use Rattle.script_calls.specs.declared.pending.NamedMessage.TheVariants as messages
 use Rattle.proof_script_processes.specs.Following.{Follows, RunnersFollow, StartsFollow}
 use Rattle.proof_script_processes.specs.Changing.{changed_entry}
-use Rattle.proof_script_processes.specs.Forgetting.{plain_call, plain_does, plain_held, plain_message, plain_reply, plain_request, plain_requests, plain_state, plain_step}
+use Rattle.proof_script_processes.specs.Forgetting.{plain_call, plain_does, plain_held, plain_message, plain_reply}
+use Rattle.proof_script_processes.specs.Forgetting.{plain_request, plain_requests, plain_state, plain_step}
 use Rattle.proof_script_processes.specs.Hearing.{IsReplyTo, told_of}
 use Rattle.proof_script_processes.specs.Processes.{Running, call_in, goes_to, next_by, script_at, step_seen}
 use Rattle.proof_script_processes.proofs.Hearing.{replies_are_heard}
@@ -27,7 +29,8 @@ use Rattle.proof_script_processes.proofs.Running.{keys_are_no_matter}
 
 -- FORGETTING TWICE IS FORGETTING ONCE
 
-twice_request : (q : Option Request) → option_map plain_request (option_map plain_request q) ≡ option_map plain_request q
+twice_request : (q : Option Request) → option_map plain_request (option_map plain_request q) ≡
+    option_map plain_request q
 twice_request None = refl
 twice_request (Some q) = refl
 
@@ -39,16 +42,23 @@ twice_message (messages.TakenOut q) = ap (λ (x : Option Request). messages.Take
 twice_message messages.Ended = refl
 
 twice_entries :
-    {V : Type 0} → (f : V → V) → ((v : V) → f (f v) ≡ f v) → (es : List (Entry V)) → map (changed_entry f) (map (changed_entry f) es) ≡ map (changed_entry f) es
+    {V : Type 0} → (f : V → V) → ((v : V) → f (f v) ≡ f v) → (es : List (Entry V)) →
+    map (changed_entry f) (map (changed_entry f) es) ≡ map (changed_entry f) es
 twice_entries f twice [] = refl
 twice_entries {V = V} f twice (e ∷ es) =
-    ap₂ (λ (x : Entry V) (xs : List (Entry V)). x ∷ xs) (ap (λ (v : V). record { name = e.name; value = v }) (twice e.value)) (twice_entries f twice es)
+    ap₂ (λ (x : Entry V) (xs : List (Entry V)). x ∷ xs)
+    (ap (λ (v : V). record { name = e.name; value = v }) (twice e.value)) (twice_entries f twice es)
 
 twice_state : (s : RunnerState) → plain_state (plain_state s) ≡ plain_state s
 twice_state s =
     ap₂ (λ (qs : List (Entry NamedRequest)) (ms : List (Entry NamedMessage)).
-    record { lines = s.lines; rank = record { names = record s.rank.names { requests = qs; messages = ms }; pending = s.rank.pending } })
-    (twice_entries plain_held twice_held s.rank.names.requests) (twice_entries plain_message twice_message s.rank.names.messages)
+    record {
+      lines = s.lines;
+      rank =
+          record { names = record s.rank.names { requests = qs; messages = ms }; pending = s.rank.pending };
+    })
+    (twice_entries plain_held twice_held s.rank.names.requests)
+    (twice_entries plain_message twice_message s.rank.names.messages)
 
 -- A CALL IS SEEN WITHOUT KEYS
 
@@ -89,32 +99,49 @@ untold_is : (s : RunnerState) (last : Option Call) → next_by s last None ≡ n
 untold_is s None = refl
 untold_is s (Some call) = refl
 
-next_plain : (s : RunnerState) (reply : Option Reply) → next_of (plain_state (plain_state s)) (option_map plain_reply reply) ≡ plain_does (next_of s reply)
-next_plain s reply = ap (λ (x : RunnerState). next_of x (option_map plain_reply reply)) (twice_state s) ∙ keys_are_no_matter s reply
+next_plain : (s : RunnerState) (reply : Option Reply) →
+    next_of (plain_state (plain_state s)) (option_map plain_reply reply) ≡ plain_does (next_of s reply)
+next_plain s reply = ap (λ (x : RunnerState). next_of x (option_map plain_reply reply)) (twice_state s) ∙
+    keys_are_no_matter s reply
 
 -- what the process comes to
-after : (old new : RunnerState) (reply : Option Reply) (step : RunnerStep) (p : Running) (t : Option Told) → Follows old reply p t → next_of old reply ≡ (step, new) →
+after : (old new : RunnerState) (reply : Option Reply) (step : RunnerStep) (p : Running) (t : Option Told) →
+    Follows old reply p t → next_of old reply ≡ (step, new) →
     next_by p.state p.last t ≡ (plain_step step, plain_state new)
 after old new reply step p t f n = f ∙ ap plain_does n
 
 went : (new : RunnerState) (step : RunnerStep) (d : Does) → d ≡ (plain_step step, plain_state new) →
     ((goes_to d).0 ≡ step_seen step) × Follows new None (goes_to d).1 None
-    × ((call : Call) (reply : Reply) → step ≡ steps.Call call → IsReplyTo (plain_call call) reply → Follows new (Some reply) (goes_to d).1 (Some (told_of reply)))
-went new step d e = subst Goal (sym e) (step_plain step, untold_is (plain_state (plain_state new)) (call_in (plain_step step)) ∙ next_plain new None, told)
+    × ((call : Call) (reply : Reply) → step ≡ steps.Call call → IsReplyTo (plain_call call) reply →
+    Follows new (Some reply) (goes_to d).1 (Some (told_of reply)))
+went new step d e =
+    subst Goal (sym e) (
+      step_plain step,
+      untold_is (plain_state (plain_state new)) (call_in (plain_step step)) ∙
+          next_plain new None,
+      told,
+    )
   where
     Goal : Does → Type 0
     Goal x =
         ((goes_to x).0 ≡ step_seen step) × Follows new None (goes_to x).1 None
-        × ((call : Call) (reply : Reply) → step ≡ steps.Call call → IsReplyTo (plain_call call) reply → Follows new (Some reply) (goes_to x).1 (Some (told_of reply)))
+        × ((call : Call) (reply : Reply) → step ≡ steps.Call call → IsReplyTo (plain_call call) reply →
+        Follows new (Some reply) (goes_to x).1 (Some (told_of reply)))
 
     told : (call : Call) (reply : Reply) → step ≡ steps.Call call → IsReplyTo (plain_call call) reply →
         Follows new (Some reply) (goes_to (plain_step step, plain_state new)).1 (Some (told_of reply))
     told call reply is to =
-        ap (λ (x : RunnerStep). next_by (plain_state (plain_state new)) (call_in (plain_step x)) (Some (told_of reply))) is
+        ap (λ (x : RunnerStep). next_by (plain_state (plain_state new)) (call_in (plain_step x)) (Some (told_of reply)))
+        is
         ∙ (replies_are_heard (plain_state (plain_state new)) (plain_call call) reply to
         ∙ next_plain new (Some reply))
 
 pub runners_follow : RunnersFollow
 runners_follow old new reply step p t f (inl n) six =
-    let w = went new step (next_by p.state p.last t) (after old new reply step p t f n) in record { does = w.0; untold = w.1; told = w.2 }
+    let w = went new step (next_by p.state p.last t) (after old new reply step p t f n) in record {
+      does = w.0;
+      untold =
+          w.1;
+      told = w.2;
+    }
 runners_follow old new reply step p t f (inr is) six = absurd (six is.0)

@@ -29,7 +29,8 @@ use Rattle.std.specs.Global.{Vec}
 use Rattle.vocabulary.specs.declared.envelope.Status.{Status}
 use Rattle.proof_script_processes.specs.Forgetting.{plain_found, plain_request}
 use Rattle.proof_script_processes.specs.Hearing.{RepliesAreHeard, told_of}
-use Rattle.proof_script_processes.specs.Processes.{comparison_for, done_for, ending_for, found_for, next_told, outcome_for, refusal_for, request_for, tells_ranks}
+use Rattle.proof_script_processes.specs.Processes.{comparison_for, done_for, ending_for, found_for, next_told}
+use Rattle.proof_script_processes.specs.Processes.{outcome_for, refusal_for, request_for, tells_ranks}
 
 outcome_back : (o : Outcome) → outcome_for (outcome_seen o) ≡ o
 outcome_back outcomes.Sent = refl
@@ -95,14 +96,18 @@ number_back lowers.BadFrame = refl
 number_back lowers.OutOfWindow = refl
 number_back lowers.ClockBack = refl
 
-ranks_heard : (p : Option Pending) (ranks : Vec ℕ) (names : NamesState) → tells_ranks p ranks.items names ≡ heeds_by p (replies.Fact (facts.Ranks ranks)) names
+ranks_heard : (p : Option Pending) (ranks : Vec ℕ) (names : NamesState) → tells_ranks p ranks.items names ≡
+    heeds_by p (replies.Fact (facts.Ranks ranks)) names
 ranks_heard None ranks names = refl
 ranks_heard (Some p) ranks names = refl
 
-facts_heard : (s : RunnerState) (call : Call) (f : Fact) → next_told s call (told_of (replies.Fact f)) ≡ next_of s (Some (replies.Fact f))
+facts_heard : (s : RunnerState) (call : Call) (f : Fact) → next_told s call (told_of (replies.Fact f)) ≡
+    next_of s (Some (replies.Fact f))
 facts_heard s call (facts.Number n) = refl
-facts_heard s call (facts.Ranks ranks) = ap (λ (a : Acts). does_after s.lines a) (ranks_heard s.rank.pending ranks s.rank.names)
-facts_heard s call (facts.Compares c) = ap (λ (x : CommunicatorComparison). next_of s (Some (replies.Fact (facts.Compares x)))) (comparison_back c)
+facts_heard s call (facts.Ranks ranks) =
+    ap (λ (a : Acts). does_after s.lines a) (ranks_heard s.rank.pending ranks s.rank.names)
+facts_heard s call (facts.Compares c) =
+    ap (λ (x : CommunicatorComparison). next_of s (Some (replies.Fact (facts.Compares x)))) (comparison_back c)
 
 pub replies_are_heard : RepliesAreHeard
 replies_are_heard s call (replies.Started q) h = refl
@@ -113,5 +118,7 @@ replies_are_heard s call replies.Blocked h = refl
 replies_are_heard s call (replies.Left o) h = ap (λ (x : Ending). next_of s (Some (replies.Left x))) (ending_back o)
 replies_are_heard s call (replies.Fact f) h = facts_heard s call f
 replies_are_heard s call (replies.Probed found) h = refl
-replies_are_heard s call (replies.Matched found) h = ap (λ (x : Option (Option Request × Status)). next_of s (Some (replies.Matched x))) (found_back found)
-replies_are_heard s call (replies.Refused why back) h = ap₂ (λ (x : lower.Refusal) (c : Call). next_of s (Some (replies.Refused x c))) (number_back why) h
+replies_are_heard s call (replies.Matched found) h =
+    ap (λ (x : Option (Option Request × Status)). next_of s (Some (replies.Matched x))) (found_back found)
+replies_are_heard s call (replies.Refused why back) h =
+    ap₂ (λ (x : lower.Refusal) (c : Call). next_of s (Some (replies.Refused x c))) (number_back why) h

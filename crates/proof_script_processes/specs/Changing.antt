@@ -69,7 +69,12 @@ abbrev pub changed_entry : {V : Type 0} → (V → V) → Entry V → Entry V
 changed_entry f e = record { name = e.name; value = f e.value }
 
 abbrev pub changed_names : (Request → Request) → NamesState → NamesState
-changed_names change s = record s { requests = map (changed_entry (changed_held change)) s.requests; messages = map (changed_entry (changed_message change)) s.messages }
+changed_names change s =
+    record s {
+      requests = map (changed_entry (changed_held change)) s.requests;
+      messages =
+          map (changed_entry (changed_message change)) s.messages;
+    }
 
 abbrev pub changed_rank : (Request → Request) → RankState → RankState
 changed_rank change s = record { names = changed_names change s.names; pending = s.pending }

@@ -1,5 +1,5 @@
--- What is left of a runner of a script, its calls and replies where requests and messages are known by their serials alone: which key
--- one has in its rank's table is no matter of the machine.
+-- What is left of a runner of a script, its calls and replies where requests and messages are known by their serials
+-- alone: which key one has in its rank's table is no matter of the machine.
 use Rattle.std.specs.Prelude.{List, Option}
 use Rattle.engine_calls.specs.declared.call.Call.{Call}
 use Rattle.engine_calls.specs.declared.reply.Reply.{Reply}
@@ -9,7 +9,9 @@ use Rattle.script_runner.specs.Running.{Does, RunnerState}
 use Rattle.script_calls.specs.declared.pending.NamedRequest.{NamedRequest}
 use Rattle.script_calls.specs.declared.pending.NamedMessage.{NamedMessage}
 use Rattle.vocabulary.specs.declared.envelope.Status.{Status}
-use Rattle.proof_script_processes.specs.Changing.{changed_call, changed_does, changed_found, changed_held, changed_message, changed_reply, changed_requests, changed_state, changed_step}
+use Rattle.proof_script_processes.specs.Changing.{changed_call, changed_does, changed_found, changed_held}
+use Rattle.proof_script_processes.specs.Changing.{changed_message, changed_reply, changed_requests, changed_state}
+use Rattle.proof_script_processes.specs.Changing.{changed_step}
 
 -- a request by its serial alone
 abbrev pub plain_request : Request → Request

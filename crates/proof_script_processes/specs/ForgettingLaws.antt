@@ -6,11 +6,15 @@ use Rattle.script_runner.specs.Running.{RunnerState, next_of}
 use Rattle.proof_script_processes.specs.Changing.{changed_does, changed_reply, changed_state}
 use Rattle.proof_script_processes.specs.Forgetting.{plain_does, plain_reply, plain_state}
 
--- A runner looks into no request: whatever others stand in place of those that it has and is told, what comes next is the same with these
+-- A runner looks into no request: whatever others stand in place of those that it has and is told, what comes next is
+-- the same with these
 abbrev pub RequestsAreHandedOn : Type 0
 RequestsAreHandedOn =
-    (change : Request → Request) (s : RunnerState) (reply : Option Reply) → next_of (changed_state change s) (option_map (changed_reply change) reply) ≡ changed_does change (next_of s reply)
+    (change : Request → Request) (s : RunnerState) (reply : Option Reply) →
+    next_of (changed_state change s) (option_map (changed_reply change) reply) ≡
+    changed_does change (next_of s reply)
 
 -- so what comes next is the same but for keys, where the state and the reply are the same but for keys
 abbrev pub KeysAreNoMatter : Type 0
-KeysAreNoMatter = (s : RunnerState) (reply : Option Reply) → next_of (plain_state s) (option_map plain_reply reply) ≡ plain_does (next_of s reply)
+KeysAreNoMatter = (s : RunnerState) (reply : Option Reply) → next_of (plain_state s) (option_map plain_reply reply) ≡
+    plain_does (next_of s reply)

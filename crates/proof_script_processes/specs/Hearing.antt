@@ -36,4 +36,5 @@ IsReplyTo call _ = Unit {0}
 -- A runner goes on alike, whether its engine's reply is told to it, or what the machine tells of that
 abbrev pub RepliesAreHeard : Type 0
 RepliesAreHeard =
-    (s : RunnerState) (call : Call) (reply : Reply) → IsReplyTo call reply → next_told s call (told_of reply) ≡ next_of s (Some (plain_reply reply))
+    (s : RunnerState) (call : Call) (reply : Reply) → IsReplyTo call reply → next_told s call (told_of reply) ≡
+    next_of s (Some (plain_reply reply))

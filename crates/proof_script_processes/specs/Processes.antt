@@ -1,5 +1,6 @@
 -- Scripts as processes of the machine.
-use Rattle.std.specs.Prelude.{ℕ, ◌*◌, ◌+◌, ◌==◌, length, List, [], ◌∷◌, map, Option, Some, None, if◌then◌else◌, option_map}
+use Rattle.std.specs.Prelude.{ℕ, ◌*◌, ◌+◌, ◌==◌, length, List, [], ◌∷◌, map, Option, Some, None, if◌then◌else◌}
+use Rattle.std.specs.Prelude.{option_map}
 use Rattle.std.specs.List.{AllByRecursion}
 use Rattle.printed_lines.specs.CommunicatorTexts.{members_text}
 use Rattle.collective_steps.specs.declared.step.Ending as steps_ending
@@ -47,7 +48,8 @@ use Rattle.proof_script_processes.specs.Forgetting.{plain_state}
 abbrev pub outcome_for : outcomes_of.Outcome → engine_outcomes.Outcome
 outcome_for outcomes_of.Sent = outcomes.Sent
 outcome_for (outcomes_of.Received status buffer) = outcomes.Received status buffer
-outcome_for (outcomes_of.Ended number status buffer) = outcomes.Ended (if number == 2 then failures.WrongType else failures.Truncated) status buffer
+outcome_for (outcomes_of.Ended number status buffer) =
+    outcomes.Ended (if number == 2 then failures.WrongType else failures.Truncated) status buffer
 outcome_for (outcomes_of.Replaced buffer) = outcomes.Replaced buffer
 outcome_for (outcomes_of.Cancelled buffer) = outcomes.Cancelled buffer
 outcome_for outcomes_of.Empty = outcomes.Empty
@@ -84,16 +86,23 @@ comparison_for machine.Unequal = comparisons.Unequal
 -- the rule of datagrams or ticks with a number
 abbrev pub event_refusal_for : ℕ → lower.Refusal
 event_refusal_for n =
-    if n == 21 then lowers.Short else (if n == 22 then lowers.Magic else (if n == 23 then lowers.Version else (if n == 24 then lowers.Kind else
-    (if n == 25 then lowers.Length else (if n == 26 then lowers.ForeignJob else (if n == 27 then lowers.NotForMe else (if n == 28 then lowers.StaleSource else
-    (if n == 29 then lowers.StaleTarget else (if n == 30 then lowers.BadFrame else (if n == 31 then lowers.OutOfWindow else lowers.ClockBack))))))))))
+    if n == 21 then lowers.Short else
+    (if n == 22 then lowers.Magic else (if n == 23 then lowers.Version else (if n == 24 then lowers.Kind else
+    (if n == 25 then lowers.Length else
+    (if n == 26 then lowers.ForeignJob else
+    (if n == 27 then lowers.NotForMe else (if n == 28 then lowers.StaleSource else
+    (if n == 29 then lowers.StaleTarget else
+    (if n == 30 then lowers.BadFrame else (if n == 31 then lowers.OutOfWindow else lowers.ClockBack))))))))))
 
 -- the rule with a number
 abbrev pub refusal_for : ℕ → lower.Refusal
 refusal_for n =
-    if n == 6 then lowers.Request else (if n == 4 then lowers.Communicator else (if n == 2 then lowers.WrongType else (if n == 1 then lowers.Count else
-    (if n == 3 then lowers.Tag else (if n == 5 then lowers.Rank else (if n == 7 then lowers.Root else (if n == 9 then lowers.Operation else
-    (if n == 11 then lowers.Replaced else (if n == 13 then lowers.Limit else (if n == 14 then lowers.OutOfMemory else event_refusal_for n))))))))))
+    if n == 6 then lowers.Request else
+    (if n == 4 then lowers.Communicator else (if n == 2 then lowers.WrongType else (if n == 1 then lowers.Count else
+    (if n == 3 then lowers.Tag else
+    (if n == 5 then lowers.Rank else (if n == 7 then lowers.Root else (if n == 9 then lowers.Operation else
+    (if n == 11 then lowers.Replaced else
+    (if n == 13 then lowers.Limit else (if n == 14 then lowers.OutOfMemory else event_refusal_for n))))))))))
 
 -- (a list of ranks is told apart, below: a list in memory isn't made in a definition)
 abbrev pub fact_for : machine.Fact → engine_facts.Fact
@@ -137,7 +146,8 @@ tells_ranks (Some pending) ranks names = prints (members_text ranks) names
 
 -- what comes next, by what is told of the last call
 abbrev pub next_told : RunnerState → Call → Told → Does
-next_told s call (Replied (machine.OfFact (machine.Ranks ranks))) = does_after s.lines (tells_ranks s.rank.pending ranks s.rank.names)
+next_told s call (Replied (machine.OfFact (machine.Ranks ranks))) =
+    does_after s.lines (tells_ranks s.rank.pending ranks s.rank.names)
 next_told s call t = next_of s (Some (reply_for call t))
 
 -- what comes next; nothing is told where the last step was no call
@@ -164,8 +174,8 @@ running_at_start scripts r = record { state = opening (script_at scripts r) r 0;
 
 -- ---- which scripts have one meaning
 
--- No receive from any rank, no test, no cancel, no wait for any of several, no synchronous send, no probe and no receive of a message that
--- was taken out
+-- No receive from any rank, no test, no cancel, no wait for any of several, no synchronous send, no probe and no
+-- receive of a message that was taken out
 abbrev pub IsCoveredAction : Action → Type 0
 IsCoveredAction (actions.Issend name x) = ⊥
 IsCoveredAction (actions.Irecv name x) = IsNotAny x.source
@@ -189,8 +199,8 @@ AreCoveredLines lines = AllByRecursion (λ l. IsCoveredStatement l.statement) li
 abbrev pub IsCoveredRunning : Running → Type 0
 IsCoveredRunning p = AreCoveredLines p.state.lines
 
--- ---- how many steps a script has before it at most: three for each line that is left, and so many for what follows from the answer that
--- is awaited
+-- ---- how many steps a script has before it at most: three for each line that is left, and so many for what follows
+-- from the answer that is awaited
 
 abbrev pub steps_for : Option Pending → ℕ
 steps_for None = 0

@@ -15,8 +15,11 @@ use Rattle.proof_session_carrying.specs.CarryLaws.{ArrivesAs, MessagesArrive, No
 use Rattle.vocabulary.specs.declared.endpoint.Endpoint.{Endpoint}
 
 -- a message that can be read becomes a note, or memory is lacking
-sent_arrives : (s d : Endpoint) (sent : CollectiveMessage) (x : Notice) → s.incarnation ≡ d.incarnation → IsSaid s sent (d, x) → IsReadable sent.entered sent.given → (result : Result (Option Note) CollectiveRefusal) → ArrivalGives s sent.context sent.number (says sent) result → ArrivesAs s d x result
-sent_arrives s d sent x alike said can (Ok (Some n)) gives = messages_arrive s d sent (d, x) n alike said can.within gives
+sent_arrives : (s d : Endpoint) (sent : CollectiveMessage) (x : Notice) → s.incarnation ≡ d.incarnation →
+    IsSaid s sent (d, x) → IsReadable sent.entered sent.given → (result : Result (Option Note) CollectiveRefusal) →
+    ArrivalGives s sent.context sent.number (says sent) result → ArrivesAs s d x result
+sent_arrives s d sent x alike said can (Ok (Some n)) gives =
+    messages_arrive s d sent (d, x) n alike said can.within gives
 sent_arrives s d sent x alike said can (Ok None) gives = gives.1 can.once
 sent_arrives s d sent x alike said can (Err refusals.OutOfMemory) gives = tt
 sent_arrives s d sent x alike said can (Err refusals.BadFrame) gives = gives can.fits
@@ -34,6 +37,7 @@ notices_arrive s d t m x i b = (
     says m,
     ap payload_of i.elements ∙ b.spelled,
     λ result gives. (brought_arrives s d m x b).1 result
-        (subst (λ (c : ℕ). ArrivalGives s c m.number (says m) result) i.context (subst (λ (k : ℕ). ArrivalGives s t.context k (says m) result) i.number gives)),
+        (subst (λ (c : ℕ). ArrivalGives s c m.number (says m) result) i.context
+        (subst (λ (k : ℕ). ArrivalGives s t.context k (says m) result) i.number gives)),
   ),
 )

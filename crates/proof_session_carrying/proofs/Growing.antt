@@ -1,5 +1,6 @@
 -- What was announced stays announced, under its number.
-use Rattle.std.proofs.Common.{◌≡◌, ℕ, zero, suc, List, [], ◌∷◌, ◌++◌, length, Some, slice_get, refl, sym, ap, ◌∙◌, append-nil, arith, Bool, true, false, ◌&&◌, if◌then◌else◌}
+use Rattle.std.proofs.Common.{◌≡◌, ℕ, zero, suc, List, [], ◌∷◌, ◌++◌, length, Some, slice_get, refl, sym, ap, ◌∙◌}
+use Rattle.std.proofs.Common.{append-nil, arith, Bool, true, false, ◌&&◌, if◌then◌else◌}
 use Rattle.std.proofs.lemmas.Bool.{and_from}
 use Rattle.std.proofs.lemmas.List.{map-append}
 use Rattle.perfect_queues.proofs.EndpointLemmas.{same_refl}
@@ -23,20 +24,24 @@ before (BringsPart i part) xs ys = refl
 
 pub announced_append : (xs ys : List Carried) → announced_in (xs ++ ys) ≡ announced_in xs ++ announced_in ys
 announced_append [] ys = refl
-announced_append (x ∷ xs) ys = ap (announced_by x) (announced_append xs ys) ∙ before x (announced_in xs) (announced_in ys)
+announced_append (x ∷ xs) ys = ap (announced_by x) (announced_append xs ys) ∙
+    before x (announced_in xs) (announced_in ys)
 
 pub announced_grow : (xs ys : List Carried) → Begins xs ys → Begins (announced_in xs) (announced_in ys)
 announced_grow xs ys b = (announced_in b.0, sym (announced_append xs b.0) ∙ ap announced_in b.1)
 
-pub transfers_grow : (serial : ℕ) (xs ys : List Announced) → Begins xs ys → Begins (transfers_as serial xs) (transfers_as serial ys)
-transfers_grow serial xs ys b = (transfers_as serial b.0, sym (map-append (transfer_as serial) xs b.0) ∙ ap (transfers_as serial) b.1)
+pub transfers_grow : (serial : ℕ) (xs ys : List Announced) → Begins xs ys →
+    Begins (transfers_as serial xs) (transfers_as serial ys)
+transfers_grow serial xs ys b =
+    (transfers_as serial b.0, sym (map-append (transfer_as serial) xs b.0) ∙ ap (transfers_as serial) b.1)
 
 -- the same list goes on with nothing
 pub same_begins : {A : Type 0} (xs ys : List A) → xs ≡ ys → Begins xs ys
 same_begins xs ys same = ([], append-nil xs ∙ same)
 
 -- what stands at a place stands there in the longer list
-pub begins_at : {A : Type 0} (xs ys : List A) (k : ℕ) (x : A) → Begins xs ys → slice_get xs k ≡ Some x → slice_get ys k ≡ Some x
+pub begins_at : {A : Type 0} (xs ys : List A) (k : ℕ) (x : A) → Begins xs ys → slice_get xs k ≡ Some x →
+    slice_get ys k ≡ Some x
 begins_at {A} xs ys k x b h = sym (ap (λ (zs : List A). slice_get zs k) b.1) ∙ left_at xs b.0 k h
   where
     left_at : (xs later : List A) (k : ℕ) → slice_get xs k ≡ Some x → slice_get (xs ++ later) k ≡ Some x

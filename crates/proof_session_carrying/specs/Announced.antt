@@ -1,4 +1,5 @@
--- What a session announced: large messages and large notices share the numbers of its transfers, each of which is a place among them.
+-- What a session announced: large messages and large notices share the numbers of its transfers, each of which is a
+-- place among them.
 use Rattle.std.specs.Prelude.{ℕ, List, [], ◌∷◌, map}
 use Rattle.proof_engine_view.specs.Transfers.{Announcements, Transfer}
 use Rattle.proof_group_network.specs.Carried.{Announces, Carried, OfMessages, Sessions}
@@ -15,7 +16,8 @@ pub data Announced : Type 0 where
 
 -- what this announces stands before what the rest does
 abbrev pub announced_by : Carried → List Announced → List Announced
-announced_by (OfMessages (Rts context tag basic k count)) rest = LargeMessage (record { serial = k; basic = basic; count = count }) ∷ rest
+announced_by (OfMessages (Rts context tag basic k count)) rest =
+    LargeMessage (record { serial = k; basic = basic; count = count }) ∷ rest
 announced_by (Announces i) rest = LargeNotice i ∷ rest
 announced_by _ rest = rest
 

@@ -16,7 +16,8 @@ use Rattle.proof_group_network.specs.Notices.{Notice}
 use Rattle.endpoint_links.specs.Links.{LinkOf, LinksOf, accept_all, handed_on, in_flight}
 use Rattle.proof_pure_network.specs.Announced.{Begins}
 use Rattle.proof_session_carrying.specs.Announced.{Announced, all_announced}
-use Rattle.proof_session_carrying.specs.Carrying.{AreCarried, AreSent, IsBrought, IsCarried, IsEager, Saying, StandsForCarried, bytes_of_message}
+use Rattle.proof_session_carrying.specs.Carrying.{AreCarried, AreSent, IsBrought, IsCarried, IsEager, Saying}
+use Rattle.proof_session_carrying.specs.Carrying.{StandsForCarried, bytes_of_message}
 use Rattle.vocabulary.specs.declared.endpoint.Endpoint.{Endpoint}
 
 -- the messages of collectives go on: what was sent stays so, under its number
@@ -26,12 +27,15 @@ GoesOn old new = (s d : Endpoint) → Begins (old s d) (new s d)
 -- What goes out at e is carried: its texts stand for it once all that is large is announced
 abbrev pub OutIsCarried : Type 0
 OutIsCarried =
-    (said after : Saying) (texts : LinksOf FrameText) (sessions : Sessions) (e : Endpoint) (sent : List (Endpoint × FrameText)) (out : List (Endpoint × Carried)) →
-    AreCarried said texts sessions → GoesOn said after → AreSent (all_announced (accept_all sessions e out)) after e sent out →
+    (said after : Saying) (texts : LinksOf FrameText) (sessions : Sessions) (e : Endpoint)
+    (sent : List (Endpoint × FrameText)) (out : List (Endpoint × Carried)) →
+    AreCarried said texts sessions → GoesOn said after →
+    AreSent (all_announced (accept_all sessions e out)) after e sent out →
     AreCarried after (accept_all texts e sent) (accept_all sessions e out)
 
 -- the next of what a session carries, for which a text stands
-pub record IsNext (out back : List Announced) (said : List CollectiveMessage) (session : Session) (text : FrameText) : Type 0 where
+pub record IsNext (out back : List Announced) (said : List CollectiveMessage) (session : Session)
+    (text : FrameText) : Type 0 where
   pub carried : Carried
   pub there : slice_get session.accepted session.handed ≡ Some carried
   pub stands : StandsForCarried out back said text carried
@@ -39,13 +43,16 @@ pub record IsNext (out back : List Announced) (said : List CollectiveMessage) (s
 -- the text that is handed up next stands for it
 abbrev pub NextStands : Type 0
 NextStands =
-    (out back : List Announced) (said : List CollectiveMessage) (texts : LinkOf FrameText) (session : Session) (text : FrameText) →
-    IsCarried out back said texts session → slice_get texts.accepted texts.handed ≡ Some text → IsNext out back said session text
+    (out back : List Announced) (said : List CollectiveMessage) (texts : LinkOf FrameText) (session : Session)
+    (text : FrameText) →
+    IsCarried out back said texts session → slice_get texts.accepted texts.handed ≡ Some text →
+    IsNext out back said session text
 
 -- once it was handed up all is carried on
 abbrev pub HandedIsCarried : Type 0
 HandedIsCarried =
-    (said : Saying) (texts : LinksOf FrameText) (sessions : Sessions) (s d : Endpoint) → AreCarried said texts sessions →
+    (said : Saying) (texts : LinksOf FrameText) (sessions : Sessions) (s d : Endpoint) →
+    AreCarried said texts sessions →
     AreCarried said (handed_on texts s d) (handed_on sessions s d)
 
 -- where no text is under way, nothing is
@@ -61,13 +68,14 @@ ArrivesAs s d x (Ok None) = ⊥
 ArrivesAs s d x (Err refusals.OutOfMemory) = Unit {0}
 ArrivesAs s d x (Err _) = ⊥
 
--- The bytes of the message of a notice are read, and whatever the reading of it gives, it is a note of the notice unless memory is
--- lacking
+-- The bytes of the message of a notice are read, and whatever the reading of it gives, it is a note of the notice
+-- unless memory is lacking
 abbrev pub MessagesArrive : Type 0
 MessagesArrive =
     (s d : Endpoint) (m : CollectiveMessage) (x : Notice) → IsBrought s d m x →
     (payload_of (bytes_of_message m) ≡ Some (says m))
-    × ((result : Result (Option Note) CollectiveRefusal) → ArrivalGives s m.context m.number (says m) result → ArrivesAs s d x result)
+    × ((result : Result (Option Note) CollectiveRefusal) → ArrivalGives s m.context m.number (says m) result →
+    ArrivesAs s d x result)
 
 -- so it is where an eager frame brings it, which is of collectives
 abbrev pub NoticesArrive : Type 0
@@ -75,4 +83,5 @@ NoticesArrive =
     (s d : Endpoint) (t : EagerText) (m : CollectiveMessage) (x : Notice) → IsEager m t → IsBrought s d m x →
     (t.plane ≡ Collective)
     × ((p : PayloadText) × (payload_of t.elements ≡ Some p)
-    × ((result : Result (Option Note) CollectiveRefusal) → ArrivalGives s t.context t.tag p result → ArrivesAs s d x result))
+    × ((result : Result (Option Note) CollectiveRefusal) → ArrivalGives s t.context t.tag p result →
+    ArrivesAs s d x result))

@@ -1,8 +1,10 @@
 -- For what of the network's sessions the texts of the engines' sessions stand.
-use Rattle.std.specs.Prelude.{◌≡◌, ℕ, suc, ◌*◌, ◌<◌, List, [], ◌∷◌, ◌++◌, ◌&&◌, Some, drop, if◌then◌else◌, length, slice_get}
+use Rattle.std.specs.Prelude.{◌≡◌, ℕ, suc, ◌*◌, ◌<◌, List, [], ◌∷◌, ◌++◌, ◌&&◌, Some, drop, if◌then◌else◌, length}
+use Rattle.std.specs.Prelude.{slice_get}
 use Rattle.collective_messages.specs.Messages.{says}
 use Rattle.collective_messages.specs.declared.message.CollectiveMessage.{CollectiveMessage}
-use Rattle.datagram.specs.Spelling.{ClearFrame, DataFrame, DataText, EagerFrame, EagerText, FrameText, RequestFrame, RequestText}
+use Rattle.datagram.specs.Spelling.{ClearFrame, DataFrame, DataText, EagerFrame, EagerText, FrameText, RequestFrame}
+use Rattle.datagram.specs.Spelling.{RequestText}
 use Rattle.datagram.specs.declared.kinds.Clearance.TheVariants.{Send}
 use Rattle.datagram.specs.declared.kinds.Plane.TheVariants.{Collective}
 use Rattle.payload.specs.Reading.{payload_of}
@@ -61,8 +63,8 @@ bytes_of_message m = spelling (says m)
 
 -- ---- the texts that bring them
 
--- an eager frame brings a message: it is of collectives, of bytes, which are the message's; its context is that of the message, its
--- tag the number of the collective
+-- an eager frame brings a message: it is of collectives, of bytes, which are the message's; its context is that of the
+-- message, its tag the number of the collective
 pub record IsEager (m : CollectiveMessage) (t : EagerText) : Type 0 where
   pub plane : t.plane ≡ Collective
   pub basic : t.basic ≡ Byte
@@ -70,8 +72,8 @@ pub record IsEager (m : CollectiveMessage) (t : EagerText) : Type 0 where
   pub number : t.tag ≡ m.number
   pub elements : t.elements ≡ bytes_of_message m
 
--- an RTS announces a message: so many bytes, more than a frame takes, for its context, under the number of the collective. It is that
--- of a standard send
+-- an RTS announces a message: so many bytes, more than a frame takes, for its context, under the number of the
+-- collective. It is that of a standard send
 pub record IsRequest (m : CollectiveMessage) (t : RequestText) : Type 0 where
   pub mode : t.mode ≡ Standard
   pub plane : t.plane ≡ Collective
@@ -90,7 +92,8 @@ pub record IsPiece (out : List Announced) (i part : ℕ) (m : CollectiveMessage)
 -- a text makes the notice i whole: it brings its message, or the last piece of it
 abbrev pub MakesWhole : (out : List Announced) → (i : ℕ) → CollectiveMessage → FrameText → Type 0
 MakesWhole out i m (EagerFrame t) = IsEager m t
-MakesWhole out i m (DataFrame t) = (part : ℕ) × (suc part ≡ piece_count piece_bytes (bytes_of_message m)) × IsPiece out i part m t
+MakesWhole out i m (DataFrame t) = (part : ℕ) × (suc part ≡ piece_count piece_bytes (bytes_of_message m)) ×
+    IsPiece out i part m t
 MakesWhole out i m _ = ⊥
 
 -- a text announces it, under a number that is its own
@@ -100,7 +103,8 @@ MakesKnown out i m _ = ⊥
 
 -- a text brings a piece of it, but not the last one
 abbrev pub MakesPart : (out : List Announced) → (i part : ℕ) → CollectiveMessage → FrameText → Type 0
-MakesPart out i part m (DataFrame t) = (suc part < piece_count piece_bytes (bytes_of_message m)) × IsPiece out i part m t
+MakesPart out i part m (DataFrame t) = (suc part < piece_count piece_bytes (bytes_of_message m)) ×
+    IsPiece out i part m t
 MakesPart out i part m _ = ⊥
 
 -- a text asks for the notice i of the other direction, by the number under which it was announced there
@@ -110,38 +114,50 @@ AsksFor back i _ = ⊥
 
 -- ---- what a text stands for
 
--- A text stands for what a session carries, where `out` was announced in its direction, `back` on the way back, and `said` are the
--- messages of its notices. For a frame of messages it stands whatever serials notices have: so no number that it bears is a notice's
-abbrev pub StandsForCarried : (out back : List Announced) → (said : List CollectiveMessage) → FrameText → Carried → Type 0
-StandsForCarried out back said text (OfMessages f) = (serial : ℕ) → StandsFor (transfers_as serial out) (transfers_as serial back) text f
-StandsForCarried out back said text (OfNotices i) = (m : CollectiveMessage) × (slice_get said i ≡ Some m) × MakesWhole out i m text
-StandsForCarried out back said text (Announces i) = (m : CollectiveMessage) × (slice_get said i ≡ Some m) × MakesKnown out i m text
+-- A text stands for what a session carries, where `out` was announced in its direction, `back` on the way back, and
+-- `said` are the messages of its notices. For a frame of messages it stands whatever serials notices have: so no number
+-- that it bears is a notice's
+abbrev pub StandsForCarried : (out back : List Announced) → (said : List CollectiveMessage) → FrameText → Carried →
+    Type 0
+StandsForCarried out back said text (OfMessages f) =
+    (serial : ℕ) → StandsFor (transfers_as serial out) (transfers_as serial back) text f
+StandsForCarried out back said text (OfNotices i) = (m : CollectiveMessage) × (slice_get said i ≡ Some m) ×
+    MakesWhole out i m text
+StandsForCarried out back said text (Announces i) = (m : CollectiveMessage) × (slice_get said i ≡ Some m) ×
+    MakesKnown out i m text
 StandsForCarried out back said text (Answers i) = AsksFor back i text
-StandsForCarried out back said text (BringsPart i part) = (m : CollectiveMessage) × (slice_get said i ≡ Some m) × MakesPart out i part m text
+StandsForCarried out back said text (BringsPart i part) = (m : CollectiveMessage) × (slice_get said i ≡ Some m) ×
+    MakesPart out i part m text
 
 -- each text for what is at its place
-abbrev pub StandFor : (out back : List Announced) → (said : List CollectiveMessage) → List FrameText → List Carried → Type 0
+abbrev pub StandFor : (out back : List Announced) → (said : List CollectiveMessage) → List FrameText → List Carried →
+    Type 0
 StandFor out back said [] [] = Unit {0}
 StandFor out back said [] (x ∷ xs) = ⊥
 StandFor out back said (text ∷ texts) [] = ⊥
 StandFor out back said (text ∷ texts) (x ∷ xs) = StandsForCarried out back said text x × StandFor out back said texts xs
 
 -- a link of the engines' sessions carries what a session of the network carries, and handed as much of it up
-pub record IsCarried (out back : List Announced) (said : List CollectiveMessage) (texts : LinkOf FrameText) (session : LinkOf Carried) : Type 0 where
+pub record IsCarried (out back : List Announced) (said : List CollectiveMessage) (texts : LinkOf FrameText)
+    (session : LinkOf Carried) : Type 0 where
   pub accepted : StandFor out back said texts.accepted session.accepted
   pub handed : texts.handed ≡ session.handed
 
 -- so does each, where this was announced from endpoint to endpoint
-abbrev pub AreCarriedUnder : (told : Endpoint → Endpoint → List Announced) → Saying → LinksOf FrameText → Sessions → Type 0
-AreCarriedUnder told said texts sessions = (s d : Endpoint) → IsCarried (told s d) (told d s) (said s d) (texts s d) (sessions s d)
+abbrev pub AreCarriedUnder : (told : Endpoint → Endpoint → List Announced) → Saying → LinksOf FrameText → Sessions →
+    Type 0
+AreCarriedUnder told said texts sessions =
+    (s d : Endpoint) → IsCarried (told s d) (told d s) (said s d) (texts s d) (sessions s d)
 
 -- each under the numbers that the sessions themselves give
 abbrev pub AreCarried : Saying → LinksOf FrameText → Sessions → Type 0
 AreCarried said texts sessions = AreCarriedUnder (all_announced sessions) said texts sessions
 
 -- each text that goes out at e goes where what it stands for goes
-abbrev pub AreSent : (told : Endpoint → Endpoint → List Announced) → Saying → (e : Endpoint) → List (Endpoint × FrameText) → List (Endpoint × Carried) → Type 0
+abbrev pub AreSent : (told : Endpoint → Endpoint → List Announced) → Saying →
+    (e : Endpoint) → List (Endpoint × FrameText) → List (Endpoint × Carried) → Type 0
 AreSent told said e [] [] = Unit {0}
 AreSent told said e [] (x ∷ xs) = ⊥
 AreSent told said e (t ∷ ts) [] = ⊥
-AreSent told said e ((y, text) ∷ ts) ((d, x) ∷ xs) = (y ≡ d) × StandsForCarried (told e d) (told d e) (said e d) text x × AreSent told said e ts xs
+AreSent told said e ((y, text) ∷ ts) ((d, x) ∷ xs) =
+    (y ≡ d) × StandsForCarried (told e d) (told d e) (said e d) text x × AreSent told said e ts xs

@@ -1,8 +1,8 @@
-//! The laws of what one session between two engines carries: texts, which stand for frames of messages and for notices of
-//! collectives of the pure network.
+//! The laws of what one session between two engines carries: texts, which stand for frames of messages and for notices
+//! of collectives of the pure network.
 //!
-//! `specs/` says what a text stands for (`Carrying`), how that goes on (`CarryLaws`), and what an event of a collective does to it
-//! (`EventLaws`).
+//! `specs/` says what a text stands for (`Carrying`), how that goes on (`CarryLaws`), and what an event of a collective
+//! does to it (`EventLaws`).
 #![tactic(auto)]
 
 mod events;

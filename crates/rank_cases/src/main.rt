@@ -1,7 +1,8 @@
 //! Worked rows of ranks and of the launcher as processes: starts them, and prints what each printed and how it ended.
 //!
-//! The gate runs a program alone, away from all others. So this one is the launcher, a keeper and a rank too, by the very libraries of
-//! `mpiexec` and `rank_main`, and starts itself; its first word says what it is, and without words it runs the rows.
+//! The gate runs a program alone, away from all others. So this one is the launcher, a keeper and a rank too, by the
+//! very libraries of `mpiexec` and `rank_main`, and starts itself; its first word says what it is, and without words it
+//! runs the rows.
 #![tactic(auto)]
 
 mod launch_fault_rows;

@@ -3,11 +3,13 @@
 ghost use Rattle.std.specs.Prelude.{◌≡◌};
 
 use crate::clock::HostClock;
-use crate::error_lines::{ErrorReport, tell, tell_of, tell_port, tell_unread, tell_usage, tell_words};
+use crate::error_lines::{
+    ErrorReport, tell, tell_of, tell_port, tell_unread, tell_usage, tell_words,
+};
 use crate::udp::Udp;
 use engine::{Engine, Place};
 use event_loop::{Ended, TransportFault, drive};
-use rank_settings::{SettingsRefusal, Settings, settings_of};
+use rank_settings::{Settings, SettingsRefusal, settings_of};
 use script_files::{ParseError, Script, parse};
 use script_runner::ScriptRunner;
 use std::io::ErrorKind;
@@ -183,9 +185,9 @@ fn run_rank<R: Net + Wait + Files + Print + Eprint + AllocGlobal + Clock>(
     }
 }
 
-/// Runs the rank that these words ask for, the first of which is the program's name, and answers its status: 0 where the script
-/// ended, 1 where it is faulty or can't be read, 2 where the words are wrong, 3 where the socket or the output failed, 4 where
-/// its patience was over, 5 where the script says so, and 6 where memory was wanting.
+/// Runs the rank that these words ask for, the first of which is the program's name, and answers its status: 0 where
+/// the script ended, 1 where it is faulty or can't be read, 2 where the words are wrong, 3 where the socket or the
+/// output failed, 4 where its patience was over, 5 where the script says so, and 6 where memory was wanting.
 pub fn run_words<R: Net + Wait + Files + Print + Eprint + AllocGlobal + Clock>(
     rt: &R,
     words: &[String],

@@ -3,10 +3,12 @@
 ghost use Rattle.std.specs.Prelude.{◌≡◌, ◌+◌, ◌<◌, ◌^◌, ◌≤◌, length, IfOk};
 ghost use Rattle.event_loop.specs.Exchanges.{FailsWith};
 
-use delayed_acknowledgements::{Acknowledgement, Delay, DelayedAcknowledgement, sent_before, is_urgent, delayed_of};
+use delayed_acknowledgements::{
+    Acknowledgement, Delay, DelayedAcknowledgement, delayed_of, is_urgent, sent_before,
+};
+use event_loop::{LONGEST, Transport, TransportFault};
 use mio::net::UdpSocket;
 use mio::{Events, Interest, Poll, Token};
-use event_loop::{LONGEST, Transport, TransportFault};
 use std::alloc::Global;
 use std::io;
 use std::io::{ErrorKind, Write};
@@ -19,15 +21,16 @@ const YIELDS: u32 = 24;
 
 /// A socket of a rank on 127.0.0.1, and its standard output.
 ///
-/// The first wait behind a datagram that was sent or came lets other processes run and asks for the next one some times, since
-/// it mostly is there soon, and comes back early where none is; each later wait sleeps until a datagram comes. So a rank that
-/// nobody speaks with sleeps at once, and just as long as it is told to.
+/// The first wait behind a datagram that was sent or came lets other processes run and asks for the next one some
+/// times, since it mostly is there soon, and comes back early where none is; each later wait sleeps until a datagram
+/// comes. So a rank that nobody speaks with sleeps at once, and just as long as it is told to.
 ///
-/// An acknowledgement is kept back for a little while. Where a later one of the same session comes, which says all that it says, it
-/// is lost on purpose; so one datagram stands for up to 16 of them. The one that is kept goes when an acknowledgement of another
-/// session is kept, when a line is printed, behind 128 receives, and where the rank waits and no datagram comes, or a millisecond
-/// is over: far earlier than its frames are sent again, unless the rank's script works for long between two calls. One that tells
-/// of frames that are held, or that answers a frame that came again, goes at once.
+/// An acknowledgement is kept back for a little while. Where a later one of the same session comes, which says all that
+/// it says, it is lost on purpose; so one datagram stands for up to 16 of them. The one that is kept goes when an
+/// acknowledgement of another session is kept, when a line is printed, behind 128 receives, and where the rank waits
+/// and no datagram comes, or a millisecond is over: far earlier than its frames are sent again, unless the rank's
+/// script works for long between two calls. One that tells of frames that are held, or that answers a frame that came
+/// again, goes at once.
 #[derive(Drop)]
 pub struct Udp<'a, R: Print + Clock> {
     rt: &'a R,
@@ -77,8 +80,8 @@ fn is_late<R: Clock>(rt: &R, delay: Option<Delay>) -> bool {
     }
 }
 
-/// The length of the next datagram, which is put into the room, if one comes while others run. It gives up early where what is
-/// kept back, with this delay, is late.
+/// The length of the next datagram, which is put into the room, if one comes while others run. It gives up early where
+/// what is kept back, with this delay, is late.
 fn await_datagram<R: Clock>(
     rt: &R,
     socket: &UdpSocket,
@@ -194,7 +197,8 @@ impl<'a, R: Print + Clock> Udp<'a, R> {
         self.carry_kept(kept)
     }
 
-    /// The acknowledgement that is kept back goes, if it has been kept for as many others or as many receives as it may.
+    /// The acknowledgement that is kept back goes, if it has been kept for as many others or as many receives as it
+    /// may.
     fn flush_if_over(&mut self) -> Result<(), TransportFault>
         requires { self.old.failures + 1 < 2 ^ 64 }
         ensures { FailsWith result self.old.failures self.new.failures }
@@ -205,8 +209,8 @@ impl<'a, R: Print + Clock> Udp<'a, R> {
         Ok(())
     }
 
-    /// Keeps an acknowledgement back, or lets it go at once. The former one goes before it, unless this one says all that it
-    /// says.
+    /// Keeps an acknowledgement back, or lets it go at once. The former one goes before it, unless this one says all
+    /// that it says.
     fn keep(&mut self, next: DelayedAcknowledgement) -> Result<(), TransportFault>
         requires { self.old.failures + 1 < 2 ^ 64 }
         ensures { FailsWith result self.old.failures self.new.failures }
@@ -250,8 +254,8 @@ impl<'a, R: Print + Clock> Udp<'a, R> {
         }
     }
 
-    /// Lets others run, and asks for the next datagram some times. The acknowledgement that is kept back goes where it is late
-    /// already, and where none comes.
+    /// Lets others run, and asks for the next datagram some times. The acknowledgement that is kept back goes where it
+    /// is late already, and where none comes.
     fn await_next(&mut self) -> Result<(), TransportFault>
         requires { self.old.failures + 1 < 2 ^ 64 }
         ensures { FailsWith result self.old.failures self.new.failures }

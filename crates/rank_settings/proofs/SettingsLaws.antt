@@ -10,13 +10,15 @@ use Rattle.rank_settings.specs.declared.refusal.SettingsRefusal.TheVariants.{Out
 use Rattle.rank_settings.specs.Settings.{AnswersBy, AreGiven, GiveNone, RowsAnswer, refusal_of}
 
 -- rows of words without a fault
-pub taken : (faults : Kinds) (rows found : List Row) (r : Result Settings SettingsRefusal) → faults ≡ [] → found ≡ rows → RowsAnswer found r → AnswersBy faults rows r
+pub taken : (faults : Kinds) (rows found : List Row) (r : Result Settings SettingsRefusal) → faults ≡ [] →
+    found ≡ rows → RowsAnswer found r → AnswersBy faults rows r
 taken faults rows found (Ok s) none is given = (none, subst (λ (f : List Row). AreGiven f s) is given)
 taken faults rows found (Err Words) none is given = λ again. subst GiveNone is given
 taken faults rows found (Err OutOfMemory) none is given = tt
 
 -- words with a fault
-pub refused : (faults : Kinds) (rows : List Row) (kind : ErrorKind) (r : SettingsRefusal) → r ≡ refusal_of kind → (kind ≡ kinds.OutOfMemory) ⊎ IsAmong kind faults
+pub refused : (faults : Kinds) (rows : List Row) (kind : ErrorKind) (r : SettingsRefusal) → r ≡ refusal_of kind →
+    (kind ≡ kinds.OutOfMemory) ⊎ IsAmong kind faults
     → AnswersBy faults rows (Err r)
 refused faults rows kind OutOfMemory is has = tt
 refused faults rows kind Words is (inl short) = let bad : Words ≡ OutOfMemory = is ∙ ap refusal_of short in absurd cc

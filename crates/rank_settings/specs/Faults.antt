@@ -20,7 +20,8 @@ range_of option =
 -- what may stand in the place of a word
 abbrev pub wanted_text : Wanted → List ℕ
 wanted_text (wanted.Number low high) = codes "a number from " ++ decimal low ++ codes " to " ++ decimal high
-wanted_text wanted.OptionOrScript = codes "one of --rank, --size, --inc, --job, --port and --patience, each once, or one script"
+wanted_text wanted.OptionOrScript =
+    codes "one of --rank, --size, --inc, --job, --port and --patience, each once, or one script"
 
 -- a word that isn't what may stand in its place
 abbrev pub IsAtFault : List ℕ → Wanted → Type 0

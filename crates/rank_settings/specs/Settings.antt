@@ -1,5 +1,6 @@
 -- The settings that words give.
-use Rattle.std.specs.Prelude.{◌≡◌, ℕ, ◌+◌, ◌<◌, ◌≤◌, List, [], Option, Some, None, Result, Ok, Err, codes, option_and_then}
+use Rattle.std.specs.Prelude.{◌≡◌, ℕ, ◌+◌, ◌<◌, ◌≤◌, List, [], Option, Some, None, Result, Ok, Err, codes}
+use Rattle.std.specs.Prelude.{option_and_then}
 use Rattle.clap.specs.Words.{Kinds, Row, Text, fault_of, first_of, matches_of}
 use Rattle.clap.specs.declared.error.kind.ErrorKind.{ErrorKind}
 use Rattle.clap.specs.declared.error.kind.ErrorKind.TheVariants as kinds
@@ -60,8 +61,8 @@ abbrev pub refusal_of : ErrorKind → SettingsRefusal
 refusal_of kinds.OutOfMemory = OutOfMemory
 refusal_of kind = Words
 
--- What words answer by the faults that the program's options find in them and the rows that they give: the settings of the rows,
--- where there is no fault; 64 where there is one, or the rows are no settings; 14 for want of memory.
+-- What words answer by the faults that the program's options find in them and the rows that they give: the settings of
+-- the rows, where there is no fault; 64 where there is one, or the rows are no settings; 14 for want of memory.
 abbrev pub AnswersBy : Kinds → List Row → Result Settings SettingsRefusal → Type 0
 AnswersBy faults rows (Ok s) = (faults ≡ []) × AreGiven rows s
 AnswersBy faults rows (Err Words) = faults ≡ [] → GiveNone rows

@@ -177,9 +177,9 @@ fn bounds_fault<'a, S: AsStr>(words: &'a [S]) -> Option<WordFault<'a>>
     }
 }
 
-/// The word that is at fault where `settings_of` refuses these words with 64, and what may stand in its place: from the left the
-/// first that is no option, no value in its option's range and not the script, or that stands twice; else a rank that isn't
-/// below the size, or a port by which some rank has none. None where words are missing.
+/// The word that is at fault where `settings_of` refuses these words with 64, and what may stand in its place: from the
+/// left the first that is no option, no value in its option's range and not the script, or that stands twice; else a
+/// rank that isn't below the size, or a port by which some rank has none. None where words are missing.
 pub fn fault_in<'a, S: AsStr>(words: &'a [S]) -> Option<WordFault<'a>>
     ensures { IfSome result (λ fault. IsAtFault fault.word.now fault.wanted) }
 {

@@ -7,7 +7,7 @@ mod refusal;
 mod settings;
 mod words;
 
-pub use settings::Settings;
 pub use faults::{Wanted, WordFault, asks_for_help, fault_in};
 pub use refusal::SettingsRefusal;
+pub use settings::Settings;
 pub use words::settings_of;

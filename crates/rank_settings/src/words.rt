@@ -2,11 +2,12 @@
 
 ghost use Rattle.std.specs.Prelude.{◌≡◌, ◌≤◌, ◌↔◌, IfOk, IsTrue, codes, map};
 ghost use Rattle.clap.specs.Words.{first_of, found_of, kind_of, rows_of};
-ghost use Rattle.rank_settings.specs.Settings.{Answers, ArePorts, Finds, RowsAnswer, number_in, patience_of, refusal_of};
+ghost use Rattle.rank_settings.specs.Settings.{Answers, ArePorts, Finds, RowsAnswer, number_in, patience_of};
+ghost use Rattle.rank_settings.specs.Settings.{refusal_of};
 
-use crate::settings::Settings;
 use crate::program::rank_program;
 use crate::refusal::SettingsRefusal;
+use crate::settings::Settings;
 use clap::error::ErrorKind;
 use clap::{ArgMatches, Error};
 use numerals::number_between;
@@ -98,12 +99,15 @@ fn refusal_of(error: &Error) -> SettingsRefusal
 
 /// The settings that the words give; the first word is the program's own name.
 ///
-/// `--rank r --size n --inc i --job j --port p [--patience ms] FILE`, the options in any order, each at most once; a number
-/// is decimal digits without leading zeros.
+/// `--rank r --size n --inc i --job j --port p [--patience ms] FILE`, the options in any order, each at most once; a
+/// number is decimal digits without leading zeros.
 ///
-/// Refused with 64 exactly where the words are others, a value is out of its range, the rank isn't below the size, or the port
-/// of some rank isn't 1 to 65,535, unless memory was wanting before that was seen: 14.
-pub fn settings_of<'a, S: AsStr>(alloc: Global, words: &'a [S]) -> Result<Settings<'a>, SettingsRefusal>
+/// Refused with 64 exactly where the words are others, a value is out of its range, the rank isn't below the size, or
+/// the port of some rank isn't 1 to 65,535, unless memory was wanting before that was seen: 14.
+pub fn settings_of<'a, S: AsStr>(
+    alloc: Global,
+    words: &'a [S],
+) -> Result<Settings<'a>, SettingsRefusal>
     ensures { Answers (map S.text words.entry.now) result }
 {
     let program = rank_program(alloc)?;

@@ -1,22 +1,27 @@
 -- Each operation is associative, over any width, and its results are elements.
-use Rattle.std.proofs.Common.{◌≡◌, ℕ, zero, suc, ◌+◌, ◌*◌, ◌/◌, ◌%◌, ◌^◌, ◌<◌, Bool, true, false, cond, ltb, eqb, refl, sym, ap, ◌∙◌, arith, inl, inr}
+use Rattle.std.proofs.Common.{◌≡◌, ℕ, zero, suc, ◌+◌, ◌*◌, ◌/◌, ◌%◌, ◌^◌, ◌<◌, Bool, true, false, cond, ltb, eqb, refl}
+use Rattle.std.proofs.Common.{sym, ap, ◌∙◌, arith, inl, inr}
 use Rattle.std.specs.Prelude.{bit_or, bit_xor}
 use Rattle.std.proofs.Math.Nat.{add-mod, add_assoc, mul_assoc, mod-lt, mod-mod}
 use Rattle.std.proofs.lemmas.Bool.{cases_lt, lt-ltb, le-ltb}
-use Rattle.std.proofs.lemmas.Nat.{mul-mod_first, mul-mod_second, and_assoc, or_shr, or_mod, div-mul-add, mod-mul-add, or_lt, xor_lt, and_le_l}
+use Rattle.std.proofs.lemmas.Nat.{mul-mod_first, mul-mod_second, and_assoc, or_shr, or_mod, div-mul-add, mod-mul-add}
+use Rattle.std.proofs.lemmas.Nat.{or_lt, xor_lt, and_le_l}
 use lib.Bits.{xor_assoc}
 use lib.Arith.{bin_ind}
 use Rattle.vocabulary.specs.declared.basic_type.BasicType.{BasicType}
-use Rattle.vocabulary.specs.declared.basic_type.BasicType.TheVariants.{Int8, Int16, Int32, Int64, Uint8, Uint16, Uint32, Uint64, Byte}
+use Rattle.vocabulary.specs.declared.basic_type.BasicType.TheVariants.{Int8, Int16, Int32, Int64, Uint8, Uint16, Uint32}
+use Rattle.vocabulary.specs.declared.basic_type.BasicType.TheVariants.{Uint64, Byte}
 use Rattle.reductions.specs.declared.operation.Op.{Op}
-use Rattle.reductions.specs.declared.operation.Op.TheVariants.{Max, Min, Sum, Prod, Land, Lor, Lxor, Band, Bor, Bxor, Affine}
+use Rattle.reductions.specs.declared.operation.Op.TheVariants.{Max, Min, Sum, Prod, Land, Lor, Lxor, Band, Bor, Bxor}
+use Rattle.reductions.specs.declared.operation.Op.TheVariants.{Affine}
 use Rattle.datatypes.specs.Elements.{numbers_of}
 use Rattle.reductions.specs.Operations.{order_of, greater_by, lesser_by, map_after, is_defined, combined}
 
 -- ---- the greater and the lesser
 
 -- of three, the greater of the first two and the third is the greater of the first and of the last two
-greater_associates : (order : ℕ → ℕ) (a b c : ℕ) → greater_by order (greater_by order a b) c ≡ greater_by order a (greater_by order b c)
+greater_associates : (order : ℕ → ℕ) (a b c : ℕ) → greater_by order (greater_by order a b) c ≡
+    greater_by order a (greater_by order b c)
 greater_associates order a b c =
     elim (cases_lt (order a) (order b)) [
       | inl h ↦ elim (cases_lt (order b) (order c)) [
@@ -44,7 +49,8 @@ greater_associates order a b c =
     ]
 
 -- and so is the lesser
-lesser_associates : (order : ℕ → ℕ) (a b c : ℕ) → lesser_by order (lesser_by order a b) c ≡ lesser_by order a (lesser_by order b c)
+lesser_associates : (order : ℕ → ℕ) (a b c : ℕ) → lesser_by order (lesser_by order a b) c ≡
+    lesser_by order a (lesser_by order b c)
 lesser_associates order a b c =
     elim (cases_lt (order b) (order a)) [
       | inl h ↦ elim (cases_lt (order c) (order b)) [
@@ -93,7 +99,8 @@ product_associates n a b c =
 
 -- `and` is associative; a, b and c say whether each number is 0, which is false
 and_associates : (a b c : Bool)
-    → ◌≡◌ {A = ℕ} (cond (eqb (cond a 0 (cond b 0 1)) 0) 0 (cond c 0 1)) (cond a 0 (cond (eqb (cond b 0 (cond c 0 1)) 0) 0 1))
+    → ◌≡◌ {A = ℕ} (cond (eqb (cond a 0 (cond b 0 1)) 0) 0 (cond c 0 1))
+    (cond a 0 (cond (eqb (cond b 0 (cond c 0 1)) 0) 0 1))
 and_associates true b c = refl
 and_associates false true c = refl
 and_associates false false true = refl
@@ -101,7 +108,8 @@ and_associates false false false = refl
 
 -- and so is `or`
 or_associates : (a b c : Bool)
-    → ◌≡◌ {A = ℕ} (cond (eqb (cond a (cond b 0 1) 1) 0) (cond c 0 1) 1) (cond a (cond (eqb (cond b (cond c 0 1) 1) 0) 0 1) 1)
+    → ◌≡◌ {A = ℕ} (cond (eqb (cond a (cond b 0 1) 1) 0) (cond c 0 1) 1)
+    (cond a (cond (eqb (cond b (cond c 0 1) 1) 0) 0 1) 1)
 or_associates true true true = refl
 or_associates true true false = refl
 or_associates true false c = refl
@@ -156,20 +164,24 @@ or_assoc =
 -- the high half of one map after another is the product of their high halves, modulo 2^32
 high_of : (first second : ℕ) → map_after first second / 2 ^ 32 ≡ first / 2 ^ 32 * (second / 2 ^ 32) % 2 ^ 32
 high_of first second =
-    div-mul-add (first / 2 ^ 32 * (second / 2 ^ 32) % 2 ^ 32) (2 ^ 32) ((second / 2 ^ 32 * (first % 2 ^ 32) + second % 2 ^ 32) % 2 ^ 32)
+    div-mul-add (first / 2 ^ 32 * (second / 2 ^ 32) % 2 ^ 32) (2 ^ 32)
+    ((second / 2 ^ 32 * (first % 2 ^ 32) + second % 2 ^ 32) % 2 ^ 32)
     (mod-lt (second / 2 ^ 32 * (first % 2 ^ 32) + second % 2 ^ 32) (omega arith))
 
 -- the low half is what the second map makes of the first one's constant
-low_of : (first second : ℕ) → map_after first second % 2 ^ 32 ≡ (second / 2 ^ 32 * (first % 2 ^ 32) + second % 2 ^ 32) % 2 ^ 32
+low_of : (first second : ℕ) → map_after first second % 2 ^ 32 ≡
+    (second / 2 ^ 32 * (first % 2 ^ 32) + second % 2 ^ 32) % 2 ^ 32
 low_of first second =
-    mod-mul-add (first / 2 ^ 32 * (second / 2 ^ 32) % 2 ^ 32) (2 ^ 32) ((second / 2 ^ 32 * (first % 2 ^ 32) + second % 2 ^ 32) % 2 ^ 32)
+    mod-mul-add (first / 2 ^ 32 * (second / 2 ^ 32) % 2 ^ 32) (2 ^ 32)
+    ((second / 2 ^ 32 * (first % 2 ^ 32) + second % 2 ^ 32) % 2 ^ 32)
     (mod-lt (second / 2 ^ 32 * (first % 2 ^ 32) + second % 2 ^ 32) (omega arith))
 
 -- the constant of three maps
 low_associates : (n x hy y hz z : ℕ) → (hz * ((hy * x + y) % n) + z) % n ≡ (hy * hz % n * x + (hz * y + z) % n) % n
 low_associates n x hy y hz z =
     let left : (hz * ((hy * x + y) % n) + z) % n ≡ (hz * (hy * x + y) + z) % n =
-    add-mod (hz * ((hy * x + y) % n)) z n ∙ ap (λ (k : ℕ). (k + z % n) % n) (mul-mod_second hz (hy * x + y) n) ∙ sym (add-mod (hz * (hy * x + y)) z n)
+    add-mod (hz * ((hy * x + y) % n)) z n ∙ ap (λ (k : ℕ). (k + z % n) % n) (mul-mod_second hz (hy * x + y) n) ∙
+    sym (add-mod (hz * (hy * x + y)) z n)
     in
     let right : (hy * hz % n * x + (hz * y + z) % n) % n ≡ (hy * hz * x + (hz * y + z)) % n =
     add-mod (hy * hz % n * x) ((hz * y + z) % n) n
@@ -192,7 +204,8 @@ maps_associate a b c =
     let low : (c / 2 ^ 32 * (map_after a b % 2 ^ 32) + c % 2 ^ 32) % 2 ^ 32 ≡ (map_after b c / 2 ^ 32 * (a % 2 ^ 32) + map_after b c % 2 ^ 32) % 2 ^ 32 =
     ap (λ (k : ℕ). (c / 2 ^ 32 * k + c % 2 ^ 32) % 2 ^ 32) (low_of a b)
     ∙ low_associates (2 ^ 32) (a % 2 ^ 32) (b / 2 ^ 32) (b % 2 ^ 32) (c / 2 ^ 32) (c % 2 ^ 32)
-    ∙ ap (λ (k : ℕ). (k * (a % 2 ^ 32) + (c / 2 ^ 32 * (b % 2 ^ 32) + c % 2 ^ 32) % 2 ^ 32) % 2 ^ 32) (sym (high_of b c))
+    ∙ ap (λ (k : ℕ). (k * (a % 2 ^ 32) + (c / 2 ^ 32 * (b % 2 ^ 32) + c % 2 ^ 32) % 2 ^ 32) % 2 ^ 32)
+    (sym (high_of b c))
     ∙ ap (λ (k : ℕ). (map_after b c / 2 ^ 32 * (a % 2 ^ 32) + k) % 2 ^ 32) (sym (low_of b c))
     in
     ap (λ (k : ℕ). k * 2 ^ 32 + (c / 2 ^ 32 * (map_after a b % 2 ^ 32) + c % 2 ^ 32) % 2 ^ 32) high
@@ -201,7 +214,8 @@ maps_associate a b c =
 -- ---- all of them
 
 -- each operation is associative on the numbers of each type (MPI 3.1, 5.9.1)
-pub combined-associates : (op : Op) (basic : BasicType) (a b c : ℕ) → combined op basic (combined op basic a b) c ≡ combined op basic a (combined op basic b c)
+pub combined-associates : (op : Op) (basic : BasicType) (a b c : ℕ) → combined op basic (combined op basic a b) c ≡
+    combined op basic a (combined op basic b c)
 unfolding combined
 combined-associates Max basic a b c = greater_associates (order_of basic) a b c
 combined-associates Min basic a b c = lesser_associates (order_of basic) a b c
@@ -254,7 +268,8 @@ or_within Uint64 a b p q = or_lt 64 a b p q
 or_within Byte a b p q = or_lt 8 a b p q
 
 -- exclusive `or` of two elements is an element
-xor_within : (basic : BasicType) (a b : ℕ) → a < numbers_of basic → b < numbers_of basic → bit_xor a b < numbers_of basic
+xor_within : (basic : BasicType) (a b : ℕ) → a < numbers_of basic → b < numbers_of basic →
+    bit_xor a b < numbers_of basic
 xor_within Int8 a b p q = xor_lt 8 a b p q
 xor_within Int16 a b p q = xor_lt 16 a b p q
 xor_within Int32 a b p q = xor_lt 32 a b p q
@@ -301,7 +316,8 @@ maps_within Uint32 a b d = absurd cc
 maps_within Byte a b d = absurd cc
 
 -- what an operation makes of two elements, where it is defined, is an element of the same type
-pub combined-within : (op : Op) (basic : BasicType) (a b : ℕ) → is_defined op basic ≡ true → a < numbers_of basic → b < numbers_of basic → combined op basic a b < numbers_of basic
+pub combined-within : (op : Op) (basic : BasicType) (a b : ℕ) → is_defined op basic ≡ true → a < numbers_of basic →
+    b < numbers_of basic → combined op basic a b < numbers_of basic
 unfolding combined
 combined-within Max basic a b d p q = either (ltb (order_of basic a) (order_of basic b)) a b (numbers_of basic) p q
 combined-within Min basic a b d p q = either (ltb (order_of basic b) (order_of basic a)) a b (numbers_of basic) p q
@@ -309,10 +325,12 @@ combined-within Sum basic a b d p q = mod-lt (a + b) (omega (arith, many basic))
 combined-within Prod basic a b d p q = mod-lt (a * b) (omega (arith, many basic))
 combined-within Land basic a b d p q =
     let m = many basic in
-    either (eqb a 0) (cond (eqb b 0) 0 1) 0 (numbers_of basic) (either (eqb b 0) 1 0 (numbers_of basic) (omega arith) (omega arith)) (omega arith)
+    either (eqb a 0) (cond (eqb b 0) 0 1) 0 (numbers_of basic)
+    (either (eqb b 0) 1 0 (numbers_of basic) (omega arith) (omega arith)) (omega arith)
 combined-within Lor basic a b d p q =
     let m = many basic in
-    either (eqb a 0) 1 (cond (eqb b 0) 0 1) (numbers_of basic) (omega arith) (either (eqb b 0) 1 0 (numbers_of basic) (omega arith) (omega arith))
+    either (eqb a 0) 1 (cond (eqb b 0) 0 1) (numbers_of basic) (omega arith)
+    (either (eqb b 0) 1 0 (numbers_of basic) (omega arith) (omega arith))
 combined-within Lxor basic a b d p q =
     let m = many basic in
     bits_within (eqb a 0) (eqb b 0) 0 1 1 0 (numbers_of basic) (omega arith) (omega arith) (omega arith) (omega arith)

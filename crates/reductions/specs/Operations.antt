@@ -1,13 +1,15 @@
 -- The operations of a reduction, on the numbers of elements (MPI 3.1, 5.9.2).
-use Rattle.std.specs.Prelude.{ℕ, ◌+◌, ◌-◌, ◌*◌, ◌/◌, ◌%◌, ◌^◌, ◌==◌, nat_lt, Bool, true, false, bit_and, bit_or, bit_xor, if◌then◌else◌}
+use Rattle.std.specs.Prelude.{ℕ, ◌+◌, ◌-◌, ◌*◌, ◌/◌, ◌%◌, ◌^◌, ◌==◌, nat_lt, Bool, true, false, bit_and, bit_or}
+use Rattle.std.specs.Prelude.{bit_xor, if◌then◌else◌}
 use Rattle.vocabulary.specs.declared.basic_type.BasicType.{BasicType}
 use Rattle.vocabulary.specs.declared.basic_type.BasicType.TheVariants.{Uint64, Byte}
 use Rattle.reductions.specs.declared.operation.Op.{Op}
-use Rattle.reductions.specs.declared.operation.Op.TheVariants.{Max, Min, Sum, Prod, Land, Lor, Lxor, Band, Bor, Bxor, Affine}
+use Rattle.reductions.specs.declared.operation.Op.TheVariants.{Max, Min, Sum, Prod, Land, Lor, Lxor, Band, Bor, Bxor}
+use Rattle.reductions.specs.declared.operation.Op.TheVariants.{Affine}
 use Rattle.datatypes.specs.Elements.{has_sign, numbers_of}
 
--- the place of an element in the order of its type: that of a signed type is moved up by half the range, so that no value
--- is below zero
+-- the place of an element in the order of its type: that of a signed type is moved up by half the range, so that no
+-- value is below zero
 abbrev pub order_of : BasicType → ℕ → ℕ
 order_of basic a =
     if has_sign basic
@@ -67,4 +69,11 @@ combined Affine basic a b = map_after a b
 -- the operations by number
 abbrev pub operation_of : ℕ → Op
 operation_of number =
-    if number == 1 then Max else (if number == 2 then Min else (if number == 3 then Sum else (if number == 4 then Prod else (if number == 5 then Land else (if number == 6 then Lor else (if number == 7 then Lxor else (if number == 8 then Band else (if number == 9 then Bor else (if number == 10 then Bxor else (Affine))))))))))
+    if number == 1 then Max else
+    (if number == 2 then Min else
+    (if number == 3 then Sum else
+    (if number == 4 then Prod else
+    (if number == 5 then Land else
+    (if number == 6 then Lor else
+    (if number == 7 then Lxor else
+    (if number == 8 then Band else (if number == 9 then Bor else (if number == 10 then Bxor else (Affine))))))))))

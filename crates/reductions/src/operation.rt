@@ -3,9 +3,10 @@
 ghost use Rattle.std.specs.Prelude.{◌≡◌, ◌<◌, ◌%◌, ◌+◌, ◌*◌, nat_lt, ℕ, true, false, ◌↔◌, IfOk, IfErr, IsErrOf};
 ghost use Rattle.datatypes.specs.Elements.{numbers_of};
 ghost use Rattle.datatypes.specs.Combinations.{combined_values, IsLike};
-ghost use Rattle.reductions.specs.Operations.{order_of, greater_by, lesser_by, logical_and, logical_or, logical_xor, map_after, is_defined, operation_of, combined};
+ghost use Rattle.reductions.specs.Operations.{order_of, greater_by, lesser_by, logical_and, logical_or, logical_xor};
+ghost use Rattle.reductions.specs.Operations.{map_after, is_defined, operation_of, combined};
 
-use datatypes::{Buffer, PairOp, LayoutRefusal, is_signed, largest_number};
+use datatypes::{Buffer, LayoutRefusal, PairOp, is_signed, largest_number};
 use vocabulary::BasicType;
 
 /// An operation of a reduction.

@@ -1,21 +1,24 @@
 //! The sending end once a frame came.
 
-ghost use Rattle.std.specs.Prelude.{◌≡◌, ℕ, ◌<◌, ◌≤◌, ◌+◌, ◌^◌, ◌↔◌, ◌⊎◌, [], length, true, false, if◌then◌else◌, IfOk, IsOk, OnOk, OnErr, IfErr, IsTrue, IsErrOf, IsOkUnless};
+ghost use Rattle.std.specs.Prelude.{◌≡◌, ℕ, ◌<◌, ◌≤◌, ◌+◌, ◌^◌, ◌↔◌, ◌⊎◌, [], length, true, false, if◌then◌else◌, IfOk};
+ghost use Rattle.std.specs.Prelude.{IsOk, OnOk, OnErr, IfErr, IsTrue, IsErrOf, IsOkUnless};
 ghost use Rattle.std.specs.Option.{option_copied};
-ghost use Rattle.reliable_link.specs.SenderState.{SenderState, next_number, out_count, out_end, after_accept, entered_on_accept, passed_to, with_marks, after_ack, IsOfSent, due_at, after_due, frame_at, after_take_back, StandsAt};
+ghost use Rattle.reliable_link.specs.SenderState.{SenderState, next_number, out_count, out_end, after_accept};
+ghost use Rattle.reliable_link.specs.SenderState.{entered_on_accept, passed_to, with_marks, after_ack, IsOfSent};
+ghost use Rattle.reliable_link.specs.SenderState.{due_at, after_due, frame_at, after_take_back, StandsAt};
 ghost use Rattle.reliable_link.specs.Accepting.{AcceptGives};
 ghost use Rattle.std.proofs.Common.{min};
 
 use crate::out_frame::OutFrame;
 use crate::out_frames::{OutFrames, WINDOW_FRAMES, drop_front};
-use crate::refusal::{NotKept, LinkRefusal};
+use crate::refusal::{LinkRefusal, NotKept};
 use datagram::Bytes;
 use std::alloc::Global;
 use std::marker::Model;
 use std::ops::Range;
 
-/// The sending end of a session that has begun. Contracts see it as a `SenderState`. What its methods say is what those of
-/// `Sender` do.
+/// The sending end of a session that has begun. Contracts see it as a `SenderState`. What its methods say is what those
+/// of `Sender` do.
 #[derive(Drop)]
 pub(crate) struct OpenSender {
     /// The frames from number `lowest` on.
@@ -50,7 +53,8 @@ fn out_of(kept: usize) -> usize
     }
 }
 
-/// Whether no frame is due at the time of the last tick, where the first one may lose its mark: it was sent at any time.
+/// Whether no frame is due at the time of the last tick, where the first one may lose its mark: it was sent at any
+/// time.
 fn still_settled(settled: bool, loses: bool) -> bool
     ensures { result ≡ (if loses then false else settled) }
 {
@@ -71,8 +75,8 @@ impl OpenSender {
     }
 
     /// Takes a frame over as the next one, and answers its number if it comes into the window at
-    /// once. The places of the window are made with the first frame. It is refused, and handed back, with `Limit` exactly
-    /// where the next number is the last one, and with `OutOfMemory`.
+    /// once. The places of the window are made with the first frame. It is refused, and handed back, with `Limit`
+    /// exactly where the next number is the last one, and with `OutOfMemory`.
     pub(crate) fn accept(&mut self, bytes: Bytes) -> Result<Option<u64>, NotKept<Bytes>>
         ensures exact { AcceptGives self.old bytes result self.new }
         ensures state { OnOk result (self.new ≡ after_accept self.old bytes) }
@@ -222,8 +226,8 @@ impl OpenSender {
         self.settled = true;
     }
 
-    /// Whether the last tick was at this time, and no frame has become due since. Then one more tick at this time changes
-    /// nothing.
+    /// Whether the last tick was at this time, and no frame has become due since. Then one more tick at this time
+    /// changes nothing.
     pub(crate) fn stands_at(&self, now: u64) -> bool
         ensures { IsTrue result → StandsAt self.now now }
     {
@@ -279,8 +283,8 @@ impl OpenSender {
         self.frames.pop_back();
     }
 
-    /// Begins a new session at this time: no frame is kept, and the next one gets number 0. The places stay. It takes no
-    /// memory.
+    /// Begins a new session at this time: no frame is kept, and the next one gets number 0. The places stay. It takes
+    /// no memory.
     pub(crate) fn restart(&mut self, clock: u64)
         ensures { self.new ≡ record { lowest = 0; frames = []; clock = clock } }
     {

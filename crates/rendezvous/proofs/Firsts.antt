@@ -1,5 +1,6 @@
 -- The place that `position` gives is that of the first one.
-use Rattle.std.proofs.Common.{◌≡◌, ℕ, zero, suc, ◌+◌, ◌<◌, ◌≤◌, Bool, true, false, not, cond, ltb, List, [], ◌∷◌, ◌++◌, length, get_or, set, take, drop, Some, None, refl, sym, ap, ◌∙◌, arith, inl, inr, ◌⊎◌}
+use Rattle.std.proofs.Common.{◌≡◌, ℕ, zero, suc, ◌+◌, ◌<◌, ◌≤◌, Bool, true, false, not, cond, ltb, List, [], ◌∷◌, ◌++◌}
+use Rattle.std.proofs.Common.{length, get_or, set, take, drop, Some, None, refl, sym, ap, ◌∙◌, arith, inl, inr, ◌⊎◌}
 use Rattle.std.specs.Prelude.{position, remove, slice_get}
 use Rattle.std.specs.List.{position_or_len}
 use Rattle.std.proofs.lemmas.Bool.{cases_lt, le-ltb, lt-ltb}
@@ -26,10 +27,12 @@ pub record IsFirst {A : Type 0} (p : A → Bool) (xs : List A) (i : ℕ) (x : A)
   pub passes : p x ≡ true
   pub before : NonePass p front
 
-none_pass : {A : Type 0} (p : A → Bool) (xs : List A) (i : ℕ) (d : A) → i ≤ length xs → ((k : ℕ) → k < i → p (get_or xs k d) ≡ false) → NonePass p (take i xs)
+none_pass : {A : Type 0} (p : A → Bool) (xs : List A) (i : ℕ) (d : A) → i ≤ length xs →
+    ((k : ℕ) → k < i → p (get_or xs k d) ≡ false) → NonePass p (take i xs)
 none_pass p xs zero d le h = tt
 none_pass p [] (suc i) d le h = tt
-none_pass p (x ∷ xs) (suc i) d le h = (h 0 (omega arith), none_pass p xs i d (omega arith) (λ k lt. h (suc k) (omega arith)))
+none_pass p (x ∷ xs) (suc i) d le h =
+    (h 0 (omega arith), none_pass p xs i d (omega arith) (λ k lt. h (suc k) (omega arith)))
 
 step : (b : Bool) (m n : ℕ) → suc m ≤ cond (not b) (1 + n) 0 → (b ≡ false) × (m ≤ n)
 step true m n le = absurd (omega arith)
@@ -46,7 +49,8 @@ set_parts [] i y lt = absurd (omega arith)
 set_parts (x ∷ xs) zero y lt = refl
 set_parts (x ∷ xs) (suc i) y lt = ap (λ t. x ∷ t) (set_parts xs i y (omega arith))
 
-first_at : {A : Type 0} (p : A → Bool) (xs : List A) (i : ℕ) (d : A) → position p xs ≡ Some i → IsFirst p xs i (get_or xs i d)
+first_at : {A : Type 0} (p : A → Bool) (xs : List A) (i : ℕ) (d : A) → position p xs ≡ Some i →
+    IsFirst p xs i (get_or xs i d)
 first_at p xs i d is =
     let h = position-Some p xs i d is in
     let whole : xs ≡ take i xs ++ get_or xs i d ∷ drop (suc i) xs = sym (take-append-drop i xs) ∙ ap (λ t. take i xs ++ t) (drop-cons xs i d h.0) in
@@ -64,15 +68,20 @@ first_at p xs i d is =
       before = none_pass p xs i d (omega (arith, h.0)) h.2;
     }
 
-some_at : {A : Type 0} (p : A → Bool) (xs : List A) → position_or_len p xs < length xs → (i : ℕ) × (x : A) × IsFirst p xs i x
+some_at : {A : Type 0} (p : A → Bool) (xs : List A) → position_or_len p xs < length xs →
+    (i : ℕ) × (x : A) × IsFirst p xs i x
 some_at p [] lt = absurd (omega arith)
 some_at p (y ∷ ys) lt =
     let xs = y ∷ ys in
-    let t : ltb (position_or_len p xs) (length xs) ≡ true = lt-ltb _ _ lt in
-    (position_or_len p xs, get_or xs (position_or_len p xs) y, first_at p xs (position_or_len p xs) y (ap (λ b. cond b (Some (position_or_len p xs)) None) t))
+    let t : ltb (position_or_len p xs) (length xs) ≡ true = lt-ltb _ _ lt in (
+      position_or_len p xs,
+      get_or xs (position_or_len p xs) y,
+      first_at p xs (position_or_len p xs) y (ap (λ b. cond b (Some (position_or_len p xs)) None) t),
+    )
 
 -- the first element that passes, or none does
-pub first_or_none : {A : Type 0} (p : A → Bool) (xs : List A) → ((position p xs ≡ None) × NonePass p xs) ⊎ ((i : ℕ) × (x : A) × IsFirst p xs i x)
+pub first_or_none : {A : Type 0} (p : A → Bool) (xs : List A) → ((position p xs ≡ None) × NonePass p xs) ⊎
+    ((i : ℕ) × (x : A) × IsFirst p xs i x)
 first_or_none p xs =
     elim (cases_lt (position_or_len p xs) (length xs)) [
       | inl lt ↦ inr (some_at p xs lt)

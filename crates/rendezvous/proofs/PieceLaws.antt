@@ -1,8 +1,10 @@
 -- Pieces put together are the data, and a collection that takes them is whole with the last one.
-use Rattle.std.proofs.Common.{◌≡◌, ℕ, zero, suc, ◌+◌, ◌-◌, ◌*◌, ◌/◌, ◌%◌, ◌<◌, ◌≤◌, min, true, List, [], ◌∷◌, ◌++◌, length, drop, map, refl, sym, ap, ◌∙◌, arith, subst}
+use Rattle.std.proofs.Common.{◌≡◌, ℕ, zero, suc, ◌+◌, ◌-◌, ◌*◌, ◌/◌, ◌%◌, ◌<◌, ◌≤◌, min, true, List, [], ◌∷◌, ◌++◌}
+use Rattle.std.proofs.Common.{length, drop, map, refl, sym, ap, ◌∙◌, arith, subst}
 use Rattle.std.specs.List.{range_with_len}
 use Rattle.std.proofs.lemmas.Bool.{lt-ltb, eq-eqb, ne_eqb, and_from}
-use Rattle.std.proofs.lemmas.List.{append_assoc, length-append, length-map, length-take, length-drop, take-append-drop, drop-drop, drop_min, take_all}
+use Rattle.std.proofs.lemmas.List.{append_assoc, length-append, length-map, length-take, length-drop, take-append-drop}
+use Rattle.std.proofs.lemmas.List.{drop-drop, drop_min, take_all}
 use Rattle.std.proofs.lemmas.List.FromFn.{length-range_with_len}
 use Rattle.std.proofs.Math.Nat.{mul-le-mul_right}
 use Rattle.vocabulary.specs.declared.basic_type.BasicType.{BasicType}
@@ -54,7 +56,8 @@ rest_behind size k xs =
     let n : k * size + size ≡ suc k * size = omega arith in
     drop-drop size (k * size) xs ∙ ap (λ (m : ℕ). drop m xs) n
 
-joined_from : (size k n : ℕ) (xs : List ℕ) → IsCount size n (length (drop (k * size) xs)) → joined (map (piece_at size xs) (range_with_len k n)) ≡ drop (k * size) xs
+joined_from : (size k n : ℕ) (xs : List ℕ) → IsCount size n (length (drop (k * size) xs)) →
+    joined (map (piece_at size xs) (range_with_len k n)) ≡ drop (k * size) xs
 joined_from size k zero xs h = sym (nil_of (drop (k * size) xs) (omega (arith, h.high)))
 joined_from size k (suc n) xs h =
     let here = drop (k * size) xs in
@@ -73,11 +76,13 @@ full_piece : (size n len first : ℕ) → 0 < n → IsCount size (suc n) len →
 full_piece size zero len first p h e = absurd (omega (arith, p))
 full_piece size (suc n) len first p h e = omega (arith, h.low, h.high, e)
 
-full_before : (size k n : ℕ) (xs : List ℕ) (piece : List ℕ) → (0 < n → length piece ≡ size) → IsFullBefore (map (piece_at size xs) (range_with_len k n)) size piece
+full_before : (size k n : ℕ) (xs : List ℕ) (piece : List ℕ) → (0 < n → length piece ≡ size) →
+    IsFullBefore (map (piece_at size xs) (range_with_len k n)) size piece
 full_before size k zero xs piece h = tt
 full_before size k (suc n) xs piece h = h (omega arith)
 
-cut_from : (size k n : ℕ) (xs : List ℕ) → IsCount size n (length (drop (k * size) xs)) → AreCut size k (map (piece_at size xs) (range_with_len k n))
+cut_from : (size k n : ℕ) (xs : List ℕ) → IsCount size n (length (drop (k * size) xs)) →
+    AreCut size k (map (piece_at size xs) (range_with_len k n))
 cut_from size k zero xs h = tt
 cut_from size k (suc n) xs h =
     let here = drop (k * size) xs in
@@ -90,7 +95,13 @@ cut_from size k (suc n) xs h =
     let full : 0 < n → length (first_piece size here) ≡ size = λ some. full_piece size n (length here) (length (first_piece size here)) some h first in
     let some : 1 ≤ length (first_piece size here) = some_piece size n (length here) (length (first_piece size here)) h first in
     let most : length (first_piece size here) ≤ size = omega (arith, first) in (
-      record { offset = refl; some = some; most = most; full = full_before size (k + 1) n xs (first_piece size here) full },
+      record {
+        offset = refl;
+        some = some;
+        most = most;
+        full =
+            full_before size (k + 1) n xs (first_piece size here) full;
+      },
       subst (λ (j : ℕ). AreCut size (suc k) (map (piece_at size xs) (range_with_len j n))) next rest,
     )
 
@@ -104,9 +115,11 @@ pieces bytes =
 
 -- A COLLECTION THAT TAKES THEM
 
-due : (c : Collecting) (offset : ℕ) (piece : List ℕ) → 0 < length piece → offset ≡ length c.bytes → length piece ≡ due_bytes c → is_next_data c offset piece ≡ true
+due : (c : Collecting) (offset : ℕ) (piece : List ℕ) → 0 < length piece → offset ≡ length c.bytes →
+    length piece ≡ due_bytes c → is_next_data c offset piece ≡ true
 due c offset piece some at len =
-    and_from _ _ (and_from _ _ (lt-ltb 0 (length piece) some) (eq-eqb offset (length c.bytes) at)) (eq-eqb (length piece) (due_bytes c) len)
+    and_from _ _ (and_from _ _ (lt-ltb 0 (length piece) some) (eq-eqb offset (length c.bytes) at))
+    (eq-eqb (length piece) (due_bytes c) len)
 
 -- a collection that has the bytes before a piece, and waits for the rest
 record IsAt (size k : ℕ) (xs : List ℕ) (c : Collecting) : Type 0 where
@@ -114,10 +127,13 @@ record IsAt (size k : ℕ) (xs : List ℕ) (c : Collecting) : Type 0 where
   total : c.total ≡ length xs
   whole : c.bytes ++ drop (k * size) xs ≡ xs
 
-lengths : (size k : ℕ) (xs : List ℕ) (c : Collecting) → IsAt size k xs c → c.total ≡ k * size + length (drop (k * size) xs)
+lengths : (size k : ℕ) (xs : List ℕ) (c : Collecting) → IsAt size k xs c →
+    c.total ≡ k * size + length (drop (k * size) xs)
 lengths size k xs c h = omega (arith, h.total, h.len, ap length h.whole, length-append c.bytes (drop (k * size) xs))
 
-piece_due : (size k n : ℕ) (xs : List ℕ) (c : Collecting) → size ≡ piece_bytes → IsCount size (suc n) (length (drop (k * size) xs)) → IsAt size k xs c → is_next_data c (k * size) (first_piece size (drop (k * size) xs)) ≡ true
+piece_due : (size k n : ℕ) (xs : List ℕ) (c : Collecting) → size ≡ piece_bytes →
+    IsCount size (suc n) (length (drop (k * size) xs)) → IsAt size k xs c →
+    is_next_data c (k * size) (first_piece size (drop (k * size) xs)) ≡ true
 piece_due size k n xs c e h at =
     let here = drop (k * size) xs in
     let first = length_first size here in
@@ -126,7 +142,9 @@ piece_due size k n xs c e h at =
     let len : length (first_piece size here) ≡ min (c.total - length c.bytes) piece_bytes = omega (arith, first, total, at.len, e) in
     due c (k * size) (first_piece size here) some (sym at.len) len
 
-taken_from : (size k n : ℕ) (xs : List ℕ) (c : Collecting) → size ≡ piece_bytes → IsCount size (suc n) (length (drop (k * size) xs)) → IsAt size k xs c → AreTaken c (piece_at size xs k ∷ map (piece_at size xs) (range_with_len (k + 1) n)) (record c { bytes = xs })
+taken_from : (size k n : ℕ) (xs : List ℕ) (c : Collecting) → size ≡ piece_bytes →
+    IsCount size (suc n) (length (drop (k * size) xs)) → IsAt size k xs c →
+    AreTaken c (piece_at size xs k ∷ map (piece_at size xs) (range_with_len (k + 1) n)) (record c { bytes = xs })
 taken_from size k zero xs c e h at =
     let here = drop (k * size) xs in
     let all : length here ≤ min (length here) size = omega (arith, h.high) in
@@ -157,22 +175,26 @@ taken_from size k (suc n) xs c e h at =
     let rest = taken_from size (suc k) n xs (with_piece c piece) e (subst (λ (m : ℕ). IsCount size (suc n) m) len (fewer size (suc n) (length here) h)) after in (
       piece_due size k (suc n) xs c e h at,
       ne_eqb (length (c.bytes ++ piece)) c.total unfinished,
-      subst (λ (j : ℕ). AreTaken (with_piece c piece) (piece_at size xs j ∷ map (piece_at size xs) (range_with_len (j + 1) n)) (record c { bytes = xs })) next rest,
+      subst (λ (j : ℕ). AreTaken (with_piece c piece)
+          (piece_at size xs j ∷ map (piece_at size xs) (range_with_len (j + 1) n)) (record c { bytes = xs })) next rest,
     )
 
 one_or_more : (size n len : ℕ) → IsCount size n len → 0 < len → (m : ℕ) × (n ≡ suc m)
 one_or_more size zero len h p = absurd (omega (arith, h.high))
 one_or_more size (suc m) len h p = (m, refl)
 
-all_taken : (xs : List ℕ) (c : Collecting) → 0 < length xs → c.bytes ≡ [] → c.total ≡ length xs → AreTaken c (pieces_of xs) (record c { bytes = xs })
+all_taken : (xs : List ℕ) (c : Collecting) → 0 < length xs → c.bytes ≡ [] → c.total ≡ length xs →
+    AreTaken c (pieces_of xs) (record c { bytes = xs })
 all_taken xs c p none total =
     let h : IsCount piece_bytes (piece_count piece_bytes xs) (length xs) = counted piece_bytes (length xs) (omega arith) in
     let some = one_or_more piece_bytes (piece_count piece_bytes xs) (length xs) h p in
     let at : IsAt piece_bytes 0 xs c = record { len = ap length none; total = total; whole = ap (λ (t : List ℕ). t ++ xs) none } in
-    subst (λ (n : ℕ). AreTaken c (map (piece_at piece_bytes xs) (range_with_len 0 n)) (record c { bytes = xs })) (sym some.1)
+    subst (λ (n : ℕ). AreTaken c (map (piece_at piece_bytes xs) (range_with_len 0 n)) (record c { bytes = xs }))
+    (sym some.1)
     (taken_from piece_bytes 0 some.0 xs c refl (subst (λ (n : ℕ). IsCount piece_bytes n (length xs)) some.1 h) at)
 
-pub elements : (source transfer request : ℕ) (basic : BasicType) (values : List ℕ) → 0 < length values → AreWithin (size_of basic) values → ArriveWhole source transfer request basic values
+pub elements : (source transfer request : ℕ) (basic : BasicType) (values : List ℕ) → 0 < length values →
+    AreWithin (size_of basic) values → ArriveWhole source transfer request basic values
 elements source transfer request basic values p within =
     let size = size_of basic in
     let bytes = bytes_of size values in
@@ -184,7 +206,8 @@ elements source transfer request basic values p within =
     record {
       last = record c { bytes = bytes };
       taken = all_taken bytes c some refl (sym len);
-      whole = ap (λ (t : List ℕ). record { request = request; elements = record { basic = basic; values = t } }) (values_of-bytes_of size values low within);
+      whole = ap (λ (t : List ℕ). record { request = request; elements = record { basic = basic; values = t } })
+          (values_of-bytes_of size values low within);
     }
 
 -- so many pieces are there

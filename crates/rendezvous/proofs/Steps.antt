@@ -12,5 +12,6 @@ remove_set (x ∷ xs) zero y = refl
 remove_set (x ∷ xs) (suc i) y = ap (λ t. x ∷ t) (remove_set xs i y)
 
 -- a piece that is due fits behind what has come
-pub fits_behind : (c : Collecting) (offset : ℕ) (piece : List ℕ) → is_next_data c offset piece ≡ true → length (c.bytes ++ piece) ≤ c.total
+pub fits_behind : (c : Collecting) (offset : ℕ) (piece : List ℕ) → is_next_data c offset piece ≡ true →
+    length (c.bytes ++ piece) ≤ c.total
 fits_behind c offset piece due = grind (arith, common_steps, length-append c.bytes piece, due)

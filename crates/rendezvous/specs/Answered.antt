@@ -26,4 +26,5 @@ GoesOn rank (e ∷ es) = (is_drop_of rank e ≡ false) × GoesOn rank es
 -- a second answer to an offer finds none, and neither does any later one in the session
 pub record AreAnsweredOnce (s : State) : Type 0 where
   pub second : (rank transfer : ℕ) → offered (after_cts s rank transfer) rank transfer ≡ None
-  pub later : (rank transfer : ℕ) (o : Offer) (events : List Event) → GoesOn rank events → offered s rank transfer ≡ Some o → offered (after_all (after_cts s rank transfer) events) rank transfer ≡ None
+  pub later : (rank transfer : ℕ) (o : Offer) (events : List Event) → GoesOn rank events →
+      offered s rank transfer ≡ Some o → offered (after_all (after_cts s rank transfer) events) rank transfer ≡ None

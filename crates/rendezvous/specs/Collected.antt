@@ -6,4 +6,5 @@ use Rattle.rendezvous.specs.Collecting.{Collecting}
 
 -- what is handed out: the elements that stand in the bytes
 abbrev pub collected_of : Collecting → Collected
-collected_of c = record { request = c.request; elements = record { basic = c.basic; values = values_of (size_of c.basic) c.bytes } }
+collected_of c =
+    record { request = c.request; elements = record { basic = c.basic; values = values_of (size_of c.basic) c.bytes } }

@@ -4,8 +4,8 @@ use Rattle.vocabulary.specs.declared.basic_type.BasicType.{BasicType}
 use Rattle.vocabulary.specs.BasicTypes.{size_of}
 use Rattle.rendezvous.specs.Pieces.{due_of, is_next_piece}
 
--- whose message it is and under which number, the key of the request that waits for it, the type of its elements, how many
--- bytes were announced, and those that have come
+-- whose message it is and under which number, the key of the request that waits for it, the type of its elements, how
+-- many bytes were announced, and those that have come
 pub record Collecting : Type 0 where
   pub source : ℕ
   pub transfer : ℕ

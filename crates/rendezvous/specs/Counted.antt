@@ -38,7 +38,8 @@ begun_with rank count (e ∷ es) = begun_with rank (count_after (is_drop_of rank
 -- how many the rank has announced, in the same way
 abbrev pub announced_with : (rank count : ℕ) → List Event → ℕ
 announced_with rank count [] = count
-announced_with rank count (e ∷ es) = announced_with rank (count_after (is_drop_of rank e) (is_announcement_by rank e) count) es
+announced_with rank count (e ∷ es) =
+    announced_with rank (count_after (is_drop_of rank e) (is_announcement_by rank e) count) es
 
 -- the same of all events from the start on
 abbrev pub transfers_to : (rank : ℕ) → List Event → ℕ
@@ -47,20 +48,22 @@ transfers_to rank events = begun_with rank 0 events
 abbrev pub announcements_by : (rank : ℕ) → List Event → ℕ
 announcements_by rank events = announced_with rank 0 events
 
--- After these events the next transfer to the rank gets the number of those that began in the session, and an announcement by
--- it is due under the number of those that it made, and under no other, as long as a number is left.
+-- After these events the next transfer to the rank gets the number of those that began in the session, and an
+-- announcement by it is due under the number of those that it made, and under no other, as long as a number is left.
 pub record IsCounted (rank : ℕ) (events : List Event) (s : State) : Type 0 where
   pub next : next_to s.numbers rank ≡ transfers_to rank events
   pub full : is_full_to s.numbers rank ≡ (transfers_to rank events == most_transfers)
   pub due : (transfer : ℕ) →
-      is_next s.numbers rank transfer ≡ (not (announcements_by rank events == most_transfers) && (announcements_by rank events == transfer))
+      is_next s.numbers rank transfer ≡
+      (not (announcements_by rank events == most_transfers) && (announcements_by rank events == transfer))
   pub worn : is_full_from s.numbers rank ≡ (announcements_by rank events == most_transfers)
 
--- The number that the sender gives its next transfer is the one that the receiver expects next, and no other is; and neither
--- has a number left where the other has none.
+-- The number that the sender gives its next transfer is the one that the receiver expects next, and no other is; and
+-- neither has a number left where the other has none.
 pub record AreAlike (source target : ℕ) (sender receiver : State) : Type 0 where
   pub full : is_full_from receiver.numbers source ≡ is_full_to sender.numbers target
-  pub next : is_full_to sender.numbers target ≡ false → is_next receiver.numbers source (next_to sender.numbers target) ≡ true
+  pub next : is_full_to sender.numbers target ≡ false →
+      is_next receiver.numbers source (next_to sender.numbers target) ≡ true
   pub only : (transfer : ℕ) → is_next receiver.numbers source transfer ≡ true → transfer ≡ next_to sender.numbers target
 
 -- whether an offer ends by this event: it is answered, or its receiver is known at a new incarnation
@@ -79,12 +82,15 @@ StaysOpen rank transfer (e ∷ es) = (is_end_of rank transfer e ≡ false) × St
 
 -- the offer of a transfer that begins now
 abbrev pub offer_of_next : State → (rank request : ℕ) → Contents → Offer
-offer_of_next s rank request elements = record { target = rank; transfer = next_to s.numbers rank; request = request; elements = elements }
+offer_of_next s rank request elements =
+    record { target = rank; transfer = next_to s.numbers rank; request = request; elements = elements }
 
--- What begins, where a number is left, is offered under the number that it gets. It is what an answer to that number finds, until
--- it ends.
+-- What begins, where a number is left, is offered under the number that it gets. It is what an answer to that number
+-- finds, until it ends.
 pub record AreFound (s : State) : Type 0 where
   pub begun : (rank request : ℕ) (elements : Contents) → is_full_to s.numbers rank ≡ false →
-      offered (after s (Begins rank request elements)) rank (next_to s.numbers rank) ≡ Some (offer_of_next s rank request elements)
-  pub later : (rank transfer : ℕ) (o : Offer) (events : List Event) → StaysOpen rank transfer events → offered s rank transfer ≡ Some o →
+      offered (after s (Begins rank request elements)) rank (next_to s.numbers rank) ≡
+      Some (offer_of_next s rank request elements)
+  pub later : (rank transfer : ℕ) (o : Offer) (events : List Event) → StaysOpen rank transfer events →
+      offered s rank transfer ≡ Some o →
       offered (after_all s events) rank transfer ≡ Some o

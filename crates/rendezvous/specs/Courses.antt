@@ -1,5 +1,6 @@
 -- The courses of all messages that ever began to be collected, told from the events alone.
-use Rattle.std.specs.Prelude.{◌≡◌, ◌≢◌, ℕ, ◌*◌, ◌==◌, ◌&&◌, Bool, true, false, List, [], ◌∷◌, ◌++◌, map, length, Some, slice_get, IfSome, if◌then◌else◌}
+use Rattle.std.specs.Prelude.{◌≡◌, ◌≢◌, ℕ, ◌*◌, ◌==◌, ◌&&◌, Bool, true, false, List, [], ◌∷◌, ◌++◌, map, length, Some}
+use Rattle.std.specs.Prelude.{slice_get, IfSome, if◌then◌else◌}
 use Rattle.std.specs.List.{flat_map}
 use Rattle.vocabulary.specs.declared.basic_type.BasicType.{BasicType}
 use Rattle.vocabulary.specs.BasicTypes.{size_of}
@@ -7,7 +8,8 @@ use Rattle.datatypes.specs.Contents.{values_of}
 use Rattle.rendezvous.specs.declared.collection.Collected.{Collected}
 use Rattle.rendezvous.specs.Collecting.{Collecting}
 use Rattle.rendezvous.specs.State.{State, is_due}
-use Rattle.rendezvous.specs.Events.{Event, Begins, Announces, Collects, Answers, Brings, Drops, after, handed_out_by, opening}
+use Rattle.rendezvous.specs.Events.{Event, Begins, Announces, Collects, Answers, Brings, Drops, after, handed_out_by}
+use Rattle.rendezvous.specs.Events.{opening}
 
 -- how far a message is: its data are still to come; it was handed out; or its sender was started anew before
 pub data Stage : Type 0 where
@@ -76,7 +78,8 @@ courses_after t (Collects source transfer request basic count) = t.courses ++ (r
 }) ∷ []
 courses_after t (Answers rank transfer) = t.courses
 courses_after t (Brings source transfer offset piece) =
-    if is_due t.state.collections source transfer offset piece then taken_by_first source transfer piece t.courses else t.courses
+    if is_due t.state.collections source transfer offset piece then taken_by_first source transfer piece t.courses else
+    t.courses
 courses_after t (Drops rank) = map (dropped_with rank) t.courses
 
 -- all of it after one more event
@@ -109,8 +112,8 @@ waiting_among (c ∷ cs) =
     }) ∷ waiting_among cs
     else waiting_among cs
 
--- A message is handed out: it is that of one course that waited, and is given with this piece; its elements stand in the bytes
--- of just the pieces that were taken for it, in order, and these are as many bytes as were announced
+-- A message is handed out: it is that of one course that waited, and is given with this piece; its elements stand in
+-- the bytes of just the pieces that were taken for it, in order, and these are as many bytes as were announced
 pub record IsHandedOut (old new : List Course) (out : Collected) : Type 0 where
   pub place : ℕ
   pub course : Course
@@ -121,7 +124,12 @@ pub record IsHandedOut (old new : List Course) (out : Collected) : Type 0 where
   pub whole : length (bytes_so_far (course.pieces ++ piece ∷ [])) ≡ course.total
   pub message : out ≡ record {
     request = course.request;
-    elements = record { basic = course.basic; values = values_of (size_of course.basic) (bytes_so_far (course.pieces ++ piece ∷ [])) };
+    elements =
+        record {
+          basic = course.basic;
+          values =
+              values_of (size_of course.basic) (bytes_so_far (course.pieces ++ piece ∷ []));
+        };
   }
 
 -- no course of the rank waits for data
@@ -129,11 +137,12 @@ abbrev pub NoneWaits : (rank : ℕ) → List Course → Type 0
 NoneWaits rank [] = Unit {0}
 NoneWaits rank (c ∷ cs) = ((is_waiting c.stage && (c.source == rank)) ≡ false) × NoneWaits rank cs
 
--- What a rank collects is what waits for data. What an event hands out is the message of one course that waited. A course
--- that doesn't wait never changes again, so it is handed out at most once. When a rank is known at a new incarnation, no
--- course of it waits any more, so nothing is handed out for those that there were.
+-- What a rank collects is what waits for data. What an event hands out is the message of one course that waited. A
+-- course that doesn't wait never changes again, so it is handed out at most once. When a rank is known at a new
+-- incarnation, no course of it waits any more, so nothing is handed out for those that there were.
 pub record IsWholeOrNothing (t : Told) : Type 0 where
   pub collected : waiting_among t.courses ≡ t.state.collections
   pub handed : (e : Event) → IfSome (handed_out_by t.state e) (IsHandedOut t.courses (told_after t e).courses)
-  pub once : (later : List Event) (place : ℕ) (c : Course) → slice_get t.courses place ≡ Some c → c.stage ≢ Waiting → slice_get (told t later).courses place ≡ Some c
+  pub once : (later : List Event) (place : ℕ) (c : Course) → slice_get t.courses place ≡ Some c → c.stage ≢ Waiting →
+      slice_get (told t later).courses place ≡ Some c
   pub dropped : (rank : ℕ) → NoneWaits rank (told_after t (Drops rank)).courses

@@ -4,10 +4,11 @@ use Rattle.vocabulary.specs.declared.basic_type.BasicType.{BasicType}
 use Rattle.datatypes.specs.Contents.{Contents}
 use Rattle.rendezvous.specs.declared.collection.Collected.{Collected}
 use Rattle.rendezvous.specs.Collecting.{beginning}
-use Rattle.rendezvous.specs.State.{State, fresh, is_full_to, is_full_from, is_due, after_begin, after_rts, after_collect, after_cts, after_data, given, after_drop}
+use Rattle.rendezvous.specs.State.{State, fresh, is_full_to, is_full_from, is_due, after_begin, after_rts}
+use Rattle.rendezvous.specs.State.{after_collect, after_cts, after_data, given, after_drop}
 
--- A transfer of these elements to a rank begins; a rank announces one; one of so many elements begins to be collected; one
--- is answered; bytes of one come from a place on; a rank is known at a new incarnation
+-- A transfer of these elements to a rank begins; a rank announces one; one of so many elements begins to be collected;
+-- one is answered; bytes of one come from a place on; a rank is known at a new incarnation
 pub data Event : Type 0 where
   Begins : (rank request : ℕ) → Contents → Event
   Announces : (rank : ℕ) → Event

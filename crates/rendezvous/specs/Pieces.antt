@@ -33,4 +33,5 @@ due_of total have = min (total - have) piece_bytes
 
 -- whether these bytes from this place on are the next piece, where so many of all bytes have come; no piece is empty
 abbrev pub is_next_piece : (total have offset : ℕ) → List ℕ → Bool
-is_next_piece total have offset piece = nat_lt 0 (length piece) && (offset == have) && (length piece == due_of total have)
+is_next_piece total have offset piece = nat_lt 0 (length piece) && (offset == have) &&
+    (length piece == due_of total have)

@@ -1,5 +1,6 @@
 -- What a rank knows of its transfers, and what each step does to it.
-use Rattle.std.specs.Prelude.{ℕ, ◌+◌, ◌==◌, ◌&&◌, not, Bool, true, false, List, [], ◌∷◌, ◌++◌, map, Option, Some, None, position, remove, filter, slice_get, slice_set, slice_index_or, if◌then◌else◌}
+use Rattle.std.specs.Prelude.{ℕ, ◌+◌, ◌==◌, ◌&&◌, not, Bool, true, false, List, [], ◌∷◌, ◌++◌, map, Option, Some, None}
+use Rattle.std.specs.Prelude.{position, remove, filter, slice_get, slice_set, slice_index_or, if◌then◌else◌}
 use Rattle.vocabulary.specs.declared.basic_type.BasicType.TheVariants.{Byte}
 use Rattle.datatypes.specs.Contents.{Contents}
 use Rattle.rendezvous.specs.declared.transfers.Numbers.{Numbers}
@@ -69,7 +70,8 @@ with_begun ns rank = let n = slice_index_or ns rank fresh in slice_set ns rank (
 
 -- one more transfer from the rank is announced
 abbrev pub with_announced : List Numbers → (rank : ℕ) → List Numbers
-with_announced ns rank = let n = slice_index_or ns rank fresh in slice_set ns rank (record n { announced = n.announced + 1 })
+with_announced ns rank =
+    let n = slice_index_or ns rank fresh in slice_set ns rank (record n { announced = n.announced + 1 })
 
 -- MESSAGES THAT COME
 
@@ -123,7 +125,8 @@ given_at cs None piece = None
 abbrev pub after_begin : State → (rank request : ℕ) → Contents → State
 after_begin s rank request elements = record s {
   numbers = with_begun s.numbers rank;
-  offers = s.offers ++ (record { target = rank; transfer = next_to s.numbers rank; request = request; elements = elements }) ∷ [];
+  offers = s.offers ++
+      (record { target = rank; transfer = next_to s.numbers rank; request = request; elements = elements }) ∷ [];
 }
 
 -- a transfer from a rank is announced
@@ -151,8 +154,8 @@ after_data s rank transfer piece =
 abbrev pub given : State → (rank transfer : ℕ) → List ℕ → Option Collected
 given s rank transfer piece = given_at s.collections (collection_for rank transfer s.collections) piece
 
--- a rank is known at a new incarnation: both directions of its session start anew, and what was offered to it or collected
--- from it is gone
+-- a rank is known at a new incarnation: both directions of its session start anew, and what was offered to it or
+-- collected from it is gone
 abbrev pub after_drop : State → (rank : ℕ) → State
 after_drop s rank = record {
   numbers = slice_set s.numbers rank fresh;

@@ -45,5 +45,6 @@ AreTaken c (p ∷ q ∷ ps) last =
 -- the elements of a message that comes in pieces: a new collection of that size takes all pieces, and gives just them
 pub record ArriveWhole (source transfer request : ℕ) (basic : BasicType) (values : List ℕ) : Type 0 where
   pub last : Collecting
-  pub taken : AreTaken (beginning source transfer request basic (length values)) (pieces_of (bytes_of (size_of basic) values)) last
+  pub taken : AreTaken (beginning source transfer request basic (length values))
+      (pieces_of (bytes_of (size_of basic) values)) last
   pub whole : collected_of last ≡ record { request = request; elements = record { basic = basic; values = values } }

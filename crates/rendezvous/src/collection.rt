@@ -52,8 +52,8 @@ pub struct Collected {
 
 impl Collection {
     /// A message of so many elements that a rank announced, of which nothing has come. The memory for all its data is
-    /// taken now; it fails for want of memory alone. Data of more bytes than an address counts, which no memory holds, count
-    /// as that. A message of no elements is over at its match: here no piece of it is ever due.
+    /// taken now; it fails for want of memory alone. Data of more bytes than an address counts, which no memory holds,
+    /// count as that. A message of no elements is over at its match: here no piece of it is ever due.
     pub fn new(
         alloc: Global,
         source: u16,

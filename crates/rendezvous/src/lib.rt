@@ -2,8 +2,8 @@
 //!
 //! MPI 3.1, 3.4 leaves open how a standard send goes; this protocol is the project's own. A message of more than 1,024
 //! bytes is announced first ('request to send'), under a number that its sender counts to each rank. The receiver
-//! answers ('clear to send') once it wants the data, and then they come in order, in pieces of 1,024 bytes of which the last
-//! one may be shorter.
+//! answers ('clear to send') once it wants the data, and then they come in order, in pieces of 1,024 bytes of which the
+//! last one may be shorter.
 #![tactic(auto)]
 
 mod collection;

@@ -33,8 +33,8 @@ fn piece_at(contents: &[u8], number: usize) -> Option<Piece<'_>>
     Some(Piece { offset, bytes })
 }
 
-/// These bytes in pieces of 1,024 bytes, in order, the last one of 1 to 1,024 bytes; they are lent. It fails for want of
-/// memory; more than 4 GiB, which no message has, count as that.
+/// These bytes in pieces of 1,024 bytes, in order, the last one of 1 to 1,024 bytes; they are lent. It fails for want
+/// of memory; more than 4 GiB, which no message has, count as that.
 pub fn pieces_of(alloc: Global, contents: &[u8]) -> Result<Vec<Piece<'_>>, OutOfMemory>
     ensures { IfOk result (λ pieces. map (λ p. (p.offset, p.bytes.now)) pieces.items ≡ pieces_of contents.now) }
 {
@@ -51,8 +51,8 @@ pub fn pieces_of(alloc: Global, contents: &[u8]) -> Result<Vec<Piece<'_>>, OutOf
     Ok(pieces)
 }
 
-/// The data of these elements in pieces of 1,024 bytes, in order, the last one of 1 to 1,024 bytes; they are lent. It fails for
-/// want of memory; data of more than 4 GiB, which no message has, count as that.
+/// The data of these elements in pieces of 1,024 bytes, in order, the last one of 1 to 1,024 bytes; they are lent. It
+/// fails for want of memory; data of more than 4 GiB, which no message has, count as that.
 pub fn pieces(alloc: Global, elements: &Buffer) -> Result<Vec<Piece<'_>>, OutOfMemory>
     ensures { IfOk result (λ pieces. map (λ p. (p.offset, p.bytes.now)) pieces.items
         ≡ pieces_of (bytes_of (size_of elements.now.basic) elements.now.values)) }
@@ -75,8 +75,8 @@ pub fn piece_count(elements: &Buffer) -> usize
     count_of(elements.as_bytes())
 }
 
-/// Whether these bytes from this place on are the next piece of a message, where so many of all its bytes have come: they
-/// stand where these end, and are as many as are due.
+/// Whether these bytes from this place on are the next piece of a message, where so many of all its bytes have come:
+/// they stand where these end, and are as many as are due.
 pub fn is_next_piece(total: usize, have: usize, offset: u32, bytes: &[u8]) -> bool
     requires { have ≤ total }
     ensures { result ≡ is_next_piece total have offset bytes.now }

@@ -1,10 +1,15 @@
 //! What a rank knows of its transfers.
 
-ghost use Rattle.std.specs.Prelude.{◌≡◌, ℕ, ◌+◌, ◌≤◌, ◌<◌, ◌++◌, not, ◌==◌, false, true, filter, map, length, [], IfOk, OnOk, OnErr, position, replicate, slice_get, slice_set, slice_index_or, vec_len, vec_capacity};
+ghost use Rattle.std.specs.Prelude.{◌≡◌, ℕ, ◌+◌, ◌≤◌, ◌<◌, ◌++◌, not, ◌==◌, false, true, filter, map, length, [], IfOk};
+ghost use Rattle.std.specs.Prelude.{OnOk, OnErr, position, replicate, slice_get, slice_set, slice_index_or, vec_len};
+ghost use Rattle.std.specs.Prelude.{vec_capacity};
 ghost use Rattle.std.specs.Option.{option_copied};
 ghost use Rattle.rendezvous.specs.Offers.{offer_for, offer_at, without_offer};
 ghost use Rattle.rendezvous.specs.Collecting.{Collecting, is_from, is_next_data, with_piece, is_whole};
-ghost use Rattle.rendezvous.specs.State.{State, fresh, is_full_to, is_next, next_to, with_begun, with_announced, collection_for, collection_at, is_due, grown_at, with_data_at, given_at, after_begin, after_rts, after_collect, offered, after_cts, after_data, given, after_drop, keys_with};
+ghost use Rattle.rendezvous.specs.State.{State, fresh, is_full_to, is_next, next_to, with_begun, with_announced};
+ghost use Rattle.rendezvous.specs.State.{collection_for, collection_at, is_due, grown_at, with_data_at, given_at};
+ghost use Rattle.rendezvous.specs.State.{after_begin, after_rts, after_collect, offered, after_cts, after_data, given};
+ghost use Rattle.rendezvous.specs.State.{after_drop, keys_with};
 
 use crate::collection::{Collected, Collection};
 use crate::offer::Offer;
@@ -261,8 +266,8 @@ impl Transfers {
         &self.numbers
     }
 
-    /// The sessions have these numbers from now on, by rank: transfers were counted whose data stand elsewhere. Whoever sets them
-    /// answers for them: the laws on all calls in `laws` leave this one out.
+    /// The sessions have these numbers from now on, by rank: transfers were counted whose data stand elsewhere. Whoever
+    /// sets them answers for them: the laws on all calls in `laws` leave this one out.
     pub fn set_numbers(&mut self, numbers: Vec<Numbers>)
         ensures { self.new ≡ record self.old { state = record self.old.state { numbers = numbers.items } } }
     {
@@ -344,7 +349,8 @@ impl Transfers {
         self.collections.push_reserved(collection);
     }
 
-    /// The transfer to the rank that has this number, where it is offered: an answer to any other one is refused with 30.
+    /// The transfer to the rank that has this number, where it is offered: an answer to any other one is refused with
+    /// 30.
     pub fn offer(&self, rank: u16, transfer: u32) -> Option<&Offer>
         ensures { option_copied result ≡ offered self.now.state rank transfer }
     {
@@ -362,8 +368,8 @@ impl Transfers {
         take_offer(&mut self.offers, rank, transfer)
     }
 
-    /// Whether these bytes from this place on are the next piece of the transfer from the rank that has this number: other
-    /// data are refused with 30.
+    /// Whether these bytes from this place on are the next piece of the transfer from the rank that has this number:
+    /// other data are refused with 30.
     pub fn is_due(&self, rank: u16, transfer: u32, offset: u32, bytes: &[u8]) -> bool
         ensures { result ≡ is_due self.now.state.collections rank transfer offset bytes.now }
     {
@@ -391,15 +397,16 @@ impl Transfers {
         take_piece(&mut self.collections, rank, transfer, offset, bytes)
     }
 
-    /// The keys of the requests that offer to the rank, and then of those that collect from it, the oldest first; or want
-    /// of memory.
+    /// The keys of the requests that offer to the rank, and then of those that collect from it, the oldest first; or
+    /// want of memory.
     pub fn keys_with(&self, alloc: Global, rank: u16) -> Result<Vec<usize>, OutOfMemory>
         ensures { IfOk result (λ keys. keys.items ≡ keys_with self.now.state rank) }
     {
         keys_among(alloc, &self.offers, &self.collections, rank)
     }
 
-    /// Starts both directions of the session with the rank anew, since it is known at a new incarnation: numbers count from
+    /// Starts both directions of the session with the rank anew, since it is known at a new incarnation: numbers count
+    /// from
     /// 0, and what was offered to it or collected from it is gone. It takes no memory.
     ///
     /// MPI 3.1 defines no restart of a rank; what becomes of these is this project's own.

@@ -1,5 +1,5 @@
-//! Each call of the libraries of queues and requests on its happy path, worked rows, and the two forms of a receiver's queues side by
-//! side.
+//! Each call of the libraries of queues and requests on its happy path, worked rows, and the two forms of a receiver's
+//! queues side by side.
 #![tactic(auto)]
 
 #[cfg(test)]

@@ -129,8 +129,8 @@ fn matched_anew(alloc: Global, queues: &mut Queues, tag: u32) -> Option<usize> {
     }
 }
 
-/// Whether a receive from rank 0 and one from any wait and a message is kept, whether the first one alone names rank 0, which
-/// one a message of a later incarnation comes to, and whether the former message is gone.
+/// Whether a receive from rank 0 and one from any wait and a message is kept, whether the first one alone names rank 0,
+/// which one a message of a later incarnation comes to, and whether the former message is gone.
 fn learn(alloc: Global, queues: &mut Queues) -> ([bool; 3], bool, Option<usize>, bool) {
     let before = [
         is_posted(queues, receive(3, Source::Rank(0), Some(9))),
@@ -153,8 +153,8 @@ fn what_is_of_former_incarnations_goes(rt: HostRuntime) {
     );
 }
 
-/// Whether a receive waits and is then cancelled, once, and whether a message that it accepts is then kept, and comes to
-/// the receive that was posted behind it.
+/// Whether a receive waits and is then cancelled, once, and whether a message that it accepts is then kept, and comes
+/// to the receive that was posted behind it.
 fn cancel(alloc: Global, queues: &mut Queues) -> ([bool; 4], Option<usize>) {
     let posted = [
         is_posted(queues, receive(3, Source::Any, None)),
@@ -221,8 +221,8 @@ fn announced(tag: u32) -> Message {
     }
 }
 
-/// Of a receive from rank 0 and one from any rank behind it: the requests of those that a message would come to, as they stand
-/// and without those that name rank 0.
+/// Of a receive from rank 0 and one from any rank behind it: the requests of those that a message would come to, as
+/// they stand and without those that name rank 0.
 fn would_receive(queues: &mut Queues) -> ([bool; 2], Option<usize>, Option<usize>) {
     let posted = [
         is_posted(queues, receive(3, Source::Rank(0), None)),
@@ -244,8 +244,8 @@ fn shows_which_receive_a_message_would_come_to(rt: HostRuntime) {
     assert_eq!(rt; would_receive(&mut queues), ([true; 2], Some(3), Some(4)));
 }
 
-/// The type and length of the announced message that a receive would take, which a later whole one of its sender doesn't
-/// overtake.
+/// The type and length of the announced message that a receive would take, which a later whole one of its sender
+/// doesn't overtake.
 fn would_find(alloc: Global, queues: &mut Queues) -> Option<(BasicType, usize)> {
     let Some(Arrival::Kept) = arrive(queues, announced(7)) else {
         return None;

@@ -1,8 +1,8 @@
 //! How requests end.
 
-use datatypes::{IndexedBlock, Buffer, Layout};
-use requests::*;
 use communicator_members::Members;
+use datatypes::{Buffer, IndexedBlock, Layout};
+use requests::*;
 use std::alloc::Global;
 use vocabulary::{BasicType, Source, Status};
 
@@ -107,7 +107,8 @@ fn a_status_names_a_rank_of_the_communicator(rt: HostRuntime) {
     }
 }
 
-/// What is seen of a receive and of a finished send, and of a key that was never given, once all that wait are replaced.
+/// What is seen of a receive and of a finished send, and of a key that was never given, once all that wait are
+/// replaced.
 fn replaced(alloc: Global) -> Option<[Seen; 2]> {
     let mut requests = Requests::new(alloc);
     requests.reserve().ok()?;
@@ -168,8 +169,8 @@ fn a_list_names_a_request_once_or_twice(rt: HostRuntime) {
     );
 }
 
-/// The bytes of six zeros of one byte each once the message 7 8 was received into the first places of the blocks of two from 1
-/// and one from 5 on (MPI 3.1, 4.1.2).
+/// The bytes of six zeros of one byte each once the message 7 8 was received into the first places of the blocks of two
+/// from 1 and one from 5 on (MPI 3.1, 4.1.2).
 fn received_through(alloc: Global) -> Option<[u8; 6]> {
     let layout = Layout::new(alloc, BasicType::Byte).ok()?;
     let blocks = [
@@ -288,7 +289,9 @@ fn is_over(alloc: Global) -> Option<bool> {
         ..empty_status()
     };
     match match_announced(region, status, BasicType::Byte) {
-        RequestProgress::Finished(Outcome::Ended(Failure::Truncated, _status, _buffer)) => Some(true),
+        RequestProgress::Finished(Outcome::Ended(Failure::Truncated, _status, _buffer)) => Some(
+            true,
+        ),
         _ => Some(false),
     }
 }

@@ -19,6 +19,6 @@ pub use outcome::{Failure, Outcome, receive_outcome};
 pub use refusal::RequestRefusal;
 pub use region::{Places, ReceiveRegion, Region};
 pub use table::{
-    TableEntry, Matched, Posted, RequestProgress, Request, Requests, TakenOut, Tested, match_announced,
-    match_body, status_of,
+    Matched, Posted, Request, RequestProgress, Requests, TableEntry, TakenOut, Tested,
+    match_announced, match_body, status_of,
 };

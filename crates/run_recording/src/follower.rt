@@ -5,10 +5,10 @@ ghost use Rattle.run_recording.specs.Kinds.{kind_of};
 
 use crate::printed::{Printed, behind_word, kept, printed_in};
 use crate::statement_lines::{Asked, asked_of};
-use printed_lines::{FrameKind, LoadText};
 use datagram::{Content, Frame};
 use engine::Reply;
 use event_files::{EventLine, parse};
+use printed_lines::{FrameKind, LoadText};
 use run_drawings::{Change, Delivery, Note, Picture};
 use simulation::{SimulateError, Simulation, Stopped};
 use statements::ParseError;

@@ -9,8 +9,8 @@ use std::collections::VecDeque;
 use std::process::Abort;
 use std::sync::Wait;
 
-/// How a rank ends over a transport, with patience 500, and whether nothing of it is unacknowledged then; no ending is a fault of
-/// the transport.
+/// How a rank ends over a transport, with patience 500, and whether nothing of it is unacknowledged then; no ending is
+/// a fault of the transport.
 fn driven<R: Wait, T: Transport>(
     rt: &R,
     rank: &mut Rank,
@@ -48,8 +48,8 @@ fn run<R: Wait, T: Transport>(
     Some(shown)
 }
 
-/// How rank 0 of the script ends over a new pair, whether nothing is unacknowledged, whether it has printed these lines alone, and how
-/// many calls of the transport there were and how many of them failed.
+/// How rank 0 of the script ends over a new pair, whether nothing is unacknowledged, whether it has printed these lines
+/// alone, and how many calls of the transport there were and how many of them failed.
 fn run_over<R: Wait>(
     rt: &R,
     alloc: Global,
@@ -100,8 +100,8 @@ fn a_rank_ends_by_its_script(rt: HostRuntime) {
     assert_eq!(rt; Ended::Runner(0, None).status(), 0);
 }
 
-/// How rank 0 of the script of collectives ends over a pair that answers, whether nothing is unacknowledged, and whether it has
-/// printed what it must.
+/// How rank 0 of the script of collectives ends over a pair that answers, whether nothing is unacknowledged, and
+/// whether it has printed what it must.
 fn run_collectives<R: Wait>(rt: &R, alloc: Global) -> Option<(Option<Ended>, bool, bool)> {
     let lines = b"1 2\n4 6\n3 8\n1 2 3 4\n3 4\nerror 7\ndone\n";
     let (ended, idle, printed, _, _) = run_script(rt, alloc, COLLECTIVES, lines, 100_000, true)?;

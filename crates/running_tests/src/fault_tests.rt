@@ -1,5 +1,5 @@
-//! The loop of a running rank over a transport that fails at one of its calls, for each of them in turn: the engine got just what came
-//! before, and what wasn't acknowledged before is sent again once its time has come.
+//! The loop of a running rank over a transport that fails at one of its calls, for each of them in turn: the engine got
+//! just what came before, and what wasn't acknowledged before is sent again once its time has come.
 
 ghost use Rattle.std.specs.Prelude.{◌≡◌};
 
@@ -95,7 +95,8 @@ fn driven<R: Wait>(rt: &R, rank: &mut Rank, pair: &mut Pair) -> (Option<Ended>, 
     (ended, standing_of(&mut rank.engine))
 }
 
-/// The same of rank 0 of the ping-pong, and how it is to stand, by what the pair gave it before it failed at its call of this number.
+/// The same of rank 0 of the ping-pong, and how it is to stand, by what the pair gave it before it failed at its call
+/// of this number.
 fn run_over<R: Wait>(
     rt: &R,
     alloc: Global,

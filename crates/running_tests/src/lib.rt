@@ -1,5 +1,6 @@
-//! What runs engines: what a world shows of what happened in it, the bytes that its ranks send, and when it is quiet; and the loop of a
-//! running rank over transports in memory. What files of events can show stands as rows of `mpisim_cases`.
+//! What runs engines: what a world shows of what happened in it, the bytes that its ranks send, and when it is quiet;
+//! and the loop of a running rank over transports in memory. What files of events can show stands as rows of
+//! `mpisim_cases`.
 #![tactic(auto)]
 
 #[cfg(test)]

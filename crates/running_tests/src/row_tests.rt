@@ -1,8 +1,9 @@
-//! The bytes of what ranks send as they make communicators, header, frame, and what the frame says; and of acknowledgements. They were
-//! not taken from what this program writes, but from a model that was written apart from it (tools/random_worlds).
+//! The bytes of what ranks send as they make communicators, header, frame, and what the frame says; and of
+//! acknowledgements. They were not taken from what this program writes, but from a model that was written apart from it
+//! (tools/random_worlds).
 //!
-//! Bytes 40 to 47 of a frame's datagram are the context of the communicator that it is on, and bytes 68 to 75, where they are there,
-//! the one of the communicator that was made.
+//! Bytes 40 to 47 of a frame's datagram are the context of the communicator that it is on, and bytes 68 to 75, where
+//! they are there, the one of the communicator that was made.
 
 use crate::steps::{End, Told, WORLD, all_are_spelled, deliver, enter, send, tick};
 use engine::{Choice, Entry};
@@ -19,8 +20,8 @@ fn split(colour: Option<u32>, key: i32) -> Entry {
     Entry::Split(Choice { colour, key })
 }
 
-/// Three ranks copy world, and rank 1 sends the element 4 on the copy to rank 2, with tag 6, which comes before the copy does:
-/// what the deliveries tell.
+/// Three ranks copy world, and rank 1 sends the element 4 on the copy to rank 2, with tag 6, which comes before the
+/// copy does: what the deliveries tell.
 fn copy_of_three(alloc: Global, world: &mut World) -> Option<[Told; 5]> {
     enter(world, 1, WORLD, Entry::Dup);
     enter(world, 2, WORLD, Entry::Dup);
@@ -296,8 +297,8 @@ fn a_difference_is_told_in_these_bytes(rt: HostRuntime) {
     assert!(rt; all_are_spelled(rt.alloc(), &world, &DIFFERENCE,));
 }
 
-/// Three messages of rank 0 to rank 1, of which the last one comes first, and is sent again with the first two: what is told. The last
-/// acknowledgement is of all.
+/// Three messages of rank 0 to rank 1, of which the last one comes first, and is sent again with the first two: what is
+/// told. The last acknowledgement is of all.
 fn early_of_three(alloc: Global, world: &mut World) -> Option<[Told; 5]> {
     for _ in 0..3u8 {
         send(alloc, world, 0, WORLD, 1, 7, 1)?;
@@ -309,7 +310,8 @@ fn early_of_three(alloc: Global, world: &mut World) -> Option<[Told; 5]> {
     Some([early, told, clock, first, deliver(world, 1)])
 }
 
-/// What is held stands in acknowledgements: frame 2, then the same behind frame 1, then nothing. A frame that was told isn't sent again.
+/// What is held stands in acknowledgements: frame 2, then the same behind frame 1, then nothing. A frame that was told
+/// isn't sent again.
 #[test]
 fn acknowledgements_tell_what_is_held_in_these_bytes(rt: HostRuntime) {
     let mut world = World::new(rt.alloc(), 2).expect(&rt, "a world");

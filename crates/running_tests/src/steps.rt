@@ -4,7 +4,7 @@ use datatypes::Buffer;
 use engine::{Call, Completion, Ending, Region, Reply, Send};
 use std::alloc::Global;
 use vocabulary::{BasicType, Mode, Source};
-use world::{HistoryEntry, Event, World};
+use world::{Event, HistoryEntry, World};
 
 /// The place of a rank's first communicator.
 pub(crate) const WORLD: Option<usize> = Some(0);

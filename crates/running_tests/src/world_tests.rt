@@ -6,7 +6,7 @@ use engine::{Call, Entry, Send};
 use requests::Region;
 use std::alloc::Global;
 use vocabulary::{BasicType, Mode, Source};
-use world::{StepResult, Event, World};
+use world::{Event, StepResult, World};
 
 /// The first, count and place of an event that ran.
 fn ran(world: &mut World, event: Event) -> Option<(usize, usize, usize)> {

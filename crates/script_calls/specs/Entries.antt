@@ -14,7 +14,12 @@ split_by x = entries.Split (record { colour = x.colour; key = x.key })
 abbrev pub entry_with : (Contents → Entry) → Contents → Option Entry
 entry_with entry block = if nat_lt (length block.values) (2 ^ 32) then Some (entry block) else None
 
--- of which type the blocks of a scatter are, and how many elements each has; a number that 32 bits don't hold stands as the greatest
--- that they hold, which is above the limit of a block too
+-- of which type the blocks of a scatter are, and how many elements each has; a number that 32 bits don't hold stands as
+-- the greatest that they hold, which is above the limit of a block too
 abbrev pub elements_like : Contents → Elements
-elements_like into = record { basic = into.basic; count = if nat_lt (length into.values) 4294967295 then length into.values else 4294967295 }
+elements_like into =
+    record {
+      basic = into.basic;
+      count = if nat_lt (length into.values) 4294967295 then length into.values else
+          4294967295;
+    }

@@ -58,8 +58,8 @@ pub fn reduction_to_all_of(operation: Operation, buffer: Buffer) -> Option<Entry
     }
 }
 
-/// Of which type the blocks of a scatter are, and how many elements each has. A number that 32 bits don't hold stands as the greatest
-/// that they hold.
+/// Of which type the blocks of a scatter are, and how many elements each has. A number that 32 bits don't hold stands
+/// as the greatest that they hold.
 pub fn elements_like(into: &Buffer) -> Elements
     ensures { result ≡ elements_like into.now }
 {

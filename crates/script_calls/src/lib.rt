@@ -1,7 +1,7 @@
 //! Tables from names to what they stand for.
 //!
-//! A table finds a name by its hash, so a look-up takes as long among thousands of names as among a few. Contracts see a table as
-//! the list of its entries, in the order in which their names were first set.
+//! A table finds a name by its hash, so a look-up takes as long among thousands of names as among a few. Contracts see
+//! a table as the list of its entries, in the order in which their names were first set.
 #![tactic(auto)]
 
 mod entries;
@@ -13,5 +13,5 @@ pub use entries::{
     broadcast_of, elements_like, gather_of, reduction_of, reduction_to_all_of, split_by,
 };
 pub use outcomes::{as_text, empty_status, error_of, status_after};
-pub use pending::{NamedRequest, NamedMessage, Pending, NamedCommunicator};
+pub use pending::{NamedCommunicator, NamedMessage, NamedRequest, Pending};
 pub use table::Table;

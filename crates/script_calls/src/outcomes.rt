@@ -3,8 +3,8 @@
 ghost use Rattle.std.specs.Prelude.{◌≡◌};
 ghost use Rattle.script_calls.specs.Told.{as_text, empty_status, error_of, status_after};
 
-use printed_lines::ComparisonText;
 use communicators::CommunicatorComparison;
+use printed_lines::ComparisonText;
 use requests::Outcome;
 use vocabulary::{Source, Status};
 

@@ -50,7 +50,8 @@ pub struct NamedCommunicator {
 pub enum Pending {
     /// Nothing has a name by it, and no buffer comes back: a cancel, a probe, or a question whose answer is told.
     Nothing,
-    /// An operation is started: its request has this name then, and the buffer of that name is lent to it, if it is a receive.
+    /// An operation is started: its request has this name then, and the buffer of that name is lent to it, if it is a
+    /// receive.
     Starting(Name, Option<Name>),
     /// An operation is started whose request has no name, to be waited for; the buffer of this name is lent to it.
     StartingToWait(Option<Name>),

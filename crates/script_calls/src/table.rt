@@ -5,13 +5,13 @@ ghost use Rattle.std.specs.Option.{option_copied};
 ghost use Rattle.script_calls.specs.Tables.{entries_of, value_at, with_value};
 
 use indexmap::IndexMap;
-use tokens::Name;
 use std::alloc::{AllocError, Global};
 use std::marker::Model;
 use std::mem;
+use tokens::Name;
 
-/// What names stand for. Contracts see it as the list of the names that are set, each with its value, in the order in which they
-/// were first set.
+/// What names stand for. Contracts see it as the list of the names that are set, each with its value, in the order in
+/// which they were first set.
 #[derive(Drop)]
 pub struct Table<V> {
     alloc: Global,
@@ -64,8 +64,8 @@ impl<V> Table<V> {
 }
 
 impl<V: Drop> Table<V> {
-    /// Lets the name stand for this value. The only error is want of memory, for a name that isn't set yet; the table is then as
-    /// it was.
+    /// Lets the name stand for this value. The only error is want of memory, for a name that isn't set yet; the table
+    /// is then as it was.
     pub fn set(&mut self, name: &Name, value: V) -> Result<(), AllocError>
         ensures set { OnOk result (self.new ≡ with_value self.old name.now value) }
         ensures unchanged { OnErr result (self.new ≡ self.old) }
@@ -78,7 +78,8 @@ impl<V: Drop> Table<V> {
         insert_new(self.alloc, &mut self.values, name.as_bytes(), value)
     }
 
-    /// Lets the name stand for this value in place of what it stood for, which is the answer. A name that isn't set stays so.
+    /// Lets the name stand for this value in place of what it stood for, which is the answer. A name that isn't set
+    /// stays so.
     pub fn replace(&mut self, name: &Name, value: V) -> Option<V>
         ensures before { result ≡ value_at self.old name.now }
         ensures after { IfSome result (λ _. self.new ≡ with_value self.old name.now value) }

@@ -49,7 +49,9 @@ verb_again verbs.Say = refl
 verb_again verbs.Fail = refl
 
 -- the first words of what files of events have too are none of these
-pub no_verb : (words : List Word) (action : Action) → Spells words action → (word : Word) × (rest : List Word) × (words ≡ word ∷ rest) × (verb_of word ≡ None)
+pub no_verb : (words : List Word) (action : Action) → Spells words action → (word : Word) × (rest : List Word) ×
+    (words ≡ word ∷ rest) × (verb_of word ≡ None)
 unfolding verb_of
 no_verb words action h =
-    begins words action h (λ word. verb_of word ≡ None) refl refl refl refl refl refl refl refl refl refl refl refl refl refl refl refl refl refl refl refl refl refl refl refl
+    begins words action h (λ word. verb_of word ≡ None) refl refl refl refl refl refl refl refl refl refl refl refl refl
+    refl refl refl refl refl refl refl refl refl refl refl

@@ -14,7 +14,8 @@ use Rattle.script_files.specs.declared.script.Item.TheVariants as items
 abbrev pub IsNamed : Word → ℕ → Option ℕ → Type 0
 IsNamed word rank None = IsCapped 65535 word rank
 IsNamed word rank (Some one) =
-    (rank_word incarnation_word : Word) × (word ≡ rank_word ++ 46 ∷ incarnation_word) × IsCapped 65535 rank_word rank × IsCapped 65536 incarnation_word one
+    (rank_word incarnation_word : Word) × (word ≡ rank_word ++ 46 ∷ incarnation_word) × IsCapped 65535 rank_word rank ×
+    IsCapped 65536 incarnation_word one
 
 abbrev pub IsMember : Word → AudienceMember → Type 0
 IsMember word member = IsNamed word member.rank member.incarnation
@@ -28,10 +29,13 @@ IsAudience words (audiences.Ranks members) = (words ≢ []) × StandFor IsMember
 abbrev pub SpellsStatement : List Word → ScriptStatement → Type 0
 SpellsStatement words (statements.Action action) = Spells words action
 SpellsStatement words (statements.Send send) = (rest : List Word) × (words ≡ codes "send" ∷ rest) × IsSending rest send
-SpellsStatement words (statements.Recv receive) = (rest : List Word) × (words ≡ codes "recv" ∷ rest) × IsReceiving rest receive
-SpellsStatement words (statements.Print buffer) = (name : Word) × (words ≡ codes "print" ∷ name ∷ []) × NamesIt name buffer
+SpellsStatement words (statements.Recv receive) =
+    (rest : List Word) × (words ≡ codes "recv" ∷ rest) × IsReceiving rest receive
+SpellsStatement words (statements.Print buffer) = (name : Word) × (words ≡ codes "print" ∷ name ∷ []) ×
+    NamesIt name buffer
 SpellsStatement words statements.Status = words ≡ codes "status" ∷ []
-SpellsStatement words (statements.Count layout) = (name : Word) × (words ≡ codes "count" ∷ name ∷ []) × NamesIt name layout
+SpellsStatement words (statements.Count layout) = (name : Word) × (words ≡ codes "count" ∷ name ∷ []) ×
+    NamesIt name layout
 SpellsStatement words (statements.Say said) = (words ≡ codes "say" ∷ said) × (said ≢ [])
 SpellsStatement words statements.Fail = words ≡ codes "fail" ∷ []
 

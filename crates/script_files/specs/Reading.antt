@@ -1,5 +1,6 @@
 -- Reading the words of a line of a script.
-use Rattle.std.specs.Prelude.{ℕ, ◌==◌, Bool, ◌&&◌, List, [], ◌∷◌, length, take, drop, codes, Option, Some, None, if◌then◌else◌}
+use Rattle.std.specs.Prelude.{ℕ, ◌==◌, Bool, ◌&&◌, List, [], ◌∷◌, length, take, drop, codes, Option, Some, None}
+use Rattle.std.specs.Prelude.{if◌then◌else◌}
 use Rattle.std.specs.List.{position}
 use Rattle.std.specs.Str.{bytes_eq}
 use Rattle.tokens.specs.Grammar.{Word}
@@ -38,7 +39,8 @@ is_point byte = byte == 46
 abbrev pub member_at : Option ℕ → Word → Option AudienceMember
 member_at None word = rank_of word >>= λ r. Some (record { rank = r; incarnation = None })
 member_at (Some place) word =
-    rank_of (take place word) >>= λ r. number_or 65536 (drop 1 (drop place word)) >>= λ one. Some (record { rank = r; incarnation = Some one })
+    rank_of (take place word) >>= λ r. number_or 65536 (drop 1 (drop place word)) >>= λ one. Some
+    (record { rank = r; incarnation = Some one })
 
 -- `R`, or `R.I`
 unfoldable pub member_of : Word → Option AudienceMember

@@ -23,7 +23,8 @@ asked here number (items.Does statement) = kept here (record { number = number; 
 -- the lines for a rank at an incarnation, where those before the first `on` are for it or aren't
 unfoldable pub said_for : (rank incarnation : ℕ) → Bool → List ScriptLine → List RankLine
 said_for rank incarnation here [] = []
-said_for rank incarnation here (line ∷ lines) = asked here line.number line.item ++ said_for rank incarnation (is_meant_behind rank incarnation here line.item) lines
+said_for rank incarnation here (line ∷ lines) = asked here line.number line.item ++
+    said_for rank incarnation (is_meant_behind rank incarnation here line.item) lines
 
 -- the lines of a script for a rank at an incarnation: those before the first `on` are for all
 abbrev pub lines_for : (rank incarnation : ℕ) → List ScriptLine → List RankLine

@@ -11,8 +11,8 @@ use std::marker::Model;
 pub struct AudienceMember {
     /// The rank; one that 16 bits don't hold stands as the greatest number that they hold, which is no rank either.
     pub rank: u16,
-    /// The one incarnation that is meant; none: each. A number that is no incarnation, since 16 bits don't hold it, stands
-    /// as 65,536.
+    /// The one incarnation that is meant; none: each. A number that is no incarnation, since 16 bits don't hold it,
+    /// stands as 65,536.
     pub incarnation: Option<u32>,
 }
 

@@ -7,8 +7,8 @@ ghost use Rattle.tokens.specs.Fields.{each};
 ghost use Rattle.script_files.specs.Reading.{is_point, member_of, one_member, audience_of};
 
 use crate::audience::{Audience, AudienceMember, AudienceMembers};
-use tokens::{LineError, Token, is, number_or, rank_of};
 use std::alloc::Global;
+use tokens::{LineError, Token, is, number_or, rank_of};
 
 fn point_place(word: &[u8]) -> Option<usize>
     ensures { result ≡ position is_point word.now }

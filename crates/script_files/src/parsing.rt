@@ -9,9 +9,9 @@ ghost use Rattle.tokens.specs.Texts.{LinesSay};
 ghost use Rattle.script_files.specs.declared.script.ScriptLine.{ScriptLine};
 
 use crate::reading::item_of;
-use crate::script::{Item, ScriptLine, Script};
-use tokens::{LineError, ParseError, lines_of, said_in};
+use crate::script::{Item, Script, ScriptLine};
 use std::alloc::Global;
+use tokens::{LineError, ParseError, lines_of, said_in};
 
 /// What a line says, if it isn't skipped.
 #[tactic(auto, unfolding(tokens::specs::Lines::line_of))]
@@ -32,8 +32,10 @@ fn take_line(
     line: &[u8],
 ) -> Result<(), ParseError>
     ensures ok { OnOk result ((rest : List (List ℕ)) →
-        with_front script.new (lines_from line_read (number + 1) rest) ≡ with_front script.old (lines_from line_read number (line.now ∷ rest))) }
-    ensures err { IfErr result (λ e. (rest : List (List ℕ)) → LineFails e (with_front script.old (lines_from line_read number (line.now ∷ rest)))) }
+        with_front script.new (lines_from line_read (number + 1) rest) ≡
+        with_front script.old (lines_from line_read number (line.now ∷ rest))) }
+    ensures err { IfErr result (λ e. (rest : List (List ℕ)) →
+        LineFails e (with_front script.old (lines_from line_read number (line.now ∷ rest)))) }
 {
     match item_in(alloc, line) {
         Err(LineError::Faulty) => Err(ParseError::Line(number)),
@@ -57,8 +59,8 @@ fn script_of(alloc: Global, text: &[u8]) -> Result<Script, ParseError>
     Ok(script)
 }
 
-/// Reads a script whole: what its lines say, or its first faulty line. Empty lines and those whose first word begins with
-/// `#` are skipped.
+/// Reads a script whole: what its lines say, or its first faulty line. Empty lines and those whose first word begins
+/// with `#` are skipped.
 ///
 /// Answers the number of the first faulty line, which is refusal number 51, or that a growth was refused.
 pub fn parse(alloc: Global, text: &[u8]) -> Result<Script, ParseError>

@@ -7,9 +7,9 @@ ghost use Rattle.script_files.specs.Reading.{name_alone, said_words, item_of};
 use crate::fields::audience_of;
 use crate::script::{Item, ScriptStatement};
 use crate::verb::{ScriptVerb, verb_of};
-use tokens::{LineError, Name, Token, Tokens, end_of_line, first, name_of};
 use statements::{action_of, receiving_of, sending_of};
 use std::alloc::Global;
+use tokens::{LineError, Name, Token, Tokens, end_of_line, first, name_of};
 
 /// One name, and nothing behind it.
 #[tactic(auto, unfolding(crate::specs::Reading::name_alone))]

@@ -5,11 +5,11 @@ ghost use Rattle.script_files.specs.Selections.{lines_for, said_for, kept, First
 ghost use Rattle.script_files.specs.declared.script.ScriptLine.{ScriptLine};
 
 use crate::audience::Audience;
-use tokens::{Name, Tokens};
 use statements::{Action, Receiving, Sending};
 use std::alloc::{AllocError, AllocFailed, Global};
 use std::collections::VecDeque;
 use std::marker::Model;
+use tokens::{Name, Tokens};
 
 /// What a line of a script asks a rank to do.
 #[derive(Drop)]
@@ -24,7 +24,8 @@ pub enum ScriptStatement {
     Print(Name),
     /// `status`: prints the status of the last receive.
     Status,
-    /// `count L`: prints how many copies of the layout of this name the last receive took (MPI 3.1, 3.2.5, MPI_Get_count).
+    /// `count L`: prints how many copies of the layout of this name the last receive took (MPI 3.1, 3.2.5,
+    /// MPI_Get_count).
     Count(Name),
     /// `say WORD ..`: prints the words, of which there is at least one.
     Say(Tokens),
@@ -98,8 +99,8 @@ impl Script {
         self.lines.as_slice()
     }
 
-    /// The lines for this rank at this incarnation, in order: those before the first `on`, and those behind an `on` that
-    /// includes it, up to the next. They are moved, and not copied. The only error is want of memory.
+    /// The lines for this rank at this incarnation, in order: those before the first `on`, and those behind an `on`
+    /// that includes it, up to the next. They are moved, and not copied. The only error is want of memory.
     pub fn into_lines_for(
         self,
         alloc: Global,
@@ -163,7 +164,8 @@ impl RankLines {
         line: ScriptLine,
     ) -> Result<bool, AllocError>
         ensures { IfOk result (λ next. (rest : List ScriptLine) →
-            self.new ++ said_for rank incarnation next rest ≡ self.old ++ said_for rank incarnation here (line ∷ rest)) }
+            self.new ++ said_for rank incarnation next rest ≡ self.old ++
+            said_for rank incarnation here (line ∷ rest)) }
     {
         let ScriptLine { number, item } = line;
         match item {

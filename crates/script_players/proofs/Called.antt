@@ -1,5 +1,6 @@
 -- A call at a rank that is there: what is answered, and what its runner is told.
-use Rattle.std.proofs.Common.{◌≡◌, ℕ, ◌<◌, Bool, true, false, List, [], ◌∷◌, ◌++◌, length, Option, Some, None, Result, Ok, Err, if◌then◌else◌, get_or, slice_get, refl, sym, ap, ap₂, ◌∙◌, subst, arith}
+use Rattle.std.proofs.Common.{◌≡◌, ℕ, ◌<◌, Bool, true, false, List, [], ◌∷◌, ◌++◌, length, Option, Some, None, Result}
+use Rattle.std.proofs.Common.{Ok, Err, if◌then◌else◌, get_or, slice_get, refl, sym, ap, ap₂, ◌∙◌, subst, arith}
 use Rattle.std.proofs.lemmas.Bool.{lt-leb}
 use Rattle.std.specs.Prelude.{OnOk}
 use Rattle.std.proofs.lemmas.Option.{get_or_from_slice_get, none-some, same_Some}
@@ -27,20 +28,26 @@ use Rattle.world.specs.declared.refusal.WorldRefusal.TheVariants as refusals
 abbrev rank_fault : Bool → Option world_refusal.WorldRefusal
 rank_fault b = first_fault (if b then Some refusals.NoSuchRank else None) None
 
-no_world_fault : (n : ℕ) (ds : List (ℕ × List ℕ)) (r : ℕ) (call : Call) → r < n → event_fault n ds (events.Call r call) ≡ None
+no_world_fault : (n : ℕ) (ds : List (ℕ × List ℕ)) (r : ℕ) (call : Call) → r < n →
+    event_fault n ds (events.Call r call) ≡ None
 no_world_fault n ds r call h = ap rank_fault (lt-leb n r h)
 
 -- it is its engine that refuses it
-pub engine_refuses : (w : WorldState) (r : ℕ) (call : Call) (refused : world_refusal.WorldRefusal) (out : List (ℕ × List ℕ)) → r < length w.engines → IsWhy w (events.Call r call) refused out →
+pub engine_refuses : (w : WorldState) (r : ℕ) (call : Call) (refused : world_refusal.WorldRefusal)
+    (out : List (ℕ × List ℕ)) → r < length w.engines → IsWhy w (events.Call r call) refused out →
     (why : lower.Refusal) × (refused ≡ refusals.Engine why)
-engine_refuses w r call refused out h (ByTheWorld fault o) = absurd (none-some refused (sym (no_world_fault (length w.engines) w.datagrams r call h) ∙ fault))
+engine_refuses w r call refused out h (ByTheWorld fault o) =
+    absurd (none-some refused (sym (no_world_fault (length w.engines) w.datagrams r call h) ∙ fault))
 engine_refuses w r call refused out h (ForRoom a b c e o) = (lowers.OutOfMemory, e)
 engine_refuses w r call refused out h (ByTheEngine e a is o ran) = (e.refused, is)
 
 -- and its runner is told
-pub call_refused : (w v : WorldState) (r : ℕ) (call : Call) (failed : Failed) (before after : List ℕ) (old new : Stage) → r < length w.engines → IsRefusedBy w (events.Call r call) failed v → IsHandedBack failed new before after →
+pub call_refused : (w v : WorldState) (r : ℕ) (call : Call) (failed : Failed) (before after : List ℕ)
+    (old new : Stage) → r < length w.engines → IsRefusedBy w (events.Call r call) failed v →
+    IsHandedBack failed new before after →
     (s : RunnerState) (lines : List (List ℕ)) →
-    CallGoes w r call (Err failed) (record { runner = s; stage = old; lines = lines; refused = before }) v (record { runner = s; stage = new; lines = lines; refused = after })
+    CallGoes w r call (Err failed) (record { runner = s; stage = old; lines = lines; refused = before }) v
+    (record { runner = s; stage = new; lines = lines; refused = after })
 call_refused w v r call failed before after old new h g back s lines =
     let e = engine_refuses w r call failed.refused g.out h g.why in
     let b = back e.0 r call e.1 g.back in (
@@ -48,7 +55,13 @@ call_refused w v r call failed before after old new h g back s lines =
       g,
       subst (λ (x : world_refusal.WorldRefusal). refused_so x call (replies.Refused e.0 call)) (sym e.1) refl,
       ap (λ (x : Stage). record { runner = s; stage = x; lines = lines; refused = after }) b.0
-          ∙ ap (λ (x : List ℕ). record { runner = s; stage = Ready (Some (replies.Refused e.0 call)); lines = lines; refused = x }) (b.1 ∙ ap (λ (x : world_refusal.WorldRefusal). before ++ number_in x) (sym e.1)),
+          ∙ ap (λ (x : List ℕ). record {
+            runner = s;
+            stage = Ready (Some (replies.Refused e.0 call));
+            lines =
+                lines;
+            refused = x;
+          }) (b.1 ∙ ap (λ (x : world_refusal.WorldRefusal). before ++ number_in x) (sym e.1)),
     )
 
 -- IT IS TAKEN
@@ -62,10 +75,13 @@ longer [] e = omega arith
 longer (x ∷ h) e = let l : length h < length (h ++ e ∷ []) = longer h e in omega (arith, l)
 
 -- what was added stands where the answer says
-pub entry_there : (w v : WorldState) (event : Event) (added : Stepped) (g : Went w event added v) → slice_get v.history added.place ≡ Some (entry_of event g.gave)
-entry_there w v event added g = ap₂ slice_get g.history (ap (λ (a : Stepped). a.place) g.answered) ∙ last_at w.history (entry_of event g.gave)
+pub entry_there : (w v : WorldState) (event : Event) (added : Stepped) (g : Went w event added v) →
+    slice_get v.history added.place ≡ Some (entry_of event g.gave)
+entry_there w v event added g = ap₂ slice_get g.history (ap (λ (a : Stepped). a.place) g.answered) ∙
+    last_at w.history (entry_of event g.gave)
 
-pub place_below : (w v : WorldState) (event : Event) (added : Stepped) → Went w event added v → added.place < length v.history
+pub place_below : (w v : WorldState) (event : Event) (added : Stepped) → Went w event added v →
+    added.place < length v.history
 place_below w v event added g =
     let at : added.place ≡ length w.history = ap (λ (a : Stepped). a.place) g.answered in
     let long : length v.history ≡ length (w.history ++ entry_of event g.gave ∷ []) = ap length g.history in
@@ -73,9 +89,14 @@ place_below w v event added g =
     omega (arith, at, long, more)
 
 -- and the rank stands as that says
-pub call_taken : (w v : WorldState) (r : ℕ) (call : Call) (added : Stepped) (g : Went w (events.Call r call) added v) (entry : HistoryEntry) (history : List HistoryEntry) → history ≡ v.history → entry ≡ get_or history added.place entry →
-    (told : Option Reply) → AreAlike entry.reply told → (old new : Stage) (refused : List ℕ) → (entry.event ≡ events.Call r call → new ≡ stage_by call told entry.completion) → (s : RunnerState) (lines : List (List ℕ)) →
-    CallGoes w r call (Ok added) (record { runner = s; stage = old; lines = lines; refused = refused }) v (record { runner = s; stage = new; lines = lines; refused = refused })
+pub call_taken : (w v : WorldState) (r : ℕ) (call : Call) (added : Stepped) (g : Went w (events.Call r call) added v)
+    (entry : HistoryEntry) (history : List HistoryEntry) → history ≡ v.history →
+    entry ≡ get_or history added.place entry →
+    (told : Option Reply) → AreAlike entry.reply told → (old new : Stage) (refused : List ℕ) →
+    (entry.event ≡ events.Call r call → new ≡ stage_by call told entry.completion) →
+    (s : RunnerState) (lines : List (List ℕ)) →
+    CallGoes w r call (Ok added) (record { runner = s; stage = old; lines = lines; refused = refused }) v
+    (record { runner = s; stage = new; lines = lines; refused = refused })
 call_taken w v r call added g entry history same is told alike old new refused stands s lines = (
   g,
   told,
@@ -85,7 +106,9 @@ call_taken w v r call added g entry history same is told alike old new refused s
 )
   where
     e : entry ≡ entry_of (events.Call r call) g.gave
-    e = is ∙ (ap (λ (h : List HistoryEntry). get_or h added.place entry) same ∙ get_or_from_slice_get v.history added.place (entry_of (events.Call r call) g.gave) entry (entry_there w v (events.Call r call) added g))
+    e = is ∙ (ap (λ (h : List HistoryEntry). get_or h added.place entry) same ∙
+        get_or_from_slice_get v.history added.place (entry_of (events.Call r call) g.gave) entry
+        (entry_there w v (events.Call r call) added g))
 
 -- where a call succeeds, so much more is so
 pub on_ok : {A B : Type 0} (r : Result A B) (P Q : Type 0) → (P → Q) → OnOk r P → OnOk r Q

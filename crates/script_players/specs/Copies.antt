@@ -10,7 +10,8 @@ use Rattle.requests.specs.declared.table.Request.{Request}
 pub record IsNew (old new : Table) (q : Request) (outcome : Outcome) : Type 0 where
   pub fresh : entry_at old q.key ≡ None
   pub serial : q.serial ≡ old.serial
-  pub set : IsSet old.slots new.slots q.key (Some (record { serial = old.serial; progress = progress.Finished outcome }))
+  pub set : IsSet old.slots new.slots q.key
+      (Some (record { serial = old.serial; progress = progress.Finished outcome }))
   pub next : new.serial ≡ suc old.serial
 
 -- a request that has ended so; of an empty outcome the null request

@@ -99,7 +99,8 @@ TakesTold (Over status) result new = (result ≡ None) × (new ≡ Over status)
 -- a refused call is noted by its number, and its runner is told
 abbrev pub IsHandedBack : Failed → Stage → (before after : List ℕ) → Type 0
 IsHandedBack failed new before after =
-    (why : lower.Refusal) (rank : ℕ) (call : Call) → failed.refused ≡ refusals.Engine why → failed.event ≡ events.Call rank call →
+    (why : lower.Refusal) (rank : ℕ) (call : Call) → failed.refused ≡ refusals.Engine why →
+    failed.event ≡ events.Call rank call →
     (new ≡ Ready (Some (replies.Refused why call))) × (after ≡ before ++ number_of_refusal why ∷ [])
 
 -- how a rank stands once a blocked call was answered, if it was
@@ -110,9 +111,11 @@ told_at (Some c) (Over status) = Over status
 told_at None stage = stage
 
 -- a call of a rank is taken, or refused
-abbrev pub CallGoes : WorldState → (rank : ℕ) → Call → Result Stepped Failed → PlayerState → WorldState → PlayerState → Type 0
+abbrev pub CallGoes : WorldState → (rank : ℕ) → Call → Result Stepped Failed → PlayerState → WorldState → PlayerState →
+    Type 0
 CallGoes w r call (Ok added) p v q =
-    (went : Went w (events.Call r call) added v) × (told : Option Reply) × AreAlike went.gave.reply told × (q ≡ record p { stage = stage_by call told went.gave.completion })
+    (went : Went w (events.Call r call) added v) × (told : Option Reply) × AreAlike went.gave.reply told ×
+    (q ≡ record p { stage = stage_by call told went.gave.completion })
 CallGoes w r call (Err failed) p v q =
     (reply : Reply) × IsRefusedBy w (events.Call r call) failed v × refused_so failed.refused call reply
     × (q ≡ record p { stage = Ready (Some reply); refused = p.refused ++ number_in failed.refused })
@@ -126,7 +129,8 @@ StepGoes w r (steps.Call call) p v q = (answer : Result Stepped Failed) × CallG
 -- a rank goes on, where it may
 abbrev pub GoesFrom : WorldState → (rank : ℕ) → PlayerState → Stage → WorldState → PlayerState → Type 0
 GoesFrom w r p (Ready told) v q =
-    (step : RunnerStep) × (s : RunnerState) × NextGives p.runner told step s × StepGoes w r step (record p { runner = s; stage = Ready None }) v q
+    (step : RunnerStep) × (s : RunnerState) × NextGives p.runner told step s ×
+    StepGoes w r step (record p { runner = s; stage = Ready None }) v q
 GoesFrom w r p (Waits call) v q = (v ≡ w) × (q ≡ p)
 GoesFrom w r p (Over status) v q = (v ≡ w) × (q ≡ p)
 

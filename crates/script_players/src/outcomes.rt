@@ -1,5 +1,5 @@
-//! A copy of the outcomes of several requests. Only a table of requests makes such a list, so one is filled with requests that
-//! have ended so, and they are all completed.
+//! A copy of the outcomes of several requests. Only a table of requests makes such a list, so one is filled with
+//! requests that have ended so, and they are all completed.
 
 ghost use Rattle.std.specs.Prelude.{◌≡◌, false, Some, IfOk};
 ghost use Rattle.requests.specs.Completions.{all_outcomes, outcome_at};
@@ -8,8 +8,8 @@ ghost use Rattle.script_players.specs.Copies.{EndsSo};
 
 use crate::copies::outcome_copied;
 use requests::{
-    Answer, Awaited, AwaitedAll, Outcome, OutcomeRoom, Outcomes, RequestProgress, Request, RequestList,
-    Requests,
+    Answer, Awaited, AwaitedAll, Outcome, OutcomeRoom, Outcomes, Request, RequestList,
+    RequestProgress, Requests,
 };
 use std::alloc::{AllocError, Global};
 

@@ -1,7 +1,8 @@
 //! A rank that plays in a world.
 
 ghost use Rattle.std.specs.Prelude.{◌≡◌, ◌<◌, ℕ, [], List, length, IfOk, OnOk, Result, Some, None};
-ghost use Rattle.script_players.specs.Players.{CallGoes, IsHandedBack, PlayerGoes, StepGoes, TakesTold, is_over, told_at};
+ghost use Rattle.script_players.specs.Players.{CallGoes, IsHandedBack, PlayerGoes, StepGoes, TakesTold, is_over};
+ghost use Rattle.script_players.specs.Players.{told_at};
 ghost use Rattle.script_players.specs.Players.{stage_by, told_completion};
 ghost use Rattle.script_runner.specs.Running.{RunnerState, opening};
 ghost use Rattle.world.specs.declared.event.Stepped.{Stepped};
@@ -15,7 +16,7 @@ use script_runner::ScriptRunner;
 use std::alloc::{AllocError, Global};
 use std::marker::Model;
 use std::mem;
-use world::{HistoryEntry, Event, Failed, WorldRefusal, World};
+use world::{Event, Failed, HistoryEntry, World, WorldRefusal};
 
 /// How a rank stands.
 #[derive(Drop)]
@@ -85,8 +86,13 @@ fn stage_after(
 }
 
 /// How a rank stands once the call of this entry was taken, and it is told this of it.
-fn stage_behind(alloc: Global, entry: &HistoryEntry, told: Option<Reply>) -> Result<Stage, AllocError>
-    ensures { (rank : ℕ) (call : Call) → entry.now.event ≡ Event.Call rank call → IfOk result (λ stage. stage ≡ stage_by call told entry.now.completion) }
+fn stage_behind(
+    alloc: Global,
+    entry: &HistoryEntry,
+    told: Option<Reply>,
+) -> Result<Stage, AllocError>
+    ensures { (rank : ℕ) (call : Call) → entry.now.event ≡ Event.Call rank call →
+        IfOk result (λ stage. stage ≡ stage_by call told entry.now.completion) }
 {
     match &entry.event {
         Event::Call(_, call) => stage_after(alloc, call, told, &entry.completion),
@@ -130,7 +136,8 @@ fn call(
 ) -> Result<(), AllocError>
     requires { rank < length world.old.engines }
     ensures exact { OnOk result ((answer : Result Stepped Failed) × ((s : RunnerState) (lines : List (List ℕ)) →
-        CallGoes world.old rank call answer (record { runner = s; stage = stage.old; lines = lines; refused = refused.old.items })
+        CallGoes world.old rank call answer
+        (record { runner = s; stage = stage.old; lines = lines; refused = refused.old.items })
         world.new (record { runner = s; stage = stage.new; lines = lines; refused = refused.new.items }))) }
 {
     match world.step(Event::Call(rank, call)) {
@@ -157,7 +164,8 @@ fn follow(
 ) -> Result<(), AllocError>
     requires { rank < length world.old.engines }
     ensures exact { OnOk result ((s : RunnerState) →
-        StepGoes world.old rank step (record { runner = s; stage = stage.old; lines = lines.old.items; refused = refused.old.items })
+        StepGoes world.old rank step
+        (record { runner = s; stage = stage.old; lines = lines.old.items; refused = refused.old.items })
         world.new (record { runner = s; stage = stage.new; lines = lines.new.items; refused = refused.new.items })) }
 {
     match step {
@@ -185,8 +193,20 @@ fn go_on(
 ) -> Result<(), AllocError>
     requires { rank < length world.old.engines }
     ensures { OnOk result (
-        PlayerGoes world.old rank (record { runner = runner.old; stage = stage.old; lines = lines.old.items; refused = refused.old.items })
-        world.new (record { runner = runner.new; stage = stage.new; lines = lines.new.items; refused = refused.new.items })) }
+        PlayerGoes world.old rank (record {
+          runner = runner.old;
+          stage = stage.old;
+          lines = lines.old.items;
+          refused =
+              refused.old.items;
+        })
+        world.new (record {
+          runner = runner.new;
+          stage = stage.new;
+          lines = lines.new.items;
+          refused =
+              refused.new.items;
+        })) }
 {
     match take_told(stage) {
         Some(told) => {
@@ -211,7 +231,14 @@ fn hear(alloc: Global, stage: &mut Stage, completion: &Option<Completion>) -> Re
 impl Played {
     /// The script as this rank runs it, at its start. The only error is want of memory.
     pub fn new(alloc: Global, script: Script, rank: u16) -> Result<Played, AllocError>
-        ensures { IfOk result (λ player. player ≡ record { runner = opening script rank 0; stage = Stage.Ready None; lines = []; refused = [] }) }
+        ensures { IfOk result
+            (λ player. player ≡ record {
+              runner = opening script rank 0;
+              stage = Stage.Ready None;
+              lines = [];
+              refused =
+                  [];
+            }) }
     {
         Ok(Played {
             runner: ScriptRunner::new(alloc, script, rank, 0)?,

@@ -1,5 +1,6 @@
 -- Where a play went without limits, so did each of its beginnings.
-use Rattle.std.proofs.Common.{◌≡◌, ◌≢◌, ℕ, Bool, true, false, List, [], ◌∷◌, ◌++◌, Option, Some, None, Result, Ok, Err, ◌==◌, slice_get, slice_set, refl, sym, ap, ◌∙◌, subst}
+use Rattle.std.proofs.Common.{◌≡◌, ◌≢◌, ℕ, Bool, true, false, List, [], ◌∷◌, ◌++◌, Option, Some, None, Result, Ok, Err}
+use Rattle.std.proofs.Common.{◌==◌, slice_get, slice_set, refl, sym, ap, ◌∙◌, subst}
 use Rattle.std.specs.List.{AllByRecursion}
 use Rattle.std.proofs.lemmas.Bool.{eqb-true}
 use Rattle.std.proofs.lemmas.Option.{same_Some}
@@ -9,7 +10,8 @@ use Rattle.event_loop.specs.declared.runner.RunnerStep.TheVariants as steps
 use Rattle.script_runner.specs.Running.{RunnerState}
 use Rattle.script_plays.specs.Joined.{AreFine, HasNotSix, IsFine}
 use Rattle.script_players.specs.Players.{PlayerState, number_in, told_completion, told_if}
-use Rattle.script_plays.specs.Playing.{CallMoves, EventGives, GoGives, GoesBy, MoveGives, PlayState, ScheduleGives, StepMoves, with_told}
+use Rattle.script_plays.specs.Playing.{CallMoves, EventGives, GoGives, GoesBy, MoveGives, PlayState, ScheduleGives}
+use Rattle.script_plays.specs.Playing.{StepMoves, with_told}
 use Rattle.script_players.specs.declared.played.Stage.{Stage}
 use Rattle.script_players.specs.declared.played.Stage.TheVariants.{Over, Ready, Waits}
 use Rattle.script_plays.specs.declared.moves.Move.{Move}
@@ -21,16 +23,19 @@ use Rattle.world.specs.declared.event.Stepped.{Stepped}
 use Rattle.script_plays.proofs.Joining.{not_at, set_other, set_there}
 
 -- no limit among more numbers is none among fewer
-pub fewer : (a b : List ℕ) → AllByRecursion (λ x. (x ≢ 13) × (x ≢ 14)) (a ++ b) → AllByRecursion (λ x. (x ≢ 13) × (x ≢ 14)) a
+pub fewer : (a b : List ℕ) → AllByRecursion (λ x. (x ≢ 13) × (x ≢ 14)) (a ++ b) →
+    AllByRecursion (λ x. (x ≢ 13) × (x ≢ 14)) a
 fewer [] b h = tt
 fewer (x ∷ a) b h = (h.0, fewer a b h.1)
 
-pub later : (a b : List ℕ) → AllByRecursion (λ x. (x ≢ 13) × (x ≢ 14)) (a ++ b) → AllByRecursion (λ x. (x ≢ 13) × (x ≢ 14)) b
+pub later : (a b : List ℕ) → AllByRecursion (λ x. (x ≢ 13) × (x ≢ 14)) (a ++ b) →
+    AllByRecursion (λ x. (x ≢ 13) × (x ≢ 14)) b
 later [] b h = h
 later (x ∷ a) b h = later a b h.1
 
 -- a player that was changed at its rank
-pub one_back : (old : List PlayerState) (new : PlayState) (r : ℕ) (p a : PlayerState) → slice_get old r ≡ Some p → new.players ≡ slice_set old r a → AreFine new → (IsFine a → IsFine p) →
+pub one_back : (old : List PlayerState) (new : PlayState) (r : ℕ) (p a : PlayerState) → slice_get old r ≡ Some p →
+    new.players ≡ slice_set old r a → AreFine new → (IsFine a → IsFine p) →
     (x : ℕ) (y : PlayerState) → slice_get old x ≡ Some y → IsFine y
 one_back old new r p a is e fine back x y at = go (x == r) refl
   where
@@ -46,16 +51,26 @@ same_back old new e fine = subst AreFine e fine
 not_six : (p : PlayerState) (reply : Option _) → p.stage ≡ Ready reply → HasNotSix p.stage
 not_six p reply e = subst HasNotSix (sym e) tt
 
-step_back : (old : PlayState) (r : ℕ) (p : PlayerState) (s : RunnerState) (step : RunnerStep) (new : PlayState) → slice_get old.players r ≡ Some p → HasNotSix p.stage → StepMoves old r p s step new → AreFine new → AreFine old
-step_back old r p s (steps.Print line) new is six g fine = one_back old.players new r p _ is (ap (λ (x : PlayState). x.players) g) fine (λ f. record { limit = f.limit; six = six })
-step_back old r p s (steps.End status line) new is six g fine = one_back old.players new r p _ is (ap (λ (x : PlayState). x.players) g) fine (λ f. record { limit = f.limit; six = six })
+step_back : (old : PlayState) (r : ℕ) (p : PlayerState) (s : RunnerState) (step : RunnerStep) (new : PlayState) →
+    slice_get old.players r ≡ Some p → HasNotSix p.stage → StepMoves old r p s step new → AreFine new → AreFine old
+step_back old r p s (steps.Print line) new is six g fine =
+    one_back old.players new r p _ is (ap (λ (x : PlayState). x.players) g) fine
+    (λ f. record { limit = f.limit; six = six })
+step_back old r p s (steps.End status line) new is six g fine =
+    one_back old.players new r p _ is (ap (λ (x : PlayState). x.players) g) fine
+    (λ f. record { limit = f.limit; six = six })
 step_back old r p s (steps.Call call) new is six g fine = go g.0 g.1
   where
     go : (result : Result Stepped Failed) → CallMoves old r p s call result new → AreFine old
-    go (Ok added) h = one_back old.players new r p _ is (ap (λ (x : PlayState). x.players) h.4) fine (λ f. record { limit = f.limit; six = six })
-    go (Err failed) h = one_back old.players new r p _ is (ap (λ (x : PlayState). x.players) h.4) fine (λ f. record { limit = fewer p.refused (number_in failed.refused) f.limit; six = six })
+    go (Ok added) h =
+        one_back old.players new r p _ is (ap (λ (x : PlayState). x.players) h.4) fine
+        (λ f. record { limit = f.limit; six = six })
+    go (Err failed) h =
+        one_back old.players new r p _ is (ap (λ (x : PlayState). x.players) h.4) fine
+        (λ f. record { limit = fewer p.refused (number_in failed.refused) f.limit; six = six })
 
-go_back : (old : PlayState) (r : ℕ) (o : Option PlayerState) (new : PlayState) → slice_get old.players r ≡ o → GoGives old r o new → AreFine new → AreFine old
+go_back : (old : PlayState) (r : ℕ) (o : Option PlayerState) (new : PlayState) → slice_get old.players r ≡ o →
+    GoGives old r o new → AreFine new → AreFine old
 go_back old r None new is g fine = same_back old new g fine
 go_back old r (Some p) new is g fine = go p.stage refl g
   where
@@ -73,17 +88,23 @@ told_back p c f = go p.stage refl f
     go (Ready reply) e f = f
     go (Over status) e f = f
 
-event_back : (old : PlayState) (event : Event) (result : Result Stepped Failed) (new : PlayState) → EventGives old event result new → AreFine new → AreFine old
-event_back old event (Err failed) new g fine = λ x y is. fine x y (ap (λ (st : PlayState). slice_get st.players x) g.2 ∙ is)
-event_back old event (Ok added) new g fine = go (slice_get old.players g.1.gave.endpoint.rank) refl (ap (λ (x : PlayState). x.players) g.2)
+event_back : (old : PlayState) (event : Event) (result : Result Stepped Failed) (new : PlayState) →
+    EventGives old event result new → AreFine new → AreFine old
+event_back old event (Err failed) new g fine =
+    λ x y is. fine x y (ap (λ (st : PlayState). slice_get st.players x) g.2 ∙ is)
+event_back old event (Ok added) new g fine =
+    go (slice_get old.players g.1.gave.endpoint.rank) refl (ap (λ (x : PlayState). x.players) g.2)
   where
-    go : (o : Option PlayerState) → slice_get old.players g.1.gave.endpoint.rank ≡ o → new.players ≡ with_told old.players g.1.gave.endpoint.rank g.1.gave.completion o → AreFine old
+    go : (o : Option PlayerState) → slice_get old.players g.1.gave.endpoint.rank ≡ o →
+        new.players ≡ with_told old.players g.1.gave.endpoint.rank g.1.gave.completion o → AreFine old
     go None is e = λ x y at. fine x y (ap (λ (ps : List PlayerState). slice_get ps x) e ∙ at)
     go (Some p) is e = by g.1.gave.completion e
       where
-        by : (c : Option Completion) → new.players ≡ slice_set old.players g.1.gave.endpoint.rank (told_completion c p) → AreFine old
+        by : (c : Option Completion) →
+            new.players ≡ slice_set old.players g.1.gave.endpoint.rank (told_completion c p) → AreFine old
         by None ne = one_back old.players new g.1.gave.endpoint.rank p p is ne fine (λ f. f)
-        by (Some c) ne = one_back old.players new g.1.gave.endpoint.rank p (told_completion (Some c) p) is ne fine (told_back p c)
+        by (Some c) ne =
+            one_back old.players new g.1.gave.endpoint.rank p (told_completion (Some c) p) is ne fine (told_back p c)
 
 -- ONE MOVE BACK
 pub move_back : (old : PlayState) (m : Move) (new : PlayState) → MoveGives old m new → AreFine new → AreFine old

@@ -34,7 +34,14 @@ fact_same (facts.Ranks a) (facts.Number n) h = ap fact_said (sym h)
 fact_same (facts.Ranks a) (facts.Compares x) h = ap fact_said (sym h)
 
 fact_as : (f : Fact) (copy : Reply) → IsCopyOf (replies.Fact f) copy → SaysAs (replies.Fact f) copy
-fact_as f (replies.Fact g) h = record { taken = λ k. tt; seen = λ e call. ap (λ (x : machine.Fact). Called e (call_seen call) (machine.OfFact x) ∷ []) (fact_same f g h); given = refl }
+fact_as f (replies.Fact g) h =
+    record {
+      taken = λ k. tt;
+      seen =
+          λ e call. ap (λ (x : machine.Fact). Called e (call_seen call) (machine.OfFact x) ∷ []) (fact_same f g h);
+      given =
+          refl;
+    }
 fact_as f (replies.Started q) h = itself (replies.Fact f) (replies.Started q) h
 fact_as f (replies.Done a) h = itself (replies.Fact f) (replies.Done a) h
 fact_as f replies.Pending h = itself (replies.Fact f) replies.Pending h
@@ -65,7 +72,8 @@ pub record Replies (gave told : Option Reply) : Type 0 where
   pub seen : (e : Endpoint) (call : Call) → told_call e call gave ≡ told_call e call (Some reply)
   pub given : (q : Request) → request_given reply ≡ Some q → option_and_then request_given gave ≡ Some q
 
-pub replies_to : (old new : EngineState) (call : Call) (gave told : Option Reply) → TakesCall old call gave new → AreAlike gave told → Replies gave told
+pub replies_to : (old new : EngineState) (call : Call) (gave told : Option Reply) → TakesCall old call gave new →
+    AreAlike gave told → Replies gave told
 replies_to old new call None told g alike = absurd g
 replies_to old new call (Some reply) None g alike = absurd (none-some reply alike)
 replies_to old new call (Some reply) (Some copy) g alike =

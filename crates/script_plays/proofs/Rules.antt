@@ -1,5 +1,6 @@
 -- A call of a script that is refused by a rule has the machine's fault of that number.
-use Rattle.std.proofs.Common.{◌≡◌, ◌≢◌, ℕ, Bool, true, false, List, [], length, Option, Some, None, inl, inr, if◌then◌else◌, nat_le, slice_get, refl, sym, ap, ◌∙◌, subst}
+use Rattle.std.proofs.Common.{◌≡◌, ◌≢◌, ℕ, Bool, true, false, List, [], length, Option, Some, None, inl, inr}
+use Rattle.std.proofs.Common.{if◌then◌else◌, nat_le, slice_get, refl, sym, ap, ◌∙◌, subst}
 use Rattle.std.proofs.lemmas.Option.{none-some, same_Some}
 use Rattle.engine_calls.specs.EngineState.{EngineState}
 use Rattle.engine_calls.specs.declared.call.Call.{Call}
@@ -55,15 +56,20 @@ same_why : (a b : lower.Refusal) → refusals.Engine a ≡ refusals.Engine b →
 same_why a b e = same_Some a b (ap engine_in e)
 
 -- a reason that is no limit and no want of memory is the machine's fault
-rule_of : (found : Option ℕ) (why : lower.Refusal) → IsReason found why → number_of_refusal why ≢ 13 → number_of_refusal why ≢ 14 → found ≡ Some (number_of_refusal why)
+rule_of : (found : Option ℕ) (why : lower.Refusal) → IsReason found why → number_of_refusal why ≢ 13 →
+    number_of_refusal why ≢ 14 → found ≡ Some (number_of_refusal why)
 rule_of found why (MachinesFault is) a b = is
 rule_of found why (NoRoom (inl limit) none) a b = absurd (a (ap number_of_refusal limit))
 rule_of found why (NoRoom (inr memory) none) a b = absurd (b (ap number_of_refusal memory))
 
 -- in a world
-engine_rule : (w : WorldState) (head : HasHeadline w) → HasNoRestart (history_seen w.history) → (r : ℕ) (e : EngineState) (call back : Call) (why : lower.Refusal) → slice_get w.engines r ≡ Some e →
-    NamesOwn w.history (first_endpoint r) call → Rattle.engine_calls.specs.Calls.CallGives e call (Rattle.engine_calls.specs.declared.reply.Reply.TheVariants.Refused why back) e →
-    number_of_refusal why ≢ 13 → number_of_refusal why ≢ 14 → HasFault (length w.engines) (history_seen w.history) r (call_seen call) (number_of_refusal why)
+engine_rule : (w : WorldState) (head : HasHeadline w) → HasNoRestart (history_seen w.history) →
+    (r : ℕ) (e : EngineState) (call back : Call) (why : lower.Refusal) → slice_get w.engines r ≡ Some e →
+    NamesOwn w.history (first_endpoint r) call →
+    Rattle.engine_calls.specs.Calls.CallGives e call
+    (Rattle.engine_calls.specs.declared.reply.Reply.TheVariants.Refused why back) e →
+    number_of_refusal why ≢ 13 → number_of_refusal why ≢ 14 →
+    HasFault (length w.engines) (history_seen w.history) r (call_seen call) (number_of_refusal why)
 engine_rule w head fresh r e call back why there own gives a b =
     record { events = head.run.run_events; run = head.run.run; tells = head.run.tells; fault_is = fault_is }
   where
@@ -73,17 +79,25 @@ engine_rule w head fresh r e call back why there own gives a b =
     meant : call_meant e.core call ≡ call_seen call
     meant = head.run.own_requests r e call there (subst (λ (x : Endpoint). NamesOwn w.history x call) (sym first) own)
 
-    fault_is : fault_in (after_run (machine_opening (length w.engines)) head.run.run_events) (first_endpoint r) (call_seen call) ≡ Some (number_of_refusal why)
+    fault_is : fault_in (after_run (machine_opening (length w.engines)) head.run.run_events) (first_endpoint r)
+        (call_seen call) ≡ Some (number_of_refusal why)
     fault_is =
-        ap (fault_in (after_run (machine_opening (length w.engines)) head.run.run_events) (first_endpoint r)) (sym meant)
-        ∙ (ap (λ (x : Endpoint). fault_in (after_run (machine_opening (length w.engines)) head.run.run_events) x (call_meant e.core call)) (sym first)
-        ∙ rule_of (fault_in (after_run (machine_opening (length w.engines)) head.run.run_events) e.sessions.place.endpoint (call_meant e.core call)) why
+        ap (fault_in (after_run (machine_opening (length w.engines)) head.run.run_events) (first_endpoint r))
+        (sym meant)
+        ∙ (ap (λ (x : Endpoint). fault_in (after_run (machine_opening (length w.engines)) head.run.run_events) x
+        (call_meant e.core call)) (sym first)
+        ∙ rule_of
+        (fault_in (after_run (machine_opening (length w.engines)) head.run.run_events) e.sessions.place.endpoint
+        (call_meant e.core call)) why
         (head.run.refuses r e e call back why there gives) a b)
 
 -- IN A PLAY
-pub refused_by_rule : (scripts : List (List ScriptLine)) (schedule : List Move) (st : PlayState) → PlayGives scripts schedule st → HasHeadline st.world → (w : WorldState) (r : ℕ) (call : Call) (failed : Failed) →
-    IsRefusedBy st.world (events.Call r call) failed w → (p : PlayerState) (reply : Option Reply) (s : RunnerState) → slice_get st.players r ≡ Some p → p.stage ≡ Ready reply → NextGives p.runner reply (steps.Call call) s →
-    (why : lower.Refusal) → failed.refused ≡ refusals.Engine why → number_of_refusal why ≢ 13 → number_of_refusal why ≢ 14 →
+pub refused_by_rule : (scripts : List (List ScriptLine)) (schedule : List Move) (st : PlayState) →
+    PlayGives scripts schedule st → HasHeadline st.world → (w : WorldState) (r : ℕ) (call : Call) (failed : Failed) →
+    IsRefusedBy st.world (events.Call r call) failed w → (p : PlayerState) (reply : Option Reply) (s : RunnerState) →
+    slice_get st.players r ≡ Some p → p.stage ≡ Ready reply → NextGives p.runner reply (steps.Call call) s →
+    (why : lower.Refusal) → failed.refused ≡ refusals.Engine why → number_of_refusal why ≢ 13 →
+    number_of_refusal why ≢ 14 →
     HasFault (length scripts) (history_seen st.world.history) r (call_seen call) (number_of_refusal why)
 refused_by_rule scripts schedule st g head w r call failed refused p reply s is e n why x a b = go refused.why
   where
@@ -93,12 +107,15 @@ refused_by_rule scripts schedule st g head w r call failed refused p reply s is 
     fresh : HasNoRestart (history_seen st.world.history)
     fresh = schedule_fresh schedule st.world.history (histories_are_of_schedules scripts schedule st g)
 
-    go : IsWhy st.world (events.Call r call) failed.refused refused.out → HasFault (length scripts) (history_seen st.world.history) r (call_seen call) (number_of_refusal why)
+    go : IsWhy st.world (events.Call r call) failed.refused refused.out →
+        HasFault (length scripts) (history_seen st.world.history) r (call_seen call) (number_of_refusal why)
     go (ByTheWorld fault out) = absurd (no_engine_fault (nat_le (length st.world.engines) r) why (fault ∙ ap Some x))
     go (ForRoom f h m memory out) = absurd (b (ap number_of_refusal (same_why why lowers.OutOfMemory (sym x ∙ memory))))
     go (ByTheEngine refusal f by out ran) =
         let rank : r ≡ ran.rank = same_Some r ran.rank ran.target in
         let same : refusal.refused ≡ why = same_why refusal.refused why (sym by ∙ x) in
         let gives = subst (λ (y : lower.Refusal). Rattle.engine_calls.specs.Calls.CallGives ran.engine call (Rattle.engine_calls.specs.declared.reply.Reply.TheVariants.Refused y ran.ran.2.0) ran.engine) same ran.ran.2.1 in
-        subst (λ (k : ℕ). HasFault k (history_seen st.world.history) r (call_seen call) (number_of_refusal why)) (size_is scripts schedule st g)
-        (engine_rule st.world head fresh r ran.engine call ran.ran.2.0 why (ap (slice_get st.world.engines) rank ∙ ran.there) own gives a b)
+        subst (λ (k : ℕ). HasFault k (history_seen st.world.history) r (call_seen call) (number_of_refusal why))
+        (size_is scripts schedule st g)
+        (engine_rule st.world head fresh r ran.engine call ran.ran.2.0 why (ap (slice_get st.world.engines) rank ∙
+        ran.there) own gives a b)

@@ -1,5 +1,6 @@
 -- A world keeps its engines, and a play its players: as many as there are scripts.
-use Rattle.std.proofs.Common.{◌≡◌, ℕ, zero, suc, List, [], ◌∷◌, length, Option, Some, None, Result, Ok, Err, slice_get, slice_set, refl, ap, ◌∙◌}
+use Rattle.std.proofs.Common.{◌≡◌, ℕ, zero, suc, List, [], ◌∷◌, length, Option, Some, None, Result, Ok, Err, slice_get}
+use Rattle.std.proofs.Common.{slice_set, refl, ap, ◌∙◌}
 use Rattle.engine_calls.specs.EngineState.{EngineState}
 use Rattle.engine_calls.specs.declared.reply.Completion.{Completion}
 use Rattle.proof_network_bridge.specs.Joined.{opening_engines}
@@ -8,7 +9,8 @@ use Rattle.event_loop.specs.declared.runner.RunnerStep.TheVariants as steps
 use Rattle.script_runner.specs.Running.{RunnerState}
 use Rattle.script_files.specs.declared.script.ScriptLine.{ScriptLine}
 use Rattle.script_players.specs.Players.{PlayerState, told_completion}
-use Rattle.script_plays.specs.Playing.{CallMoves, EventGives, GoGives, GoesBy, MoveGives, PlayState, ScheduleGives, StepMoves, play_opening, players_of, with_told}
+use Rattle.script_plays.specs.Playing.{CallMoves, EventGives, GoGives, GoesBy, MoveGives, PlayState, ScheduleGives}
+use Rattle.script_plays.specs.Playing.{StepMoves, play_opening, players_of, with_told}
 use Rattle.script_players.specs.declared.played.Stage.{Stage}
 use Rattle.script_players.specs.declared.played.Stage.TheVariants.{Over, Ready, Waits}
 use Rattle.script_plays.specs.declared.moves.Move.{Move}
@@ -25,40 +27,53 @@ as_long [] k e = refl
 as_long (x ∷ es) zero e = refl
 as_long (x ∷ es) (suc k) e = ap suc (as_long es k e)
 
-went_size : (old : WorldState) (event : Event) (added : Stepped) (new : WorldState) → Went old event added new → length new.engines ≡ length old.engines
+went_size : (old : WorldState) (event : Event) (added : Stepped) (new : WorldState) → Went old event added new →
+    length new.engines ≡ length old.engines
 went_size old event added new w = ap length w.ran.others ∙ as_long old.engines w.ran.rank w.ran.next
 
-refused_size : (old : WorldState) (event : Event) (failed : Failed) (new : WorldState) → IsRefusedBy old event failed new → length new.engines ≡ length old.engines
+refused_size : (old : WorldState) (event : Event) (failed : Failed) (new : WorldState) →
+    IsRefusedBy old event failed new → length new.engines ≡ length old.engines
 refused_size old event failed new h = ap (λ (w : WorldState). length w.engines) h.unchanged
 
-call_size : (old : PlayState) (r : ℕ) (p : PlayerState) (s : RunnerState) (call : _) (result : Result Stepped Failed) (new : PlayState) → CallMoves old r p s call result new → length new.world.engines ≡ length old.world.engines
-call_size old r p s call (Ok added) new g = ap (λ (x : PlayState). length x.world.engines) g.4 ∙ went_size old.world (events.Call r call) added g.0 g.1
-call_size old r p s call (Err failed) new g = ap (λ (x : PlayState). length x.world.engines) g.4 ∙ refused_size old.world (events.Call r call) failed g.0 g.2
+call_size : (old : PlayState) (r : ℕ) (p : PlayerState) (s : RunnerState) (call : _) (result : Result Stepped Failed)
+    (new : PlayState) → CallMoves old r p s call result new → length new.world.engines ≡ length old.world.engines
+call_size old r p s call (Ok added) new g = ap (λ (x : PlayState). length x.world.engines) g.4 ∙
+    went_size old.world (events.Call r call) added g.0 g.1
+call_size old r p s call (Err failed) new g = ap (λ (x : PlayState). length x.world.engines) g.4 ∙
+    refused_size old.world (events.Call r call) failed g.0 g.2
 
-step_size : (old : PlayState) (r : ℕ) (p : PlayerState) (s : RunnerState) (step : RunnerStep) (new : PlayState) → StepMoves old r p s step new → length new.world.engines ≡ length old.world.engines
+step_size : (old : PlayState) (r : ℕ) (p : PlayerState) (s : RunnerState) (step : RunnerStep) (new : PlayState) →
+    StepMoves old r p s step new → length new.world.engines ≡ length old.world.engines
 step_size old r p s (steps.Print line) new g = ap (λ (x : PlayState). length x.world.engines) g
 step_size old r p s (steps.End status line) new g = ap (λ (x : PlayState). length x.world.engines) g
 step_size old r p s (steps.Call call) new g = call_size old r p s call g.0 new g.1
 
-go_size : (old : PlayState) (r : ℕ) (p : PlayerState) (stage : Stage) (new : PlayState) → GoesBy old r p stage new → length new.world.engines ≡ length old.world.engines
+go_size : (old : PlayState) (r : ℕ) (p : PlayerState) (stage : Stage) (new : PlayState) → GoesBy old r p stage new →
+    length new.world.engines ≡ length old.world.engines
 go_size old r p (Ready reply) new g = step_size old r p g.1 g.0 new g.3
 go_size old r p (Waits call) new g = ap (λ (x : PlayState). length x.world.engines) g
 go_size old r p (Over status) new g = ap (λ (x : PlayState). length x.world.engines) g
 
-may_size : (old : PlayState) (r : ℕ) (p : Option PlayerState) (new : PlayState) → GoGives old r p new → length new.world.engines ≡ length old.world.engines
+may_size : (old : PlayState) (r : ℕ) (p : Option PlayerState) (new : PlayState) → GoGives old r p new →
+    length new.world.engines ≡ length old.world.engines
 may_size old r None new g = ap (λ (x : PlayState). length x.world.engines) g
 may_size old r (Some p) new g = go_size old r p p.stage new g
 
-event_size : (event : Event) (old : PlayState) (result : Result Stepped Failed) (new : PlayState) → EventGives old event result new → length new.world.engines ≡ length old.world.engines
-event_size event old (Ok added) new g = ap (λ (x : PlayState). length x.world.engines) g.2 ∙ went_size old.world event added g.0 g.1
-event_size event old (Err failed) new g = ap (λ (x : PlayState). length x.world.engines) g.2 ∙ refused_size old.world event failed g.0 g.1
+event_size : (event : Event) (old : PlayState) (result : Result Stepped Failed) (new : PlayState) →
+    EventGives old event result new → length new.world.engines ≡ length old.world.engines
+event_size event old (Ok added) new g = ap (λ (x : PlayState). length x.world.engines) g.2 ∙
+    went_size old.world event added g.0 g.1
+event_size event old (Err failed) new g = ap (λ (x : PlayState). length x.world.engines) g.2 ∙
+    refused_size old.world event failed g.0 g.1
 
-pub move_size : (m : Move) (old new : PlayState) → MoveGives old m new → length new.world.engines ≡ length old.world.engines
+pub move_size : (m : Move) (old new : PlayState) → MoveGives old m new →
+    length new.world.engines ≡ length old.world.engines
 move_size (moves.Go r) old new g = may_size old r (slice_get old.players r) new g
 move_size (moves.Deliver d) old new g = event_size (events.Deliver d) old g.0 new g.1
 move_size (moves.Tick r now) old new g = event_size (events.Tick r now) old g.0 new g.1
 
-schedule_size : (ms : List Move) (old new : PlayState) → ScheduleGives old ms new → length new.world.engines ≡ length old.world.engines
+schedule_size : (ms : List Move) (old new : PlayState) → ScheduleGives old ms new →
+    length new.world.engines ≡ length old.world.engines
 schedule_size [] old new g = ap (λ (x : PlayState). length x.world.engines) g.0
 schedule_size (m ∷ ms) old new g = schedule_size ms g.1.0 new g.1.2 ∙ move_size m old g.1.0 g.1.1
 
@@ -66,8 +81,10 @@ pub opening_size : (n rank k : ℕ) → length (opening_engines n rank k) ≡ k
 opening_size n rank zero = refl
 opening_size n rank (suc k) = ap suc (opening_size n (suc rank) k)
 
-pub size_is : (scripts : List (List ScriptLine)) (schedule : List Move) (st : PlayState) → ScheduleGives (play_opening scripts) schedule st → length st.world.engines ≡ length scripts
-size_is scripts schedule st g = schedule_size schedule (play_opening scripts) st g ∙ opening_size (length scripts) 0 (length scripts)
+pub size_is : (scripts : List (List ScriptLine)) (schedule : List Move) (st : PlayState) →
+    ScheduleGives (play_opening scripts) schedule st → length st.world.engines ≡ length scripts
+size_is scripts schedule st g = schedule_size schedule (play_opening scripts) st g ∙
+    opening_size (length scripts) 0 (length scripts)
 
 -- THE PLAYERS
 
@@ -76,33 +93,41 @@ set_long [] k p = refl
 set_long (x ∷ xs) zero p = refl
 set_long (x ∷ xs) (suc k) p = ap suc (set_long xs k p)
 
-told_long : (players : List PlayerState) (r : ℕ) (c : Option Completion) (o : Option PlayerState) → length (with_told players r c o) ≡ length players
+told_long : (players : List PlayerState) (r : ℕ) (c : Option Completion) (o : Option PlayerState) →
+    length (with_told players r c o) ≡ length players
 told_long players r c None = refl
 told_long players r c (Some p) = set_long players r (told_completion c p)
 
 abbrev long : PlayState → ℕ
 long x = length x.players
 
-call_players : (old : PlayState) (r : ℕ) (p : PlayerState) (s : RunnerState) (call : _) (result : Result Stepped Failed) (new : PlayState) → CallMoves old r p s call result new → length new.players ≡ length old.players
+call_players : (old : PlayState) (r : ℕ) (p : PlayerState) (s : RunnerState) (call : _) (result : Result Stepped Failed)
+    (new : PlayState) → CallMoves old r p s call result new → length new.players ≡ length old.players
 call_players old r p s call (Ok added) new g = ap long g.4 ∙ set_long old.players r _
 call_players old r p s call (Err failed) new g = ap long g.4 ∙ set_long old.players r _
 
-step_players : (old : PlayState) (r : ℕ) (p : PlayerState) (s : RunnerState) (step : RunnerStep) (new : PlayState) → StepMoves old r p s step new → length new.players ≡ length old.players
+step_players : (old : PlayState) (r : ℕ) (p : PlayerState) (s : RunnerState) (step : RunnerStep) (new : PlayState) →
+    StepMoves old r p s step new → length new.players ≡ length old.players
 step_players old r p s (steps.Print line) new g = ap long g ∙ set_long old.players r _
 step_players old r p s (steps.End status line) new g = ap long g ∙ set_long old.players r _
 step_players old r p s (steps.Call call) new g = call_players old r p s call g.0 new g.1
 
-go_players : (old : PlayState) (r : ℕ) (p : PlayerState) (stage : Stage) (new : PlayState) → GoesBy old r p stage new → length new.players ≡ length old.players
+go_players : (old : PlayState) (r : ℕ) (p : PlayerState) (stage : Stage) (new : PlayState) → GoesBy old r p stage new →
+    length new.players ≡ length old.players
 go_players old r p (Ready reply) new g = step_players old r p g.1 g.0 new g.3
 go_players old r p (Waits call) new g = ap long g
 go_players old r p (Over status) new g = ap long g
 
-may_players : (old : PlayState) (r : ℕ) (p : Option PlayerState) (new : PlayState) → GoGives old r p new → length new.players ≡ length old.players
+may_players : (old : PlayState) (r : ℕ) (p : Option PlayerState) (new : PlayState) → GoGives old r p new →
+    length new.players ≡ length old.players
 may_players old r None new g = ap long g
 may_players old r (Some p) new g = go_players old r p p.stage new g
 
-event_players : (event : Event) (old : PlayState) (result : Result Stepped Failed) (new : PlayState) → EventGives old event result new → length new.players ≡ length old.players
-event_players event old (Ok added) new g = ap long g.2 ∙ told_long old.players g.1.gave.endpoint.rank g.1.gave.completion (slice_get old.players g.1.gave.endpoint.rank)
+event_players : (event : Event) (old : PlayState) (result : Result Stepped Failed) (new : PlayState) →
+    EventGives old event result new → length new.players ≡ length old.players
+event_players event old (Ok added) new g =
+    ap long g.2 ∙
+    told_long old.players g.1.gave.endpoint.rank g.1.gave.completion (slice_get old.players g.1.gave.endpoint.rank)
 event_players event old (Err failed) new g = ap long g.2
 
 pub move_players : (m : Move) (old new : PlayState) → MoveGives old m new → length new.players ≡ length old.players

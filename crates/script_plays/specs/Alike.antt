@@ -25,7 +25,8 @@ pub record IsReadyAlike (p : PlayerState) (reply : Option Reply) (q : Player Run
 
 -- blocked in a call, and alike whatever that will be answered
 pub record WaitsAlike (p : PlayerState) (call : Call) (q : Player Running) : Type 0 where
-  pub follows : (reply : Reply) → IsReplyTo (plain_call call) reply → Follows p.runner (Some reply) q.process (Some (told_of reply))
+  pub follows : (reply : Reply) → IsReplyTo (plain_call call) reply →
+      Follows p.runner (Some reply) q.process (Some (told_of reply))
   pub blocked : q.blocked ≡ true
   pub runs : q.ended ≡ false
   pub lines : q.lines ≡ p.lines
@@ -46,27 +47,44 @@ IsAlike p q = IsAlikeAt p.stage p q
 -- A line that a runner prints is one that its process prints, and they stay alike
 abbrev pub LinesAreAlike : Type 0
 LinesAreAlike =
-    (p : PlayerState) (reply : Option Reply) (q : Player Running) (line : List ℕ) (s : RunnerState) → IsReadyAlike p reply q → NextGives p.runner reply (steps.Print line) s →
-    IsAt next_in_script q (Prints line) × IsAlike (record { runner = s; stage = Ready None; lines = p.lines ++ line ∷ []; refused = p.refused }) (gone_on next_in_script q None false (line ∷ []) false)
+    (p : PlayerState) (reply : Option Reply) (q : Player Running) (line : List ℕ) (s : RunnerState) →
+    IsReadyAlike p reply q → NextGives p.runner reply (steps.Print line) s →
+    IsAt next_in_script q (Prints line) ×
+    IsAlike (record { runner = s; stage = Ready None; lines = p.lines ++ line ∷ []; refused = p.refused })
+    (gone_on next_in_script q None false (line ∷ []) false)
 
 -- and so is an end, but where the runner ends with 6
 abbrev pub EndsAreAlike : Type 0
 EndsAreAlike =
-    (p : PlayerState) (reply : Option Reply) (q : Player Running) (status : ℕ) (line : Option ℕ) (s : RunnerState) → IsReadyAlike p reply q → NextGives p.runner reply (steps.End status line) s →
+    (p : PlayerState) (reply : Option Reply) (q : Player Running) (status : ℕ) (line : Option ℕ) (s : RunnerState) →
+    IsReadyAlike p reply q → NextGives p.runner reply (steps.End status line) s →
     (steps.End status line ≡ steps.End 6 None → ⊥) →
-    IsAt next_in_script q (Ends status) × IsAlike (record { runner = s; stage = Over status; lines = p.lines; refused = p.refused }) (gone_on next_in_script q None false [] true)
+    IsAt next_in_script q (Ends status) ×
+    IsAlike (record { runner = s; stage = Over status; lines = p.lines; refused = p.refused })
+    (gone_on next_in_script q None false [] true)
 
 -- and a call; they stay alike where both are told the reply, or neither is, for the call is blocked
 abbrev pub CallsAreAlike : Type 0
 CallsAreAlike =
-    (p : PlayerState) (reply : Option Reply) (q : Player Running) (call : Call) (s : RunnerState) (refused : List ℕ) → IsReadyAlike p reply q → NextGives p.runner reply (steps.Call call) s →
+    (p : PlayerState) (reply : Option Reply) (q : Player Running) (call : Call) (s : RunnerState) (refused : List ℕ) →
+    IsReadyAlike p reply q → NextGives p.runner reply (steps.Call call) s →
     IsAt next_in_script q (Calls (call_seen call))
-    × IsAlike (record { runner = s; stage = Waits call; lines = p.lines; refused = refused }) (gone_on next_in_script q None true [] false)
+    × IsAlike (record { runner = s; stage = Waits call; lines = p.lines; refused = refused })
+    (gone_on next_in_script q None true [] false)
     × ((told : Reply) → IsReplyTo (plain_call call) told →
-    IsAlike (record { runner = s; stage = Ready (Some told); lines = p.lines; refused = refused }) (gone_on next_in_script q (Some (told_of told)) false [] false))
+    IsAlike (record { runner = s; stage = Ready (Some told); lines = p.lines; refused = refused })
+    (gone_on next_in_script q (Some (told_of told)) false [] false))
 
 -- and so they stay when a blocked call is answered
 abbrev pub AnswersAreAlike : Type 0
 AnswersAreAlike =
     (p : PlayerState) (call : Call) (q : Player Running) (c : Completion) → WaitsAlike p call q →
-    IsAlike (record p { stage = Ready (Some (as_reply c)) }) (record { process = q.process; told = Some (told_of (as_reply c)); blocked = false; lines = q.lines; ended = q.ended })
+    IsAlike (record p { stage = Ready (Some (as_reply c)) })
+    (record {
+      process = q.process;
+      told = Some (told_of (as_reply c));
+      blocked = false;
+      lines = q.lines;
+      ended =
+          q.ended;
+    })

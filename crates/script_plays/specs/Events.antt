@@ -25,9 +25,11 @@ AreEventsOf [] (e ∷ es) = ⊥
 AreEventsOf (m ∷ ms) [] = Unit {0}
 AreEventsOf (m ∷ ms) (e ∷ es) = (IsEventOf m e.event × AreEventsOf ms es) ⊎ AreEventsOf ms (e ∷ es)
 
--- the world's history has the schedule's events, in order and no others, but those that were refused or that no event was called for
+-- the world's history has the schedule's events, in order and no others, but those that were refused or that no event
+-- was called for
 abbrev pub HistoriesAreOfSchedules : Type 0
-HistoriesAreOfSchedules = (scripts : List (List ScriptLine)) (schedule : List Move) (new : PlayState) → PlayGives scripts schedule new → AreEventsOf schedule new.world.history
+HistoriesAreOfSchedules = (scripts : List (List ScriptLine)) (schedule : List Move) (new : PlayState) →
+    PlayGives scripts schedule new → AreEventsOf schedule new.world.history
 
 -- a world's history is at each moment one of the machine's
 abbrev pub WorldsHaveHistories : Type 0

@@ -10,7 +10,8 @@ use Rattle.script_players.specs.declared.played.Stage.TheVariants.{Over, Ready, 
 use Rattle.proof_script_processes.specs.Processes.{Running}
 use Rattle.proof_script_processes.specs.ScriptLaws.{AreCoveredScripts, meaning_of}
 
--- what a player shows of the one meaning: its lines are a beginning of its rank's, and all of them once its script has ended
+-- what a player shows of the one meaning: its lines are a beginning of its rank's, and all of them once its script has
+-- ended
 pub record Shows (p : PlayerState) (end : Course Running) : Type 0 where
   pub lines : (rest : List (List ℕ)) × (end.lines ≡ p.lines ++ rest)
   pub whole : is_over p.stage ≡ true → end.lines ≡ p.lines
@@ -33,8 +34,9 @@ pub record IsFine (p : PlayerState) : Type 0 where
 abbrev pub AreFine : PlayState → Type 0
 AreFine st = (r : ℕ) (p : PlayerState) → slice_get st.players r ≡ Some p → IsFine p
 
--- THE LAW OF `play`: of covered scripts, in whose one meaning no two records of a collective differ, whatever the schedule, each rank's lines are a beginning of its lines in the one meaning,
--- and all of them once its script has ended
+-- THE LAW OF `play`: of covered scripts, in whose one meaning no two records of a collective differ, whatever the
+-- schedule, each rank's lines are a beginning of its lines in the one meaning, and all of them once its script has
+-- ended
 abbrev pub PlaysTheOneMeaning : List (List ScriptLine) → PlayState → Type 0
 PlaysTheOneMeaning scripts new =
     AreCoveredScripts scripts → RecordsAgree (accounts (meaning_of (length scripts) scripts)) → AreFine new →

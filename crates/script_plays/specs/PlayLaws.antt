@@ -8,4 +8,5 @@ use Rattle.script_plays.specs.declared.moves.Move.{Move}
 -- THE LAW OF `play`: whatever the schedule, scripts play their one meaning
 abbrev pub PlaysAreTheMeaning : Type 0
 PlaysAreTheMeaning =
-    (scripts : List (List ScriptLine)) (schedule : List Move) (new : PlayState) → 0 < length scripts → length scripts ≤ 65536 → PlayGives scripts schedule new → PlaysTheOneMeaning scripts new
+    (scripts : List (List ScriptLine)) (schedule : List Move) (new : PlayState) → 0 < length scripts →
+    length scripts ≤ 65536 → PlayGives scripts schedule new → PlaysTheOneMeaning scripts new

@@ -1,5 +1,6 @@
 -- The contract of `play`: what a schedule's moves do, one after the other, to a world and to the runners of its ranks.
-use Rattle.std.specs.Prelude.{◌≡◌, ℕ, List, [], ◌∷◌, ◌++◌, length, Option, Some, None, Result, Ok, Err, slice_get, slice_set}
+use Rattle.std.specs.Prelude.{◌≡◌, ℕ, List, [], ◌∷◌, ◌++◌, length, Option, Some, None, Result, Ok, Err, slice_get}
+use Rattle.std.specs.Prelude.{slice_set}
 use Rattle.engine_calls.specs.declared.call.Call.{Call}
 use Rattle.engine_calls.specs.declared.reply.Completion.{Completion}
 use Rattle.engine_calls.specs.declared.reply.Reply.{Reply}
@@ -30,24 +31,42 @@ abbrev pub with_told : List PlayerState → (rank : ℕ) → Option Completion �
 with_told players r c None = players
 with_told players r c (Some p) = slice_set players r (told_completion c p)
 
--- A call of a rank's runner: the world takes it, and the runner is told what the history holds of its answer; or it is refused, and the runner is told so
-abbrev pub CallMoves : PlayState → (rank : ℕ) → PlayerState → RunnerState → Call → Result Stepped Failed → PlayState → Type 0
+-- A call of a rank's runner: the world takes it, and the runner is told what the history holds of its answer; or it is
+-- refused, and the runner is told so
+abbrev pub CallMoves : PlayState → (rank : ℕ) → PlayerState → RunnerState → Call → Result Stepped Failed → PlayState →
+    Type 0
 CallMoves old r p s call (Ok added) new =
-    (w : WorldState) × (went : Went old.world (events.Call r call) added w) × (told : Option Reply) × AreAlike went.gave.reply told
-    × (new ≡ record { world = w; players = slice_set old.players r (record p { runner = s; stage = stage_by call told went.gave.completion }) })
+    (w : WorldState) × (went : Went old.world (events.Call r call) added w) ×
+    (told : Option Reply) × AreAlike went.gave.reply told
+    × (new ≡ record {
+      world = w;
+      players =
+          slice_set old.players r (record p { runner = s; stage = stage_by call told went.gave.completion });
+    })
 CallMoves old r p s call (Err failed) new =
-    (w : WorldState) × (reply : Reply) × IsRefusedBy old.world (events.Call r call) failed w × refused_so failed.refused call reply
-    × (new ≡ record { world = w; players = slice_set old.players r (record p { runner = s; stage = Ready (Some reply); refused = p.refused ++ number_in failed.refused }) })
+    (w : WorldState) × (reply : Reply) × IsRefusedBy old.world (events.Call r call) failed w ×
+    refused_so failed.refused call reply
+    × (new ≡ record {
+      world = w;
+      players =
+          slice_set old.players r
+          (record p { runner = s; stage = Ready (Some reply); refused = p.refused ++ number_in failed.refused });
+    })
 
 -- a runner's step
 abbrev pub StepMoves : PlayState → (rank : ℕ) → PlayerState → RunnerState → RunnerStep → PlayState → Type 0
 StepMoves old r p s (steps.Print line) new =
-    new ≡ record old { players = slice_set old.players r (record p { runner = s; stage = Ready None; lines = p.lines ++ line ∷ [] }) }
-StepMoves old r p s (steps.End status line) new = new ≡ record old { players = slice_set old.players r (record p { runner = s; stage = Over status }) }
+    new ≡ record old {
+      players =
+          slice_set old.players r (record p { runner = s; stage = Ready None; lines = p.lines ++ line ∷ [] });
+    }
+StepMoves old r p s (steps.End status line) new =
+    new ≡ record old { players = slice_set old.players r (record p { runner = s; stage = Over status }) }
 StepMoves old r p s (steps.Call call) new = (result : Result Stepped Failed) × CallMoves old r p s call result new
 
 abbrev pub GoesBy : PlayState → (rank : ℕ) → PlayerState → Stage → PlayState → Type 0
-GoesBy old r p (Ready reply) new = (step : RunnerStep) × (s : RunnerState) × NextGives p.runner reply step s × StepMoves old r p s step new
+GoesBy old r p (Ready reply) new = (step : RunnerStep) × (s : RunnerState) × NextGives p.runner reply step s ×
+    StepMoves old r p s step new
 GoesBy old r p (Waits call) new = new ≡ old
 GoesBy old r p (Over status) new = new ≡ old
 
@@ -60,8 +79,14 @@ GoGives old r (Some p) new = GoesBy old r p p.stage new
 abbrev pub EventGives : PlayState → Event → Result Stepped Failed → PlayState → Type 0
 EventGives old event (Ok added) new =
     (w : WorldState) × (went : Went old.world event added w)
-    × (new ≡ record { world = w; players = with_told old.players went.gave.endpoint.rank went.gave.completion (slice_get old.players went.gave.endpoint.rank) })
-EventGives old event (Err failed) new = (w : WorldState) × IsRefusedBy old.world event failed w × (new ≡ record old { world = w })
+    × (new ≡ record {
+      world = w;
+      players =
+          with_told old.players went.gave.endpoint.rank went.gave.completion
+          (slice_get old.players went.gave.endpoint.rank);
+    })
+EventGives old event (Err failed) new = (w : WorldState) × IsRefusedBy old.world event failed w ×
+    (new ≡ record old { world = w })
 
 -- ONE MOVE
 abbrev pub MoveGives : PlayState → Move → PlayState → Type 0
@@ -69,7 +94,8 @@ MoveGives old (moves.Go r) new = GoGives old r (slice_get old.players r) new
 MoveGives old (moves.Deliver d) new = (result : Result Stepped Failed) × EventGives old (events.Deliver d) result new
 MoveGives old (moves.Tick r now) new = (result : Result Stepped Failed) × EventGives old (events.Tick r now) result new
 
--- What is claimed of every world: what is seen of it is a run of the machine, and what its sessions and datagrams tell is true
+-- What is claimed of every world: what is seen of it is a run of the machine, and what its sessions and datagrams tell
+-- is true
 pub record HasHeadline (w : WorldState) : Type 0 where
   pub run : IsRunOfMachine w
   pub sessions : SessionsAreTrue w
@@ -77,7 +103,8 @@ pub record HasHeadline (w : WorldState) : Type 0 where
 -- ALL MOVES. Each world on the way is one of which that is so
 abbrev pub ScheduleGives : PlayState → List Move → PlayState → Type 0
 ScheduleGives old [] new = (new ≡ old) × HasHeadline old.world
-ScheduleGives old (m ∷ ms) new = HasHeadline old.world × ((mid : PlayState) × MoveGives old m mid × ScheduleGives mid ms new)
+ScheduleGives old (m ∷ ms) new = HasHeadline old.world ×
+    ((mid : PlayState) × MoveGives old m mid × ScheduleGives mid ms new)
 
 -- the players of scripts at their start, from this rank on
 abbrev pub players_of : (rank : ℕ) → List (List ScriptLine) → List PlayerState

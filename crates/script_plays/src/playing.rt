@@ -17,12 +17,14 @@ use engine::MOST_RANKS;
 use script_files::Script;
 use script_players::Played;
 use std::alloc::{AllocError, Global};
-use world::{HistoryEntry, Event, WorldRefusal, World};
+use world::{Event, HistoryEntry, World, WorldRefusal};
 
-/// The answer to a blocked call that an event brought, if it brought one, is told to the rank at which the event happened.
+/// The answer to a blocked call that an event brought, if it brought one, is told to the rank at which the event
+/// happened.
 fn tell(alloc: Global, players: &mut Vec<Played>, entry: &HistoryEntry) -> Result<(), AllocError>
     ensures { OnOk result (players.new.items ≡
-        with_told players.old.items entry.now.endpoint.rank entry.now.completion (slice_get players.old.items entry.now.endpoint.rank)) }
+        with_told players.old.items entry.now.endpoint.rank entry.now.completion
+        (slice_get players.old.items entry.now.endpoint.rank)) }
 {
     let rank = entry.endpoint.rank as usize;
     if rank >= players.len() {
@@ -40,7 +42,8 @@ fn happen(
     event: Event,
 ) -> Result<(), AllocError>
     ensures exact { OnOk result ((answer : Result Stepped Failed) ×
-        EventGives (record { world = world.old; players = players.old.items }) event answer (record { world = world.new; players = players.new.items })) }
+        EventGives (record { world = world.old; players = players.old.items }) event answer
+        (record { world = world.new; players = players.new.items })) }
     ensures headline { IsRunOfMachine world.new }
 {
     match world.step(event) {
@@ -120,13 +123,13 @@ pub fn all_begin(alloc: Global, scripts: Vec<Script>) -> Result<Vec<Played>, All
     Ok(players)
 }
 
-/// Scripts, one for each rank of a world, 1 to 1,024 of them, play by a schedule: move by move, a runner goes on, a datagram is
-/// delivered, or a clock goes on.
+/// Scripts, one for each rank of a world, 1 to 1,024 of them, play by a schedule: move by move, a runner goes on, a
+/// datagram is delivered, or a clock goes on.
 ///
-/// `Move::Go` takes one step of its rank's runner: a line, an end, or a call, which the world takes or refuses. What it replies is
-/// told to the runner as it goes on next; of a refused call the number is noted, and told too. At a rank that is blocked, has
-/// ended or isn't there nothing happens. A delivery or a tick that the world refuses changes nothing; else it tells the rank at
-/// which it happened the answer to its blocked call, if it brought that.
+/// `Move::Go` takes one step of its rank's runner: a line, an end, or a call, which the world takes or refuses. What it
+/// replies is told to the runner as it goes on next; of a refused call the number is noted, and told too. At a rank
+/// that is blocked, has ended or isn't there nothing happens. A delivery or a tick that the world refuses changes
+/// nothing; else it tells the rank at which it happened the answer to its blocked call, if it brought that.
 ///
 /// Refused with 13 for another number of scripts, else with 14: the world so far is lost with it.
 pub fn play(

@@ -14,8 +14,8 @@ fn pass(lines: &mut RankLines, count: usize)
     }
 }
 
-/// The line that is taken last where so many are left behind it; none where as many are left as there are. The runner of these
-/// lines stands at it.
+/// The line that is taken last where so many are left behind it; none where as many are left as there are. The runner
+/// of these lines stands at it.
 pub fn line_taken_last(lines: RankLines, left: usize) -> Option<RankLine>
     ensures { result ≡ taken_last left lines }
 {

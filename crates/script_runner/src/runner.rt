@@ -7,10 +7,10 @@ ghost use Rattle.script_runner.specs.ScriptRanks.{heeds, states};
 ghost use Rattle.script_runner.specs.Running.{IsMore, along, does_after, next_of, opening};
 ghost use Rattle.script_runner.specs.Standing.{StopsWhere};
 
-use engine::Reply;
-use line_diagnostics::LineFault;
-use event_loop::{Runner, RunnerStep};
 use crate::ScriptRank;
+use engine::Reply;
+use event_loop::{Runner, RunnerStep};
+use line_diagnostics::LineFault;
 use script_files::{RankLines, Script, ScriptStatement};
 use std::alloc::{AllocError, Global};
 use std::marker::Model;
@@ -49,7 +49,8 @@ fn go_on_after(
     rank: &mut ScriptRank,
     reply: Reply,
 ) -> Result<RunnerStep, AllocError>
-    ensures { IfOk result (λ step. does_after lines.old (heeds reply rank.old) ≡ (step, record { lines = lines.new; rank = rank.new })) }
+    ensures { IfOk result (λ step. does_after lines.old (heeds reply rank.old) ≡
+        (step, record { lines = lines.new; rank = rank.new })) }
 {
     if let Some(step) = rank.on_reply(reply)? {
         return Ok(step);
@@ -62,7 +63,8 @@ fn go_on_told(
     rank: &mut ScriptRank,
     reply: Option<Reply>,
 ) -> Result<RunnerStep, AllocError>
-    ensures does { IfOk result (λ step. next_of (record { lines = lines.old; rank = rank.old }) reply ≡ (step, record { lines = lines.new; rank = rank.new })) }
+    ensures does { IfOk result (λ step. next_of (record { lines = lines.old; rank = rank.old }) reply ≡
+        (step, record { lines = lines.new; rank = rank.new })) }
     ensures memory { OnErr result (IsMore lines.old reply) }
 {
     match reply {
@@ -102,11 +104,15 @@ impl ScriptRunner {
         self.rank.awaits_answer()
     }
 
-    /// Why a line can't be followed by what the names stand for now, in which case the script ends at it with 51: the first of
-    /// the names that the line uses that isn't set, or whose buffer is lent. None where the line can be followed. The only error
-    /// is want of memory.
+    /// Why a line can't be followed by what the names stand for now, in which case the script ends at it with 51: the
+    /// first of the names that the line uses that isn't set, or whose buffer is lent. None where the line can be
+    /// followed. The only error is want of memory.
     #[tactic(auto, using(crate::proofs::StandingLaws::stops_where_lacking))]
-    pub fn lack_of(&self, alloc: Global, statement: &ScriptStatement) -> Result<Option<LineFault>, AllocError>
+    pub fn lack_of(
+        &self,
+        alloc: Global,
+        statement: &ScriptStatement,
+    ) -> Result<Option<LineFault>, AllocError>
         ensures exact { IfOk result (λ fault. fault ≡ lack_of_statement (holdings self.now.rank.names) statement.now) }
         ensures stops { (number : ℕ) → IfOk result (λ fault.
             StopsWhere fault number (states number statement.now self.now.rank.names) self.now.rank.names) }

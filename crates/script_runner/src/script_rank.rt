@@ -4,22 +4,24 @@ ghost use Rattle.std.specs.Prelude.{◌≡◌, IfOk, Some, None, is_some};
 ghost use Rattle.line_diagnostics.specs.Lacks.{lack_of_statement};
 ghost use Rattle.interpreter.specs.NamesState.{here, holdings};
 ghost use Rattle.interpreter.specs.Acting.{count_of};
-ghost use Rattle.script_runner.specs.ScriptRanks.{acts, does, follows, heeds, IsSpoken, opening, prints_count, prints_elements, says, states};
+ghost use Rattle.script_runner.specs.ScriptRanks.{acts, does, follows, heeds, IsSpoken, opening, prints_count};
+ghost use Rattle.script_runner.specs.ScriptRanks.{prints_elements, says, states};
 
 use crate::lines::line_of;
 use engine_calls::Reply;
-use line_diagnostics::{LineFault, lack_of_statement};
-use interpreter::{StatementCall, AnswerEffect, Names};
 use event_loop::RunnerStep;
-use script_files::{RankLine, ScriptStatement};
+use interpreter::{AnswerEffect, Names, StatementCall};
+use line_diagnostics::{LineFault, lack_of_statement};
 use printed_lines::{count_line, elements_line, error_line, status_line, words_line};
 use script_calls::Pending;
+use script_files::{RankLine, ScriptStatement};
 use statements::Name;
 use std::alloc::{AllocError, Global};
 use std::marker::Model;
 use vocabulary::replace;
 
-/// A rank that runs a script: what its names stand for, and what the answer to its last call is for, while it isn't here.
+/// A rank that runs a script: what its names stand for, and what the answer to its last call is for, while it isn't
+/// here.
 #[derive(Drop)]
 pub struct ScriptRank {
     alloc: Global,
@@ -55,7 +57,11 @@ impl ScriptRank {
     }
 
     /// What the line of this number asks for is done.
-    fn on_statement_call(&mut self, number: usize, asked: StatementCall) -> Result<Option<RunnerStep>, AllocError>
+    fn on_statement_call(
+        &mut self,
+        number: usize,
+        asked: StatementCall,
+    ) -> Result<Option<RunnerStep>, AllocError>
         ensures { IfOk result (λ step. does number asked self.old.names ≡ (step, self.new)) }
     {
         match asked {
@@ -114,7 +120,11 @@ impl ScriptRank {
         }
     }
 
-    fn state(&mut self, number: usize, statement: ScriptStatement) -> Result<Option<RunnerStep>, AllocError>
+    fn state(
+        &mut self,
+        number: usize,
+        statement: ScriptStatement,
+    ) -> Result<Option<RunnerStep>, AllocError>
         ensures { IfOk result (λ step. states number statement self.old.names ≡ (step, self.new)) }
     {
         match statement {
@@ -138,8 +148,8 @@ impl ScriptRank {
         }
     }
 
-    /// What the line asks for, if that is more than a change of names. A name that isn't set, or a buffer that is lent, ends the
-    /// script with the line's number. The only error is want of memory.
+    /// What the line asks for, if that is more than a change of names. A name that isn't set, or a buffer that is lent,
+    /// ends the script with the line's number. The only error is want of memory.
     pub fn act(&mut self, line: RankLine) -> Result<Option<RunnerStep>, AllocError>
         ensures { IfOk result (λ step. acts line self.old ≡ (step, self.new)) }
     {
@@ -162,7 +172,8 @@ impl ScriptRank {
         }
     }
 
-    /// What is made of the answer to the last call: what follows from it at once, if anything does. The only error is want of memory.
+    /// What is made of the answer to the last call: what follows from it at once, if anything does. The only error is
+    /// want of memory.
     pub fn on_reply(&mut self, reply: Reply) -> Result<Option<RunnerStep>, AllocError>
         ensures { IfOk result (λ step. heeds reply self.old ≡ (step, self.new)) }
     {
@@ -178,9 +189,13 @@ impl ScriptRank {
         }
     }
 
-    /// Why a statement can't be followed by what the names stand for now: the first of the names that it uses that isn't set, or whose
-    /// buffer is lent. None where it can. The only error is want of memory.
-    pub fn lack_of(&self, alloc: Global, statement: &ScriptStatement) -> Result<Option<LineFault>, AllocError>
+    /// Why a statement can't be followed by what the names stand for now: the first of the names that it uses that
+    /// isn't set, or whose buffer is lent. None where it can. The only error is want of memory.
+    pub fn lack_of(
+        &self,
+        alloc: Global,
+        statement: &ScriptStatement,
+    ) -> Result<Option<LineFault>, AllocError>
         ensures { IfOk result (λ fault. fault ≡ lack_of_statement (holdings self.now.names) statement.now) }
     {
         lack_of_statement(alloc, &self.names, statement)

@@ -7,18 +7,21 @@
 //! before an acknowledgement is heeded is kept as one that comes after it. Where a session starts anew, the former one
 //! is held until nothing fails any more.
 
-ghost use Rattle.std.specs.Prelude.{ℕ, ◌≡◌, ◌%◌, ◌≤◌, ◌<◌, ◌+◌, ◌++◌, [], ◌∷◌, All, IsTrue, false, IfOk, IfErr, OnOk, OnErr, length, nat_lt, take, slice_set, vec_len, None, Some};
+ghost use Rattle.std.specs.Prelude.{ℕ, ◌≡◌, ◌%◌, ◌≤◌, ◌<◌, ◌+◌, ◌++◌, [], ◌∷◌, All, IsTrue, false, IfOk, IfErr, OnOk};
+ghost use Rattle.std.specs.Prelude.{OnErr, length, nat_lt, take, slice_set, vec_len, None, Some};
 ghost use Rattle.reliable_link.specs.SenderState.{out_end, entered_on_ack};
 ghost use Rattle.reliable_link.specs.Accepting.{HasNumberLeft};
 ghost use Rattle.sessions.specs.SessionsState.{GivesUnless, known_endpoint};
 ghost use Rattle.sessions.specs.Peers.{peer_at, with_new_session, frames_out};
 ghost use Rattle.sessions.specs.Spellings.{ack_bytes};
 ghost use Rattle.sessions.specs.Heard.{word_text, heard_text, heard_option, CanHear};
-ghost use Rattle.sessions.specs.Events.{AreFor, CanSend, taught_known, heeded_by, sending_text, sendings, sends_limit, after_event, event_limit, most_answers, TurnedAway};
+ghost use Rattle.sessions.specs.Events.{AreFor, CanSend, taught_known, heeded_by, sending_text, sendings, sends_limit};
+ghost use Rattle.sessions.specs.Events.{after_event, event_limit, most_answers, TurnedAway};
 ghost use Rattle.sessions.specs.Windows.{StaysWithin};
-ghost use Rattle.sessions.specs.Carrying.{CanSettleIn, CanSettle, known_after, answered, sender_after, bytes_ahead, send_ahead, sends_ahead, settled, all_taken_back};
+ghost use Rattle.sessions.specs.Carrying.{CanSettleIn, CanSettle, known_after, answered, sender_after, bytes_ahead};
+ghost use Rattle.sessions.specs.Carrying.{send_ahead, sends_ahead, settled, all_taken_back};
 
-use crate::heard::{Heard, Outgoing, Unheard, LinkEvent};
+use crate::heard::{Heard, LinkEvent, Outgoing, Unheard};
 use crate::limits::frame_at;
 use crate::peers::{self, Peer};
 use crate::refusal::SessionRefusal;
@@ -52,8 +55,8 @@ fn learn(knowledge: &mut incarnation::Peers, lesson: bool, source: Endpoint)
     }
 }
 
-/// The session with the source heeds the word; or there is no memory for the frame that it is to hold, or for the places of
-/// such frames, and nothing changes.
+/// The session with the source heeds the word; or there is no memory for the frame that it is to hold, or for the
+/// places of such frames, and nothing changes.
 fn on_link_event(
     peers: &mut Vec<Peer>,
     drafts: &mut Drafts,
@@ -115,11 +118,16 @@ impl Sessions {
         kept < WINDOW_FRAMES
     }
 
-    /// The datagram of a frame: under the next number of its session, to its rank at the incarnation at which that is known
-    /// after what was heard.
-    fn spell(&mut self, heard: Option<Heard<'_>>, outgoing: Outgoing<'_>) -> Result<Bytes, SessionRefusal>
+    /// The datagram of a frame: under the next number of its session, to its rank at the incarnation at which that is
+    /// known after what was heard.
+    fn spell(
+        &mut self,
+        heard: Option<Heard<'_>>,
+        outgoing: Outgoing<'_>,
+    ) -> Result<Bytes, SessionRefusal>
         requires { CanSend self.old.place (sending_text outgoing) }
-        ensures ok { IfOk result (λ bytes. bytes ≡ bytes_ahead (heard_option heard.entry) self.old (sending_text outgoing.entry)) }
+        ensures ok { IfOk result
+            (λ bytes. bytes ≡ bytes_ahead (heard_option heard.entry) self.old (sending_text outgoing.entry)) }
         ensures kept { self.new ≡ self.old }
         ensures err { IfErr result (λ e. e ≡ SessionRefusal.OutOfMemory) }
     {
@@ -131,7 +139,11 @@ impl Sessions {
     }
 
     /// A frame is taken over by the session with its rank, and goes out if it comes into the window.
-    fn send(&mut self, heard: Option<Heard<'_>>, outgoing: Outgoing<'_>) -> Result<(), SessionRefusal>
+    fn send(
+        &mut self,
+        heard: Option<Heard<'_>>,
+        outgoing: Outgoing<'_>,
+    ) -> Result<(), SessionRefusal>
         requires can { CanSettle self.old.peers (heard_option heard) }
         requires frame { CanSend self.old.place (sending_text outgoing) }
         requires left { HasNumberLeft (peer_at self.old.peers outgoing.target).sender }
@@ -167,10 +179,13 @@ impl Sessions {
         Ok(())
     }
 
-    /// An acknowledgement of all frames of an endpoint below `next` goes out, which says of those behind it which are held.
+    /// An acknowledgement of all frames of an endpoint below `next` goes out, which says of those behind it which are
+    /// held.
     fn acknowledge(&mut self, source: Endpoint, next: u64, held: u64) -> Result<(), SessionRefusal>
         requires { held % 2 ≡ 0 }
-        ensures ok { OnOk result (self.new ≡ record self.old { out = self.old.out ++ (source.rank, ack_bytes self.old.place source next held) ∷ [] }) }
+        ensures ok { OnOk result
+            (self.new ≡
+            record self.old { out = self.old.out ++ (source.rank, ack_bytes self.old.place source next held) ∷ [] }) }
         ensures unchanged { OnErr result (self.new ≡ self.old) }
         ensures err { IfErr result (λ e. e ≡ SessionRefusal.OutOfMemory) }
     {
@@ -184,7 +199,8 @@ impl Sessions {
         requires sent { n ≤ out_end (peer_at self.old.peers rank).sender }
         ensures ok { OnOk result (self.new ≡ record self.old {
           out = self.old.out
-              ++ frames_out rank (peer_at self.old.peers rank).sender (entered_on_ack (peer_at self.old.peers rank).sender n);
+              ++ frames_out rank (peer_at self.old.peers rank).sender
+              (entered_on_ack (peer_at self.old.peers rank).sender n);
         }) }
         ensures unchanged { OnErr result (self.new ≡ self.old) }
         ensures err { IfErr result (λ e. e ≡ SessionRefusal.OutOfMemory) }
@@ -233,8 +249,11 @@ impl Sessions {
     ) -> Result<(), SessionRefusal>
         requires can { CanSettle self.old.peers (heard_option heard) }
         requires frames { All (CanSend self.old.place) (sendings frames.now) }
-        requires limit { sends_limit (settled (heard_option heard) (answered (heard_option heard) self.old)) (sendings frames.now) ≡ None }
-        ensures ok { OnOk result (self.new ≡ sends_ahead (heard_option heard.entry) (answered (heard_option heard.entry) self.old) (sendings frames.now)) }
+        requires limit { sends_limit (settled (heard_option heard) (answered (heard_option heard) self.old))
+            (sendings frames.now) ≡ None }
+        ensures ok { OnOk result
+            (self.new ≡ sends_ahead (heard_option heard.entry) (answered (heard_option heard.entry) self.old)
+            (sendings frames.now)) }
         ensures unchanged { OnErr result (self.new ≡ self.old) }
         ensures err { IfErr result (λ e. e ≡ SessionRefusal.OutOfMemory) }
     {
@@ -288,9 +307,11 @@ impl Sessions {
     ) -> Result<(), SessionRefusal>
         requires can { CanSettle self.old.peers (Some (heard_text heard)) }
         requires frames { All (CanSend self.old.place) (sendings frames.now) }
-        requires limit { sends_limit (settled (Some (heard_text heard)) (answered (Some (heard_text heard)) self.old)) (sendings frames.now) ≡ None }
+        requires limit { sends_limit (settled (Some (heard_text heard)) (answered (Some (heard_text heard)) self.old))
+            (sendings frames.now) ≡ None }
         ensures ok { OnOk result (self.new ≡ settled (Some (heard_text heard.entry))
-            (sends_ahead (Some (heard_text heard.entry)) (answered (Some (heard_text heard.entry)) self.old) (sendings frames.now))) }
+            (sends_ahead (Some (heard_text heard.entry)) (answered (Some (heard_text heard.entry)) self.old)
+            (sendings frames.now))) }
         ensures unchanged { OnErr result (self.new ≡ self.old) }
         ensures err { IfErr result (λ e. e ≡ SessionRefusal.OutOfMemory) }
     {
@@ -330,7 +351,11 @@ impl Sessions {
     }
 
     /// The same as `carry_out` where no limit is met and the source starts anew.
-    fn carry_out_anew(&mut self, heard: Heard<'_>, frames: &[Outgoing<'_>]) -> Result<(), SessionRefusal>
+    fn carry_out_anew(
+        &mut self,
+        heard: Heard<'_>,
+        frames: &[Outgoing<'_>],
+    ) -> Result<(), SessionRefusal>
         requires can { CanHear self.old (Some (heard_text heard)) }
         requires lesson { IsTrue heard.lesson }
         requires frames { All (CanSend self.old.place) (sendings frames.now) }
@@ -354,7 +379,11 @@ impl Sessions {
     }
 
     /// The same where the source goes on.
-    fn carry_out_on(&mut self, heard: Heard<'_>, frames: &[Outgoing<'_>]) -> Result<(), SessionRefusal>
+    fn carry_out_on(
+        &mut self,
+        heard: Heard<'_>,
+        frames: &[Outgoing<'_>],
+    ) -> Result<(), SessionRefusal>
         requires can { CanHear self.old (Some (heard_text heard)) }
         requires on { heard.lesson ≡ false }
         requires frames { All (CanSend self.old.place) (sendings frames.now) }
@@ -382,7 +411,8 @@ impl Sessions {
         ensures exact { GivesUnless (event_limit self.old (heard_option heard.entry) (sendings frames.now)) self.old
             (after_event self.old (heard_option heard.entry) (sendings frames.now)) result self.new }
         ensures unchanged { OnErr result (self.new ≡ self.old) }
-        ensures few { length self.new.out ≤ length self.old.out + (most_answers (heard_option heard.entry) + length frames.now) }
+        ensures few { length self.new.out ≤ length self.old.out +
+            (most_answers (heard_option heard.entry) + length frames.now) }
         ensures within { OnOk result (StaysWithin (heard_option heard.entry) self.old self.new) }
         ensures placed { self.new.place ≡ self.old.place }
     {

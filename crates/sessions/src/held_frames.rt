@@ -1,8 +1,8 @@
 //! Frames that were held, when their turn comes.
 //!
-//! A frame that comes before its turn is held. Once the one before it is handed up, it follows: it is heard as a word of its own
-//! and carried out as any other, but for the acknowledgement. A delivery has one, which goes out first, with the frame that came;
-//! with each frame that follows it gives way to one that says more.
+//! A frame that comes before its turn is held. Once the one before it is handed up, it follows: it is heard as a word
+//! of its own and carried out as any other, but for the acknowledgement. A delivery has one, which goes out first, with
+//! the frame that came; with each frame that follows it gives way to one that says more.
 
 ghost use Rattle.std.specs.Prelude.{◌≡◌, ◌≢◌, ◌<◌, false, length, IfOk, IfErr, slice_set};
 ghost use Rattle.reliable_link.specs.ReceiverState.{advanced};
@@ -21,8 +21,8 @@ use crate::spelling::ack_bytes;
 use datagram::{Bytes, Content};
 use vocabulary::Endpoint;
 
-/// What is heard in bytes of an endpoint that were held, once their turn comes; nothing where they spell no frame. It takes no
-/// memory.
+/// What is heard in bytes of an endpoint that were held, once their turn comes; nothing where they spell no frame. It
+/// takes no memory.
 #[tactic(auto, unfolding(crate::specs::Following::turn_of))]
 pub fn turn_in<'a>(source: Endpoint, bytes: &'a Bytes) -> Option<Heard<'a>>
     ensures exact { heard_option result ≡ turn_of source bytes.entry.now }
@@ -51,8 +51,8 @@ impl Sessions {
         self.out.len()
     }
 
-    /// The bytes of the next frame of a rank, where they are held, for one more owner. The only error is that there are too
-    /// many owners.
+    /// The bytes of the next frame of a rank, where they are held, for one more owner. The only error is that there are
+    /// too many owners.
     pub fn ready(&self, rank: u16) -> Result<Option<Bytes>, SessionRefusal>
         requires { rank < self.now.place.size }
         ensures ok { IfOk result (λ bytes. bytes ≡ ready_from self.now rank) }
@@ -71,7 +71,8 @@ impl Sessions {
     pub fn spell_behind(&mut self, source: Endpoint) -> Result<Bytes, SessionRefusal>
         requires there { source.rank < self.old.place.size }
         requires left { (peer_at self.old.peers source.rank).receiver.next ≢ 18446744073709551615 }
-        ensures ok { IfOk result (λ bytes. bytes ≡ ack_of self.old.place source (advanced (peer_at self.old.peers source.rank).receiver)) }
+        ensures ok { IfOk result
+            (λ bytes. bytes ≡ ack_of self.old.place source (advanced (peer_at self.old.peers source.rank).receiver)) }
         ensures kept { self.new ≡ self.old }
         ensures err { IfErr result (λ e. e ≡ SessionRefusal.OutOfMemory) }
     {

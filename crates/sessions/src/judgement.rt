@@ -5,9 +5,10 @@ ghost use Rattle.datagram.specs.Spelling.{content_text, BodyFits};
 ghost use Rattle.reliable_link.specs.SenderState.{IsOfSent};
 ghost use Rattle.reliable_link.specs.ReceiverState.{held_at};
 ghost use Rattle.sessions.specs.Peers.{peer_at};
-ghost use Rattle.sessions.specs.Heard.{Hears, Says, word_of, heard_of, session_met, word_text, heard_text, WordFits, CanHeed, CanHear, said, stale, unmeant};
+ghost use Rattle.sessions.specs.Heard.{Hears, Says, word_of, heard_of, session_met, word_text, heard_text, WordFits};
+ghost use Rattle.sessions.specs.Heard.{CanHeed, CanHear, said, stale, unmeant};
 
-use crate::heard::{Early, Heard, Unheard, LinkEvent};
+use crate::heard::{Early, Heard, LinkEvent, Unheard};
 use crate::peers::{self, Peer};
 use crate::refusal::SessionRefusal;
 use crate::sessions::Sessions;
@@ -25,8 +26,8 @@ pub(crate) fn next_in(peer: &Peer, anew: bool) -> u64
     if anew { 0 } else { peer.receiver.next() }
 }
 
-/// Whether all frames below this number may be acknowledged, and those behind it be said to be held that the bits of another
-/// stand for; after a lesson none went out.
+/// Whether all frames below this number may be acknowledged, and those behind it be said to be held that the bits of
+/// another stand for; after a lesson none went out.
 #[tactic(auto, using(crate::proofs::Judged::none_sent, crate::proofs::Judged::nothing_sent))]
 fn allows_in(peer: &Peer, anew: bool, number: u64, held: u64) -> bool
     ensures { IsTrue result ↔ IsOfSent (session_met anew peer.now).sender number held }
@@ -42,7 +43,9 @@ fn allows_in(peer: &Peer, anew: bool, number: u64, held: u64) -> bool
 fn holds_in(peer: &Peer, anew: bool, number: u64) -> bool
     requires behind { (session_met anew peer.now).receiver.next < number }
     requires near { number < (session_met anew peer.now).receiver.next + 64 }
-    ensures { result ≡ is_some (held_at (session_met anew peer.now).receiver.held (number - (session_met anew peer.now).receiver.next)) }
+    ensures { result ≡
+        is_some (held_at (session_met anew peer.now).receiver.held
+        (number - (session_met anew peer.now).receiver.next)) }
 {
     if anew {
         return false;
@@ -142,7 +145,8 @@ impl Sessions {
         requires there { datagram.header.source.rank < length self.now.peers }
         requires fits { BodyFits (content_text datagram.content) }
         ensures exact { Hears result (said datagram.entry.header.source anew
-            (word_of (session_met anew (peer_at self.now.peers datagram.entry.header.source.rank)) datagram.entry.header.sequence (content_text datagram.entry.content) bytes.entry.now)) }
+            (word_of (session_met anew (peer_at self.now.peers datagram.entry.header.source.rank))
+            datagram.entry.header.sequence (content_text datagram.entry.content) bytes.entry.now)) }
         ensures fits { IfOk result (λ h. WordFits (word_text h.word)) }
         ensures can { IfOk result (λ h. CanHear self.now (Some (heard_text h))) }
     {
@@ -170,9 +174,9 @@ impl Sessions {
     /// What is heard in the bytes of a datagram. It changes nothing, and takes no memory.
     ///
     /// Refused is the first that holds of: 21 to 25 and 30 (the bytes spell no datagram), 26 (another job), 27 (for
-    /// another rank or a later incarnation of this one, or from no other rank of the job), 28 (from a former incarnation
-    /// of its source), 29 (for a former incarnation of this rank; with it comes for whom a reset is) and 31 (a number
-    /// outside the window). A limit is told by `limit_of`.
+    /// another rank or a later incarnation of this one, or from no other rank of the job), 28 (from a former
+    /// incarnation of its source), 29 (for a former incarnation of this rank; with it comes for whom a reset is) and 31
+    /// (a number outside the window). A limit is told by `limit_of`.
     #[tactic(auto, unfolding(crate::specs::Heard::heard_of))]
     pub fn judge<'a>(&self, bytes: &'a [u8]) -> Result<Heard<'a>, Unheard>
         ensures exact { Hears result (heard_of self.now bytes.now) }

@@ -1,13 +1,16 @@
 //! The session with each rank of the job.
 
-ghost use Rattle.std.specs.Prelude.{◌≡◌, ◌≢◌, ◌≤◌, ◌<◌, ◌+◌, ◌-◌, ◌*◌, ◌++◌, length, All, IsTrue, IfOk, OnOk, OnErr, IfErr, nat_lt, ◌^◌, [], ◌∷◌, if◌then◌else◌, slice_set, vec_len, vec_capacity};
-ghost use Rattle.reliable_link.specs.SenderState.{after_accept, after_ack, IsOfSent, entered_on_ack, due_at, out_end, StandsAt};
+ghost use Rattle.std.specs.Prelude.{◌≡◌, ◌≢◌, ◌≤◌, ◌<◌, ◌+◌, ◌-◌, ◌*◌, ◌++◌, length, All, IsTrue, IfOk, OnOk, OnErr};
+ghost use Rattle.std.specs.Prelude.{IfErr, nat_lt, ◌^◌, [], ◌∷◌, if◌then◌else◌, slice_set, vec_len, vec_capacity};
+ghost use Rattle.reliable_link.specs.SenderState.{after_accept, after_ack, IsOfSent, entered_on_ack, due_at, out_end};
+ghost use Rattle.reliable_link.specs.SenderState.{StandsAt};
 ghost use Rattle.reliable_link.specs.Accepting.{HasNumberLeft};
 ghost use Rattle.reliable_link.specs.ReceiverState.{advanced, after_frame, discarded};
 ghost use Rattle.std.specs.List.{range_with_len};
 ghost use Rattle.sessions.specs.Carrying.{taken_back};
 ghost use Rattle.sessions.specs.Busy.{busy_among, busy_in};
-ghost use Rattle.sessions.specs.Peers.{new_peers, peer_at, with_sender, with_receiver, with_new_session, frames_out, due_out, after_all_due};
+ghost use Rattle.sessions.specs.Peers.{new_peers, peer_at, with_sender, with_receiver, with_new_session, frames_out};
+ghost use Rattle.sessions.specs.Peers.{due_out, after_all_due};
 
 use crate::refusal::SessionRefusal;
 use datagram::{Bytes, Drafts};
@@ -50,7 +53,11 @@ pub(crate) fn peer_at(peers: &[Peer], rank: u16) -> &Peer
 }
 
 /// The session with a rank takes a frame over.
-pub(crate) fn accept_at(peers: &mut Vec<Peer>, rank: u16, frame: Bytes) -> Result<(), SessionRefusal>
+pub(crate) fn accept_at(
+    peers: &mut Vec<Peer>,
+    rank: u16,
+    frame: Bytes,
+) -> Result<(), SessionRefusal>
     requires there { rank < vec_len peers.old }
     requires left { HasNumberLeft (peer_at peers.old.items rank).sender }
     ensures state { OnOk result (peers.new.items ≡ with_sender peers.old.items rank
@@ -126,7 +133,8 @@ pub(crate) fn take_back_at(peers: &mut Vec<Peer>, rank: u16)
 pub(crate) fn raise_at(peers: &mut Vec<Peer>, rank: u16) -> Result<(), SessionRefusal>
     requires there { rank < vec_len peers.old }
     requires left { (peer_at peers.old.items rank).receiver.next ≢ 18446744073709551615 }
-    ensures ok { OnOk result (peers.new.items ≡ with_receiver peers.old.items rank (advanced (peer_at peers.old.items rank).receiver)) }
+    ensures ok { OnOk result
+        (peers.new.items ≡ with_receiver peers.old.items rank (advanced (peer_at peers.old.items rank).receiver)) }
     ensures unchanged { OnErr result (peers.new.items ≡ peers.old.items) }
     ensures err { IfErr result (λ e. e ≡ SessionRefusal.OutOfMemory) }
 {
@@ -161,7 +169,9 @@ pub(crate) fn hold_at(
     requires there { rank < vec_len peers.old }
     requires behind { (peer_at peers.old.items rank).receiver.next < number }
     requires near { number < (peer_at peers.old.items rank).receiver.next + 64 }
-    ensures ok { OnOk result (peers.new.items ≡ with_receiver peers.old.items rank (after_frame (peer_at peers.old.items rank).receiver number bytes.now)) }
+    ensures ok { OnOk result
+        (peers.new.items ≡
+        with_receiver peers.old.items rank (after_frame (peer_at peers.old.items rank).receiver number bytes.now)) }
     ensures unchanged { OnErr result (peers.new.items ≡ peers.old.items) }
     ensures err { IfErr result (λ e. e ≡ SessionRefusal.OutOfMemory) }
 {
@@ -182,7 +192,8 @@ fn keep_below(drafts: &mut Drafts, sender: &Sender, n: u64) {
     }
 }
 
-/// The session with a rank heeds an acknowledgement of all frames below `n`, which says of those behind it which are held.
+/// The session with a rank heeds an acknowledgement of all frames below `n`, which says of those behind it which are
+/// held.
 /// The memory of the former is kept for datagrams to come.
 pub(crate) fn acknowledge_at(
     peers: &mut Vec<Peer>,
@@ -193,7 +204,8 @@ pub(crate) fn acknowledge_at(
 )
     requires room { rank < vec_len peers.old }
     requires sent { IsOfSent (peer_at peers.old.items rank).sender n held }
-    ensures { peers.new.items ≡ with_sender peers.old.items rank (after_ack (peer_at peers.old.items rank).sender n held) }
+    ensures { peers.new.items ≡
+        with_sender peers.old.items rank (after_ack (peer_at peers.old.items rank).sender n held) }
 {
     let peer = &mut peers[rank as usize];
     keep_below(drafts, &peer.sender, n);
@@ -222,8 +234,8 @@ pub(crate) fn put_at(peers: &mut Vec<Peer>, rank: u16, peer: Peer)
     peers[rank as usize] = peer;
 }
 
-/// The places of the former session with a rank, which is done with, become those of the present one. Contracts see nothing
-/// of it.
+/// The places of the former session with a rank, which is done with, become those of the present one. Contracts see
+/// nothing of it.
 pub(crate) fn take_places_at(peers: &mut Vec<Peer>, rank: u16, former: Peer)
     requires { rank < vec_len peers.old }
     ensures { peers.new.items ≡ peers.old.items }
@@ -235,13 +247,18 @@ pub(crate) fn take_places_at(peers: &mut Vec<Peer>, rank: u16, former: Peer)
 }
 
 /// A datagram for a rank goes out behind the others.
-pub(crate) fn emit(out: &mut Vec<(u16, Bytes)>, rank: u16, bytes: Bytes) -> Result<(), SessionRefusal>
+pub(crate) fn emit(
+    out: &mut Vec<(u16, Bytes)>,
+    rank: u16,
+    bytes: Bytes,
+) -> Result<(), SessionRefusal>
     ensures ok { OnOk result (out.new.items ≡ out.old.items ++ (rank, bytes) ∷ []) }
     ensures len { OnOk result (vec_len out.new ≡ vec_len out.old + 1) }
     ensures unchanged { OnErr result (out.new.items ≡ out.old.items) }
     ensures err { IfErr result (λ e. e ≡ SessionRefusal.OutOfMemory) }
 {
-    out.push((rank, bytes)).map_err(|_| SessionRefusal::OutOfMemory)
+    out.push((rank, bytes))
+        .map_err(|_| SessionRefusal::OutOfMemory)
 }
 
 /// These datagrams go out behind the others.
@@ -255,7 +272,8 @@ pub(crate) fn emit_all(
     ensures err { IfErr result (λ e. e ≡ SessionRefusal.OutOfMemory) }
 {
     let mut datagrams = datagrams;
-    out.append(&mut datagrams).map_err(|_| SessionRefusal::OutOfMemory)
+    out.append(&mut datagrams)
+        .map_err(|_| SessionRefusal::OutOfMemory)
 }
 
 /// A frame goes out to a rank behind the others, and is kept as well.

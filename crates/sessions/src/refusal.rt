@@ -43,8 +43,8 @@ pub enum SessionRefusal {
 }
 
 impl fmt::Display for SessionRefusal {
-    // One text is written, whichever it is. A message at each variant would be a step of its own there, with a proof that grows by
-    // the square of their number.
+    // One text is written, whichever it is. A message at each variant would be a step of its own there, with a proof
+    // that grows by the square of their number.
     fn fmt<W: fmt::Write>(&self, f: &mut fmt::Formatter<W>) -> fmt::Result {
         f.write_str(match self {
             SessionRefusal::Rank => "there is no such rank",

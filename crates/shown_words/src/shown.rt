@@ -40,7 +40,8 @@ impl<'a> fmt::Display for ShownBytes<'a> {
     }
 }
 
-/// A word as it is shown: its first 80 bytes, with `?` for each that isn't printable ASCII, and ` ..` where it has more.
+/// A word as it is shown: its first 80 bytes, with `?` for each that isn't printable ASCII, and ` ..` where it has
+/// more.
 #[derive(Clone, Copy)]
 pub struct Shown<'a> {
     /// The word's bytes.

@@ -1,5 +1,6 @@
 -- Lines that are printed one after the other.
-use Rattle.std.proofs.Common.{◌≡◌, ℕ, zero, suc, ◌+◌, ◌-◌, ◌≤◌, List, [], ◌∷◌, ◌++◌, Option, Some, None, refl, sym, ap, subst, ◌∙◌, arith}
+use Rattle.std.proofs.Common.{◌≡◌, ℕ, zero, suc, ◌+◌, ◌-◌, ◌≤◌, List, [], ◌∷◌, ◌++◌, Option, Some, None, refl, sym, ap}
+use Rattle.std.proofs.Common.{subst, ◌∙◌, arith}
 use Rattle.std.specs.Prelude.{slice_get}
 use Rattle.std.specs.List.{flat_map, range_with_len}
 use Rattle.std.proofs.lemmas.Grind.{flat_map-append}
@@ -13,7 +14,8 @@ pub prints_none : (old : Option (List ℕ)) → Prints old old []
 prints_none None = tt
 prints_none (Some xs) = sym (append-nil xs)
 
-pub prints_more : (old mid new : Option (List ℕ)) (xs ys : List (List ℕ)) → Prints old mid xs → Prints mid new ys → Prints old new (xs ++ ys)
+pub prints_more : (old mid new : Option (List ℕ)) (xs ys : List (List ℕ)) → Prints old mid xs → Prints mid new ys →
+    Prints old new (xs ++ ys)
 prints_more None mid new xs ys a b = tt
 prints_more (Some o) None new xs ys a b = absurd a
 prints_more (Some o) (Some m) None xs ys a b = absurd b
@@ -24,39 +26,52 @@ prints_more (Some o) (Some m) (Some n) xs ys a b =
 pub begins_none : (old : Option (List ℕ)) (lines : List (List ℕ)) → PrintsBeginning old old lines
 begins_none old lines = ([], lines, refl, prints_none old)
 
-pub begins_whole : (old new : Option (List ℕ)) (lines : List (List ℕ)) → Prints old new lines → PrintsBeginning old new lines
+pub begins_whole : (old new : Option (List ℕ)) (lines : List (List ℕ)) → Prints old new lines →
+    PrintsBeginning old new lines
 begins_whole old new lines prints = (lines, [], sym (append-nil lines), prints)
 
 -- some lines, and a beginning of others
-pub begins_more : (old mid new : Option (List ℕ)) (xs ys : List (List ℕ)) → Prints old mid xs → PrintsBeginning mid new ys → PrintsBeginning old new (xs ++ ys)
-begins_more old mid new xs ys a b =
-    (xs ++ b.0, b.1, ap (λ (zs : List (List ℕ)). xs ++ zs) b.2 ∙ sym (append_assoc xs b.0 b.1), prints_more old mid new xs b.0 a b.3)
+pub begins_more : (old mid new : Option (List ℕ)) (xs ys : List (List ℕ)) → Prints old mid xs →
+    PrintsBeginning mid new ys → PrintsBeginning old new (xs ++ ys)
+begins_more old mid new xs ys a b = (
+  xs ++ b.0,
+  b.1,
+  ap (λ (zs : List (List ℕ)). xs ++ zs) b.2 ∙ sym (append_assoc xs b.0 b.1),
+  prints_more old mid new xs b.0 a b.3,
+)
 
 -- a beginning of the first lines is one of all
-pub begins_front : (old new : Option (List ℕ)) (xs ys : List (List ℕ)) → PrintsBeginning old new xs → PrintsBeginning old new (xs ++ ys)
+pub begins_front : (old new : Option (List ℕ)) (xs ys : List (List ℕ)) → PrintsBeginning old new xs →
+    PrintsBeginning old new (xs ++ ys)
 begins_front old new xs ys b =
     (b.0, b.1 ++ ys, ap (λ (zs : List (List ℕ)). zs ++ ys) b.2 ∙ append_assoc b.0 b.1 ys, b.3)
 
 -- memory is wanting behind all of these lines
-pub cuts_behind : (e : SimulateError) (old new : Option (List ℕ)) (lines : List (List ℕ)) → e ≡ errors.OutOfMemory → Prints old new lines → CutsOff e old new lines
-cuts_behind e old new lines is prints = subst (λ (x : SimulateError). CutsOff x old new lines) (sym is) (begins_whole old new lines prints)
+pub cuts_behind : (e : SimulateError) (old new : Option (List ℕ)) (lines : List (List ℕ)) → e ≡ errors.OutOfMemory →
+    Prints old new lines → CutsOff e old new lines
+cuts_behind e old new lines is prints =
+    subst (λ (x : SimulateError). CutsOff x old new lines) (sym is) (begins_whole old new lines prints)
 
 -- memory is wanting before them
-pub cuts_before : (e : SimulateError) (old : Option (List ℕ)) (lines : List (List ℕ)) → e ≡ errors.OutOfMemory → CutsOff e old old lines
+pub cuts_before : (e : SimulateError) (old : Option (List ℕ)) (lines : List (List ℕ)) → e ≡ errors.OutOfMemory →
+    CutsOff e old old lines
 cuts_before e old lines is = subst (λ (x : SimulateError). CutsOff x old old lines) (sym is) (begins_none old lines)
 
 -- the output failed
-pub cuts_output : (e : SimulateError) (old new : Option (List ℕ)) (lines : List (List ℕ)) → e ≡ errors.Output → CutsOff e old new lines
+pub cuts_output : (e : SimulateError) (old new : Option (List ℕ)) (lines : List (List ℕ)) → e ≡ errors.Output →
+    CutsOff e old new lines
 cuts_output e old new lines is = subst (λ (x : SimulateError). CutsOff x old new lines) (sym is) tt
 
 -- printing the first lines was cut off
-pub cuts_front : (e : SimulateError) (old new : Option (List ℕ)) (xs ys : List (List ℕ)) → CutsOff e old new xs → CutsOff e old new (xs ++ ys)
+pub cuts_front : (e : SimulateError) (old new : Option (List ℕ)) (xs ys : List (List ℕ)) → CutsOff e old new xs →
+    CutsOff e old new (xs ++ ys)
 cuts_front (errors.Script line) old new xs ys c = c
 cuts_front errors.OutOfMemory old new xs ys c = begins_front old new xs ys c
 cuts_front errors.Output old new xs ys c = tt
 
 -- printing the others was cut off
-pub cuts_more : (e : SimulateError) (old mid new : Option (List ℕ)) (xs ys : List (List ℕ)) → Prints old mid xs → CutsOff e mid new ys → CutsOff e old new (xs ++ ys)
+pub cuts_more : (e : SimulateError) (old mid new : Option (List ℕ)) (xs ys : List (List ℕ)) → Prints old mid xs →
+    CutsOff e mid new ys → CutsOff e old new (xs ++ ys)
 cuts_more (errors.Script line) old mid new xs ys a c = c
 cuts_more errors.OutOfMemory old mid new xs ys a c = begins_more old mid new xs ys a c
 cuts_more errors.Output old mid new xs ys a c = tt
@@ -71,13 +86,16 @@ between_none datagrams n =
 
 range_suc : (a n : ℕ) → range_with_len a (suc n) ≡ range_with_len a n ++ (a + n) ∷ []
 range_suc a zero = ap (λ (x : ℕ). x ∷ []) (omega arith)
-range_suc a (suc n) = ap (λ (t : List ℕ). a ∷ t) (range_suc (a + 1) n ∙ ap (λ (x : ℕ). range_with_len (a + 1) n ++ x ∷ []) (omega arith))
+range_suc a (suc n) =
+    ap (λ (t : List ℕ). a ∷ t) (range_suc (a + 1) n ∙ ap (λ (x : ℕ). range_with_len (a + 1) n ++ x ∷ []) (omega arith))
 
-range_next : (first n : ℕ) → first ≤ n → range_with_len first (n + 1 - first) ≡ range_with_len first (n - first) ++ n ∷ []
+range_next : (first n : ℕ) → first ≤ n → range_with_len first (n + 1 - first) ≡ range_with_len first (n - first) ++ n ∷
+    []
 range_next first n le =
     let more : n + 1 - first ≡ suc (n - first) = omega arith in
     let last : first + (n - first) ≡ n = omega arith in
-    ap (λ (k : ℕ). range_with_len first k) more ∙ range_suc first (n - first) ∙ ap (λ (k : ℕ). range_with_len first (n - first) ++ k ∷ []) last
+    ap (λ (k : ℕ). range_with_len first k) more ∙ range_suc first (n - first) ∙
+    ap (λ (k : ℕ). range_with_len first (n - first) ++ k ∷ []) last
 
 -- one more
 pub between_more : (datagrams : List (ℕ × List ℕ)) (first n : ℕ) → first ≤ n

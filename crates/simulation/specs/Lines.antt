@@ -15,7 +15,8 @@ use Rattle.collective_steps.specs.declared.step.Ending.TheVariants as endings
 use Rattle.communicators.specs.declared.question.CommunicatorComparison.{CommunicatorComparison}
 use Rattle.communicators.specs.declared.question.CommunicatorComparison.TheVariants as comparisons
 use Rattle.datagram.specs.Reading.{datagram_of}
-use Rattle.datagram.specs.Spelling.{AckBody, BodyText, ClearFrame, DataFrame, DatagramText, EagerFrame, FrameBody, FrameText, RequestFrame, ResetBody}
+use Rattle.datagram.specs.Spelling.{AckBody, BodyText, ClearFrame, DataFrame, DatagramText, EagerFrame, FrameBody}
+use Rattle.datagram.specs.Spelling.{FrameText, RequestFrame, ResetBody}
 use Rattle.datagram.specs.declared.refusal.DatagramRefusal as datagrams
 use Rattle.engine_calls.specs.declared.reply.Completion.{Completion}
 use Rattle.engine_calls.specs.declared.reply.Completion.TheVariants as completions
@@ -50,7 +51,8 @@ abbrev pub outcome_line : Outcome → List ℕ
 outcome_line outcomes.Sent = codes "sent"
 outcome_line (outcomes.Received status buffer) = status_text status ++ codes " data" ++ elements_text buffer
 outcome_line (outcomes.Ended failure status buffer) =
-    codes "error " ++ decimal (number_of_failure failure) ++ codes " " ++ status_text status ++ codes " data" ++ elements_text buffer
+    codes "error " ++ decimal (number_of_failure failure) ++ codes " " ++ status_text status ++ codes " data" ++
+    elements_text buffer
 outcome_line (outcomes.Replaced None) = error_line 11
 outcome_line (outcomes.Replaced (Some buffer)) = codes "error 11 data" ++ elements_text buffer
 outcome_line (outcomes.Cancelled buffer) = codes "cancelled data" ++ elements_text buffer

@@ -20,7 +20,8 @@ lines_at number (Some (rank, bytes)) = datagram_lines number bytes
 
 -- the lines of the datagrams from this number on, below that one
 abbrev pub lines_between : List (ℕ × List ℕ) → (first end : ℕ) → List (List ℕ)
-lines_between datagrams first end = flat_map (λ number. lines_at number (slice_get datagrams number)) (range_with_len first (end - first))
+lines_between datagrams first end =
+    flat_map (λ number. lines_at number (slice_get datagrams number)) (range_with_len first (end - first))
 
 -- the lines of so many datagrams, from this number on; no datagram's number is the greatest that 64 bits hold
 abbrev pub emitted_lines : List (ℕ × List ℕ) → (first count : ℕ) → List (List ℕ)
@@ -38,7 +39,8 @@ completed_lines rank (Some completion) = completion_line rank completion ∷ []
 
 -- what an event answered, then what went out, then the answer of a blocked call
 abbrev pub entry_lines : HistoryEntry → (emitted : List (List ℕ)) → List (List ℕ)
-entry_lines entry emitted = answered_line entry.reply ∷ (emitted ++ completed_lines entry.endpoint.rank entry.completion)
+entry_lines entry emitted = answered_line entry.reply ∷
+    (emitted ++ completed_lines entry.endpoint.rank entry.completion)
 
 abbrev pub entry_lines_of : Option HistoryEntry → (emitted : List (List ℕ)) → List (List ℕ)
 entry_lines_of None emitted = []
@@ -46,7 +48,8 @@ entry_lines_of (Some entry) emitted = entry_lines entry emitted
 
 -- the lines of a step that was taken, by the world behind it
 abbrev pub stepped_lines : WorldState → Stepped → List (List ℕ)
-stepped_lines w added = entry_lines_of (slice_get w.history added.place) (emitted_lines w.datagrams added.first added.count)
+stepped_lines w added =
+    entry_lines_of (slice_get w.history added.place) (emitted_lines w.datagrams added.first added.count)
 
 -- the line of a reset that went out with a refusal, if one did
 abbrev pub reset_lines : WorldState → (reset : Option ℕ) → List (List ℕ)

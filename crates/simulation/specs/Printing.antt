@@ -17,7 +17,8 @@ Prints old new lines = Appends old new (text_of lines)
 abbrev pub PrintsBeginning : (old new : Option (List ℕ)) → List (List ℕ) → Type 0
 PrintsBeginning old new lines = (first rest : List (List ℕ)) × (lines ≡ first ++ rest) × Prints old new first
 
--- Printing these lines was cut off: for want of memory behind one of them. Where the output failed, what it took isn't known
+-- Printing these lines was cut off: for want of memory behind one of them. Where the output failed, what it took isn't
+-- known
 abbrev pub CutsOff : SimulateError → (old new : Option (List ℕ)) → List (List ℕ) → Type 0
 CutsOff (errors.Script line) old new lines = ⊥
 CutsOff errors.OutOfMemory old new lines = PrintsBeginning old new lines

@@ -2,22 +2,24 @@
 
 ghost use Rattle.std.specs.Prelude.{◌≡◌, ◌∷◌, ◌++◌, ◌+◌, ◌-◌, ◌≤◌, ◌^◌, min, [], Bool, IfErr, OnOk, slice_get, Some};
 ghost use Rattle.simulation.specs.Printing.{CutsOff, Prints};
-ghost use Rattle.simulation.specs.Printed.{answered_line, completed_lines, emitted_lines, entry_lines, lines_at, lines_between, refused_lines, reset_lines, stepped_lines, told_lines};
+ghost use Rattle.simulation.specs.Printed.{answered_line, completed_lines, emitted_lines, entry_lines, lines_at};
+ghost use Rattle.simulation.specs.Printed.{lines_between, refused_lines, reset_lines, stepped_lines, told_lines};
 
-use engine::{Completion, Reply};
 use crate::{
     SimulateError, print_completion, print_datagram, print_position, print_refusal, print_reply,
     print_taken,
 };
+use engine::{Completion, Reply};
 use interpreter::Told;
 use std::alloc::Global;
 use std::io;
 use std::io::Write;
-use world::{HistoryEntry, Failed, Stepped, World};
+use world::{Failed, HistoryEntry, Stepped, World};
 
 /// The datagram of this number, if there is one.
 fn print_at<W: Write>(world: &World, number: usize, out: &mut W) -> io::Result<()>
-    ensures { OnOk result (Prints (W.contents out.old) (W.contents out.new) (lines_at number (slice_get world.now.datagrams number))) }
+    ensures { OnOk result
+        (Prints (W.contents out.old) (W.contents out.new) (lines_at number (slice_get world.now.datagrams number))) }
 {
     match world.datagram(number) {
         Some((_rank, bytes)) => print_datagram(number, bytes, out),
@@ -29,7 +31,8 @@ fn print_at<W: Write>(world: &World, number: usize, out: &mut W) -> io::Result<(
 #[tactic(auto, using(crate::proofs::PrintLaws::between_none, crate::proofs::PrintLaws::between_more, crate::proofs::PrintLaws::prints_more, crate::proofs::PrintLaws::prints_none))]
 fn print_between<W: Write>(world: &World, first: usize, end: usize, out: &mut W) -> io::Result<()>
     requires { first ≤ end }
-    ensures { OnOk result (Prints (W.contents out.old) (W.contents out.new) (lines_between world.now.datagrams first end)) }
+    ensures { OnOk result
+        (Prints (W.contents out.old) (W.contents out.new) (lines_between world.now.datagrams first end)) }
 {
     for number in first..end {
         print_at(world, number, out)?;
@@ -39,7 +42,8 @@ fn print_between<W: Write>(world: &World, first: usize, end: usize, out: &mut W)
 
 /// So many datagrams that a world emitted, from this number on.
 fn print_emitted<W: Write>(world: &World, first: usize, count: usize, out: &mut W) -> io::Result<()>
-    ensures { OnOk result (Prints (W.contents out.old) (W.contents out.new) (emitted_lines world.now.datagrams first count)) }
+    ensures { OnOk result
+        (Prints (W.contents out.old) (W.contents out.new) (emitted_lines world.now.datagrams first count)) }
 {
     print_between(world, first, first.saturating_add(count), out)
 }
@@ -67,7 +71,8 @@ fn print_completed<W: Write>(
     out: &mut W,
 ) -> Result<(), SimulateError>
     ensures ok { OnOk result (Prints (W.contents out.old) (W.contents out.new) (completed_lines rank completion.now)) }
-    ensures err { IfErr result (λ e. CutsOff e (W.contents out.old) (W.contents out.new) (completed_lines rank completion.now)) }
+    ensures err { IfErr result
+        (λ e. CutsOff e (W.contents out.old) (W.contents out.new) (completed_lines rank completion.now)) }
 {
     match completion {
         Some(completion) => print_completion(alloc, rank, completion, out),

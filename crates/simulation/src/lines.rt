@@ -4,18 +4,20 @@ ghost use Rattle.std.specs.Prelude.{◌≡◌, ◌∷◌, [], map, IfErr, IfOk, 
 ghost use Rattle.printed_lines.specs.Answers.{answer_text, emission_text, outcome_text};
 ghost use Rattle.printed_lines.specs.CommunicatorTexts.{position_text};
 ghost use Rattle.datagram.specs.Spelling.{content_text, datagram_text};
-ghost use Rattle.simulation.specs.Lines.{answer_line, compared, completion_line, datagram_lines, emission_of, ending_line, fact_line, kind_of_body, match_line, outcome_line, outcomes_line, probe_line, refusal_line, reply_line, taken_line, told_line};
+ghost use Rattle.simulation.specs.Lines.{answer_line, compared, completion_line, datagram_lines, emission_of};
+ghost use Rattle.simulation.specs.Lines.{ending_line, fact_line, kind_of_body, match_line, outcome_line, outcomes_line};
+ghost use Rattle.simulation.specs.Lines.{probe_line, refusal_line, reply_line, taken_line, told_line};
 ghost use Rattle.simulation.specs.Printing.{CutsOff, Prints};
 
 use crate::error::SimulateError;
-use printed_lines::{
-    CommunicatorText, ComparisonText, EmissionText, FrameKind, LoadText, MembersText, MessageText,
-    OutcomeText, PositionText, RouteText, StatusText,
-};
 use collective_steps::Ending;
 use communicators::CommunicatorComparison;
 use datagram::{Content, Datagram, Frame};
 use engine_calls::{Completion, Fact, Reply};
+use printed_lines::{
+    CommunicatorText, ComparisonText, EmissionText, FrameKind, LoadText, MembersText, MessageText,
+    OutcomeText, PositionText, RouteText, StatusText,
+};
 use requests::{Answer, Outcome, Request};
 use std::alloc::{AllocError, Global};
 use std::io;
@@ -51,7 +53,8 @@ fn print_told<W: Write>(
     text: &printed_lines::AnswerText<'_>,
     out: &mut W,
 ) -> io::Result<()>
-    ensures { OnOk result (Prints (W.contents out.old) (W.contents out.new) (told_line caller (answer_text text.now) ∷ [])) }
+    ensures { OnOk result (Prints (W.contents out.old) (W.contents out.new) (told_line caller (answer_text text.now) ∷
+        [])) }
 {
     match caller {
         Some(rank) => writeln!(out, "{rank} {text}"),
@@ -78,11 +81,18 @@ fn print_outcomes<W: Write>(
     outcomes: &[Outcome],
     out: &mut W,
 ) -> Result<(), SimulateError>
-    ensures ok { OnOk result (Prints (W.contents out.old) (W.contents out.new) (told_line caller (outcomes_line outcomes.now) ∷ [])) }
-    ensures err { IfErr result (λ e. CutsOff e (W.contents out.old) (W.contents out.new) (told_line caller (outcomes_line outcomes.now) ∷ [])) }
+    ensures ok { OnOk result (Prints (W.contents out.old) (W.contents out.new) (told_line caller (outcomes_line outcomes.now) ∷
+        [])) }
+    ensures err { IfErr result
+        (λ e. CutsOff e (W.contents out.old) (W.contents out.new) (told_line caller (outcomes_line outcomes.now) ∷
+        [])) }
 {
     let texts = outcome_texts(alloc, outcomes)?;
-    print_told(caller, &printed_lines::AnswerText::All(texts.as_slice()), out)?;
+    print_told(
+        caller,
+        &printed_lines::AnswerText::All(texts.as_slice()),
+        out,
+    )?;
     Ok(())
 }
 
@@ -93,8 +103,10 @@ fn print_answer<W: Write>(
     answer: &Answer,
     out: &mut W,
 ) -> Result<(), SimulateError>
-    ensures ok { OnOk result (Prints (W.contents out.old) (W.contents out.new) (told_line caller (answer_line answer.now) ∷ [])) }
-    ensures err { IfErr result (λ e. CutsOff e (W.contents out.old) (W.contents out.new) (told_line caller (answer_line answer.now) ∷ [])) }
+    ensures ok { OnOk result (Prints (W.contents out.old) (W.contents out.new) (told_line caller (answer_line answer.now) ∷
+        [])) }
+    ensures err { IfErr result
+        (λ e. CutsOff e (W.contents out.old) (W.contents out.new) (told_line caller (answer_line answer.now) ∷ [])) }
 {
     let text = match answer {
         Answer::One(outcome) => printed_lines::AnswerText::One(outcome_text(outcome)),
@@ -144,7 +156,9 @@ fn fact_text(fact: &Fact) -> printed_lines::AnswerText<'_>
     match fact {
         Fact::Number(_) => printed_lines::AnswerText::Done,
         Fact::Ranks(ranks) => printed_lines::AnswerText::Members(MembersText { ranks }),
-        Fact::Compares(comparison) => { printed_lines::AnswerText::Comparison(compared(*comparison)) }
+        Fact::Compares(comparison) => {
+            printed_lines::AnswerText::Comparison(compared(*comparison))
+        }
     }
 }
 
@@ -193,7 +207,8 @@ pub fn print_completion<W: Write>(
     out: &mut W,
 ) -> Result<(), SimulateError>
     ensures ok { OnOk result (Prints (W.contents out.old) (W.contents out.new) (completion_line rank completion.now ∷ [])) }
-    ensures err { IfErr result (λ e. CutsOff e (W.contents out.old) (W.contents out.new) (completion_line rank completion.now ∷ [])) }
+    ensures err { IfErr result (λ e. CutsOff e (W.contents out.old) (W.contents out.new) (completion_line rank completion.now ∷
+        [])) }
 {
     match completion {
         Completion::Requests(answer) => print_answer(alloc, Some(rank), answer, out),

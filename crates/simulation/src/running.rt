@@ -2,11 +2,11 @@
 
 use crate::event_printing::{print_refused, print_stepped, print_told};
 use crate::ranks::RankNames;
+use crate::{SimulateError, print_refusal};
 use engine::Call;
 use event_files::{EventLine, EventStatement, parse};
-use crate::{SimulateError, print_refusal};
+use interpreter::{AnswerEffect, StatementCall};
 use line_diagnostics::LineFault;
-use interpreter::{StatementCall, AnswerEffect};
 use script_calls::Pending;
 use statements::{Action, ParseError};
 use std::alloc::{AllocError, Global};
@@ -33,7 +33,8 @@ struct PendingCall {
     pending: Pending,
 }
 
-/// Whether what a call answers isn't printed by itself: it is one question of a statement that prints one line, or none.
+/// Whether what a call answers isn't printed by itself: it is one question of a statement that prints one line, or
+/// none.
 fn is_silent(pending: &Pending) -> bool {
     matches!(
         pending,
@@ -56,7 +57,8 @@ fn call_of(event: Event) -> Option<Call> {
 }
 
 impl Simulation {
-    /// A world of so many ranks in which nothing happened yet. Refused for want of memory, and for a number outside 1 to 1,024.
+    /// A world of so many ranks in which nothing happened yet. Refused for want of memory, and for a number outside 1
+    /// to 1,024.
     pub fn new(alloc: Global, size: u16) -> Result<Simulation, SimulateError> {
         match World::new(alloc, size) {
             Ok(world) => Ok(Simulation {
@@ -114,8 +116,8 @@ impl Simulation {
         }
     }
 
-    /// The names of the last event's rank take what its blocked call answered, if that is answered now. Answers what follows, and
-    /// at which rank.
+    /// The names of the last event's rank take what its blocked call answered, if that is answered now. Answers what
+    /// follows, and at which rank.
     fn hear_completion(&mut self) -> Result<Option<(u16, AnswerEffect)>, SimulateError> {
         let Some(entry) = self.world.history().last() else {
             return Ok(None);
@@ -169,8 +171,8 @@ impl Simulation {
         self.follow(silent, heard, out)
     }
 
-    /// A call that was refused: its buffer, if it has one, is here again. A communicator that was made has a rank in it, so that it can't
-    /// be asked is for want of memory.
+    /// A call that was refused: its buffer, if it has one, is here again. A communicator that was made has a rank in
+    /// it, so that it can't be asked is for want of memory.
     fn call_refused<W: Write>(
         &mut self,
         rank: u16,
@@ -248,8 +250,14 @@ impl Simulation {
         }
     }
 
-    /// What a statement asks for, if it can be followed; else its line is faulty, and why is found as far as memory lasts.
-    fn ask(&mut self, rank: u16, line: usize, action: Action) -> Result<StatementCall, SimulateError> {
+    /// What a statement asks for, if it can be followed; else its line is faulty, and why is found as far as memory
+    /// lasts.
+    fn ask(
+        &mut self,
+        rank: u16,
+        line: usize,
+        action: Action,
+    ) -> Result<StatementCall, SimulateError> {
         let Some(names) = self.ranks.get_mut(&rank) else {
             drop(action);
             return Ok(StatementCall::Nothing);
@@ -281,7 +289,11 @@ impl Simulation {
         }
         match self.ask(rank, line, action)? {
             StatementCall::Nothing => Ok(()),
-            StatementCall::Call(call, pending) => self.call(rank, PendingCall { call, pending }, out),
+            StatementCall::Call(call, pending) => self.call(
+                rank,
+                PendingCall { call, pending },
+                out,
+            ),
             StatementCall::Refused(number) => Ok(print_refusal(number, out)?),
             StatementCall::Faulty => Err(SimulateError::Script(line)),
         }
@@ -313,7 +325,11 @@ impl Simulation {
         Ok(())
     }
 
-    fn run_all<W: Write>(&mut self, lines: Vec<EventLine>, out: &mut W) -> Result<(), SimulateError> {
+    fn run_all<W: Write>(
+        &mut self,
+        lines: Vec<EventLine>,
+        out: &mut W,
+    ) -> Result<(), SimulateError> {
         for line in lines {
             self.run(line, out)?;
         }
@@ -326,7 +342,8 @@ impl Simulation {
 pub struct Stopped {
     /// Why it didn't run to its end.
     pub error: SimulateError,
-    /// Why the line that it stopped at can't be followed, where it was reached; none where it is no statement, or for want of memory.
+    /// Why the line that it stopped at can't be followed, where it was reached; none where it is no statement, or for
+    /// want of memory.
     pub fault: Option<LineFault>,
 }
 
@@ -340,8 +357,8 @@ impl Stopped {
 /// Runs a file of events, and prints the answer of each.
 ///
 /// The whole file is read before anything runs. `Script` names the first line that is no statement, or the line at
-/// which a name that isn't set, or a buffer that is lent, was used; what ran before that is printed. The fault says which name, where
-/// the line was reached.
+/// which a name that isn't set, or a buffer that is lent, was used; what ran before that is printed. The fault says
+/// which name, where the line was reached.
 pub fn simulate_or_tell<W: Write>(alloc: Global, text: &[u8], out: &mut W) -> Result<(), Stopped> {
     let file = match parse(alloc, text) {
         Ok(file) => file,

@@ -1,7 +1,7 @@
 //! The texts of answers.
 
-use printed_lines::*;
 use datatypes::Buffer;
+use printed_lines::*;
 use std::alloc::Global;
 use vocabulary::{BasicType, Endpoint, Source, Status};
 
@@ -51,8 +51,14 @@ fn answers_with_data(alloc: Global) -> Option<usize> {
             AnswerText::Index(12, OutcomeText::Ended(10, FROM_ANY, &held)),
             "index 12 error 10 source null tag any count 0 data -1 7",
         ),
-        (AnswerText::One(OutcomeText::Lost(&held)), "error 11 data -1 7"),
-        (AnswerText::All(&several), "cancelled data -1 7; sent; error 11"),
+        (
+            AnswerText::One(OutcomeText::Lost(&held)),
+            "error 11 data -1 7",
+        ),
+        (
+            AnswerText::All(&several),
+            "cancelled data -1 7; sent; error 11",
+        ),
         (AnswerText::Data(&held), "data -1 7"),
         (AnswerText::Data(&empty), "data"),
     ] {
@@ -81,7 +87,10 @@ fn answers_are_written(rt: HostRuntime) {
         (AnswerText::Started(12), "request 12"),
         (AnswerText::Blocked, "blocked"),
         (AnswerText::Refused(51), "refused 51"),
-        (AnswerText::One(OutcomeText::Null), "source any tag any count 0"),
+        (
+            AnswerText::One(OutcomeText::Null),
+            "source any tag any count 0",
+        ),
         (AnswerText::IndexUndefined, "index undefined"),
         (AnswerText::All(&[OutcomeText::Sent]), "sent"),
         (AnswerText::All(&[]), "done"),
@@ -105,7 +114,10 @@ fn answers_are_written(rt: HostRuntime) {
         ),
         (AnswerText::Members(MembersText { ranks: &[7] }), "7"),
         (AnswerText::Comparison(ComparisonText::Ident), "ident"),
-        (AnswerText::Comparison(ComparisonText::Congruent), "congruent"),
+        (
+            AnswerText::Comparison(ComparisonText::Congruent),
+            "congruent",
+        ),
         (AnswerText::Comparison(ComparisonText::Similar), "similar"),
         (AnswerText::Comparison(ComparisonText::Unequal), "unequal"),
         (AnswerText::Pending, "pending"),

@@ -1,4 +1,5 @@
-//! The lines of a file of events are read, and a faulty line is named. What each statement does is shown by rows of `mpisim_cases`.
+//! The lines of a file of events are read, and a faulty line is named. What each statement does is shown by rows of
+//! `mpisim_cases`.
 
 use crate::rows::{Language, first_wrong, is_refused};
 use event_files::*;
@@ -92,7 +93,8 @@ fn sum_and_good(lines: &[EventLine]) -> (usize, usize) {
     (sum, good)
 }
 
-/// How many ranks the row asks for, how many lines there are, the sum of their numbers, and how many are as the row says.
+/// How many ranks the row asks for, how many lines there are, the sum of their numbers, and how many are as the row
+/// says.
 fn every_statement(alloc: Global) -> Option<(u16, usize, usize, usize)> {
     let EventFile { size, lines } = parse(alloc, EVERY_STATEMENT.as_bytes()).ok()?;
     let (sum, good) = sum_and_good(lines.as_slice());

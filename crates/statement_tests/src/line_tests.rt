@@ -1,9 +1,9 @@
 //! The lines of a text, and what their words stand for.
 
 use crate::rows::is_read;
-use tokens::*;
 use statements::action_of;
 use std::alloc::Global;
+use tokens::*;
 use vocabulary::BasicType;
 
 /// How many lines a text has, and how many words in all the lines that aren't skipped.

@@ -1,9 +1,9 @@
 //! What names stand for in a table.
 
-use tokens::Name;
 use script_calls::Table;
 use std::alloc::{AllocError, Global};
 use std::hash::{BuildHasher, BuildHasherDefault, FoldHasher};
+use tokens::Name;
 
 fn name(alloc: Global, word: &str) -> Result<Name, AllocError> {
     Name::from_slice(alloc, word.as_bytes())

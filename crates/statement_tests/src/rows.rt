@@ -1,7 +1,7 @@
 //! What rows of texts ask of what was read.
 
-use tokens::{LineError, ParseError};
 use std::alloc::Global;
+use tokens::{LineError, ParseError};
 
 /// The line that the text was found faulty at. What was read of it is dropped.
 fn line_of_fault<T: Drop>(read: Result<T, ParseError>) -> Option<usize> {

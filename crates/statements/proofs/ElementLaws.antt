@@ -1,12 +1,15 @@
 -- The elements of a buffer: reading and the grammar agree.
-use Rattle.std.proofs.Common.{◌≡◌, ℕ, zero, suc, ◌+◌, ◌-◌, ◌/◌, ◌<◌, ◌≤◌, Bool, true, false, cond, eqb, leb, ltb, List, [], ◌∷◌, ◌++◌, length, get_or, take, drop, replicate, Option, Some, None, refl, sym, ap, subst, ◌∙◌, arith, inl, inr}
+use Rattle.std.proofs.Common.{◌≡◌, ℕ, zero, suc, ◌+◌, ◌-◌, ◌/◌, ◌<◌, ◌≤◌, Bool, true, false, cond, eqb, leb, ltb, List}
+use Rattle.std.proofs.Common.{[], ◌∷◌, ◌++◌, length, get_or, take, drop, replicate, Option, Some, None, refl, sym, ap}
+use Rattle.std.proofs.Common.{subst, ◌∙◌, arith, inl, inr}
 use Rattle.std.specs.Prelude.{◌⊎◌, ◌&&◌}
 use Rattle.std.specs.List.{position}
 use Rattle.std.specs.Char.{is_ascii_digit}
 use Rattle.std.specs.Str.{all_ascii_digits}
 use Rattle.std.proofs.lemmas.Bool.{eqb-true, eq-eqb, ltb-true, leb-true, le-leb, lt-ltb, false≢true}
 use Rattle.vocabulary.specs.declared.basic_type.BasicType.{BasicType}
-use Rattle.vocabulary.specs.declared.basic_type.BasicType.TheVariants.{Int8, Int16, Int32, Int64, Uint8, Uint16, Uint32, Uint64, Byte}
+use Rattle.vocabulary.specs.declared.basic_type.BasicType.TheVariants.{Int8, Int16, Int32, Int64, Uint8, Uint16, Uint32}
+use Rattle.vocabulary.specs.declared.basic_type.BasicType.TheVariants.{Uint64, Byte}
 use Rattle.datatypes.specs.Elements.{has_sign, numbers_of, number_of_value}
 use Rattle.statements.specs.Grammar.{IsAbove, IsValue, AreValues, AreElements}
 use Rattle.tokens.specs.Grammar.{Word, IsNumeral}
@@ -23,7 +26,8 @@ positive (suc m) e = omega arith
 
 -- ---- one value
 
-below_takes : (N m n : ℕ) (sign : Bool) → cond sign (cond (eqb m 0) (Some 0) (cond (leb m (N / 2)) (Some (N - m)) None)) None ≡ Some n
+below_takes : (N m n : ℕ) (sign : Bool) →
+    cond sign (cond (eqb m 0) (Some 0) (cond (leb m (N / 2)) (Some (N - m)) None)) None ≡ Some n
     → (sign ≡ true) × (m ≤ N / 2) × (((m ≡ 0) × (n ≡ 0)) ⊎ ((0 < m) × (n + m ≡ N)))
 below_takes N m n sign e =
     let P : ℕ → Type 0 = λ n. (sign ≡ true) × (m ≤ N / 2) × (((m ≡ 0) × (n ≡ 0)) ⊎ ((0 < m) × (n + m ≡ N))) in
@@ -31,7 +35,8 @@ below_takes N m n sign e =
     (λ s f. pick P (eqb m 0) (Some 0) (cond (leb m (N / 2)) (Some (N - m)) None) n
     (λ z g. let is : m ≡ 0 = eqb-true m 0 z in made P 0 n (s, omega arith, inl (is, refl)) g)
     (λ z g. pick P (leb m (N / 2)) (Some (N - m)) None n
-    (λ l k. let le : m ≤ N / 2 = leb-true _ _ l in let whole : N - m + m ≡ N = omega arith in made P (N - m) n (s, le, inr (positive m z, whole)) k)
+    (λ l k. let le : m ≤ N / 2 = leb-true _ _ l in let whole : N - m + m ≡ N = omega arith in made P (N - m) n
+    (s, le, inr (positive m z, whole)) k)
     (λ _ k. absurd cc) g) f)
     (λ _ f. absurd cc) e
 
@@ -52,7 +57,15 @@ value_takes basic word n e =
     let b = bind_ok (number_up_to 18446744073709551615 (drop 1 word)) (λ magnitude. number_of_value basic true magnitude) n f in
     let p = bounded_takes 18446744073709551615 (drop 1 word) b.0 b.1 in
     let q = below_takes (numbers_of basic) b.0 n (has_sign basic) b.2 in
-    inl (record { digits = drop 1 word; magnitude = b.0; spelled = dash_front word (eqb-true (get_or word 0 0) 45 t); numeral = p.0; signed = q.0; range = q.1; number_is = q.2 }))
+    inl (record {
+      digits = drop 1 word;
+      magnitude = b.0;
+      spelled = dash_front word (eqb-true (get_or word 0 0) 45 t);
+      numeral = p.0;
+      signed = q.0;
+      range = q.1;
+      number_is = q.2;
+    }))
     (λ t f.
     let b = bind_ok (number_up_to 18446744073709551615 word) (λ magnitude. number_of_value basic false magnitude) n f in
     let p = bounded_takes 18446744073709551615 word b.0 b.1 in
@@ -62,22 +75,37 @@ value_takes basic word n e =
 
 -- ---- copies
 
-copies_take : (basic : BasicType) (word : Word) (o : Option ℕ) (c : ℕ × ℕ) → position is_star word ≡ o → copies_at o basic word ≡ Some c → AreValues basic word (replicate c.0 c.1)
+copies_take : (basic : BasicType) (word : Word) (o : Option ℕ) (c : ℕ × ℕ) → position is_star word ≡ o →
+    copies_at o basic word ≡ Some c → AreValues basic word (replicate c.0 c.1)
 copies_take basic word None c is e =
     let b = bind_ok (value_of basic word) (λ number. Some (1, number)) c e in
-    made (λ (c : ℕ × ℕ). AreValues basic word (replicate c.0 c.1)) (1, b.0) c (inl (b.0, value_takes basic word b.0 b.1, refl)) b.2
+    made (λ (c : ℕ × ℕ). AreValues basic word (replicate c.0 c.1)) (1, b.0) c
+    (inl (b.0, value_takes basic word b.0 b.1, refl)) b.2
 copies_take basic word (Some i) c is e =
     let b = bind_ok (value_of basic (drop 1 (drop i word))) (λ number. count_of (take i word) >>= λ count. Some (count, number)) c e in
     let a = bind_ok (count_of (take i word)) (λ count. Some (count, b.0)) c b.2 in
     made (λ (c : ℕ × ℕ). AreValues basic word (replicate c.0 c.1)) (a.0, b.0) c
-    (inr (record { count_word = take i word; value_word = drop 1 (drop i word); count = a.0; number = b.0; spelled = mark_here 42 word i is; counted = count_takes (take i word) a.0 a.1; value = value_takes basic (drop 1 (drop i word)) b.0 b.1; copies = refl }))
+    (inr (record {
+      count_word = take i word;
+      value_word = drop 1 (drop i word);
+      count = a.0;
+      number = b.0;
+      spelled =
+          mark_here 42 word i is;
+      counted = count_takes (take i word) a.0 a.1;
+      value =
+          value_takes basic (drop 1 (drop i word)) b.0 b.1;
+      copies = refl;
+    }))
     a.2
 
-values_take : (basic : BasicType) (word : Word) (ns : List ℕ) → elements_of basic word ≡ Some ns → AreValues basic word ns
+values_take : (basic : BasicType) (word : Word) (ns : List ℕ) → elements_of basic word ≡ Some ns →
+    AreValues basic word ns
 unfolding copies_of
 values_take basic word ns e =
     let b = bind_ok (copies_of basic word) (λ copies. Some (replicate copies.0 copies.1)) ns e in
-    made (AreValues basic word) (replicate b.0.0 b.0.1) ns (copies_take basic word (position is_star word) b.0 refl b.1) b.2
+    made (AreValues basic word) (replicate b.0.0 b.0.1) ns (copies_take basic word (position is_star word) b.0 refl b.1)
+    b.2
 
 -- ---- values are read again
 
@@ -92,8 +120,10 @@ numbers_fit Uint32 = omega arith
 numbers_fit Uint64 = omega arith
 numbers_fit Byte = omega arith
 
-below_again : (N m n : ℕ) (sign : Bool) → sign ≡ true → m ≤ N / 2 → ((m ≡ 0) × (n ≡ 0)) ⊎ ((0 < m) × (n + m ≡ N)) → cond sign (cond (eqb m 0) (Some 0) (cond (leb m (N / 2)) (Some (N - m)) None)) None ≡ Some n
-below_again N m n sign s le (inl h) = let t : eqb m 0 ≡ true = eq-eqb m 0 h.0 in rw (s, t) (ap (λ (k : ℕ). Some k) (sym h.1))
+below_again : (N m n : ℕ) (sign : Bool) → sign ≡ true → m ≤ N / 2 → ((m ≡ 0) × (n ≡ 0)) ⊎ ((0 < m) × (n + m ≡ N)) →
+    cond sign (cond (eqb m 0) (Some 0) (cond (leb m (N / 2)) (Some (N - m)) None)) None ≡ Some n
+below_again N m n sign s le (inl h) =
+    let t : eqb m 0 ≡ true = eq-eqb m 0 h.0 in rw (s, t) (ap (λ (k : ℕ). Some k) (sym h.1))
 below_again N m n sign s le (inr h) =
     let t : eqb m 0 ≡ false = no_test (eqb m 0) (λ e. let z : m ≡ 0 = eqb-true m 0 e in omega (arith, h.0)) in
     let l : leb m (N / 2) ≡ true = le-leb _ _ le in
@@ -106,23 +136,32 @@ both false b e = absurd cc
 
 pub digit_front : (word : Word) (n : ℕ) → IsNumeral word n → eqb (get_or word 0 0) 45 ≡ false
 digit_front [] n h = absurd (h.some refl)
-digit_front (b ∷ bs) n h = no_test (eqb b 45) (λ e. let d : is_ascii_digit b ≡ true = (both (is_ascii_digit b) (all_ascii_digits bs) h.digits).0 in false≢true (ap is_ascii_digit (sym (eqb-true b 45 e)) ∙ d))
+digit_front (b ∷ bs) n h =
+    no_test (eqb b 45)
+    (λ e. let d : is_ascii_digit b ≡ true = (both (is_ascii_digit b) (all_ascii_digits bs) h.digits).0 in false≢true
+    (ap is_ascii_digit (sym (eqb-true b 45 e)) ∙ d))
 
-dashed_is : (basic : BasicType) (digits : Word) (m n : ℕ) → number_up_to 18446744073709551615 digits ≡ Some m → number_of_value basic true m ≡ Some n → value_of basic (45 ∷ digits) ≡ Some n
+dashed_is : (basic : BasicType) (digits : Word) (m n : ℕ) → number_up_to 18446744073709551615 digits ≡ Some m →
+    number_of_value basic true m ≡ Some n → value_of basic (45 ∷ digits) ≡ Some n
 unfolding value_of
 dashed_is basic digits m n e f = rw e f
 
-plain_is : (basic : BasicType) (word : Word) (n : ℕ) → eqb (get_or word 0 0) 45 ≡ false → number_up_to 18446744073709551615 word ≡ Some n → number_of_value basic false n ≡ Some n → value_of basic word ≡ Some n
+plain_is : (basic : BasicType) (word : Word) (n : ℕ) → eqb (get_or word 0 0) 45 ≡ false →
+    number_up_to 18446744073709551615 word ≡ Some n → number_of_value basic false n ≡ Some n →
+    value_of basic word ≡ Some n
 unfolding value_of
 plain_is basic word n t e f = rw (t, e) f
 
-below_value : (basic : BasicType) (m n : ℕ) → has_sign basic ≡ true → m ≤ numbers_of basic / 2 → ((m ≡ 0) × (n ≡ 0)) ⊎ ((0 < m) × (n + m ≡ numbers_of basic)) → number_of_value basic true m ≡ Some n
+below_value : (basic : BasicType) (m n : ℕ) → has_sign basic ≡ true → m ≤ numbers_of basic / 2 →
+    ((m ≡ 0) × (n ≡ 0)) ⊎ ((0 < m) × (n + m ≡ numbers_of basic)) → number_of_value basic true m ≡ Some n
 unfolding number_of_value
 below_value basic m n s le h = below_again (numbers_of basic) m n (has_sign basic) s le h
 
-above_value : (basic : BasicType) (n : ℕ) → n < cond (has_sign basic) (numbers_of basic / 2) (numbers_of basic) → number_of_value basic false n ≡ Some n
+above_value : (basic : BasicType) (n : ℕ) → n < cond (has_sign basic) (numbers_of basic / 2) (numbers_of basic) →
+    number_of_value basic false n ≡ Some n
 unfolding number_of_value
-above_value basic n lt = let t : ltb n (cond (has_sign basic) (numbers_of basic / 2) (numbers_of basic)) ≡ true = lt-ltb _ _ lt in rw t refl
+above_value basic n lt =
+    let t : ltb n (cond (has_sign basic) (numbers_of basic / 2) (numbers_of basic)) ≡ true = lt-ltb _ _ lt in rw t refl
 
 bound_fits : (N : ℕ) (sign : Bool) → N ≤ 18446744073709551616 → cond sign (N / 2) N ≤ 18446744073709551616
 bound_fits N true le = omega arith
@@ -132,50 +171,69 @@ value_again : (basic : BasicType) (word : Word) (n : ℕ) → IsValue basic word
 value_again basic word n (inl h) =
     let fits : h.magnitude ≤ 18446744073709551615 = omega (arith, h.range, numbers_fit basic) in
     ap (value_of basic) h.spelled
-    ∙ dashed_is basic h.digits h.magnitude n (bounded_again 18446744073709551615 h.digits h.magnitude h.numeral fits) (below_value basic h.magnitude n h.signed h.range h.number_is)
+    ∙ dashed_is basic h.digits h.magnitude n (bounded_again 18446744073709551615 h.digits h.magnitude h.numeral fits)
+    (below_value basic h.magnitude n h.signed h.range h.number_is)
 value_again basic word n (inr h) =
     let fits : n ≤ 18446744073709551615 = omega (arith, h.range, bound_fits (numbers_of basic) (has_sign basic) (numbers_fit basic)) in
-    plain_is basic word n (digit_front word n h.numeral) (bounded_again 18446744073709551615 word n h.numeral fits) (above_value basic n h.range)
+    plain_is basic word n (digit_front word n h.numeral) (bounded_again 18446744073709551615 word n h.numeral fits)
+    (above_value basic n h.range)
 
 -- ---- copies are read again
 
 value_plain : (basic : BasicType) (word : Word) (n : ℕ) → IsValue basic word n → HasNo 42 word
-value_plain basic word n (inl h) = subst (HasNo 42) (sym h.spelled) (refl, digits_plain 42 h.digits refl h.numeral.digits)
+value_plain basic word n (inl h) =
+    subst (HasNo 42) (sym h.spelled) (refl, digits_plain 42 h.digits refl h.numeral.digits)
 value_plain basic word n (inr h) = digits_plain 42 word refl h.numeral.digits
 
-one_copy : (basic : BasicType) (word : Word) (n : ℕ) → position is_star word ≡ None → value_of basic word ≡ Some n → copies_of basic word ≡ Some (1, n)
+one_copy : (basic : BasicType) (word : Word) (n : ℕ) → position is_star word ≡ None → value_of basic word ≡ Some n →
+    copies_of basic word ≡ Some (1, n)
 unfolding copies_of
 one_copy basic word n p e = rw (p, e) refl
 
-more_copies : (basic : BasicType) (word front rest : Word) (i c n : ℕ) → position is_star word ≡ Some i → take i word ≡ front → drop 1 (drop i word) ≡ rest → count_of front ≡ Some c → value_of basic rest ≡ Some n → copies_of basic word ≡ Some (c, n)
+more_copies : (basic : BasicType) (word front rest : Word) (i c n : ℕ) → position is_star word ≡ Some i →
+    take i word ≡ front → drop 1 (drop i word) ≡ rest → count_of front ≡ Some c → value_of basic rest ≡ Some n →
+    copies_of basic word ≡ Some (c, n)
 unfolding copies_of
 more_copies basic word front rest i c n p t d k v =
     let k0 : count_of (take i word) ≡ Some c = ap count_of t ∙ k in
     let v0 : value_of basic (drop 1 (drop i word)) ≡ Some n = ap (value_of basic) d ∙ v in
     rw (p, k0, v0) refl
 
-copies_are : (basic : BasicType) (word : Word) (c n : ℕ) (ns : List ℕ) → copies_of basic word ≡ Some (c, n) → ns ≡ replicate c n → elements_of basic word ≡ Some ns
+copies_are : (basic : BasicType) (word : Word) (c n : ℕ) (ns : List ℕ) → copies_of basic word ≡ Some (c, n) →
+    ns ≡ replicate c n → elements_of basic word ≡ Some ns
 copies_are basic word c n ns e is = rw e (ap (λ (x : List ℕ). Some x) (sym is))
 
-values_again : (basic : BasicType) (word : Word) (ns : List ℕ) → AreValues basic word ns → elements_of basic word ≡ Some ns
-values_again basic word ns (inl h) = copies_are basic word 1 h.0 ns (one_copy basic word h.0 (no_place 42 word (value_plain basic word h.0 h.1)) (value_again basic word h.0 h.1)) h.2
+values_again : (basic : BasicType) (word : Word) (ns : List ℕ) → AreValues basic word ns →
+    elements_of basic word ≡ Some ns
+values_again basic word ns (inl h) =
+    copies_are basic word 1 h.0 ns
+    (one_copy basic word h.0 (no_place 42 word (value_plain basic word h.0 h.1)) (value_again basic word h.0 h.1)) h.2
 values_again basic word ns (inr h) =
     let spelled : Word = h.count_word ++ 42 ∷ h.value_word in
     let plain = digits_plain 42 h.count_word refl h.counted.digits in
     let there : copies_of basic spelled ≡ Some (h.count, h.number) =
-    more_copies basic spelled h.count_word h.value_word (length h.count_word) h.count h.number (a_place 42 h.count_word h.value_word plain) (take_front h.count_word (42 ∷ h.value_word)) (ap (drop 1) (drop_front h.count_word (42 ∷ h.value_word)))
+    more_copies basic spelled h.count_word h.value_word (length h.count_word) h.count h.number
+    (a_place 42 h.count_word h.value_word plain) (take_front h.count_word (42 ∷ h.value_word))
+    (ap (drop 1) (drop_front h.count_word (42 ∷ h.value_word)))
     (count_again h.count_word h.count h.counted) (value_again basic h.value_word h.number h.value) in
     copies_are basic word h.count h.number ns (ap (copies_of basic) h.spelled ∙ there) h.copies
 
-pub elements_take : (basic : BasicType) (words : List Word) (ns : List ℕ) → each (elements_of basic) words ≡ Some ns → AreElements basic words ns
+pub elements_take : (basic : BasicType) (words : List Word) (ns : List ℕ) → each (elements_of basic) words ≡ Some ns →
+    AreElements basic words ns
 unfolding each
 elements_take basic [] ns e = made (λ (x : List ℕ). x ≡ []) [] ns refl e
 elements_take basic (w ∷ ws) ns e =
     let a = bind_ok (elements_of basic w) (λ front. each (elements_of basic) ws >>= λ rest. Some (front ++ rest)) ns e in
-    let b = bind_ok (each (elements_of basic) ws) (λ rest. Some (a.0 ++ rest)) ns a.2 in
-    (a.0, b.0, values_take basic w a.0 a.1, elements_take basic ws b.0 b.1, made (λ (x : List ℕ). x ≡ a.0 ++ b.0) (a.0 ++ b.0) ns refl b.2)
+    let b = bind_ok (each (elements_of basic) ws) (λ rest. Some (a.0 ++ rest)) ns a.2 in (
+      a.0,
+      b.0,
+      values_take basic w a.0 a.1,
+      elements_take basic ws b.0 b.1,
+      made (λ (x : List ℕ). x ≡ a.0 ++ b.0) (a.0 ++ b.0) ns refl b.2,
+    )
 
-pub elements_again : (basic : BasicType) (words : List Word) (ns : List ℕ) → AreElements basic words ns → each (elements_of basic) words ≡ Some ns
+pub elements_again : (basic : BasicType) (words : List Word) (ns : List ℕ) → AreElements basic words ns →
+    each (elements_of basic) words ≡ Some ns
 unfolding each
 elements_again basic [] ns h = ap (λ (x : List ℕ). Some x) (sym h)
 elements_again basic (w ∷ ws) ns h =

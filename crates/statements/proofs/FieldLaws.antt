@@ -12,7 +12,8 @@ use Rattle.statements.specs.declared.action.LayoutClause.{LayoutClause}
 use Rattle.statements.specs.Grammar.{IsCommunicator, IsTarget, IsSource, IsTag, IsRequested, IsThrough}
 use Rattle.tokens.specs.Grammar.{Word, IsLarge, StandFor, NamesIt}
 use Rattle.tokens.specs.Numbers.{number_or}
-use Rattle.statements.specs.Reading.{one_request, communicator_of, target_of, source_of, tag_of, requested_of, behind_as, through_of}
+use Rattle.statements.specs.Reading.{one_request, communicator_of, target_of, source_of, tag_of, requested_of}
+use Rattle.statements.specs.Reading.{behind_as, through_of}
 use Rattle.tokens.specs.Fields.{first, end_of_line, each, name_of, rank_of, large_of}
 use Rattle.tokens.proofs.WordLaws.{bind_ok, made, pick, same_word, other_word, no_letters, capped_takes, capped_again}
 use Rattle.statements.proofs.FieldSteps.{two}
@@ -22,8 +23,10 @@ use Rattle.tokens.proofs.FieldLaws.{named_takes, named_again, rank_takes, rank_a
 pub communicator_takes : (word : Word) (c : CommunicatorName) → communicator_of word ≡ Some c → IsCommunicator word c
 unfolding communicator_of
 communicator_takes word c e =
-    pick (IsCommunicator word) (bytes_eq word (codes "world")) _ _ c (λ t. made (IsCommunicator word) communicators.World c (same_word word (codes "world") t)) (λ _.
-    pick (IsCommunicator word) (bytes_eq word (codes "self")) _ _ c (λ t. made (IsCommunicator word) communicators.Own c (same_word word (codes "self") t)) (λ _ f.
+    pick (IsCommunicator word) (bytes_eq word (codes "world")) _ _ c
+    (λ t. made (IsCommunicator word) communicators.World c (same_word word (codes "world") t)) (λ _.
+    pick (IsCommunicator word) (bytes_eq word (codes "self")) _ _ c
+    (λ t. made (IsCommunicator word) communicators.Own c (same_word word (codes "self") t)) (λ _ f.
     let b = bind_ok (name_of word) (λ name. Some (communicators.Named name)) c f in
     made (IsCommunicator word) (communicators.Named b.0) c (named_takes word b.0 b.1) b.2)) e
 
@@ -40,7 +43,8 @@ communicator_again word (communicators.Named name) h =
 pub target_takes : (word : Word) (r : Source) → target_of word ≡ Some r → IsTarget word r
 unfolding target_of
 target_takes word r e =
-    pick (IsTarget word) (bytes_eq word (codes "null")) _ _ r (λ t. made (IsTarget word) sources.Null r (same_word word (codes "null") t)) (λ _ f.
+    pick (IsTarget word) (bytes_eq word (codes "null")) _ _ r
+    (λ t. made (IsTarget word) sources.Null r (same_word word (codes "null") t)) (λ _ f.
     let b = bind_ok (rank_of word) (λ rank. Some (sources.Rank rank)) r f in
     made (IsTarget word) (sources.Rank b.0) r (rank_takes word b.0 b.1) b.2) e
 
@@ -56,8 +60,10 @@ target_again word (sources.Rank rank) h =
 pub source_takes : (word : Word) (r : Source) → source_of word ≡ Some r → IsSource word r
 unfolding source_of
 source_takes word r e =
-    pick (IsSource word) (bytes_eq word (codes "any")) _ _ r (λ t. made (IsSource word) sources.Any r (same_word word (codes "any") t)) (λ _.
-    pick (IsSource word) (bytes_eq word (codes "null")) _ _ r (λ t. made (IsSource word) sources.Null r (same_word word (codes "null") t)) (λ _ f.
+    pick (IsSource word) (bytes_eq word (codes "any")) _ _ r
+    (λ t. made (IsSource word) sources.Any r (same_word word (codes "any") t)) (λ _.
+    pick (IsSource word) (bytes_eq word (codes "null")) _ _ r
+    (λ t. made (IsSource word) sources.Null r (same_word word (codes "null") t)) (λ _ f.
     let b = bind_ok (rank_of word) (λ rank. Some (sources.Rank rank)) r f in
     made (IsSource word) (sources.Rank b.0) r (rank_takes word b.0 b.1) b.2)) e
 
@@ -74,7 +80,8 @@ source_again word (sources.Rank rank) h =
 pub tag_takes : (word : Word) (t : Option ℕ) → tag_of word ≡ Some t → IsTag word t
 unfolding tag_of
 tag_takes word tag e =
-    pick (IsTag word) (bytes_eq word (codes "any")) _ _ tag (λ t. made (IsTag word) None tag (same_word word (codes "any") t)) (λ _ f.
+    pick (IsTag word) (bytes_eq word (codes "any")) _ _ tag
+    (λ t. made (IsTag word) None tag (same_word word (codes "any") t)) (λ _ f.
     let b = bind_ok (number_or 4294967295 word) (λ n. Some (Some n)) tag f in
     made (IsTag word) (Some b.0) tag (capped_takes 4294967295 word b.0 b.1) b.2) e
 
@@ -89,7 +96,8 @@ tag_again word (Some n) h =
 pub requested_takes : (word : Word) (r : RequestName) → requested_of word ≡ Some r → IsRequested word r
 unfolding requested_of
 requested_takes word r e =
-    pick (IsRequested word) (bytes_eq word (codes "null")) _ _ r (λ t. made (IsRequested word) requests.Null r (same_word word (codes "null") t)) (λ _ f.
+    pick (IsRequested word) (bytes_eq word (codes "null")) _ _ r
+    (λ t. made (IsRequested word) requests.Null r (same_word word (codes "null") t)) (λ _ f.
     let b = bind_ok (name_of word) (λ name. Some (requests.Named name)) r f in
     made (IsRequested word) (requests.Named b.0) r (named_takes word b.0 b.1) b.2) e
 
@@ -101,10 +109,12 @@ requested_again word (requests.Named name) h =
     let t1 : name_of word ≡ Some name = named_again word name h in
     rw (t0, t1) refl
 
-pub requests_take : (words : List Word) (rs : List RequestName) → each one_request words ≡ Some rs → StandFor IsRequested words rs
+pub requests_take : (words : List Word) (rs : List RequestName) → each one_request words ≡ Some rs →
+    StandFor IsRequested words rs
 requests_take words rs e = all_take IsRequested requested_of requested_takes words rs e
 
-pub requests_again : (words : List Word) (rs : List RequestName) → StandFor IsRequested words rs → each one_request words ≡ Some rs
+pub requests_again : (words : List Word) (rs : List RequestName) → StandFor IsRequested words rs →
+    each one_request words ≡ Some rs
 requests_again words rs h = all_again IsRequested requested_of requested_again words rs h
 
 -- ---- `as L N`
@@ -113,7 +123,8 @@ through_made : Word → ℕ → LayoutClause
 through_made l n = record { layout = l; copies = n }
 
 IsBehind : List Word → LayoutClause → Type 0
-IsBehind words through = (layout copies : Word) × (words ≡ layout ∷ copies ∷ []) × NamesIt layout through.layout × IsLarge copies through.copies
+IsBehind words through = (layout copies : Word) × (words ≡ layout ∷ copies ∷ []) × NamesIt layout through.layout ×
+    IsLarge copies through.copies
 
 behind_takes : (words : List Word) (t : LayoutClause) → behind_as words ≡ Some t → IsBehind words t
 unfolding behind_as first end_of_line through_made IsBehind
@@ -138,10 +149,12 @@ no_layout : through_of [] ≡ Some None
 unfolding through_of
 no_layout = refl
 
-through_from : (a b : Word) (t : LayoutClause) → name_of a ≡ Some t.layout → large_of b ≡ Some t.copies → through_of (codes "as" ∷ a ∷ b ∷ []) ≡ Some (Some t)
+through_from : (a b : Word) (t : LayoutClause) → name_of a ≡ Some t.layout → large_of b ≡ Some t.copies →
+    through_of (codes "as" ∷ a ∷ b ∷ []) ≡ Some (Some t)
 unfolding through_of behind_as first end_of_line
 through_from a b t n c = rw (n, c) refl
 
 pub through_again : (words : List Word) (o : Option LayoutClause) → IsThrough words o → through_of words ≡ Some o
 through_again words None h = ap through_of h ∙ no_layout
-through_again words (Some t) h = ap through_of h.2 ∙ through_from h.0 h.1 t (named_again h.0 t.layout h.3) (large_again h.1 t.copies h.4)
+through_again words (Some t) h =
+    ap through_of h.2 ∙ through_from h.0 h.1 t (named_again h.0 t.layout h.3) (large_again h.1 t.copies h.4)

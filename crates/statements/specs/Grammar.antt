@@ -1,5 +1,6 @@
 -- The grammar of what ranks do: which words spell what.
-use Rattle.std.specs.Prelude.{◌≡◌, ◌⊎◌, ℤ, pos, neg_ℤ, ℕ, ◌+◌, ◌/◌, ◌<◌, ◌≤◌, true, List, [], ◌∷◌, ◌++◌, replicate, codes, Option, Some, None, if◌then◌else◌}
+use Rattle.std.specs.Prelude.{◌≡◌, ◌⊎◌, ℤ, pos, neg_ℤ, ℕ, ◌+◌, ◌/◌, ◌<◌, ◌≤◌, true, List, [], ◌∷◌, ◌++◌, replicate}
+use Rattle.std.specs.Prelude.{codes, Option, Some, None, if◌then◌else◌}
 use Rattle.vocabulary.specs.declared.basic_type.BasicType.{BasicType}
 use Rattle.vocabulary.specs.declared.envelope.Source.{Source}
 use Rattle.vocabulary.specs.declared.envelope.Source.TheVariants as sources
@@ -113,19 +114,22 @@ IsBuffer words line =
 abbrev pub IsThrough : List Word → Option LayoutClause → Type 0
 IsThrough words None = words ≡ []
 IsThrough words (Some through) =
-    (layout copies : Word) × (words ≡ codes "as" ∷ layout ∷ copies ∷ []) × NamesIt layout through.layout × IsLarge copies through.copies
+    (layout copies : Word) × (words ≡ codes "as" ∷ layout ∷ copies ∷ []) × NamesIt layout through.layout ×
+    IsLarge copies through.copies
 
 -- `COMM DEST TAG B`, and what stands behind it
 abbrev pub IsSending : List Word → Sending → Type 0
 IsSending words send =
     (communicator target tag buffer : Word) × (rest : List Word) × (words ≡ communicator ∷ target ∷ tag ∷ buffer ∷ rest)
-    × IsCommunicator communicator send.communicator × IsTarget target send.target × IsTag tag send.tag × NamesIt buffer send.buffer × IsThrough rest send.through
+    × IsCommunicator communicator send.communicator × IsTarget target send.target × IsTag tag send.tag ×
+    NamesIt buffer send.buffer × IsThrough rest send.through
 
 -- `COMM SRC TAG B`, and what stands behind it
 abbrev pub IsReceiving : List Word → Receiving → Type 0
 IsReceiving words receive =
     (communicator source tag buffer : Word) × (rest : List Word) × (words ≡ communicator ∷ source ∷ tag ∷ buffer ∷ rest)
-    × IsCommunicator communicator receive.communicator × IsSource source receive.source × IsTag tag receive.tag × NamesIt buffer receive.buffer
+    × IsCommunicator communicator receive.communicator × IsSource source receive.source × IsTag tag receive.tag ×
+    NamesIt buffer receive.buffer
     × IsThrough rest receive.through
 
 -- ---- probes and the messages that they find
@@ -139,7 +143,8 @@ IsProbing words probe =
 -- `B`, and what stands behind it
 abbrev pub IsLanding : List Word → Landing → Type 0
 IsLanding words landing =
-    (buffer : Word) × (rest : List Word) × (words ≡ buffer ∷ rest) × NamesIt buffer landing.buffer × IsThrough rest landing.through
+    (buffer : Word) × (rest : List Word) × (words ≡ buffer ∷ rest) × NamesIt buffer landing.buffer ×
+    IsThrough rest landing.through
 
 -- ---- layouts
 
@@ -151,7 +156,8 @@ IsOld word (olds.Named name) = NamesIt word name
 -- `LEN:DISP`
 abbrev pub IsBlock : Word → IndexedBlock → Type 0
 IsBlock word block =
-    (length_word displacement_word : Word) × (word ≡ length_word ++ 58 ∷ displacement_word) × IsLarge length_word block.length × IsLarge displacement_word block.displacement
+    (length_word displacement_word : Word) × (word ≡ length_word ++ 58 ∷ displacement_word) ×
+    IsLarge length_word block.length × IsLarge displacement_word block.displacement
 
 -- `contiguous N OLD`, `vector C B S OLD` or `indexed LEN:DISP .. OLD`
 abbrev pub IsFormed : List Word → LayoutForm → OldLayout → Type 0
@@ -159,13 +165,16 @@ IsFormed words (forms.Contiguous count) old =
     (number last : Word) × (words ≡ codes "contiguous" ∷ number ∷ last ∷ []) × IsLarge number count × IsOld last old
 IsFormed words (forms.Vector stripes) old =
     (count blocklength stride last : Word) × (words ≡ codes "vector" ∷ count ∷ blocklength ∷ stride ∷ last ∷ [])
-    × IsLarge count stripes.count × IsLarge blocklength stripes.blocklength × IsLarge stride stripes.stride × IsOld last old
+    × IsLarge count stripes.count × IsLarge blocklength stripes.blocklength × IsLarge stride stripes.stride ×
+    IsOld last old
 IsFormed words (forms.Indexed blocks) old =
-    (front : List Word) × (last : Word) × (words ≡ codes "indexed" ∷ front ++ last ∷ []) × StandFor IsBlock front blocks × IsOld last old
+    (front : List Word) × (last : Word) × (words ≡ codes "indexed" ∷ front ++ last ∷ []) ×
+    StandFor IsBlock front blocks × IsOld last old
 
 -- a name, and how the layout of this name is made
 abbrev pub IsLayout : List Word → LayoutLine → Type 0
-IsLayout words line = (name : Word) × (rest : List Word) × (words ≡ name ∷ rest) × NamesIt name line.name × IsFormed rest line.form line.made_of
+IsLayout words line = (name : Word) × (rest : List Word) × (words ≡ name ∷ rest) × NamesIt name line.name ×
+    IsFormed rest line.form line.made_of
 
 -- ---- communicators
 
@@ -229,19 +238,23 @@ IsBroadcasting words line =
 abbrev pub IsGathering : List Word → Gathering → Type 0
 IsGathering words line =
     (communicator root buffer into : Word) × (words ≡ communicator ∷ root ∷ buffer ∷ into ∷ [])
-    × IsCommunicator communicator line.communicator × IsCapped 65535 root line.root × NamesIt buffer line.buffer × NamesIt into line.into
+    × IsCommunicator communicator line.communicator × IsCapped 65535 root line.root × NamesIt buffer line.buffer ×
+    NamesIt into line.into
 
 -- `COMM ROOT B INTO`, where B may be `-`
 abbrev pub IsScattering : List Word → Scattering → Type 0
 IsScattering words line =
     (communicator root buffer into : Word) × (words ≡ communicator ∷ root ∷ buffer ∷ into ∷ [])
-    × IsCommunicator communicator line.communicator × IsCapped 65535 root line.root × IsBlocks buffer line.buffer × NamesIt into line.into
+    × IsCommunicator communicator line.communicator × IsCapped 65535 root line.root × IsBlocks buffer line.buffer ×
+    NamesIt into line.into
 
 -- `COMM ROOT OP B INTO`
 abbrev pub IsReducing : List Word → Reducing → Type 0
 IsReducing words line =
-    (communicator root buffer into : Word) × (words ≡ communicator ∷ root ∷ operation_word line.operation ∷ buffer ∷ into ∷ [])
-    × IsCommunicator communicator line.communicator × IsCapped 65535 root line.root × NamesIt buffer line.buffer × NamesIt into line.into
+    (communicator root buffer into : Word) ×
+    (words ≡ communicator ∷ root ∷ operation_word line.operation ∷ buffer ∷ into ∷ [])
+    × IsCommunicator communicator line.communicator × IsCapped 65535 root line.root × NamesIt buffer line.buffer ×
+    NamesIt into line.into
 
 -- `COMM OP B INTO`
 abbrev pub IsReducingToAll : List Word → ReducingToAll → Type 0
@@ -256,32 +269,45 @@ abbrev pub Spells : List Word → Action → Type 0
 Spells words (actions.Buffer line) = (rest : List Word) × (words ≡ codes "buf" ∷ rest) × IsBuffer rest line
 Spells words (actions.Layout line) = (rest : List Word) × (words ≡ codes "type" ∷ rest) × IsLayout rest line
 Spells words (actions.Isend request send) =
-    (name : Word) × (rest : List Word) × (words ≡ codes "isend" ∷ name ∷ rest) × NamesIt name request × IsSending rest send
+    (name : Word) × (rest : List Word) × (words ≡ codes "isend" ∷ name ∷ rest) × NamesIt name request ×
+    IsSending rest send
 Spells words (actions.Issend request send) =
-    (name : Word) × (rest : List Word) × (words ≡ codes "issend" ∷ name ∷ rest) × NamesIt name request × IsSending rest send
+    (name : Word) × (rest : List Word) × (words ≡ codes "issend" ∷ name ∷ rest) × NamesIt name request ×
+    IsSending rest send
 Spells words (actions.Irecv request receive) =
-    (name : Word) × (rest : List Word) × (words ≡ codes "irecv" ∷ name ∷ rest) × NamesIt name request × IsReceiving rest receive
+    (name : Word) × (rest : List Word) × (words ≡ codes "irecv" ∷ name ∷ rest) × NamesIt name request ×
+    IsReceiving rest receive
 Spells words (actions.Iprobe probe) = (rest : List Word) × (words ≡ codes "iprobe" ∷ rest) × IsProbing rest probe
 Spells words (actions.Improbe message probe) =
-    (name : Word) × (rest : List Word) × (words ≡ codes "improbe" ∷ name ∷ rest) × NamesIt name message × IsProbing rest probe
+    (name : Word) × (rest : List Word) × (words ≡ codes "improbe" ∷ name ∷ rest) × NamesIt name message ×
+    IsProbing rest probe
 Spells words (actions.Mrecv message landing) =
-    (name : Word) × (rest : List Word) × (words ≡ codes "mrecv" ∷ name ∷ rest) × NamesIt name message × IsLanding rest landing
+    (name : Word) × (rest : List Word) × (words ≡ codes "mrecv" ∷ name ∷ rest) × NamesIt name message ×
+    IsLanding rest landing
 Spells words (actions.Wait request) = (word : Word) × (words ≡ codes "wait" ∷ word ∷ []) × IsRequested word request
 Spells words (actions.Test request) = (word : Word) × (words ≡ codes "test" ∷ word ∷ []) × IsRequested word request
 Spells words (actions.Cancel request) = (word : Word) × (words ≡ codes "cancel" ∷ word ∷ []) × IsRequested word request
-Spells words (actions.Waitany requests) = (rest : List Word) × (words ≡ codes "waitany" ∷ rest) × StandFor IsRequested rest requests
-Spells words (actions.Waitall requests) = (rest : List Word) × (words ≡ codes "waitall" ∷ rest) × StandFor IsRequested rest requests
-Spells words (actions.Barrier communicator) = (word : Word) × (words ≡ codes "barrier" ∷ word ∷ []) × IsCommunicator word communicator
+Spells words (actions.Waitany requests) = (rest : List Word) × (words ≡ codes "waitany" ∷ rest) ×
+    StandFor IsRequested rest requests
+Spells words (actions.Waitall requests) = (rest : List Word) × (words ≡ codes "waitall" ∷ rest) ×
+    StandFor IsRequested rest requests
+Spells words (actions.Barrier communicator) = (word : Word) × (words ≡ codes "barrier" ∷ word ∷ []) ×
+    IsCommunicator word communicator
 Spells words (actions.Bcast line) = (rest : List Word) × (words ≡ codes "bcast" ∷ rest) × IsBroadcasting rest line
 Spells words (actions.Gather line) = (rest : List Word) × (words ≡ codes "gather" ∷ rest) × IsGathering rest line
 Spells words (actions.Scatter line) = (rest : List Word) × (words ≡ codes "scatter" ∷ rest) × IsScattering rest line
 Spells words (actions.Reduce line) = (rest : List Word) × (words ≡ codes "reduce" ∷ rest) × IsReducing rest line
-Spells words (actions.Allreduce line) = (rest : List Word) × (words ≡ codes "allreduce" ∷ rest) × IsReducingToAll rest line
+Spells words (actions.Allreduce line) = (rest : List Word) × (words ≡ codes "allreduce" ∷ rest) ×
+    IsReducingToAll rest line
 Spells words (actions.Dup new communicator) =
     (name old : Word) × (words ≡ codes "dup" ∷ name ∷ old ∷ []) × NamesIt name new × IsCommunicator old communicator
 Spells words (actions.Split new split) =
-    (name : Word) × (rest : List Word) × (words ≡ codes "split" ∷ name ∷ rest) × NamesIt name new × IsSplitting rest split
-Spells words (actions.Who communicator) = (word : Word) × (words ≡ codes "who" ∷ word ∷ []) × IsCommunicator word communicator
-Spells words (actions.Members communicator) = (word : Word) × (words ≡ codes "members" ∷ word ∷ []) × IsCommunicator word communicator
+    (name : Word) × (rest : List Word) × (words ≡ codes "split" ∷ name ∷ rest) × NamesIt name new ×
+    IsSplitting rest split
+Spells words (actions.Who communicator) =
+    (word : Word) × (words ≡ codes "who" ∷ word ∷ []) × IsCommunicator word communicator
+Spells words (actions.Members communicator) = (word : Word) × (words ≡ codes "members" ∷ word ∷ []) ×
+    IsCommunicator word communicator
 Spells words (actions.Compare one other) =
-    (first second : Word) × (words ≡ codes "compare" ∷ first ∷ second ∷ []) × IsCommunicator first one × IsCommunicator second other
+    (first second : Word) × (words ≡ codes "compare" ∷ first ∷ second ∷ []) × IsCommunicator first one ×
+    IsCommunicator second other

@@ -1,5 +1,6 @@
 -- Reading the words of a line from left to right.
-use Rattle.std.specs.Prelude.{ℕ, ◌-◌, ℤ, pos, negsuc, ◌==◌, Bool, true, false, List, [], ◌∷◌, take, drop, slice_index, replicate, codes, Option, Some, None, if◌then◌else◌}
+use Rattle.std.specs.Prelude.{ℕ, ◌-◌, ℤ, pos, negsuc, ◌==◌, Bool, true, false, List, [], ◌∷◌, take, drop, slice_index}
+use Rattle.std.specs.Prelude.{replicate, codes, Option, Some, None, if◌then◌else◌}
 use Rattle.std.specs.List.{position}
 use Rattle.std.specs.Str.{bytes_eq}
 use Rattle.vocabulary.specs.declared.basic_type.BasicType.{BasicType}
@@ -167,7 +168,8 @@ behind_as words = do
 -- `as L N`, or nothing
 unfoldable pub through_of : List Word → Option (Option LayoutClause)
 through_of [] = Some None
-through_of (word ∷ words) = if bytes_eq word (codes "as") then (behind_as words >>= λ through. Some (Some through)) else None
+through_of (word ∷ words) = if bytes_eq word (codes "as") then (behind_as words >>= λ through. Some (Some through)) else
+    None
 
 -- a communicator, a buffer's name, and what stands behind them
 abbrev pub places_of : Word → Word → List Word → Option (CommunicatorName × Word × Option LayoutClause)
@@ -206,7 +208,8 @@ unfoldable pub isend_of : List Word → Option (Word × Sending)
 isend_of words = first words >>= λ request. name_of request.0 >>= λ q. sending_of request.1 >>= λ send. Some (q, send)
 
 unfoldable pub irecv_of : List Word → Option (Word × Receiving)
-irecv_of words = first words >>= λ request. name_of request.0 >>= λ q. receiving_of request.1 >>= λ receive. Some (q, receive)
+irecv_of words = first words >>= λ request. name_of request.0 >>= λ q. receiving_of request.1 >>= λ receive. Some
+    (q, receive)
 
 -- `COMM SRC TAG`
 unfoldable pub probing_of : List Word → Option Probing
@@ -229,10 +232,12 @@ landing_of words = do
   Some (record { buffer = b; through = u })
 
 unfoldable pub improbe_of : List Word → Option (Word × Probing)
-improbe_of words = first words >>= λ message. name_of message.0 >>= λ m. probing_of message.1 >>= λ probe. Some (m, probe)
+improbe_of words =
+    first words >>= λ message. name_of message.0 >>= λ m. probing_of message.1 >>= λ probe. Some (m, probe)
 
 unfoldable pub mrecv_of : List Word → Option (Word × Landing)
-mrecv_of words = first words >>= λ message. name_of message.0 >>= λ m. landing_of message.1 >>= λ landing. Some (m, landing)
+mrecv_of words =
+    first words >>= λ message. name_of message.0 >>= λ m. landing_of message.1 >>= λ landing. Some (m, landing)
 
 unfoldable pub one_of : List Word → Option RequestName
 one_of words = first words >>= λ request. end_of_line request.1 >>= λ end. requested_of request.0
@@ -261,7 +266,8 @@ is_colon byte = byte == 58
 abbrev pub block_at : Option ℕ → Word → Option IndexedBlock
 block_at None word = None
 block_at (Some place) word =
-    large_of (take place word) >>= λ many. large_of (drop 1 (drop place word)) >>= λ far. Some (record { length = many; displacement = far })
+    large_of (take place word) >>= λ many. large_of (drop 1 (drop place word)) >>= λ far. Some
+    (record { length = many; displacement = far })
 
 -- `LEN:DISP`
 unfoldable pub block_of : Word → Option IndexedBlock
@@ -289,7 +295,8 @@ contiguous_of words = do
 -- `C B S`
 abbrev pub stripes_of : Word → Word → Word → Option Stripes
 stripes_of count blocklength stride =
-    large_of count >>= λ c. large_of blocklength >>= λ b. large_of stride >>= λ s. Some (record { count = c; blocklength = b; stride = s })
+    large_of count >>= λ c. large_of blocklength >>= λ b. large_of stride >>= λ s. Some
+    (record { count = c; blocklength = b; stride = s })
 
 -- `C B S OLD`
 unfoldable pub vector_of : List Word → Option (LayoutForm × OldLayout)
@@ -307,7 +314,8 @@ vector_of words = do
 
 -- `LEN:DISP .. OLD`
 unfoldable pub indexed_of : List Word → Option (LayoutForm × OldLayout)
-indexed_of words = last words >>= λ split. old_of split.1 >>= λ o. each one_block split.0 >>= λ blocks. Some (forms.Indexed blocks, o)
+indexed_of words =
+    last words >>= λ split. old_of split.1 >>= λ o. each one_block split.0 >>= λ blocks. Some (forms.Indexed blocks, o)
 
 -- what stands behind the word that says how the layout is made
 abbrev pub formed_by : FormWord → List Word → Option (LayoutForm × OldLayout)
@@ -346,7 +354,8 @@ key_of word =
 
 -- one communicator, and nothing behind it
 unfoldable pub communicator_alone : List Word → Option CommunicatorName
-communicator_alone words = first words >>= λ communicator. end_of_line communicator.1 >>= λ end. communicator_of communicator.0
+communicator_alone words =
+    first words >>= λ communicator. end_of_line communicator.1 >>= λ end. communicator_of communicator.0
 
 -- `COMM COMM`
 unfoldable pub two_communicators : List Word → Option (CommunicatorName × CommunicatorName)

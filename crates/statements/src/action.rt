@@ -5,9 +5,9 @@ ghost use Rattle.std.specs.Prelude.{◌≡◌, ◌++◌, [], ◌∷◌, OnOk};
 use crate::collective_line::{Broadcasting, Gathering, Reducing, ReducingToAll, Scattering};
 use crate::layout_line::LayoutLine;
 use datatypes::Buffer;
-use tokens::Name;
 use std::alloc::{AllocFailed, Global};
 use std::marker::Model;
+use tokens::Name;
 use vocabulary::Source;
 
 /// The communicator that a line names.
@@ -100,11 +100,11 @@ pub struct LayoutClause {
 pub struct Sending {
     /// The communicator in which the message goes.
     pub communicator: CommunicatorName,
-    /// The rank that it goes to, or the null process (MPI 3.1, 3.11); never the wildcard. A rank that 16 bits don't hold
-    /// stands as the greatest number that they hold, which is no rank either.
+    /// The rank that it goes to, or the null process (MPI 3.1, 3.11); never the wildcard. A rank that 16 bits don't
+    /// hold stands as the greatest number that they hold, which is no rank either.
     pub target: Source,
-    /// Its tag; none: `any`, which no send may have. A tag that 32 bits don't hold stands as the greatest number that they
-    /// hold, which is no tag either.
+    /// Its tag; none: `any`, which no send may have. A tag that 32 bits don't hold stands as the greatest number that
+    /// they hold, which is no tag either.
     pub tag: Option<u32>,
     /// The name of the buffer whose elements go.
     pub buffer: Name,
@@ -119,8 +119,8 @@ pub struct Receiving {
     pub communicator: CommunicatorName,
     /// From whom it is wanted; a rank that 16 bits don't hold stands as the greatest number that they hold.
     pub source: Source,
-    /// The tag that is wanted; none: the wildcard. A tag that 32 bits don't hold stands as the greatest number that they
-    /// hold.
+    /// The tag that is wanted; none: the wildcard. A tag that 32 bits don't hold stands as the greatest number that
+    /// they hold.
     pub tag: Option<u32>,
     /// The name of the buffer that is lent.
     pub buffer: Name,
@@ -135,8 +135,8 @@ pub struct Probing {
     pub communicator: CommunicatorName,
     /// From whom it is wanted; a rank that 16 bits don't hold stands as the greatest number that they hold.
     pub source: Source,
-    /// The tag that is wanted; none: the wildcard. A tag that 32 bits don't hold stands as the greatest number that they
-    /// hold.
+    /// The tag that is wanted; none: the wildcard. A tag that 32 bits don't hold stands as the greatest number that
+    /// they hold.
     pub tag: Option<u32>,
 }
 
@@ -203,7 +203,8 @@ pub enum Action {
     Allreduce(ReducingToAll),
     /// `dup NEW COMM` makes a communicator with the same group, and names it (MPI 3.1, 6.4.2).
     Dup(Name, CommunicatorName),
-    /// `split NEW COMM COLOUR KEY` makes a communicator of those who give the same colour, and names it (MPI 3.1, 6.4.2).
+    /// `split NEW COMM COLOUR KEY` makes a communicator of those who give the same colour, and names it (MPI 3.1,
+    /// 6.4.2).
     Split(Name, Splitting),
     /// `who COMM` asks for the rank in the communicator and for its size (MPI 3.1, 6.4.1).
     Who(CommunicatorName),

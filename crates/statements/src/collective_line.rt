@@ -1,16 +1,16 @@
 //! What a line says of a collective that moves elements.
 
 use crate::action::CommunicatorName;
-use tokens::Name;
 use payload::Operation;
+use tokens::Name;
 
 /// `COMM ROOT B`: the arguments of a broadcast (MPI 3.1, 5.4).
 #[derive(Drop)]
 pub struct Broadcasting {
     /// The communicator whose members take part.
     pub communicator: CommunicatorName,
-    /// The root's rank in the communicator. A number that 16 bits don't hold stands as the greatest that they hold, which is no
-    /// rank either.
+    /// The root's rank in the communicator. A number that 16 bits don't hold stands as the greatest that they hold,
+    /// which is no rank either.
     pub root: u16,
     /// The name of the buffer: the root's elements go to the others, where it is replaced.
     pub buffer: Name,
@@ -21,8 +21,8 @@ pub struct Broadcasting {
 pub struct Gathering {
     /// The communicator whose members take part.
     pub communicator: CommunicatorName,
-    /// The root's rank in the communicator. A number that 16 bits don't hold stands as the greatest that they hold, which is no
-    /// rank either.
+    /// The root's rank in the communicator. A number that 16 bits don't hold stands as the greatest that they hold,
+    /// which is no rank either.
     pub root: u16,
     /// The name of the buffer whose elements the caller gives.
     pub buffer: Name,
@@ -35,8 +35,8 @@ pub struct Gathering {
 pub struct Scattering {
     /// The communicator whose members take part.
     pub communicator: CommunicatorName,
-    /// The root's rank in the communicator. A number that 16 bits don't hold stands as the greatest that they hold, which is no
-    /// rank either.
+    /// The root's rank in the communicator. A number that 16 bits don't hold stands as the greatest that they hold,
+    /// which is no rank either.
     pub root: u16,
     /// The name of the buffer that has a block for each member, which the root alone uses; none: `-`.
     pub buffer: Option<Name>,
@@ -49,8 +49,8 @@ pub struct Scattering {
 pub struct Reducing {
     /// The communicator whose members take part.
     pub communicator: CommunicatorName,
-    /// The root's rank in the communicator. A number that 16 bits don't hold stands as the greatest that they hold, which is no
-    /// rank either.
+    /// The root's rank in the communicator. A number that 16 bits don't hold stands as the greatest that they hold,
+    /// which is no rank either.
     pub root: u16,
     /// What combines the elements.
     pub operation: Operation,

@@ -1,15 +1,16 @@
 //! What is said of communicators, by the words that spell it.
 
 ghost use Rattle.std.specs.Prelude.{◌≡◌, ◌≤◌};
-ghost use Rattle.statements.specs.Reading.{action_by, colour_of, communicator_alone, communicator_of, key_below, key_of, name_and_communicator, two_communicators};
+ghost use Rattle.statements.specs.Reading.{action_by, colour_of, communicator_alone, communicator_of, key_below};
+ghost use Rattle.statements.specs.Reading.{key_of, name_and_communicator, two_communicators};
 ghost use Rattle.tokens.specs.Results.{Gives};
 
 use crate::action::{Action, CommunicatorName, Splitting};
 use crate::fields::communicator_of;
 use crate::front::{four_alone, one_alone, two_alone};
 use crate::verb::Verb;
-use tokens::{LineError, Name, Token, is, name_of, number_up_to};
 use std::alloc::Global;
+use tokens::{LineError, Name, Token, is, name_of, number_up_to};
 
 /// A colour, or `undefined`.
 #[tactic(auto, unfolding(crate::specs::Reading::colour_of))]
@@ -58,7 +59,10 @@ fn key_of(word: &[u8]) -> Result<i32, LineError>
 
 /// One communicator, and nothing behind it.
 #[tactic(auto, unfolding(crate::specs::Reading::communicator_alone))]
-pub(crate) fn communicator_alone(alloc: Global, words: &[Token]) -> Result<CommunicatorName, LineError>
+pub(crate) fn communicator_alone(
+    alloc: Global,
+    words: &[Token],
+) -> Result<CommunicatorName, LineError>
     ensures { Gives (λ x. x) result (communicator_alone words.now) }
 {
     communicator_of(alloc, one_alone(words)?)

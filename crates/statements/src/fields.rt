@@ -1,14 +1,15 @@
 //! What one word of a statement stands for.
 
 ghost use Rattle.std.specs.Prelude.{◌≡◌};
-ghost use Rattle.statements.specs.Reading.{communicator_of, communicator_and_buffer, target_of, source_of, tag_of, requested_of, one_request, behind_as, through_of};
+ghost use Rattle.statements.specs.Reading.{communicator_of, communicator_and_buffer, target_of, source_of, tag_of};
+ghost use Rattle.statements.specs.Reading.{requested_of, one_request, behind_as, through_of};
 ghost use Rattle.tokens.specs.Fields.{first, name_of, end_of_line, rank_of, large_of, each};
 ghost use Rattle.tokens.specs.Results.{Gives};
 
-use crate::action::{CommunicatorName, RequestName, RequestNames, LayoutClause};
+use crate::action::{CommunicatorName, LayoutClause, RequestName, RequestNames};
 use crate::front::two_alone;
-use tokens::{LineError, Name, Token, is, large_of, name_of, number_or, rank_of};
 use std::alloc::Global;
+use tokens::{LineError, Name, Token, is, large_of, name_of, number_or, rank_of};
 use vocabulary::Source;
 
 #[tactic(auto, unfolding(crate::specs::Reading::communicator_of))]

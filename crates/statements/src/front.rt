@@ -33,7 +33,9 @@ pub(crate) fn two_alone(words: &[Token]) -> Result<(&[u8], &[u8]), LineError>
 }
 
 /// The first four words, and the words behind them.
-pub(crate) fn first_four(words: &[Token]) -> Result<(&[u8], &[u8], &[u8], &[u8], &[Token]), LineError>
+pub(crate) fn first_four(
+    words: &[Token],
+) -> Result<(&[u8], &[u8], &[u8], &[u8], &[Token]), LineError>
     ensures { Gives (λ x. (x.0.now, x.1.now, x.2.now, x.3.now, x.4.now)) result (first_four words.now) }
 {
     let (one, two, rest) = first_two(words)?;

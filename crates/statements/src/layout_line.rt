@@ -5,9 +5,9 @@ ghost use Rattle.derived_types.specs.Layouts.{LayoutGives};
 ghost use Rattle.statements.specs.Meanings.{offsets_made};
 
 use datatypes::{IndexedBlock, Layout, LayoutRefusal};
-use tokens::Name;
 use std::alloc::{AllocFailed, Global};
 use std::marker::Model;
+use tokens::Name;
 use vocabulary::BasicType;
 
 /// What a layout is made of.
@@ -31,7 +31,8 @@ pub struct Stripes {
     pub stride: u64,
 }
 
-/// Blocks, in order. Contracts see them as a list. A number that 64 bits don't hold stands as the greatest that they hold.
+/// Blocks, in order. Contracts see them as a list. A number that 64 bits don't hold stands as the greatest that they
+/// hold.
 #[derive(Drop)]
 pub struct Blocks {
     items: Vec<IndexedBlock>,
@@ -74,8 +75,8 @@ impl Blocks {
 /// How a layout is made of another one (MPI 3.1, 4.1.2).
 #[derive(Drop)]
 pub enum LayoutForm {
-    /// `contiguous N`: so many copies, one after the other. A number that 64 bits don't hold stands as the greatest that they
-    /// hold.
+    /// `contiguous N`: so many copies, one after the other. A number that 64 bits don't hold stands as the greatest
+    /// that they hold.
     Contiguous(u64),
     /// `vector C B S`: blocks that stand equally far apart.
     Vector(Stripes),
@@ -84,8 +85,8 @@ pub enum LayoutForm {
 }
 
 impl LayoutForm {
-    /// The layout that this form makes of copies of another one (MPI 3.1, 4.1.2). An error is one of 13, where a limit is
-    /// passed, and of 14.
+    /// The layout that this form makes of copies of another one (MPI 3.1, 4.1.2). An error is one of 13, where a limit
+    /// is passed, and of 14.
     pub fn layout_made(&self, alloc: Global, old: &Layout) -> Result<Layout, LayoutRefusal>
         ensures { LayoutGives old.now.basic (offsets_made self.now old.now.offsets) result }
     {

@@ -2,7 +2,8 @@
 
 ghost use Rattle.std.specs.Prelude.{◌≡◌};
 ghost use Rattle.std.specs.List.{position};
-ghost use Rattle.statements.specs.Reading.{action_by, block_of, contiguous_of, form_word_of, formed_by, indexed_of, is_colon, last, old_of, one_block, stripes_of, vector_of};
+ghost use Rattle.statements.specs.Reading.{action_by, block_of, contiguous_of, form_word_of, formed_by, indexed_of};
+ghost use Rattle.statements.specs.Reading.{is_colon, last, old_of, one_block, stripes_of, vector_of};
 ghost use Rattle.tokens.specs.Fields.{each};
 ghost use Rattle.tokens.specs.Results.{Gives};
 
@@ -11,8 +12,8 @@ use crate::front::{first_two, four_alone, two_alone};
 use crate::layout_line::{Blocks, LayoutForm, LayoutLine, OldLayout, Stripes};
 use crate::verb::Verb;
 use datatypes::IndexedBlock;
-use tokens::{LineError, Token, basic_type_of, is, large_of, name_of, require};
 use std::alloc::Global;
+use tokens::{LineError, Token, basic_type_of, is, large_of, name_of, require};
 
 /// How a layout is made, by its word.
 #[derive(Clone, Copy)]

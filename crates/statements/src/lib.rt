@@ -18,11 +18,11 @@ mod values;
 mod verb;
 
 pub use action::{
-    Action, BufferLine, CommunicatorName, Landing, Probing, Receiving, RequestName, RequestNames,
-    Sending, Splitting, LayoutClause,
+    Action, BufferLine, CommunicatorName, Landing, LayoutClause, Probing, Receiving, RequestName,
+    RequestNames, Sending, Splitting,
 };
 pub use collective_line::{Broadcasting, Gathering, Reducing, ReducingToAll, Scattering};
 pub use layout_line::{Blocks, LayoutForm, LayoutLine, OldLayout, Stripes};
-pub use tokens::{LineError, Name, ParseError, Token, Tokens};
 pub use payload::Operation;
 pub use reading::{action_of, receiving_of, sending_of};
+pub use tokens::{LineError, Name, ParseError, Token, Tokens};

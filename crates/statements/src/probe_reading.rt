@@ -8,8 +8,8 @@ use crate::action::{Action, Landing, Probing};
 use crate::fields::{communicator_of, source_of, tag_of, through_of};
 use crate::front::{first_two, one_alone};
 use crate::verb::Verb;
-use tokens::{LineError, Token, first, name_of};
 use std::alloc::Global;
+use tokens::{LineError, Token, first, name_of};
 
 /// `COMM SRC TAG`
 #[tactic(auto, unfolding(crate::specs::Reading::probing_of))]

@@ -4,7 +4,9 @@ ghost use Rattle.std.specs.Prelude.{◌≡◌};
 ghost use Rattle.statements.specs.Reading.{places_of, sending_of, receiving_of, isend_of, one_of, action_by, action_of};
 ghost use Rattle.tokens.specs.Results.{Gives};
 
-use crate::action::{Action, BufferLine, CommunicatorName, Receiving, RequestName, Sending, LayoutClause};
+use crate::action::{
+    Action, BufferLine, CommunicatorName, LayoutClause, Receiving, RequestName, Sending,
+};
 use crate::collective_reading::{allreduce_of, bcast_of, gather_of, reduce_of, scatter_of};
 use crate::communicator_reading::{communicator_alone, dup_of, split_of, two_communicators};
 use crate::fields::{
@@ -15,8 +17,8 @@ use crate::layout_reading::layout_of;
 use crate::probe_reading::{improbe_of, mrecv_of, probing_of};
 use crate::values::buffer_with;
 use crate::verb::{Verb, verb_of};
-use tokens::{LineError, Name, Token, basic_type_of, first, name_of, require};
 use std::alloc::Global;
+use tokens::{LineError, Name, Token, basic_type_of, first, name_of, require};
 
 #[tactic(auto, unfolding(crate::specs::Reading::buffer_of))]
 fn buffer_of(alloc: Global, words: &[Token]) -> Result<Action, LineError>

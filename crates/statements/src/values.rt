@@ -8,8 +8,8 @@ ghost use Rattle.tokens.specs.Numbers.{count_of};
 ghost use Rattle.tokens.specs.Results.{Gives};
 
 use datatypes::{Buffer, number_of};
-use tokens::{LineError, Token, number_up_to, numeral_of, require};
 use std::alloc::Global;
+use tokens::{LineError, Token, number_up_to, numeral_of, require};
 use vocabulary::BasicType;
 
 /// The element that the word spells.

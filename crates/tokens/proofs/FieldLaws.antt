@@ -11,7 +11,8 @@ named_takes word name e = let p = if_some (is_name word) word name e in (p.1, su
 
 pub named_again : (word name : Word) → NamesIt word name → name_of word ≡ Some name
 unfolding name_of
-named_again word name h = let t : is_name word ≡ true = ap is_name h.0 ∙ name_again name h.1 in rw t (ap (λ (w : Word). Some w) h.0)
+named_again word name h =
+    let t : is_name word ≡ true = ap is_name h.0 ∙ name_again name h.1 in rw t (ap (λ (w : Word). Some w) h.0)
 
 pub rank_takes : (word : Word) (rank : ℕ) → rank_of word ≡ Some rank → IsCapped 65535 word rank
 unfolding rank_of

@@ -1,5 +1,6 @@
 -- What one word stands for: reading and the grammar agree.
-use Rattle.std.proofs.Common.{◌≡◌, ◌≢◌, ℕ, ◌<◌, ◌≤◌, Bool, true, false, cond, eqb, leb, ltb, [], ◌∷◌, length, get_or, Option, Some, None, refl, sym, ap, subst, ◌∙◌, arith, inl, inr}
+use Rattle.std.proofs.Common.{◌≡◌, ◌≢◌, ℕ, ◌<◌, ◌≤◌, Bool, true, false, cond, eqb, leb, ltb, [], ◌∷◌, length, get_or}
+use Rattle.std.proofs.Common.{Option, Some, None, refl, sym, ap, subst, ◌∙◌, arith, inl, inr}
 use Rattle.std.specs.Prelude.{codes, ◌&&◌, ◌||◌, not, is_some, ◌⊎◌}
 use Rattle.std.specs.List.{list_all, AllByRecursion}
 use Rattle.std.specs.Str.{bytes_eq, all_ascii_digits}
@@ -8,7 +9,8 @@ use Rattle.std.proofs.lemmas.Bool.{eqb-true, ltb-false, leb-true, le-leb, le-ltb
 use Rattle.std.proofs.lemmas.List.{nil_from_length}
 use Rattle.std.proofs.lemmas.Slice.Eq.{bytes_eq-Decides}
 use Rattle.vocabulary.specs.declared.basic_type.BasicType.{BasicType}
-use Rattle.vocabulary.specs.declared.basic_type.BasicType.TheVariants.{Int8, Int16, Int32, Int64, Uint8, Uint16, Uint32, Uint64, Byte}
+use Rattle.vocabulary.specs.declared.basic_type.BasicType.TheVariants.{Int8, Int16, Int32, Int64, Uint8, Uint16, Uint32}
+use Rattle.vocabulary.specs.declared.basic_type.BasicType.TheVariants.{Uint64, Byte}
 use Rattle.tokens.specs.Grammar.{Word, least, IsNumeral, IsCapped, IsLetter, IsDigit, type_word, IsName}
 use Rattle.tokens.specs.Numbers.{is_numeral, number_up_to, number_or, count_of}
 use Rattle.tokens.specs.Words.{is_letter, is_name_byte, basic_type_of, is_reserved, is_name}
@@ -17,14 +19,16 @@ use Rattle.numerals.proofs.Numerals.{numeral_parts}
 
 -- ---- steps and tests
 
-pub bind_ok : {A B : Type 0} (r : Option A) (f : A → Option B) (y : B) → (r >>= f) ≡ Some y → (x : A) × (r ≡ Some x) × (f x ≡ Some y)
+pub bind_ok : {A B : Type 0} (r : Option A) (f : A → Option B) (y : B) → (r >>= f) ≡ Some y →
+    (x : A) × (r ≡ Some x) × (f x ≡ Some y)
 bind_ok (Some x) f y e = (x, refl, e)
 bind_ok None f y e = absurd cc
 
 pub made : {A : Type 0} (P : A → Type 0) (a c : A) → P a → Some a ≡ Some c → P c
 made P a c p e = let same : a ≡ c = cc in subst P same p
 
-pub pick : {A : Type 0} (P : A → Type 0) (b : Bool) (x y : Option A) (c : A) → (b ≡ true → x ≡ Some c → P c) → (b ≡ false → y ≡ Some c → P c) → cond b x y ≡ Some c → P c
+pub pick : {A : Type 0} (P : A → Type 0) (b : Bool) (x y : Option A) (c : A) → (b ≡ true → x ≡ Some c → P c) →
+    (b ≡ false → y ≡ Some c → P c) → cond b x y ≡ Some c → P c
 pick P true x y c taken passed e = taken refl e
 pick P false x y c taken passed e = passed refl e
 
@@ -74,7 +78,8 @@ no_lead : (first n : ℕ) (t : Bool) → eqb first 48 ≡ t → (first ≡ 48 �
 no_lead first n true e plain = let one : n ≤ 1 = omega (arith, plain (eqb-true first 48 e)) in le-ltb 1 n one
 no_lead first n false e plain = refl
 
-pass : (empty lead rest : Bool) → empty ≡ false → lead ≡ false → rest ≡ true → cond empty false (cond lead false rest) ≡ true
+pass : (empty lead rest : Bool) → empty ≡ false → lead ≡ false → rest ≡ true → cond empty false (cond lead false rest) ≡
+    true
 pass true lead rest e f h = absurd (false≢true (sym e))
 pass false true rest e f h = absurd (false≢true (sym f))
 pass false false rest e f h = h
@@ -84,11 +89,15 @@ some_long word h = no_test (eqb (length word) 0) (λ e. h (nil_from_length word 
 
 pub numeral_again : (word : Word) (n : ℕ) → IsNumeral word n → is_numeral word ≡ true
 numeral_again word n h =
-    pass (eqb (length word) 0) (eqb (get_or word 0 0) 48 && ltb 1 (length word)) (all_ascii_digits word) (some_long word h.some) (no_lead (get_or word 0 0) (length word) (eqb (get_or word 0 0) 48) refl h.plain) h.digits
+    pass (eqb (length word) 0) (eqb (get_or word 0 0) 48 && ltb 1 (length word)) (all_ascii_digits word)
+    (some_long word h.some) (no_lead (get_or word 0 0) (length word) (eqb (get_or word 0 0) 48) refl h.plain)
+    h.digits
 
 pub count_takes : (word : Word) (n : ℕ) → count_of word ≡ Some n → IsNumeral word n
 unfolding count_of
-count_takes word n e = let p = if_some (is_numeral word) (digits_value 10 word) n e in subst (λ (m : ℕ). IsNumeral word m) p.1 (numeral_takes word p.0)
+count_takes word n e =
+    let p = if_some (is_numeral word) (digits_value 10 word) n e in subst (λ (m : ℕ). IsNumeral word m) p.1
+    (numeral_takes word p.0)
 
 pub count_again : (word : Word) (n : ℕ) → IsNumeral word n → count_of word ≡ Some n
 unfolding count_of
@@ -96,7 +105,9 @@ count_again word n h = let t : is_numeral word ≡ true = numeral_again word n h
 
 pub capped_takes : (most : ℕ) (word : Word) (n : ℕ) → number_or most word ≡ Some n → IsCapped most word n
 unfolding number_or
-capped_takes most word n e = let p = if_some (is_numeral word) (least (digits_value 10 word) most) n e in (digits_value 10 word, numeral_takes word p.0, sym p.1)
+capped_takes most word n e =
+    let p = if_some (is_numeral word) (least (digits_value 10 word) most) n e in
+    (digits_value 10 word, numeral_takes word p.0, sym p.1)
 
 pub capped_again : (most : ℕ) (word : Word) (n : ℕ) → IsCapped most word n → number_or most word ≡ Some n
 unfolding number_or
@@ -120,8 +131,10 @@ bounded_again most word n h le =
     rw (t, v, small) refl
 
 -- a numeral is none of the words with letters
-pub no_letters : (word name : Word) (n : ℕ) → all_ascii_digits name ≡ false → IsNumeral word n → bytes_eq word name ≡ false
-no_letters word name n letters h = other_word word name (λ e. false≢true (sym letters ∙ ap all_ascii_digits (sym e) ∙ h.digits))
+pub no_letters : (word name : Word) (n : ℕ) → all_ascii_digits name ≡ false → IsNumeral word n →
+    bytes_eq word name ≡ false
+no_letters word name n letters h =
+    other_word word name (λ e. false≢true (sym letters ∙ ap all_ascii_digits (sym e) ∙ h.digits))
 
 -- ---- basic types
 
@@ -129,7 +142,8 @@ abbrev pub Yields : {A : Type 0} → Option A → (A → Type 0) → Type 0
 Yields None P = Unit {0}
 Yields (Some x) P = P x
 
-pub step : {A : Type 0} (P : A → Type 0) (b : Bool) (x y : Option A) → (b ≡ true → Yields x P) → Yields y P → Yields (cond b x y) P
+pub step : {A : Type 0} (P : A → Type 0) (b : Bool) (x y : Option A) → (b ≡ true → Yields x P) → Yields y P →
+    Yields (cond b x y) P
 step P true x y taken passed = taken refl
 step P false x y taken passed = passed
 
@@ -195,13 +209,17 @@ byte_takes b e =
 
 byte_again : (b : ℕ) → IsLetter b ⊎ IsDigit b → is_name_byte b ≡ true
 byte_again b (inl l) = or_left (is_letter b) (leb 48 b && leb b 57) (letter_again b l)
-byte_again b (inr d) = or_right (is_letter b) (leb 48 b && leb b 57) (and_true (leb 48 b) (leb b 57) (le-leb _ _ d.0) (le-leb _ _ d.1))
+byte_again b (inr d) =
+    or_right (is_letter b) (leb 48 b && leb b 57) (and_true (leb 48 b) (leb b 57) (le-leb _ _ d.0) (le-leb _ _ d.1))
 
-bytes_take : (word : Word) → list_all is_name_byte word ≡ true → AllByRecursion (λ byte. IsLetter byte ⊎ IsDigit byte) word
+bytes_take : (word : Word) → list_all is_name_byte word ≡ true →
+    AllByRecursion (λ byte. IsLetter byte ⊎ IsDigit byte) word
 bytes_take [] e = tt
-bytes_take (b ∷ bs) e = let p = both (is_name_byte b) (list_all is_name_byte bs) e in (byte_takes b p.0, bytes_take bs p.1)
+bytes_take (b ∷ bs) e =
+    let p = both (is_name_byte b) (list_all is_name_byte bs) e in (byte_takes b p.0, bytes_take bs p.1)
 
-bytes_again : (word : Word) → AllByRecursion (λ byte. IsLetter byte ⊎ IsDigit byte) word → list_all is_name_byte word ≡ true
+bytes_again : (word : Word) → AllByRecursion (λ byte. IsLetter byte ⊎ IsDigit byte) word →
+    list_all is_name_byte word ≡ true
 bytes_again [] h = refl
 bytes_again (b ∷ bs) h = and_true (is_name_byte b) (list_all is_name_byte bs) (byte_again b h.0) (bytes_again bs h.1)
 

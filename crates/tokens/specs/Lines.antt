@@ -1,5 +1,6 @@
 -- Lines of text, and what is read of them.
-use Rattle.std.specs.Prelude.{ℕ, ◌+◌, ◌-◌, ◌==◌, Bool, true, not, nat_le, ◌&&◌, List, [], ◌∷◌, ◌++◌, length, take, filter, slice_index, Option, Some, None, Result, Ok, Err, if◌then◌else◌}
+use Rattle.std.specs.Prelude.{ℕ, ◌+◌, ◌-◌, ◌==◌, Bool, true, not, nat_le, ◌&&◌, List, [], ◌∷◌, ◌++◌, length, take}
+use Rattle.std.specs.Prelude.{filter, slice_index, Option, Some, None, Result, Ok, Err, if◌then◌else◌}
 use Rattle.std.specs.List.{slice_split, list_all}
 use Rattle.tokens.specs.Grammar.{Word}
 use Rattle.tokens.specs.Results.{◌>>=◌}
@@ -72,4 +73,5 @@ and_then (Err number) rest = Err number
 -- what is read of the lines from this number on, or the number of the first faulty one
 unfoldable pub lines_from : {A : Type 0} → (ℕ → List Word → Option A) → ℕ → List (List ℕ) → Result (List A) ℕ
 lines_from read number [] = Ok []
-lines_from read number (line ∷ lines) = and_then (numbered number (line_of (read number) line)) (lines_from read (number + 1) lines)
+lines_from read number (line ∷ lines) =
+    and_then (numbered number (line_of (read number) line)) (lines_from read (number + 1) lines)

@@ -1,5 +1,5 @@
--- The grammar of texts: what the lines of a text say, and which of them is the first faulty one. It speaks of any kind of
--- item, by a relation: the words of the line of this number say this item.
+-- The grammar of texts: what the lines of a text say, and which of them is the first faulty one. It speaks of any kind
+-- of item, by a relation: the words of the line of this number say this item.
 use Rattle.std.specs.Prelude.{◌≡◌, ◌⊎◌, ℕ, ◌+◌, ◌≤◌, List, [], ◌∷◌, ◌++◌, slice_index}
 use Rattle.std.specs.List.{AllByRecursion}
 use Rattle.tokens.specs.Grammar.{Word}
@@ -28,7 +28,8 @@ LineSays Says number line (item ∷ more ∷ others) = ⊥
 abbrev pub LinesSay : {A : Type 0} → (ℕ → List Word → A → Type 0) → ℕ → List (List ℕ) → List A → Type 0
 LinesSay Says number [] said = said ≡ []
 LinesSay {A} Says number (line ∷ lines) said =
-    (front rest : List A) × LineSays Says number line front × LinesSay Says (number + 1) lines rest × (said ≡ front ++ rest)
+    (front rest : List A) × LineSays Says number line front × LinesSay Says (number + 1) lines rest ×
+    (said ≡ front ++ rest)
 
 -- the line of this number says nothing that is in the language
 abbrev pub IsFaulty : {A : Type 0} → (ℕ → List Word → A → Type 0) → ℕ → List ℕ → Type 0
@@ -38,4 +39,5 @@ IsFaulty {A} Says number line = (said : List A) → LineSays Says number line sa
 abbrev pub IsFirstFault : {A : Type 0} → (ℕ → List Word → A → Type 0) → ℕ → List (List ℕ) → ℕ → Type 0
 IsFirstFault Says number [] faulty = ⊥
 IsFirstFault {A} Says number (line ∷ lines) faulty =
-    ((faulty ≡ number) × IsFaulty Says number line) ⊎ ((front : List A) × LineSays Says number line front × IsFirstFault Says (number + 1) lines faulty)
+    ((faulty ≡ number) × IsFaulty Says number line) ⊎
+    ((front : List A) × LineSays Says number line front × IsFirstFault Says (number + 1) lines faulty)

@@ -17,5 +17,5 @@ pub use fields::{end_of_line, first, large_of, name_of, rank_of, require};
 pub use lines::{lines_of, said_in};
 pub use name::Name;
 pub use number::{number_or, number_up_to, numeral_of};
-pub use types::basic_type_of;
 pub use token::{Token, Tokens, is};
+pub use types::basic_type_of;

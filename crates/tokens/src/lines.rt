@@ -2,7 +2,8 @@
 
 ghost use Rattle.std.specs.Prelude.{◌≡◌, ◌++◌, ◌==◌, [], ◌∷◌, map, filter, slice_index, IfOk, OnOk};
 ghost use Rattle.std.specs.List.{slice_split, list_all};
-ghost use Rattle.tokens.specs.Lines.{is_line_end, is_blank, is_text_byte, is_nonempty, without_end, lines_of, tokens_of, is_skipped, said_in};
+ghost use Rattle.tokens.specs.Lines.{is_line_end, is_blank, is_text_byte, is_nonempty, without_end, lines_of};
+ghost use Rattle.tokens.specs.Lines.{tokens_of, is_skipped, said_in};
 ghost use Rattle.tokens.specs.Results.{Gives};
 
 use crate::fault::LineError;

@@ -5,8 +5,8 @@ ghost use Rattle.std.specs.List.{list_all};
 ghost use Rattle.std.specs.Str.{bytes_eq};
 ghost use Rattle.tokens.specs.Words.{is_letter, is_name_byte, is_reserved, is_name};
 
-use crate::types::basic_type_of;
 use crate::token::is;
+use crate::types::basic_type_of;
 use smallvec::SmallVec;
 use std::alloc::{AllocError, Global};
 use std::marker::Model;

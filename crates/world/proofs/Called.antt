@@ -23,7 +23,8 @@ is_taken (replies.Probed found) is = tt
 is_taken (replies.Matched found) is = tt
 
 -- a call that is refused hands itself back, and leaves the engine as it was
-pub refused_call : (old new : EngineState) (call : Call) (r : Reply) (why e : Refusal) → refusal_of r ≡ Some why → e ≡ why → CallGives old call r new → RefusedLeaves r old new →
+pub refused_call : (old new : EngineState) (call : Call) (r : Reply) (why e : Refusal) → refusal_of r ≡ Some why →
+    e ≡ why → CallGives old call r new → RefusedLeaves r old new →
     (new ≡ old) × ((back : Call) × CallGives old call (replies.Refused e back) old)
 refused_call old new call (replies.Refused x back) why e is same gives leaves = (
   leaves,

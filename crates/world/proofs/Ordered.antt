@@ -1,6 +1,7 @@
--- What the sessions of ranks that know each other hold: what was handed up is a beginning of what was accepted, and what is held before
--- its turn is what its sender keeps.
-use Rattle.std.proofs.Common.{◌≡◌, ℕ, zero, suc, ◌+◌, ◌-◌, ◌≤◌, Bool, List, [], ◌∷◌, length, Some, None, if◌then◌else◌, slice_get, sym, ap, subst, ◌∙◌, arith}
+-- What the sessions of ranks that know each other hold: what was handed up is a beginning of what was accepted, and
+-- what is held before its turn is what its sender keeps.
+use Rattle.std.proofs.Common.{◌≡◌, ℕ, zero, suc, ◌+◌, ◌-◌, ◌≤◌, Bool, List, [], ◌∷◌, length, Some, None, if◌then◌else◌}
+use Rattle.std.proofs.Common.{slice_get, sym, ap, subst, ◌∙◌, arith}
 use Rattle.std.specs.Prelude.{slice_index}
 use Rattle.std.specs.Option.{option_map}
 use Rattle.std.proofs.lemmas.Bool.{le-leb}
@@ -29,7 +30,8 @@ use Rattle.world.specs.declared.event.HistoryEntry.{HistoryEntry}
 use Rattle.vocabulary.specs.declared.endpoint.Endpoint.{Endpoint}
 
 -- the frame at a place is spelled there, under its number
-wires_at : (n : ℕ) (s d : Endpoint) (q : ℕ) (fs : List FrameText) (k : ℕ) (f : FrameText) → slice_get fs k ≡ Some f → slice_get (wires n s d q fs) k ≡ Some (wire n s d (q + k) f)
+wires_at : (n : ℕ) (s d : Endpoint) (q : ℕ) (fs : List FrameText) (k : ℕ) (f : FrameText) → slice_get fs k ≡ Some f →
+    slice_get (wires n s d q fs) k ≡ Some (wire n s d (q + k) f)
 wires_at n s d q [] k f is = absurd (grind arith)
 wires_at n s d q (x ∷ fs) zero f is =
     let same : q ≡ q + 0 = omega arith in
@@ -39,10 +41,14 @@ wires_at n s d q (x ∷ fs) (suc k) f is =
     wires_at n s d (suc q) fs k f is ∙ ap (λ (j : ℕ). Some (wire n s d j f)) same
 
 -- a frame that is held was accepted and not handed up, so its sender keeps it, unacknowledged, under the same number
-pub held_is_kept : (n : ℕ) (s d : Endpoint) (sender : SenderState) (receiver : ReceiverState) (link : Link) → SenderTells n s d sender link → ReceiverTells n s d receiver link →
-    (place : ℕ) (bytes : List ℕ) → held_at receiver.held place ≡ Some bytes → frame_at sender (receiver.next + place) ≡ Some bytes
+pub held_is_kept : (n : ℕ) (s d : Endpoint) (sender : SenderState) (receiver : ReceiverState) (link : Link) →
+    SenderTells n s d sender link → ReceiverTells n s d receiver link →
+    (place : ℕ) (bytes : List ℕ) → held_at receiver.held place ≡ Some bytes → frame_at sender (receiver.next + place) ≡
+    Some bytes
 held_is_kept n s d sender receiver link sends gets place bytes is =
-    ap (λ (b : Bool). if b then option_map (λ (f : OutFrame). f.bytes) (slice_get sender.frames (q - sender.lowest)) else None) (le-leb sender.lowest q low)
+    ap (λ (b : Bool). if b then
+    option_map (λ (f : OutFrame). f.bytes) (slice_get sender.frames (q - sender.lowest)) else None)
+    (le-leb sender.lowest q low)
     ∙ (sym (slice_get-map (λ (f : OutFrame). f.bytes) sender.frames (q - sender.lowest))
     ∙ (ap (λ (t : List (List ℕ)). slice_get t (q - sender.lowest)) sends.kept
     ∙ (place_in_drop sender.lowest (wires n s d 0 link.accepted) (q - sender.lowest) q there ∙ got)))
@@ -62,10 +68,12 @@ held_is_kept n s d sender receiver link sends gets place bytes is =
     got : slice_get (wires n s d 0 link.accepted) q ≡ Some bytes
     got =
         let same : 0 + q ≡ q = omega arith in
-        wires_at n s d 0 link.accepted q held.frame held.accepted ∙ ap (λ (j : ℕ). Some (wire n s d j held.frame)) same ∙ ap Some (sym held.spelled)
+        wires_at n s d 0 link.accepted q held.frame held.accepted ∙
+        ap (λ (j : ℕ). Some (wire n s d j held.frame)) same ∙ ap Some (sym held.spelled)
 
 -- the law of a session, of each two ranks of a world that know each other as they are
-pub sessions_are_in_order : (engines : List EngineState) (datagrams : List (ℕ × List ℕ)) (history : List HistoryEntry) → IsSound engines datagrams history → SessionsAreInOrder engines
+pub sessions_are_in_order : (engines : List EngineState) (datagrams : List (ℕ × List ℕ)) (history : List HistoryEntry) →
+    IsSound engines datagrams history → SessionsAreInOrder engines
 sessions_are_in_order engines datagrams history s r x e d there other apart knows known =
     let n : ℕ = length engines in
     let w : Network = (network_after n s.followed.happenings).net in
@@ -79,19 +87,25 @@ sessions_are_in_order engines datagrams history s r x e d there other apart know
     let away_is : slice_index e.sessions.known x ≡ w.current x = knows ∙ ap (λ (p : Place). p.endpoint.incarnation) (j.links.tells x d.sessions (sessions_there engines x d other)).place in
     let here_is : slice_index d.sessions.known r ≡ w.current r = known ∙ ap (λ (p : Place). p.endpoint.incarnation) (j.links.tells r e.sessions (sessions_there engines r e there)).place in
     let sender : SenderTells n here away (peer_at e.sessions.peers x).sender link =
-    subst (λ (k : ℕ). SenderTells n here (at x k) (peer_at e.sessions.peers x).sender (links here (at x k))) away_is sends.sender in
+    subst (λ (k : ℕ). SenderTells n here (at x k) (peer_at e.sessions.peers x).sender (links here (at x k))) away_is
+    sends.sender in
     let receiver : ReceiverTells n here away (peer_at d.sessions.peers r).receiver link =
-    subst (λ (k : ℕ). ReceiverTells n (at r k) away (peer_at d.sessions.peers r).receiver (links (at r k) away)) here_is gets.receiver in
+    subst (λ (k : ℕ). ReceiverTells n (at r k) away (peer_at d.sessions.peers r).receiver (links (at r k) away)) here_is
+    gets.receiver in
     let reach : link.handed ≤ length link.accepted = (j.links.sound here away).reach in
     let next_is_length = next_is n here away (peer_at e.sessions.peers x).sender link sender reach in
     record {
       acknowledged = omega (arith, sender.below, receiver.next);
       accepted = omega (arith, reach, receiver.next, next_is_length);
-      held = held_is_kept n here away (peer_at e.sessions.peers x).sender (peer_at d.sessions.peers r).receiver link sender receiver;
+      held = held_is_kept n here away (peer_at e.sessions.peers x).sender (peer_at d.sessions.peers r).receiver link
+          sender receiver;
     }
 
 -- a quiet world holds nothing before its turn
-pub nothing_is_held : (engines : List EngineState) (datagrams : List (ℕ × List ℕ)) (history : List HistoryEntry) → IsSound engines datagrams history → AreQuiet (sessions_in engines) → NothingIsHeld engines
+pub nothing_is_held : (engines : List EngineState) (datagrams : List (ℕ × List ℕ)) (history : List HistoryEntry) →
+    IsSound engines datagrams history → AreQuiet (sessions_in engines) → NothingIsHeld engines
 nothing_is_held engines datagrams history s quiet r x e d there other apart knows known place =
-    idle_holds_nothing (length engines) x r place (sessions_in engines) datagrams s.followed.joined.texts (network_after (length engines) s.followed.happenings).net.current d.sessions e.sessions
-    s.followed.joined.links quiet (sessions_there engines x d other) (sessions_there engines r e there) (false_sym x r apart) known knows
+    idle_holds_nothing (length engines) x r place (sessions_in engines) datagrams s.followed.joined.texts
+    (network_after (length engines) s.followed.happenings).net.current d.sessions e.sessions
+    s.followed.joined.links quiet (sessions_there engines x d other) (sessions_there engines r e there)
+    (false_sym x r apart) known knows

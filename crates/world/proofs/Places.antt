@@ -14,7 +14,8 @@ use Rattle.world.specs.WorldState.{ArePlaced}
 use Rattle.world.specs.declared.event.HistoryEntry.{HistoryEntry}
 
 -- no rank is beyond the last incarnation
-at_most_last : (n : ℕ) (engines : List EngineState) (d : List (ℕ × List ℕ)) (h : List machine.Entry) (r : ℕ) (e : EngineState) →
+at_most_last : (n : ℕ) (engines : List EngineState) (d : List (ℕ × List ℕ)) (h : List machine.Entry) (r : ℕ)
+    (e : EngineState) →
     IsFollowed n engines d h → slice_get engines r ≡ Some e → e.sessions.place.endpoint.incarnation ≤ 65535
 at_most_last n engines d h r e f there =
     let last = f.joined.links.last r in
@@ -29,12 +30,21 @@ not_last i most none = go (i == 65535) refl none
     go false is none' = omega (arith, most, eqb-false i 65535 is)
 
 -- a rank that is not refused a restart has an incarnation left
-pub below_last : (n : ℕ) (engines : List EngineState) (d : List (ℕ × List ℕ)) (h : List machine.Entry) (r : ℕ) (e : EngineState) →
-    IsFollowed n engines d h → slice_get engines r ≡ Some e → restart_fault e.sessions.place ≡ None → e.sessions.place.endpoint.incarnation < 65535
-below_last n engines d h r e f there none = not_last e.sessions.place.endpoint.incarnation (at_most_last n engines d h r e f there) none
+pub below_last : (n : ℕ) (engines : List EngineState) (d : List (ℕ × List ℕ)) (h : List machine.Entry) (r : ℕ)
+    (e : EngineState) →
+    IsFollowed n engines d h → slice_get engines r ≡ Some e → restart_fault e.sessions.place ≡ None →
+    e.sessions.place.endpoint.incarnation < 65535
+below_last n engines d h r e f there none =
+    not_last e.sessions.place.endpoint.incarnation (at_most_last n engines d h r e f there) none
 
 -- each engine of a world stands at its own rank
-pub sound_placed : (engines : List EngineState) (d : List (ℕ × List ℕ)) (h : List HistoryEntry) → IsSound engines d h → ArePlaced engines
+pub sound_placed : (engines : List EngineState) (d : List (ℕ × List ℕ)) (h : List HistoryEntry) → IsSound engines d h →
+    ArePlaced engines
 sound_placed engines d h s r e there =
     let place = (s.followed.joined.links.tells r e.sessions (sessions_there engines r e there)).place in
-    record { size = ap (λ (p : Place). p.size) place; rank = ap (λ (p : Place). p.endpoint.rank) place; job = ap (λ (p : Place). p.job) place }
+    record {
+      size = ap (λ (p : Place). p.size) place;
+      rank = ap (λ (p : Place). p.endpoint.rank) place;
+      job =
+          ap (λ (p : Place). p.job) place;
+    }

@@ -1,5 +1,6 @@
 -- What is true of a world stays true.
-use Rattle.std.proofs.Common.{◌≡◌, ℕ, zero, suc, ◌<◌, ◌≤◌, List, [], ◌∷◌, ◌++◌, length, Option, Some, None, refl, sym, ap, subst, ◌∙◌, append-nil, arith}
+use Rattle.std.proofs.Common.{◌≡◌, ℕ, zero, suc, ◌<◌, ◌≤◌, List, [], ◌∷◌, ◌++◌, length, Option, Some, None, refl, sym}
+use Rattle.std.proofs.Common.{ap, subst, ◌∙◌, append-nil, arith}
 use Rattle.std.specs.Prelude.{Ok, option_map, slice_get, slice_index_or, slice_set}
 use Rattle.std.proofs.lemmas.Grind.{flat_map-append}
 use Rattle.std.proofs.lemmas.List.{length-set}
@@ -16,14 +17,16 @@ use Rattle.proof_network_runs.specs.Runs.{rank_of}
 use Rattle.proof_network_bridge.specs.Following.{next_place}
 use Rattle.proof_network_bridge.specs.GoingOn.{Happened, IsFollowedBy, IsFollowedOn, LeavesFollowedOn, Stands}
 use Rattle.proof_network_bridge.specs.Joined.{IsFollowed, opening_engines}
-use Rattle.proof_network_bridge.proofs.Closed.{calls_follow_on, datagrams_follow_on, opening_follows_none, restarts_follow_on, ticks_stand}
+use Rattle.proof_network_bridge.proofs.Closed.{calls_follow_on, datagrams_follow_on, opening_follows_none}
+use Rattle.proof_network_bridge.proofs.Closed.{restarts_follow_on, ticks_stand}
 use Rattle.proof_network_bridge.proofs.Followed.{by_happenings}
 use Rattle.proof_network_bridge.proofs.Followed.{followed as followed_by}
 use Rattle.world.specs.EventByEvent.{IsSoundBy}
 use Rattle.world.specs.WorldState.{IsWorld, StandsIn}
 use Rattle.world.specs.Headline.{IsSound, entry_seen, history_seen}
 use Rattle.world.specs.Faults.{event_fault, target_of}
-use Rattle.world.specs.Steps.{CallRuns, DatagramRuns, DeliveryRuns, EventRuns, Gave, RanAt, RestartRuns, TakesBytes, TakesCall, TakesTime, TickRuns, entry_of, nothing_of}
+use Rattle.world.specs.Steps.{CallRuns, DatagramRuns, DeliveryRuns, EventRuns, Gave, RanAt, RestartRuns, TakesBytes}
+use Rattle.world.specs.Steps.{TakesCall, TakesTime, TickRuns, entry_of, nothing_of}
 use Rattle.world.specs.declared.event.HistoryEntry.{HistoryEntry}
 use Rattle.world.specs.declared.event.Event.{Event}
 use Rattle.world.specs.declared.event.Event.TheVariants as events
@@ -32,19 +35,35 @@ use Rattle.world.proofs.Keys.{all_named}
 use Rattle.world.proofs.Places.{below_last, sound_placed}
 use Rattle.world.proofs.Strays.{stray_breaks}
 
-pub sound_same : (e e' : List EngineState) (d d' : List (ℕ × List ℕ)) (h h' : List HistoryEntry) → e' ≡ e → d' ≡ d → h' ≡ h → IsSound e d h → IsSound e' d' h'
+pub sound_same : (e e' : List EngineState) (d d' : List (ℕ × List ℕ)) (h h' : List HistoryEntry) → e' ≡ e → d' ≡ d →
+    h' ≡ h → IsSound e d h → IsSound e' d' h'
 sound_same e e' d d' h h' es ds hs s =
-    subst (λ (x : List EngineState). IsSound x d' h') (sym es) (subst (λ (x : List (ℕ × List ℕ)). IsSound e x h') (sym ds) (subst (λ (x : List HistoryEntry). IsSound e d x) (sym hs) s))
+    subst (λ (x : List EngineState). IsSound x d' h') (sym es)
+    (subst (λ (x : List (ℕ × List ℕ)). IsSound e x h') (sym ds)
+    (subst (λ (x : List HistoryEntry). IsSound e d x) (sym hs) s))
 
 -- ---- by which happenings
 
 -- what holds by some happenings holds
-pub is_sound : (happenings : List Happening) (engines : List EngineState) (d : List (ℕ × List ℕ)) (h : List HistoryEntry) → IsSoundBy happenings engines d h → IsSound engines d h
-is_sound happenings engines d h s = record { world = s.world; followed = followed_by (length engines) happenings engines d (history_seen h) s.followed; named = s.named }
+pub is_sound : (happenings : List Happening) (engines : List EngineState) (d : List (ℕ × List ℕ))
+    (h : List HistoryEntry) → IsSoundBy happenings engines d h → IsSound engines d h
+is_sound happenings engines d h s =
+    record {
+      world = s.world;
+      followed = followed_by (length engines) happenings engines d (history_seen h) s.followed;
+      named = s.named;
+    }
 
 -- and what holds does so by some
-pub sound_by : (engines : List EngineState) (d : List (ℕ × List ℕ)) (h : List HistoryEntry) → (s : IsSound engines d h) → IsSoundBy s.followed.happenings engines d h
-sound_by engines d h s = record { world = s.world; followed = by_happenings (length engines) engines d (history_seen h) s.followed; named = s.named }
+pub sound_by : (engines : List EngineState) (d : List (ℕ × List ℕ)) (h : List HistoryEntry) →
+    (s : IsSound engines d h) → IsSoundBy s.followed.happenings engines d h
+sound_by engines d h s =
+    record {
+      world = s.world;
+      followed = by_happenings (length engines) engines d (history_seen h) s.followed;
+      named =
+          s.named;
+    }
 
 -- ---- the opening
 
@@ -53,21 +72,27 @@ length_opening n a zero = refl
 length_opening n a (suc k) = ap suc (length_opening n (suc a) k)
 
 -- each engine of an opening world is at its start
-opening_stands : (m n a k i : ℕ) (d : EngineState) → i < k → n ≡ m → StandsIn m (slice_index_or (opening_engines n a k) i d)
+opening_stands : (m n a k i : ℕ) (d : EngineState) → i < k → n ≡ m →
+    StandsIn m (slice_index_or (opening_engines n a k) i d)
 opening_stands m n a zero i d lt is = absurd (omega arith)
-opening_stands m n a (suc k) zero d lt is = record { size = is; clean = record { out = refl; completion = refl; ended = refl } }
+opening_stands m n a (suc k) zero d lt is =
+    record { size = is; clean = record { out = refl; completion = refl; ended = refl } }
 opening_stands m n a (suc k) (suc i) d lt is = opening_stands m n (suc a) k i d (omega arith) is
 
 opening_is_world : (n : ℕ) → n ≤ 1024 → IsWorld (opening_engines n 0 n)
 opening_is_world n few =
-    let size : length (opening_engines n 0 n) ≡ n = length_opening n 0 n in
-    (omega (arith, few, size), λ k d lt. opening_stands (length (opening_engines n 0 n)) n 0 n k d (omega (arith, lt, size)) (sym size))
+    let size : length (opening_engines n 0 n) ≡ n = length_opening n 0 n in (
+      omega (arith, few, size),
+      λ k d lt. opening_stands (length (opening_engines n 0 n)) n 0 n k d
+          (omega (arith, lt, size)) (sym size),
+    )
 
 pub opening_sound_by : (n : ℕ) → n ≤ 1024 → IsSoundBy [] (opening_engines n 0 n) [] []
 opening_sound_by n few =
     record {
       world = opening_is_world n few;
-      followed = subst (λ (m : ℕ). IsFollowedBy m [] (opening_engines n 0 n) [] []) (sym (length_opening n 0 n)) (opening_follows_none n few);
+      followed = subst (λ (m : ℕ). IsFollowedBy m [] (opening_engines n 0 n) [] []) (sym (length_opening n 0 n))
+          (opening_follows_none n few);
       named = λ r e there. record { past = tt; named = λ q given. absurd given };
     }
 
@@ -76,11 +101,14 @@ opening_sound n few = is_sound [] (opening_engines n 0 n) [] [] (opening_sound_b
 
 -- one entry more is seen behind the others
 seen_more : (h : List HistoryEntry) (e : HistoryEntry) → history_seen (h ++ e ∷ []) ≡ history_seen h ++ entry_seen e
-seen_more h e = flat_map-append entry_seen h (e ∷ []) ∙ ap (λ (x : List machine.Entry). history_seen h ++ x) (append-nil (entry_seen e))
+seen_more h e = flat_map-append entry_seen h (e ∷ []) ∙
+    ap (λ (x : List machine.Entry). history_seen h ++ x) (append-nil (entry_seen e))
 
 -- the parts of what followed, put together
-followed : (before : List Happening) (old new : List EngineState) (d : List (ℕ × List ℕ)) (h : List HistoryEntry) (rank : ℕ) (event : Event) (gave : Gave) (mid next : EngineState) (seen : List machine.Entry) →
-    LeavesFollowedOn (length old) before old d rank mid (history_seen h ++ seen) → next ≡ emptied mid → new ≡ slice_set old rank next → gave.out ≡ mid.sessions.out → seen ≡ entry_seen (entry_of event gave) →
+followed : (before : List Happening) (old new : List EngineState) (d : List (ℕ × List ℕ)) (h : List HistoryEntry)
+    (rank : ℕ) (event : Event) (gave : Gave) (mid next : EngineState) (seen : List machine.Entry) →
+    LeavesFollowedOn (length old) before old d rank mid (history_seen h ++ seen) → next ≡ emptied mid →
+    new ≡ slice_set old rank next → gave.out ≡ mid.sessions.out → seen ≡ entry_seen (entry_of event gave) →
     IsFollowedOn (length new) rank before new (d ++ gave.out) (history_seen (h ++ entry_of event gave ∷ []))
 followed before old new d h rank event gave mid next seen f state others out is =
     let engines_are : new ≡ slice_set old rank (emptied mid) = others ∙ ap (slice_set old rank) state in
@@ -88,30 +116,40 @@ followed before old new d h rank event gave mid next seen f state others out is 
     let history_is : history_seen (h ++ entry_of event gave ∷ []) ≡ history_seen h ++ seen =
     seen_more h (entry_of event gave) ∙ ap (λ (x : List machine.Entry). history_seen h ++ x) (sym is) in
     subst (λ (x : List machine.Entry). IsFollowedOn (length new) rank before new (d ++ gave.out) x) (sym history_is)
-    (subst (λ (x : List (ℕ × List ℕ)). IsFollowedOn (length new) rank before new (d ++ x) (history_seen h ++ seen)) (sym out)
-    (subst (λ (x : List EngineState). IsFollowedOn (length new) rank before x (d ++ mid.sessions.out) (history_seen h ++ seen)) (sym engines_are)
-    (subst (λ (m : ℕ). IsFollowedOn m rank before (slice_set old rank (emptied mid)) (d ++ mid.sessions.out) (history_seen h ++ seen)) (sym size_is) f)))
+    (subst (λ (x : List (ℕ × List ℕ)). IsFollowedOn (length new) rank before new (d ++ x) (history_seen h ++ seen))
+    (sym out)
+    (subst (λ (x : List EngineState). IsFollowedOn (length new) rank before x (d ++ mid.sessions.out)
+    (history_seen h ++ seen)) (sym engines_are)
+    (subst (λ (m : ℕ). IsFollowedOn m rank before (slice_set old rank (emptied mid)) (d ++ mid.sessions.out)
+    (history_seen h ++ seen)) (sym size_is) f)))
 
 -- what an event that the engine of a rank took leaves, by what the history says of it
-abbrev pub Leaves : (rank : ℕ) (before : List Happening) (new : List EngineState) (d : List (ℕ × List ℕ)) (h : List HistoryEntry) → Event → Gave → Type 0
-Leaves rank before new d h event gave = IsFollowedOn (length new) rank before new (d ++ gave.out) (history_seen (h ++ entry_of event gave ∷ []))
+abbrev pub Leaves : (rank : ℕ) (before : List Happening) (new : List EngineState) (d : List (ℕ × List ℕ))
+    (h : List HistoryEntry) → Event → Gave → Type 0
+Leaves rank before new d h event gave =
+    IsFollowedOn (length new) rank before new (d ++ gave.out) (history_seen (h ++ entry_of event gave ∷ []))
 
 -- an engine of a world that was followed so far, and what stands for it afterwards
-record IsEngineOf (happenings : List Happening) (old new : List EngineState) (d : List (ℕ × List ℕ)) (h : List HistoryEntry) (rank : ℕ) (e next : EngineState) : Type 0 where
+record IsEngineOf (happenings : List Happening) (old new : List EngineState) (d : List (ℕ × List ℕ))
+    (h : List HistoryEntry) (rank : ℕ) (e next : EngineState) : Type 0 where
   pub before : IsFollowedBy (length old) happenings old d (history_seen h)
   pub there : slice_get old rank ≡ Some e
   pub others : new ≡ slice_set old rank next
 
 -- what is seen of an answer, at the endpoint that the engine was
-completion_at : (e : EngineState) (mid : EngineState) (gave : Gave) → gave.endpoint ≡ e.sessions.place.endpoint → gave.completion ≡ completion_of mid →
+completion_at : (e : EngineState) (mid : EngineState) (gave : Gave) → gave.endpoint ≡ e.sessions.place.endpoint →
+    gave.completion ≡ completion_of mid →
     told_completion e.sessions.place.endpoint (completion_of mid) ≡ told_completion gave.endpoint gave.completion
 completion_at e mid gave endpoint completion =
-    ap (λ (o : Option Completion). told_completion e.sessions.place.endpoint o) (sym completion) ∙ ap (λ (x : Endpoint). told_completion x gave.completion) (sym endpoint)
+    ap (λ (o : Option Completion). told_completion e.sessions.place.endpoint o) (sym completion) ∙
+    ap (λ (x : Endpoint). told_completion x gave.completion) (sym endpoint)
 
 -- ---- a call
 
-call_followed : (before : List Happening) (old new : List EngineState) (d : List (ℕ × List ℕ)) (h : List HistoryEntry) (rank r : ℕ) (call : Call) (e next : EngineState) (gave : Gave) →
-    IsEngineOf before old new d h rank e next → CallRuns e call (Ok gave) next → Leaves rank before new d h (events.Call r call) gave
+call_followed : (before : List Happening) (old new : List EngineState) (d : List (ℕ × List ℕ)) (h : List HistoryEntry)
+    (rank r : ℕ) (call : Call) (e next : EngineState) (gave : Gave) →
+    IsEngineOf before old new d h rank e next → CallRuns e call (Ok gave) next →
+    Leaves rank before new d h (events.Call r call) gave
 call_followed before old new d h rank r call e next gave at ran = go gave.reply refl
   where
     go : (o : Option Reply) → gave.reply ≡ o → Leaves rank before new d h (events.Call r call) gave
@@ -119,17 +157,24 @@ call_followed before old new d h rank r call e next gave at ran = go gave.reply 
     go (Some reply) is =
         let a = subst (λ (o : Option Reply). TakesCall e call o ran.mid) is ran.event in
         followed before old new d h rank (events.Call r call) gave ran.mid next
-        (told_call e.sessions.place.endpoint call (Some reply) ++ told_completion e.sessions.place.endpoint (completion_of ran.mid))
-        (calls_follow_on (length old) rank before old d (history_seen h) e ran.mid call reply at.before at.there a.0 a.1)
+        (told_call e.sessions.place.endpoint call (Some reply) ++
+        told_completion e.sessions.place.endpoint (completion_of ran.mid))
+        (calls_follow_on (length old) rank before old d (history_seen h) e ran.mid call reply at.before at.there a.0
+        a.1)
         ran.state at.others ran.out
-        (ap (λ (o : Option Reply). told_call e.sessions.place.endpoint call o ++ told_completion e.sessions.place.endpoint (completion_of ran.mid)) (sym is)
-        ∙ ap (λ (es : List machine.Entry). told_call e.sessions.place.endpoint call gave.reply ++ es) (completion_at e ran.mid gave ran.endpoint ran.completion)
-        ∙ ap (λ (x : Endpoint). told_call x call gave.reply ++ told_completion gave.endpoint gave.completion) (sym ran.endpoint))
+        (ap (λ (o : Option Reply). told_call e.sessions.place.endpoint call o ++
+        told_completion e.sessions.place.endpoint (completion_of ran.mid)) (sym is)
+        ∙ ap (λ (es : List machine.Entry). told_call e.sessions.place.endpoint call gave.reply ++ es)
+        (completion_at e ran.mid gave ran.endpoint ran.completion)
+        ∙ ap (λ (x : Endpoint). told_call x call gave.reply ++ told_completion gave.endpoint gave.completion)
+        (sym ran.endpoint))
 
 -- ---- a datagram
 
-datagram_followed : (before : List Happening) (old new : List EngineState) (d : List (ℕ × List ℕ)) (h : List HistoryEntry) (number rank : ℕ) (bytes : List ℕ) (e next : EngineState) (gave : Gave) →
-    IsEngineOf before old new d h rank e next → slice_get d number ≡ Some (rank, bytes) → DatagramRuns e bytes (Ok gave) next →
+datagram_followed : (before : List Happening) (old new : List EngineState) (d : List (ℕ × List ℕ))
+    (h : List HistoryEntry) (number rank : ℕ) (bytes : List ℕ) (e next : EngineState) (gave : Gave) →
+    IsEngineOf before old new d h rank e next → slice_get d number ≡ Some (rank, bytes) →
+    DatagramRuns e bytes (Ok gave) next →
     Leaves rank before new d h (events.Deliver number) gave
 datagram_followed before old new d h number rank bytes e next gave at emitted ran = go gave.reply refl
   where
@@ -138,27 +183,34 @@ datagram_followed before old new d h number rank bytes e next gave at emitted ra
     go None is =
         followed before old new d h rank (events.Deliver number) gave ran.mid next
         (told_completion e.sessions.place.endpoint (completion_of ran.mid))
-        (datagrams_follow_on (length old) rank number bytes before old d (history_seen h) e ran.mid at.before at.there emitted
+        (datagrams_follow_on (length old) rank number bytes before old d (history_seen h) e ran.mid at.before at.there
+        emitted
         (subst (λ (o : Option Reply). TakesBytes e bytes o ran.mid) is ran.event))
         ran.state at.others ran.out (completion_at e ran.mid gave ran.endpoint ran.completion)
 
 -- by the datagram under the number, which goes to the rank that the delivery comes to
-delivery_followed : (before : List Happening) (old new : List EngineState) (d : List (ℕ × List ℕ)) (h : List HistoryEntry) (number rank : ℕ) (e next : EngineState) (gave : Gave) →
-    IsEngineOf before old new d h rank e next → target_of d (events.Deliver number) ≡ Some rank → DeliveryRuns (slice_get d number) e (Ok gave) next →
+delivery_followed : (before : List Happening) (old new : List EngineState) (d : List (ℕ × List ℕ))
+    (h : List HistoryEntry) (number rank : ℕ) (e next : EngineState) (gave : Gave) →
+    IsEngineOf before old new d h rank e next → target_of d (events.Deliver number) ≡ Some rank →
+    DeliveryRuns (slice_get d number) e (Ok gave) next →
     Leaves rank before new d h (events.Deliver number) gave
 delivery_followed before old new d h number rank e next gave at target ran = go (slice_get d number) refl target ran
   where
-    go : (o : Option (ℕ × List ℕ)) → slice_get d number ≡ o → option_map (λ (t : ℕ × List ℕ). t.0) o ≡ Some rank → DeliveryRuns o e (Ok gave) next →
+    go : (o : Option (ℕ × List ℕ)) → slice_get d number ≡ o → option_map (λ (t : ℕ × List ℕ). t.0) o ≡ Some rank →
+        DeliveryRuns o e (Ok gave) next →
         Leaves rank before new d h (events.Deliver number) gave
     go None is t n = absurd n
     go (Some (to, bytes)) is t n =
         let to_is : to ≡ rank = same_Some to rank t in
-        datagram_followed before old new d h number rank bytes e next gave at (is ∙ ap (λ (x : ℕ). Some (x, bytes)) to_is) n
+        datagram_followed before old new d h number rank bytes e next gave at
+        (is ∙ ap (λ (x : ℕ). Some (x, bytes)) to_is) n
 
 -- ---- a tick
 
-tick_followed : (before : List Happening) (old new : List EngineState) (d : List (ℕ × List ℕ)) (h : List HistoryEntry) (rank r now : ℕ) (e next : EngineState) (gave : Gave) →
-    IsEngineOf before old new d h rank e next → TickRuns e now (Ok gave) next → Leaves rank before new d h (events.Tick r now) gave
+tick_followed : (before : List Happening) (old new : List EngineState) (d : List (ℕ × List ℕ)) (h : List HistoryEntry)
+    (rank r now : ℕ) (e next : EngineState) (gave : Gave) →
+    IsEngineOf before old new d h rank e next → TickRuns e now (Ok gave) next →
+    Leaves rank before new d h (events.Tick r now) gave
 tick_followed before old new d h rank r now e next gave at ran = go gave.reply refl
   where
     go : (o : Option Reply) → gave.reply ≡ o → Leaves rank before new d h (events.Tick r now) gave
@@ -172,8 +224,10 @@ tick_followed before old new d h rank r now e next gave at ran = go gave.reply r
 
 -- ---- a restart
 
-restart_followed : (before : List Happening) (old new : List EngineState) (d : List (ℕ × List ℕ)) (h : List HistoryEntry) (rank : ℕ) (e next : EngineState) (gave : Gave) →
-    IsEngineOf before old new d h rank e next → RestartRuns e (Ok gave) next → Leaves rank before new d h (events.Restart rank) gave
+restart_followed : (before : List Happening) (old new : List EngineState) (d : List (ℕ × List ℕ))
+    (h : List HistoryEntry) (rank : ℕ) (e next : EngineState) (gave : Gave) →
+    IsEngineOf before old new d h rank e next → RestartRuns e (Ok gave) next →
+    Leaves rank before new d h (events.Restart rank) gave
 restart_followed before old new d h rank e next gave at ran =
     let after : EngineState = opening (next_place e.sessions.place) in
     let engines_are : new ≡ slice_set old rank after = at.others ∙ ap (slice_set old rank) ran.1 in
@@ -181,61 +235,90 @@ restart_followed before old new d h rank e next gave at ran =
     let none : Gave = nothing_of e.sessions.place.endpoint in
     let done : IsFollowedOn (length old) rank before (slice_set old rank after) d (history_seen h ++ machine.Restarted rank ∷ []) =
     restarts_follow_on (length old) rank before old d (history_seen h) e at.before at.there
-    (below_last (length old) old d (history_seen h) rank e (followed_by (length old) before old d (history_seen h) at.before) at.there ran.0)
+    (below_last (length old) old d (history_seen h) rank e
+    (followed_by (length old) before old d (history_seen h) at.before) at.there ran.0)
     in
     let there : IsFollowedOn (length new) rank before new d (history_seen h ++ machine.Restarted rank ∷ []) =
-    subst (λ (x : List EngineState). IsFollowedOn (length new) rank before x d (history_seen h ++ machine.Restarted rank ∷ [])) (sym engines_are)
-    (subst (λ (m : ℕ). IsFollowedOn m rank before (slice_set old rank after) d (history_seen h ++ machine.Restarted rank ∷ [])) (sym size_is) done)
+    subst (λ (x : List EngineState). IsFollowedOn (length new) rank before x d
+    (history_seen h ++ machine.Restarted rank ∷ [])) (sym engines_are)
+    (subst (λ (m : ℕ). IsFollowedOn m rank before (slice_set old rank after) d
+    (history_seen h ++ machine.Restarted rank ∷ [])) (sym size_is) done)
     in
     subst (λ (g : Gave). Leaves rank before new d h (events.Restart rank) g) (sym ran.2)
-    (subst (λ (x : List machine.Entry). IsFollowedOn (length new) rank before new (d ++ []) x) (sym (seen_more h (entry_of (events.Restart rank) none)))
-    (subst (λ (x : List (ℕ × List ℕ)). IsFollowedOn (length new) rank before new x (history_seen h ++ machine.Restarted rank ∷ [])) (sym (append-nil d)) there))
+    (subst (λ (x : List machine.Entry). IsFollowedOn (length new) rank before new (d ++ []) x)
+    (sym (seen_more h (entry_of (events.Restart rank) none)))
+    (subst (λ (x : List (ℕ × List ℕ)). IsFollowedOn (length new) rank before new x
+    (history_seen h ++ machine.Restarted rank ∷ [])) (sym (append-nil d)) there))
 
 -- ---- any event
 
 -- the fault of an event by what a world's size and its datagrams equal
-pub fault_as : (size n : ℕ) (d d' : List (ℕ × List ℕ)) (event : Event) (o : Option WorldRefusal) → size ≡ n → d ≡ d' → event_fault size d event ≡ o → event_fault n d' event ≡ o
+pub fault_as : (size n : ℕ) (d d' : List (ℕ × List ℕ)) (event : Event) (o : Option WorldRefusal) → size ≡ n → d ≡ d' →
+    event_fault size d event ≡ o → event_fault n d' event ≡ o
 fault_as size n d d' event o size_is d_is h =
-    subst (λ (m : ℕ). event_fault m d' event ≡ o) size_is (subst (λ (x : List (ℕ × List ℕ)). event_fault size x event ≡ o) d_is h)
+    subst (λ (m : ℕ). event_fault m d' event ≡ o) size_is
+    (subst (λ (x : List (ℕ × List ℕ)). event_fault size x event ≡ o) d_is h)
 
-event_followed : (before : List Happening) (old new : List EngineState) (d : List (ℕ × List ℕ)) (h : List HistoryEntry) (event : Event) (rank : ℕ) (e next : EngineState) (gave : Gave) →
-    IsEngineOf before old new d h rank e next → event_fault (length old) d event ≡ None → target_of d event ≡ Some rank → EventRuns d event e (Ok gave) next → Leaves rank before new d h event gave
-event_followed before old new d h (events.Call r call) rank e next gave at allowed target ran = call_followed before old new d h rank r call e next gave at ran
-event_followed before old new d h (events.Deliver number) rank e next gave at allowed target ran = delivery_followed before old new d h number rank e next gave at target ran
-event_followed before old new d h (events.Stray r bytes) rank e next gave at allowed target ran = absurd (stray_breaks (length old) d r bytes allowed)
-event_followed before old new d h (events.Tick r now) rank e next gave at allowed target ran = tick_followed before old new d h rank r now e next gave at ran
+event_followed : (before : List Happening) (old new : List EngineState) (d : List (ℕ × List ℕ)) (h : List HistoryEntry)
+    (event : Event) (rank : ℕ) (e next : EngineState) (gave : Gave) →
+    IsEngineOf before old new d h rank e next → event_fault (length old) d event ≡ None →
+    target_of d event ≡ Some rank → EventRuns d event e (Ok gave) next → Leaves rank before new d h event gave
+event_followed before old new d h (events.Call r call) rank e next gave at allowed target ran =
+    call_followed before old new d h rank r call e next gave at ran
+event_followed before old new d h (events.Deliver number) rank e next gave at allowed target ran =
+    delivery_followed before old new d h number rank e next gave at target ran
+event_followed before old new d h (events.Stray r bytes) rank e next gave at allowed target ran =
+    absurd (stray_breaks (length old) d r bytes allowed)
+event_followed before old new d h (events.Tick r now) rank e next gave at allowed target ran =
+    tick_followed before old new d h rank r now e next gave at ran
 event_followed before old new d h (events.Restart r) rank e next gave at allowed target ran =
-    subst (λ (x : ℕ). Leaves rank before new d h (events.Restart x) gave) (sym (same_Some r rank target)) (restart_followed before old new d h rank e next gave at ran)
+    subst (λ (x : ℕ). Leaves rank before new d h (events.Restart x) gave) (sym (same_Some r rank target))
+    (restart_followed before old new d h rank e next gave at ran)
 
 -- what is true of a world by some happenings is true after an event by one more, at its rank, or by none
-pub data IsSoundOn (rank : ℕ) (before : List Happening) (engines : List EngineState) (d : List (ℕ × List ℕ)) (h : List HistoryEntry) : Type 0 where
+pub data IsSoundOn (rank : ℕ) (before : List Happening) (engines : List EngineState) (d : List (ℕ × List ℕ))
+    (h : List HistoryEntry) : Type 0 where
   Still : IsSoundBy before engines d h → IsSoundOn rank before engines d h
-  Further : (x : Happening) → rank_of x ≡ rank → IsSoundBy (before ++ x ∷ []) engines d h → IsSoundOn rank before engines d h
+  Further : (x : Happening) → rank_of x ≡ rank → IsSoundBy (before ++ x ∷ []) engines d h →
+      IsSoundOn rank before engines d h
 
-pub event_sound_on : (before : List Happening) (old new : List EngineState) (d : List (ℕ × List ℕ)) (h : List HistoryEntry) (event : Event) (gave : Gave) →
-    IsSoundBy before old d h → event_fault (length old) d event ≡ None → (ran : RanAt d event old (Ok gave) new) → IsWorld new → IsSoundOn ran.rank before new (d ++ gave.out) (h ++ entry_of event gave ∷ [])
+pub event_sound_on : (before : List Happening) (old new : List EngineState) (d : List (ℕ × List ℕ))
+    (h : List HistoryEntry) (event : Event) (gave : Gave) →
+    IsSoundBy before old d h → event_fault (length old) d event ≡ None → (ran : RanAt d event old (Ok gave) new) →
+    IsWorld new → IsSoundOn ran.rank before new (d ++ gave.out) (h ++ entry_of event gave ∷ [])
 event_sound_on before old new d h event gave s allowed ran w =
-    go (event_followed before old new d h event ran.rank ran.engine ran.next gave (record { before = s.followed; there = ran.there; others = ran.others }) allowed ran.target ran.ran)
+    go (event_followed before old new d h event ran.rank ran.engine ran.next gave
+    (record { before = s.followed; there = ran.there; others = ran.others }) allowed ran.target ran.ran)
   where
     was : IsFollowed (length old) old d (history_seen h)
     was = followed_by (length old) before old d (history_seen h) s.followed
 
-    sound : (happenings : List Happening) → IsFollowedBy (length new) happenings new (d ++ gave.out) (history_seen (h ++ entry_of event gave ∷ [])) → IsSoundBy happenings new (d ++ gave.out) (h ++ entry_of event gave ∷ [])
+    sound : (happenings : List Happening) →
+        IsFollowedBy (length new) happenings new (d ++ gave.out) (history_seen (h ++ entry_of event gave ∷ [])) →
+        IsSoundBy happenings new (d ++ gave.out) (h ++ entry_of event gave ∷ [])
     sound happenings f = record {
       world = w;
       followed = f;
-      named = all_named old new d (d ++ gave.out) h event ran.rank ran.engine ran.next gave ran.there ran.others allowed ran.ran was
-          (followed_by (length new) happenings new (d ++ gave.out) (history_seen (h ++ entry_of event gave ∷ [])) f) (sound_placed old d h (is_sound before old d h s)) s.named;
+      named = all_named old new d (d ++ gave.out) h event ran.rank ran.engine ran.next gave ran.there ran.others allowed
+          ran.ran was
+          (followed_by (length new) happenings new (d ++ gave.out) (history_seen (h ++ entry_of event gave ∷ [])) f)
+          (sound_placed old d h (is_sound before old d h s)) s.named;
     }
 
-    go : Leaves ran.rank before new d h event gave → IsSoundOn ran.rank before new (d ++ gave.out) (h ++ entry_of event gave ∷ [])
+    go : Leaves ran.rank before new d h event gave →
+        IsSoundOn ran.rank before new (d ++ gave.out) (h ++ entry_of event gave ∷ [])
     go (Stands f) = Still (sound before f)
     go (Happened x is f) = Further x is (sound (before ++ x ∷ []) f)
 
-pub event_sound : (old new : List EngineState) (d : List (ℕ × List ℕ)) (h : List HistoryEntry) (event : Event) (gave : Gave) →
-    IsSound old d h → event_fault (length old) d event ≡ None → RanAt d event old (Ok gave) new → IsWorld new → IsSound new (d ++ gave.out) (h ++ entry_of event gave ∷ [])
-event_sound old new d h event gave s allowed ran w = go (event_sound_on s.followed.happenings old new d h event gave (sound_by old d h s) allowed ran w)
+pub event_sound : (old new : List EngineState) (d : List (ℕ × List ℕ)) (h : List HistoryEntry) (event : Event)
+    (gave : Gave) →
+    IsSound old d h → event_fault (length old) d event ≡ None → RanAt d event old (Ok gave) new → IsWorld new →
+    IsSound new (d ++ gave.out) (h ++ entry_of event gave ∷ [])
+event_sound old new d h event gave s allowed ran w =
+    go (event_sound_on s.followed.happenings old new d h event gave (sound_by old d h s) allowed ran w)
   where
-    go : IsSoundOn ran.rank s.followed.happenings new (d ++ gave.out) (h ++ entry_of event gave ∷ []) → IsSound new (d ++ gave.out) (h ++ entry_of event gave ∷ [])
+    go : IsSoundOn ran.rank s.followed.happenings new (d ++ gave.out) (h ++ entry_of event gave ∷ []) →
+        IsSound new (d ++ gave.out) (h ++ entry_of event gave ∷ [])
     go (Still x) = is_sound s.followed.happenings new (d ++ gave.out) (h ++ entry_of event gave ∷ []) x
-    go (Further y is x) = is_sound (s.followed.happenings ++ y ∷ []) new (d ++ gave.out) (h ++ entry_of event gave ∷ []) x
+    go (Further y is x) =
+        is_sound (s.followed.happenings ++ y ∷ []) new (d ++ gave.out) (h ++ entry_of event gave ∷ []) x

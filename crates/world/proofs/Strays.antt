@@ -1,5 +1,6 @@
 -- Why an engine of a world would refuse the bytes that the world refuses as stray ones.
-use Rattle.std.proofs.Common.{◌≡◌, ℕ, ◌<◌, Bool, true, false, List, length, Some, None, Result, refl, sym, ap, subst, ◌∙◌, arith, Option}
+use Rattle.std.proofs.Common.{◌≡◌, ℕ, ◌<◌, Bool, true, false, List, length, Some, None, Result, refl, sym, ap, subst}
+use Rattle.std.proofs.Common.{◌∙◌, arith, Option}
 use Rattle.std.specs.Prelude.{Ok, Err, ◌==◌, ◌&&◌, nat_le, slice_get, if◌then◌else◌}
 use Rattle.std.proofs.lemmas.Option.{same_Some, slice_get_within}
 use Rattle.std.proofs.lemmas.Bool.{le-leb, leb-true, lt-leb}
@@ -36,7 +37,8 @@ use Rattle.world.specs.declared.event.Event.{Event}
 use Rattle.world.specs.declared.event.Event.TheVariants as events
 
 -- a datagram has a whole header, and its job is what bytes 16 to 23 spell
-header_read : (bytes : List ℕ) (d : DatagramText) → datagram_of bytes ≡ Ok d → (nat_le 24 (length bytes) ≡ true) × (d.header.job ≡ number_at 16 8 bytes)
+header_read : (bytes : List ℕ) (d : DatagramText) → datagram_of bytes ≡ Ok d → (nat_le 24 (length bytes) ≡ true) ×
+    (d.header.job ≡ number_at 16 8 bytes)
 unfolding datagram_of header_of kind_of
 header_read bytes d is =
     let k = bind_ok (kind_of bytes) _ d is in
@@ -57,7 +59,8 @@ second_fails true b fails holds = fails
 second_fails false b fails holds = absurd cc
 
 -- what is refused with no reset leaves an engine as it was
-refused_plainly : (e new : EngineState) (why : sessions.SessionRefusal) (is : WorldRefusal) (result : Result (Unit {0}) lower.Refusal) → is ≡ Engine (of_sessions why) →
+refused_plainly : (e new : EngineState) (why : sessions.SessionRefusal) (is : WorldRefusal)
+    (result : Result (Unit {0}) lower.Refusal) → is ≡ Engine (of_sessions why) →
     HearingGives (plainly why) e result new → (new ≡ e) × ((x : lower.Refusal) × (result ≡ Err x) × (is ≡ Engine x))
 refused_plainly e new why is result same gives = (
   gives.2 ∙ ap (λ (s : SessionsState). record e { sessions = s }) gives.3.1,
@@ -75,31 +78,40 @@ same_unread readings.Length = refl
 same_unread readings.BadFrame = refl
 
 -- bytes that don't carry the world's job number are refused by an engine of that job, as the world refuses them
-pub stray_refused : (e : EngineState) (bytes : List ℕ) → e.sessions.place.job ≡ 1 → carries_job bytes ≡ false → EngineRefuses e bytes (stray_fault bytes)
+pub stray_refused : (e : EngineState) (bytes : List ℕ) → e.sessions.place.job ≡ 1 → carries_job bytes ≡ false →
+    EngineRefuses e bytes (stray_fault bytes)
 unfolding heard_of
 stray_refused e bytes job other result new gives =
-    subst (λ (why : WorldRefusal). (new ≡ e) × ((x : lower.Refusal) × (result ≡ Err x) × (why ≡ Engine x))) (sym fault_is) (go (datagram_of bytes) refl gives)
+    subst (λ (why : WorldRefusal). (new ≡ e) × ((x : lower.Refusal) × (result ≡ Err x) × (why ≡ Engine x)))
+    (sym fault_is) (go (datagram_of bytes) refl gives)
   where
     fault_is : stray_fault bytes ≡ fault_of_text (datagram_of bytes)
     fault_is = ap (λ (b : Bool). if b then CarriesJob else fault_of_text (datagram_of bytes)) other
 
-    go : (t : Result DatagramText reading.DatagramRefusal) → datagram_of bytes ≡ t → HearingGives (heard_in e.sessions t bytes) e result new →
+    go : (t : Result DatagramText reading.DatagramRefusal) → datagram_of bytes ≡ t →
+        HearingGives (heard_in e.sessions t bytes) e result new →
         (new ≡ e) × ((x : lower.Refusal) × (result ≡ Err x) × (fault_of_text t ≡ Engine x))
-    go (Err x) is g = refused_plainly e new (sessions_refusals.of_datagram x) (Engine (of_datagram x)) result (ap Engine (same_unread x)) g
+    go (Err x) is g =
+        refused_plainly e new (sessions_refusals.of_datagram x) (Engine (of_datagram x)) result
+        (ap Engine (same_unread x)) g
     go (Ok d) is g =
         let read = header_read bytes d is in
         let unlike : (number_at 16 8 bytes == 1) ≡ false = second_fails _ _ other read.0 in
         let apart : (d.header.job == e.sessions.place.job) ≡ false = ap (λ (j : ℕ). d.header.job == j) job ∙ (ap (λ (j : ℕ). j == 1) read.1 ∙ unlike) in
         refused_plainly e new sessions_refused.ForeignJob (Engine lowers.ForeignJob) result refl
-        (subst (λ (j : Result Judgement judging.IncarnationRefusal). HearingGives (heard_by j e.sessions d bytes) e result new) (foreign (knowledge e.sessions) d.header apart) g)
+        (subst (λ (j : Result Judgement judging.IncarnationRefusal). HearingGives (heard_by j e.sessions d bytes) e
+        result new) (foreign (knowledge e.sessions) d.header apart) g)
 
 -- the fault of stray bytes at a rank that is there
-stray_fault_there : (size : ℕ) (d : List (ℕ × List ℕ)) (rank : ℕ) (bytes : List ℕ) → rank < size → event_fault size d (events.Stray rank bytes) ≡ Some (stray_fault bytes)
+stray_fault_there : (size : ℕ) (d : List (ℕ × List ℕ)) (rank : ℕ) (bytes : List ℕ) → rank < size →
+    event_fault size d (events.Stray rank bytes) ≡ Some (stray_fault bytes)
 stray_fault_there size d rank bytes inside =
-    ap (λ (b : Bool). first_fault (if b then Some NoSuchRank else None) (Some (stray_fault bytes))) (lt-leb size rank inside)
+    ap (λ (b : Bool). first_fault (if b then Some NoSuchRank else None) (Some (stray_fault bytes)))
+    (lt-leb size rank inside)
 
 -- what is answered stray bytes at a rank that is there
-stray_alike : (old : WorldState) (r : ℕ) (bytes : List ℕ) (why : WorldRefusal) (out : List (ℕ × List ℕ)) (e : EngineState) → ArePlaced old.engines → IsWhy old (events.Stray r bytes) why out →
+stray_alike : (old : WorldState) (r : ℕ) (bytes : List ℕ) (why : WorldRefusal) (out : List (ℕ × List ℕ))
+    (e : EngineState) → ArePlaced old.engines → IsWhy old (events.Stray r bytes) why out →
     slice_get old.engines r ≡ Some e → carries_job bytes ≡ false → EngineRefuses e bytes why
 stray_alike old r bytes why out e placed is there other = go is
   where
@@ -108,21 +120,27 @@ stray_alike old r bytes why out e placed is there other = go is
 
     go : IsWhy old (events.Stray r bytes) why out → EngineRefuses e bytes why
     go (ByTheWorld fault silent) =
-        subst (λ (x : WorldRefusal). EngineRefuses e bytes x) (same_Some (stray_fault bytes) why (sym fault_is ∙ fault)) (stray_refused e bytes (placed r e there).job other)
-    go (ForRoom none allowed needs room silent) = let clash : Some (stray_fault bytes) ≡ None = sym fault_is ∙ none in absurd cc
-    go (ByTheEngine refusal none refused gives ran) = let clash : Some (stray_fault bytes) ≡ None = sym fault_is ∙ none in absurd cc
+        subst (λ (x : WorldRefusal). EngineRefuses e bytes x) (same_Some (stray_fault bytes) why (sym fault_is ∙ fault))
+        (stray_refused e bytes (placed r e there).job other)
+    go (ForRoom none allowed needs room silent) =
+        let clash : Some (stray_fault bytes) ≡ None = sym fault_is ∙ none in absurd cc
+    go (ByTheEngine refusal none refused gives ran) =
+        let clash : Some (stray_fault bytes) ≡ None = sym fault_is ∙ none in absurd cc
 
 -- whatever is answered stray bytes is what the engine of their rank would answer
-pub alike_at_engine : (old : WorldState) (event : Event) (why : WorldRefusal) (out : List (ℕ × List ℕ)) → ArePlaced old.engines → IsWhy old event why out →
+pub alike_at_engine : (old : WorldState) (event : Event) (why : WorldRefusal) (out : List (ℕ × List ℕ)) →
+    ArePlaced old.engines → IsWhy old event why out →
     IsAsAtTheEngine old.engines event why
 alike_at_engine old (events.Call r call) why out placed is = tt
 alike_at_engine old (events.Deliver number) why out placed is = tt
 alike_at_engine old (events.Tick r now) why out placed is = tt
 alike_at_engine old (events.Restart r) why out placed is = tt
-alike_at_engine old (events.Stray r bytes) why out placed is = λ e there other. stray_alike old r bytes why out e placed is there other
+alike_at_engine old (events.Stray r bytes) why out placed is =
+    λ e there other. stray_alike old r bytes why out e placed is there other
 
 -- stray bytes always break a rule
-pub stray_breaks : (size : ℕ) (d : List (ℕ × List ℕ)) (r : ℕ) (bytes : List ℕ) → event_fault size d (events.Stray r bytes) ≡ None → ⊥
+pub stray_breaks : (size : ℕ) (d : List (ℕ × List ℕ)) (r : ℕ) (bytes : List ℕ) →
+    event_fault size d (events.Stray r bytes) ≡ None → ⊥
 stray_breaks size d r bytes none = go (target_fault size (Some r)) none
   where
     go : (o : Option WorldRefusal) → first_fault o (Some (stray_fault bytes)) ≡ None → ⊥

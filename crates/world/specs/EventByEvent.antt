@@ -1,8 +1,10 @@
--- The headline, event by event: the run of the machine that a world has come by is a parameter, and each event goes on from it.
+-- The headline, event by event: the run of the machine that a world has come by is a parameter, and each event goes on
+-- from it.
 --
--- Its words, and where they stand: the machine's events and `IsRun` (perfect_groups, Events and Runs); that an event of the machine
--- is at an endpoint, `IsAt`, and that a run goes with what happened in the pure network, `GoesWith` (proof_network_runs, Runs); that
--- a world follows that network by just these happenings, `IsFollowedBy` (proof_network_bridge, GoingOn)
+-- Its words, and where they stand: the machine's events and `IsRun` (perfect_groups, Events and Runs); that an event of
+-- the machine is at an endpoint, `IsAt`, and that a run goes with what happened in the pure network, `GoesWith`
+-- (proof_network_runs, Runs); that a world follows that network by just these happenings, `IsFollowedBy`
+-- (proof_network_bridge, GoingOn)
 use Rattle.std.specs.Prelude.{◌≡◌, ℕ, List, [], ◌∷◌, ◌++◌, length, Option, Some, Result, Ok, Err, slice_get}
 use Rattle.std.specs.List.{AllByRecursion}
 use Rattle.engine_calls.specs.EngineState.{EngineState, member_of}
@@ -23,13 +25,14 @@ use Rattle.world.specs.declared.event.Failed.{Failed}
 use Rattle.world.specs.declared.event.Stepped.{Stepped}
 
 -- what is true of every world, by what happened in the pure network that it follows
-pub record IsSoundBy (happenings : List Happening) (engines : List EngineState) (datagrams : List (ℕ × List ℕ)) (history : List HistoryEntry) : Type 0 where
+pub record IsSoundBy (happenings : List Happening) (engines : List EngineState) (datagrams : List (ℕ × List ℕ))
+    (history : List HistoryEntry) : Type 0 where
   pub world : IsWorld engines
   pub followed : IsFollowedBy (length engines) happenings engines datagrams (history_seen history)
   pub named : (r : ℕ) (e : EngineState) → slice_get engines r ≡ Some e → AreNamed history e
 
--- THE RELATION THAT JOINS A WORLD TO THE MACHINE. The world has come by this run of the machine of queues and groups: all that the
--- headline says of some run it says of this one
+-- THE RELATION THAT JOINS A WORLD TO THE MACHINE. The world has come by this run of the machine of queues and groups:
+-- all that the headline says of some run it says of this one
 pub record HasRun (w : WorldState) (run_events : List machine.Event) : Type 0 where
   pub headline : IsRunOfMachine w
   pub by : headline.run_events ≡ run_events
@@ -38,7 +41,8 @@ pub record HasRun (w : WorldState) (run_events : List machine.Event) : Type 0 wh
   pub goes : GoesWith (length w.engines) happenings run_events
   pub sound : IsSoundBy happenings w.engines w.datagrams w.history
 
--- steps of the machine that are all at the endpoint at which an event happens: that of the engine of its rank before the event
+-- steps of the machine that are all at the endpoint at which an event happens: that of the engine of its rank before
+-- the event
 pub record AreOwnSteps (w : WorldState) (event : Event) (more : List machine.Event) : Type 0 where
   pub rank : ℕ
   pub target : target_of w.datagrams event ≡ Some rank
@@ -58,10 +62,12 @@ StepGoesOn old run_events event answer new =
 
 -- so it is from whatever run the world had come by
 abbrev pub GoesOn : WorldState → Event → Result Stepped Failed → WorldState → Type 0
-GoesOn old event answer new = (run_events : List machine.Event) → HasRun old run_events → StepGoesOn old run_events event answer new
+GoesOn old event answer new = (run_events : List machine.Event) → HasRun old run_events →
+    StepGoesOn old run_events event answer new
 
 -- so do all events of a list, one after the other. `way` are the worlds after each of them
-abbrev pub RunGoesOn : WorldState → List machine.Event → List Event → List (Result Stepped Failed) → (way : List WorldState) → WorldState → Type 0
+abbrev pub RunGoesOn : WorldState → List machine.Event → List Event → List (Result Stepped Failed) →
+    (way : List WorldState) → WorldState → Type 0
 RunGoesOn old run_events [] [] [] new = (new ≡ old) × HasRun old run_events
 RunGoesOn old run_events [] [] (mid ∷ way) new = ⊥
 RunGoesOn old run_events [] (answer ∷ answers) way new = ⊥
@@ -69,22 +75,27 @@ RunGoesOn old run_events (event ∷ events) [] way new = ⊥
 RunGoesOn old run_events (event ∷ events) (answer ∷ answers) [] new = ⊥
 RunGoesOn old run_events (event ∷ events) (answer ∷ answers) (mid ∷ way) new =
     HasRun old run_events × StepGives old event answer mid ×
-    ((more : List machine.Event) × AreStepsOf old event answer more × RunGoesOn mid (run_events ++ more) events answers way new)
+    ((more : List machine.Event) × AreStepsOf old event answer more ×
+    RunGoesOn mid (run_events ++ more) events answers way new)
 
--- ONE GROUP FOR EACH CONTEXT, of two worlds: communicators of an engine of the one and of an engine of the other that have one
--- context are one, members and their order. Where a rank was started anew between them, its engine of the one is a former one
+-- ONE GROUP FOR EACH CONTEXT, of two worlds: communicators of an engine of the one and of an engine of the other that
+-- have one context are one, members and their order. Where a rank was started anew between them, its engine of the one
+-- is a former one
 abbrev pub ShareGroups : WorldState → WorldState → Type 0
 ShareGroups w v =
     (r x : ℕ) (e d : EngineState) (first second : Option ℕ) (a b : Communicator) →
     slice_get w.engines r ≡ Some e → slice_get v.engines x ≡ Some d →
-    held_at (member_of e.groups) first ≡ Some a → held_at (member_of d.groups) second ≡ Some b → a.context ≡ b.context → a ≡ b
+    held_at (member_of e.groups) first ≡ Some a → held_at (member_of d.groups) second ≡ Some b → a.context ≡ b.context →
+    a ≡ b
 
 -- so it is of any two of these
 abbrev pub AllShareGroups : List WorldState → Type 0
-AllShareGroups worlds = (i j : ℕ) (w v : WorldState) → slice_get worlds i ≡ Some w → slice_get worlds j ≡ Some v → ShareGroups w v
+AllShareGroups worlds = (i j : ℕ) (w v : WorldState) → slice_get worlds i ≡ Some w → slice_get worlds j ≡ Some v →
+    ShareGroups w v
 
 -- a way of worlds, from whatever run the first one had come by
-pub record GoesOnFrom (old : WorldState) (events : List Event) (answers : List (Result Stepped Failed)) (new : WorldState) : Type 0 where
+pub record GoesOnFrom (old : WorldState) (events : List Event) (answers : List (Result Stepped Failed))
+    (new : WorldState) : Type 0 where
   pub from :
       (run_events : List machine.Event) → HasRun old run_events →
       (way : List WorldState) × RunGoesOn old run_events events answers way new

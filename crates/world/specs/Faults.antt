@@ -6,7 +6,8 @@ use Rattle.world.specs.declared.refusal.WorldRefusal.{WorldRefusal}
 use Rattle.world.specs.declared.refusal.WorldRefusal.TheVariants.{NoSuchDatagram, NoSuchRank}
 use Rattle.world.specs.Strays.{stray_fault}
 
--- the rank that an event comes to; a delivery comes to the one that its datagram was emitted to, if there is such a datagram
+-- the rank that an event comes to; a delivery comes to the one that its datagram was emitted to, if there is such a
+-- datagram
 abbrev pub target_of : (datagrams : List (ℕ × List ℕ)) → Event → Option ℕ
 target_of datagrams (events.Call rank call) = Some rank
 target_of datagrams (events.Deliver number) = option_map (λ (d : ℕ × List ℕ). d.0) (slice_get datagrams number)

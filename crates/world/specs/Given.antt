@@ -50,8 +50,8 @@ NamesOwn history x call = AllByRecursion (WasGivenIf history x) (requests_named 
 abbrev pub IsPast : Endpoint → HistoryEntry → Type 0
 IsPast x entry = entry.endpoint.rank ≡ x.rank → entry.endpoint.incarnation ≤ x.incarnation
 
--- no entry is of an endpoint of the engine's rank that is to come; and each request that the engine gave stands under its key, as
--- long as it stands
+-- no entry is of an endpoint of the engine's rank that is to come; and each request that the engine gave stands under
+-- its key, as long as it stands
 pub record AreNamed (history : List HistoryEntry) (e : EngineState) : Type 0 where
   pub past : AllByRecursion (IsPast e.sessions.place.endpoint) history
   pub named : (q : Request) → WasGiven history e.sessions.place.endpoint q → IsNamed e.core q

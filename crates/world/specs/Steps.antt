@@ -1,5 +1,7 @@
--- What an event does to a world: the engine of one rank goes on, what it emits is numbered, and what it answers stands in the history.
-use Rattle.std.specs.Prelude.{◌≡◌, ℕ, ◌⊎◌, false, List, [], ◌∷◌, ◌++◌, length, Option, Some, None, Result, Ok, Err, slice_get, slice_set, ◌==◌, if◌then◌else◌}
+-- What an event does to a world: the engine of one rank goes on, what it emits is numbered, and what it answers stands
+-- in the history.
+use Rattle.std.specs.Prelude.{◌≡◌, ℕ, ◌⊎◌, false, List, [], ◌∷◌, ◌++◌, length, Option, Some, None, Result, Ok, Err}
+use Rattle.std.specs.Prelude.{slice_get, slice_set, ◌==◌, if◌then◌else◌}
 use Rattle.vocabulary.specs.declared.endpoint.Endpoint.{Endpoint}
 use Rattle.vocabulary.specs.Endpoints.{last_incarnation}
 use Rattle.incarnation.specs.declared.place.Place.{Place}
@@ -48,7 +50,8 @@ emitted (Ok gave) = gave.out
 emitted (Err e) = e.out
 
 -- An event took an engine from one state to `mid`, with this reply or none; what it gave was taken out of it
-pub record Ran (old : EngineState) (Takes : Option Reply → EngineState → Type 0) (gave : Gave) (new : EngineState) : Type 0 where
+pub record Ran (old : EngineState) (Takes : Option Reply → EngineState → Type 0) (gave : Gave)
+    (new : EngineState) : Type 0 where
   pub mid : EngineState
   pub event : Takes gave.reply mid
   pub state : new ≡ emptied mid
@@ -103,7 +106,8 @@ nothing_of e = record { endpoint = e; out = []; reply = None; completion = None 
 -- the engine gives way to a new one at the next incarnation; or there is none, or memory for it was wanting
 abbrev pub RestartRuns : EngineState → Result Gave Rejection → EngineState → Type 0
 RestartRuns old (Ok gave) new =
-    (restart_fault old.sessions.place ≡ None) × (new ≡ opening (next_place old.sessions.place)) × (gave ≡ nothing_of old.sessions.place.endpoint)
+    (restart_fault old.sessions.place ≡ None) × (new ≡ opening (next_place old.sessions.place)) ×
+    (gave ≡ nothing_of old.sessions.place.endpoint)
 RestartRuns old (Err e) new = (new ≡ old) × (e.out ≡ []) × IsRefusal (restart_fault old.sessions.place) e.refused
 
 -- a datagram that was emitted comes to the engine; nothing does where there is none
@@ -111,17 +115,18 @@ abbrev pub DeliveryRuns : Option (ℕ × List ℕ) → EngineState → Result Ga
 DeliveryRuns (Some (rank, bytes)) old result new = DatagramRuns old bytes result new
 DeliveryRuns None old result new = ⊥
 
--- What an event does to the engine of its rank, by the datagrams that were emitted before. Stray bytes are to an engine what
--- a datagram is, but the world lets none come to it
-abbrev pub EventRuns : (datagrams : List (ℕ × List ℕ)) → Event → EngineState → Result Gave Rejection → EngineState → Type 0
+-- What an event does to the engine of its rank, by the datagrams that were emitted before. Stray bytes are to an engine
+-- what a datagram is, but the world lets none come to it
+abbrev pub EventRuns : (datagrams : List (ℕ × List ℕ)) → Event → EngineState → Result Gave Rejection → EngineState →
+    Type 0
 EventRuns datagrams (events.Call rank call) old result new = CallRuns old call result new
 EventRuns datagrams (events.Deliver number) old result new = DeliveryRuns (slice_get datagrams number) old result new
 EventRuns datagrams (events.Stray rank bytes) old result new = DatagramRuns old bytes result new
 EventRuns datagrams (events.Tick rank now) old result new = TickRuns old now result new
 EventRuns datagrams (events.Restart rank) old result new = RestartRuns old result new
 
--- The rule or limit by which an engine refuses an event, whatever memory there is, as far as a world asks for it before it
--- makes room: of a call and of a restart
+-- The rule or limit by which an engine refuses an event, whatever memory there is, as far as a world asks for it before
+-- it makes room: of a call and of a restart
 abbrev pub asked_fault : EngineState → Event → Option lower.Refusal
 asked_fault e (events.Call rank call) = fault_of e call
 asked_fault e (events.Deliver number) = None
@@ -140,7 +145,8 @@ fault_among engines None event = None
 fault_among engines (Some rank) event = fault_by (slice_get engines rank) event
 
 -- of these engines, the one of the rank that the event comes to took it or refused it, and no other changed
-pub record RanAt (datagrams : List (ℕ × List ℕ)) (event : Event) (old : List EngineState) (result : Result Gave Rejection) (new : List EngineState) : Type 0 where
+pub record RanAt (datagrams : List (ℕ × List ℕ)) (event : Event) (old : List EngineState)
+    (result : Result Gave Rejection) (new : List EngineState) : Type 0 where
   pub rank : ℕ
   pub target : target_of datagrams event ≡ Some rank
   pub engine : EngineState
@@ -161,7 +167,8 @@ engine_fault w event = fault_among w.engines (target_of w.datagrams event) event
 
 -- what the history holds of an event
 abbrev pub entry_of : Event → Gave → HistoryEntry
-entry_of event gave = record { endpoint = gave.endpoint; event = event; reply = gave.reply; completion = gave.completion }
+entry_of event gave =
+    record { endpoint = gave.endpoint; event = event; reply = gave.reply; completion = gave.completion }
 
 -- the event breaks no rule of the world, and the engine of its rank took it; what that emitted is numbered, and what it
 -- answered stands in the history
@@ -197,8 +204,8 @@ NeedsMemory w event = (HasRoom w → ⊥) ⊎ IsCall event
 pub data IsWhy (old : WorldState) (event : Event) (refused : WorldRefusal) (out : List (ℕ × List ℕ)) : Type 0 where
   -- by the first rule of the world that it breaks, before room is looked for
   ByTheWorld : fault_in old event ≡ Some refused → out ≡ [] → IsWhy old event refused out
-  -- it breaks none of them, nor, if it is a call or a restart, a rule or limit of its engine; before the engine saw it, memory
-  -- was wanting that the world needed
+  -- it breaks none of them, nor, if it is a call or a restart, a rule or limit of its engine; before the engine saw it,
+  -- memory was wanting that the world needed
   ForRoom :
       fault_in old event ≡ None → engine_fault old event ≡ None → NeedsMemory old event →
       refused ≡ refusals.Engine lowers.OutOfMemory → out ≡ [] → IsWhy old event refused out
@@ -217,7 +224,8 @@ abbrev pub IsFaultOrMemory : Option WorldRefusal → WorldRefusal → Type 0
 IsFaultOrMemory (Some fault) refused = refused ≡ fault
 IsFaultOrMemory None refused = refused ≡ refusals.Engine lowers.OutOfMemory
 
--- what a rank does of itself once it entered the collective that it is called to meets a limit; no other call does anything so
+-- what a rank does of itself once it entered the collective that it is called to meets a limit; no other call does
+-- anything so
 abbrev pub IsEntryLimited : EngineState → Call → Type 0
 IsEntryLimited e (calls.Enter comm entry) = IsStepLimited e comm entry
 IsEntryLimited e (calls.Isend s) = ⊥
@@ -238,20 +246,24 @@ pub record IsLimitedAt (engines : List EngineState) (rank : ℕ) (call : Call) :
   pub there : slice_get engines rank ≡ Some engine
   pub limited : IsEntryLimited engine call
 
--- a call at a rank is refused by the fault, where there is one, else for want of memory; a collective also by a limit that what
--- the rank then does of itself meets
+-- a call at a rank is refused by the fault, where there is one, else for want of memory; a collective also by a limit
+-- that what the rank then does of itself meets
 abbrev pub IsCallRefusedBy : Option WorldRefusal → List EngineState → (rank : ℕ) → Call → WorldRefusal → Type 0
 IsCallRefusedBy (Some fault) engines rank call refused = refused ≡ fault
 IsCallRefusedBy None engines rank call refused =
-    (refused ≡ refusals.Engine lowers.OutOfMemory) ⊎ ((refused ≡ refusals.Engine lowers.Limit) × IsLimitedAt engines rank call)
+    (refused ≡ refusals.Engine lowers.OutOfMemory) ⊎
+    ((refused ≡ refusals.Engine lowers.Limit) × IsLimitedAt engines rank call)
 
--- A call and a restart are refused by the first rule of the world that they break, else by the engine's rule or limit; and only
--- where there is none for want of memory, or a collective by the limit of what its rank then does of itself
+-- A call and a restart are refused by the first rule of the world that they break, else by the engine's rule or limit;
+-- and only where there is none for want of memory, or a collective by the limit of what its rank then does of itself
 abbrev pub IsFirstFault : WorldState → Event → WorldRefusal → Type 0
 IsFirstFault w (events.Call rank call) refused =
-    IsCallRefusedBy (first_fault (fault_in w (events.Call rank call)) (of_engine (engine_fault w (events.Call rank call)))) w.engines rank call refused
+    IsCallRefusedBy
+    (first_fault (fault_in w (events.Call rank call)) (of_engine (engine_fault w (events.Call rank call))))
+    w.engines rank call refused
 IsFirstFault w (events.Restart rank) refused =
-    IsFaultOrMemory (first_fault (fault_in w (events.Restart rank)) (of_engine (engine_fault w (events.Restart rank)))) refused
+    IsFaultOrMemory (first_fault (fault_in w (events.Restart rank)) (of_engine (engine_fault w (events.Restart rank))))
+    refused
 IsFirstFault w (events.Deliver number) refused = Unit {0}
 IsFirstFault w (events.Stray rank bytes) refused = Unit {0}
 IsFirstFault w (events.Tick rank now) refused = Unit {0}
@@ -270,11 +282,16 @@ abbrev pub first_of : (before : ℕ) → List (ℕ × List ℕ) → Option ℕ
 first_of before [] = None
 first_of before (d ∷ ds) = Some before
 
--- A refusal hands the event back and changes nothing, but that the reset that goes out with it is numbered, and that there may
--- be more room
+-- A refusal hands the event back and changes nothing, but that the reset that goes out with it is numbered, and that
+-- there may be more room
 pub record IsRefusedBy (old : WorldState) (event : Event) (failed : Failed) (new : WorldState) : Type 0 where
   pub out : List (ℕ × List ℕ)
-  pub unchanged : new ≡ record old { datagrams = old.datagrams ++ out; datagram_room = new.datagram_room; entry_room = new.entry_room }
+  pub unchanged : new ≡ record old {
+    datagrams = old.datagrams ++ out;
+    datagram_room = new.datagram_room;
+    entry_room =
+        new.entry_room;
+  }
   pub reset : failed.reset ≡ first_of (length old.datagrams) out
   pub back : failed.event ≡ event
   pub why : IsWhy old event failed.refused out

@@ -15,7 +15,8 @@ use Rattle.world.specs.declared.refusal.WorldRefusal.TheVariants.{Engine, Carrie
 abbrev pub carries_job : List ℕ → Bool
 carries_job bytes = nat_le 24 (length bytes) && (number_at 16 8 bytes == 1)
 
--- why bytes of another job than the world's are refused, by what they spell: they spell no datagram, or one of another job
+-- why bytes of another job than the world's are refused, by what they spell: they spell no datagram, or one of another
+-- job
 abbrev pub fault_of_text : Result DatagramText lowest.DatagramRefusal → WorldRefusal
 fault_of_text (Err e) = Engine (of_datagram e)
 fault_of_text (Ok d) = Engine engines.ForeignJob

@@ -1,5 +1,6 @@
 -- A world: its engines, every datagram that they emitted, and what happened.
-use Rattle.std.specs.Prelude.{◌≡◌, ℕ, ◌*◌, ◌+◌, ◌<◌, ◌≤◌, Bool, ◌||◌, ◌==◌, nat_lt, List, [], length, All, Some, slice_get}
+use Rattle.std.specs.Prelude.{◌≡◌, ℕ, ◌*◌, ◌+◌, ◌<◌, ◌≤◌, Bool, ◌||◌, ◌==◌, nat_lt, List, [], length, All, Some}
+use Rattle.std.specs.Prelude.{slice_get}
 use Rattle.engine_calls.specs.EngineState.{EngineState}
 use Rattle.proof_network_bridge.specs.Joined.{IsClean, opening_engines}
 use Rattle.vocabulary.specs.Limits.{most_ranks}
@@ -26,7 +27,14 @@ is_outside n = (n == 0) || nat_lt most_ranks n
 
 -- a world of n ranks in which nothing happened yet
 abbrev pub opening_world : ℕ → WorldState
-opening_world n = record { engines = opening_engines n 0 n; datagrams = []; history = []; datagram_room = 0; entry_room = 0 }
+opening_world n = record {
+  engines = opening_engines n 0 n;
+  datagrams = [];
+  history =
+      [];
+  datagram_room = 0;
+  entry_room = 0;
+}
 
 -- the engine is one of n, and everything was taken out of it
 pub record StandsIn (n : ℕ) (e : EngineState) : Type 0 where

@@ -1,6 +1,7 @@
 //! What one event does to the engines of a world.
 
-ghost use Rattle.std.specs.Prelude.{◌≡◌, ◌≤◌, ◌<◌, ◌*◌, length, option_map, Option, Some, None, IfOk, IfErr, OnErr, slice_get, vec_len};
+ghost use Rattle.std.specs.Prelude.{◌≡◌, ◌≤◌, ◌<◌, ◌*◌, length, option_map, Option, Some, None, IfOk, IfErr, OnErr};
+ghost use Rattle.std.specs.Prelude.{slice_get, vec_len};
 ghost use Rattle.point_to_point_calls.specs.declared.refusal.Refusal.TheVariants as lowers;
 ghost use Rattle.engine_calls.specs.EngineState.{opening};
 ghost use Rattle.proof_network_bridge.specs.Joined.{opening_engines};
@@ -93,8 +94,8 @@ pub fn judge(size: usize, datagrams: &[(u16, Bytes)], event: &Event) -> Result<u
     }
 }
 
-/// The rule or limit by which the engine of a rank refuses a call or a restart, whatever memory there is; of other events it
-/// isn't asked. The event comes back as it was. It takes no memory.
+/// The rule or limit by which the engine of a rank refuses a call or a restart, whatever memory there is; of other
+/// events it isn't asked. The event comes back as it was. It takes no memory.
 pub fn ask_at(engines: &[Engine], rank: u16, event: Event) -> EngineEvent
     ensures fault { result.fault ≡ fault_by (slice_get engines.now rank) event }
     ensures event { result.event ≡ event }

@@ -29,7 +29,8 @@ pub enum Event {
 /// What the history holds of an event.
 #[derive(Drop)]
 pub struct HistoryEntry {
-    /// The endpoint at which it happened: the rank, at the incarnation that it had. Of a restart that is the former one.
+    /// The endpoint at which it happened: the rank, at the incarnation that it had. Of a restart that is the former
+    /// one.
     pub endpoint: Endpoint,
     /// What happened.
     pub event: Event,

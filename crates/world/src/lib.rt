@@ -8,6 +8,6 @@ mod quiet;
 mod refusal;
 mod world;
 
-pub use event::{StepResult, HistoryEntry, Event, Failed, FailedRun, Stepped};
+pub use event::{Event, Failed, FailedRun, HistoryEntry, StepResult, Stepped};
 pub use refusal::WorldRefusal;
 pub use world::World;

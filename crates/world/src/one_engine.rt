@@ -5,7 +5,8 @@ ghost use Rattle.engine_calls.specs.EngineState.{completion_of, emptied};
 ghost use Rattle.engine_calls.specs.Faults.{fault_of};
 ghost use Rattle.world.specs.Faults.{target_of};
 ghost use Rattle.world.specs.WorldState.{IsReady};
-ghost use Rattle.world.specs.Steps.{CallRuns, DatagramRuns, TickRuns, RestartRuns, EventRuns, asked_fault, emitted, restart_fault};
+ghost use Rattle.world.specs.Steps.{CallRuns, DatagramRuns, TickRuns, RestartRuns, EventRuns, asked_fault, emitted};
+ghost use Rattle.world.specs.Steps.{restart_fault};
 ghost use Rattle.world.specs.Views.{gave_of, refusal_of};
 
 use crate::event::Event;
@@ -68,7 +69,8 @@ fn ask_call(engine: &Engine, rank: u16, call: Call) -> EngineEvent
     }
 }
 
-/// The rule or limit by which an engine refuses a call or a restart, whatever memory there is; of other events it isn't asked.
+/// The rule or limit by which an engine refuses a call or a restart, whatever memory there is; of other events it isn't
+/// asked.
 /// The event comes back as it was. It takes no memory.
 pub fn ask(engine: &Engine, event: Event) -> EngineEvent
     ensures fault { result.fault ≡ asked_fault engine.now event }

@@ -21,8 +21,8 @@ fn is_quiet_towards(engine: &Engine, other: &Engine) -> bool
     }
 }
 
-/// Whether an engine is quiet towards each of these. One that holds no frame at all is quiet towards each, and no session of it is
-/// looked at.
+/// Whether an engine is quiet towards each of these. One that holds no frame at all is quiet towards each, and no
+/// session of it is looked at.
 fn is_quiet_with(engine: &Engine, engines: &[Engine]) -> bool
     ensures { IsTrue result ↔ All (IsQuietIfOther engine.now) engines.now }
 {

@@ -1,6 +1,7 @@
 //! The world.
 
-ghost use Rattle.std.specs.Prelude.{◌≡◌, ◌≤◌, ◌+◌, ◌*◌, [], ◌∷◌, ◌++◌, length, Option, option_map, IfOk, IfErr, IsTrue, slice_get, Err, vec_len, vec_capacity, ◌↔◌, ◌⊎◌};
+ghost use Rattle.std.specs.Prelude.{◌≡◌, ◌≤◌, ◌+◌, ◌*◌, [], ◌∷◌, ◌++◌, length, Option, option_map, IfOk, IfErr, IsTrue};
+ghost use Rattle.std.specs.Prelude.{slice_get, Err, vec_len, vec_capacity, ◌↔◌, ◌⊎◌};
 ghost use Rattle.point_to_point_calls.specs.declared.refusal.Refusal.TheVariants as lowers;
 ghost use Rattle.link_truth.specs.Quiet.{AreQuiet};
 ghost use Rattle.observation.specs.Sessions.{sessions_in};
@@ -12,7 +13,7 @@ ghost use Rattle.world.specs.Steps.{StepGives, RunGives, IsNotRun, entry_of, fir
 ghost use Rattle.world.specs.Views.{gave_in};
 
 use crate::engines::{ask_at, datagram_at, judge, new_engines, run_event};
-use crate::event::{StepResult, HistoryEntry, Event, Failed, FailedRun, Stepped};
+use crate::event::{Event, Failed, FailedRun, HistoryEntry, StepResult, Stepped};
 use crate::one_engine::{EngineEvent, EngineOutput, Rejected};
 use crate::quiet::are_quiet;
 use crate::refusal::{OUT_OF_MEMORY, WorldRefusal};
@@ -44,19 +45,31 @@ impl Model for World {
 
     ghost Value = { WorldState };
 
-    ghost view = { λ w. record { engines = w.engines.items; datagrams = w.datagrams.items; history = w.history.items; datagram_room = vec_capacity w.datagrams; entry_room = vec_capacity w.history } };
+    ghost view = { λ w. record {
+      engines = w.engines.items;
+      datagrams = w.datagrams.items;
+      history =
+          w.history.items;
+      datagram_room = vec_capacity w.datagrams;
+      entry_room = vec_capacity w.history;
+    } };
 
     ghost invariant = { λ w. IsSound w.engines.items w.datagrams.items w.history.items };
 }
 
 /// Makes the room that an event may take, 65 datagrams for each rank and an entry, and tells whether it could.
-fn make_room(datagrams: &mut Vec<(u16, Bytes)>, history: &mut Vec<HistoryEntry>, size: usize) -> bool
+fn make_room(
+    datagrams: &mut Vec<(u16, Bytes)>,
+    history: &mut Vec<HistoryEntry>,
+    size: usize,
+) -> bool
     requires { size ≤ most_ranks }
     ensures datagrams { datagrams.new.items ≡ datagrams.old.items }
     ensures history { history.new.items ≡ history.old.items }
     ensures room { IsTrue result → vec_len datagrams.new + 65 * size ≤ vec_capacity datagrams.new }
     ensures place { IsTrue result → vec_len history.new + 1 ≤ vec_capacity history.new }
-    ensures enough { vec_len datagrams.old + 65 * size ≤ vec_capacity datagrams.old → vec_len history.old + 1 ≤ vec_capacity history.old → IsTrue result }
+    ensures enough { vec_len datagrams.old + 65 * size ≤ vec_capacity datagrams.old →
+        vec_len history.old + 1 ≤ vec_capacity history.old → IsTrue result }
 {
     datagrams.reserve(65 * size).is_ok() && history.reserve(1).is_ok()
 }
@@ -132,8 +145,8 @@ fn plain(refused: WorldRefusal, event: Event) -> Failed
     }
 }
 
-/// One event at the rank that it comes to, whose engine alone changes: the rules of the world first, then those of the engine
-/// for a call or a restart, then the room that it may take, then the engine.
+/// One event at the rank that it comes to, whose engine alone changes: the rules of the world first, then those of the
+/// engine for a call or a restart, then the room that it may take, then the engine.
 fn advance(
     alloc: Global,
     engines: &mut Vec<Engine>,
@@ -143,9 +156,23 @@ fn advance(
 ) -> StepResult
     requires { IsSound engines.old.items datagrams.old.items history.old.items }
     ensures exact { StepGives
-        (record { engines = engines.old.items; datagrams = datagrams.old.items; history = history.old.items; datagram_room = vec_capacity datagrams.old; entry_room = vec_capacity history.old })
+        (record {
+          engines = engines.old.items;
+          datagrams = datagrams.old.items;
+          history =
+              history.old.items;
+          datagram_room = vec_capacity datagrams.old;
+          entry_room = vec_capacity history.old;
+        })
         event result
-        (record { engines = engines.new.items; datagrams = datagrams.new.items; history = history.new.items; datagram_room = vec_capacity datagrams.new; entry_room = vec_capacity history.new }) }
+        (record {
+          engines = engines.new.items;
+          datagrams = datagrams.new.items;
+          history =
+              history.new.items;
+          datagram_room = vec_capacity datagrams.new;
+          entry_room = vec_capacity history.new;
+        }) }
     ensures sound { IsSound engines.new.items datagrams.new.items history.new.items }
 {
     let rank = match judge(engines.len(), datagrams, &event) {
@@ -177,7 +204,8 @@ impl World {
         ensures opening { IfOk result (λ w. w ≡ opening_world size) }
         ensures run { IfOk result (λ w. HasRun w []) }
         ensures limit { (result ≡ Err (WorldRefusal.Engine lowers.Limit)) ↔ IsTrue (is_outside size) }
-        ensures refused { IfErr result (λ e. (e ≡ WorldRefusal.Engine lowers.Limit) ⊎ (e ≡ WorldRefusal.Engine lowers.OutOfMemory)) }
+        ensures refused { IfErr result (λ e. (e ≡ WorldRefusal.Engine lowers.Limit) ⊎
+            (e ≡ WorldRefusal.Engine lowers.OutOfMemory)) }
     {
         if size == 0 || size > MOST_RANKS {
             return Err(WorldRefusal::Engine(engine::Refusal::Limit));
@@ -207,24 +235,24 @@ impl World {
 
     /// The events that were not refused, with what they answered, in order. It takes no memory.
     ///
-    /// What is seen in it, calls with their replies, completions and restarts, is a run of the machine of queues and groups,
-    /// which has come to rest where the world is quiet (MPI 3.1, 3.4, 3.5, 3.7, 3.8, 3.11, 5.3 and 6.4; restarts are this
-    /// project's own). Calls are on any communicator of their rank, point to point, collective or questions, and each rank
-    /// holds there the communicators that it holds here, one group for each context. A message is one message there, however
-    /// it went: whole, or announced and in pieces; of a collective the machine knows who entered it and who left it, and no
-    /// message. With a call that a rank would take now the machine finds no fault. With one that it would refuse the machine
-    /// finds the same fault first; or it finds none, and the number is 13 or 14. A request of another engine is there one that
-    /// was never given; one that the rank itself was given is named there by its serial. Where the world is quiet, a probe
-    /// answers none only where no message is pending that such a receive would accept, of a rank that its rank knows as it is;
-    /// and a collective whose members are all there as they were, know each other so and have all entered it alike was left by
-    /// all. In each session that ever was, what was handed up is a beginning of what was accepted, and every frame below the
-    /// lowest unacknowledged number was handed up (`law`, which the datagrams pin for former incarnations too; `sessions` says
-    /// it in numbers of ranks that know each other, and that a frame which is held before its turn is one that its sender still
-    /// keeps).
+    /// What is seen in it, calls with their replies, completions and restarts, is a run of the machine of queues and
+    /// groups, which has come to rest where the world is quiet (MPI 3.1, 3.4, 3.5, 3.7, 3.8, 3.11, 5.3 and 6.4;
+    /// restarts are this project's own). Calls are on any communicator of their rank, point to point, collective or
+    /// questions, and each rank holds there the communicators that it holds here, one group for each context. A message
+    /// is one message there, however it went: whole, or announced and in pieces; of a collective the machine knows who
+    /// entered it and who left it, and no message. With a call that a rank would take now the machine finds no fault.
+    /// With one that it would refuse the machine finds the same fault first; or it finds none, and the number is 13 or
+    /// 14. A request of another engine is there one that was never given; one that the rank itself was given is named
+    /// there by its serial. Where the world is quiet, a probe answers none only where no message is pending that such a
+    /// receive would accept, of a rank that its rank knows as it is; and a collective whose members are all there as
+    /// they were, know each other so and have all entered it alike was left by all. In each session that ever was, what
+    /// was handed up is a beginning of what was accepted, and every frame below the lowest unacknowledged number was
+    /// handed up (`law`, which the datagrams pin for former incarnations too; `sessions` says it in numbers of ranks
+    /// that know each other, and that a frame which is held before its turn is one that its sender still keeps).
     ///
-    /// Every world has come by some such run (`run`), from which the next event goes on: see `step`. Ranks of this world and of any
-    /// later one whose run goes on from this one's share one group for each context, also where a rank was started anew between
-    /// them (`groups`).
+    /// Every world has come by some such run (`run`), from which the next event goes on: see `step`. Ranks of this
+    /// world and of any later one whose run goes on from this one's share one group for each context, also where a rank
+    /// was started anew between them (`groups`).
     pub fn history(&self) -> &[HistoryEntry]
         ensures entries { result.now ≡ self.now.history }
         ensures headline { IsRunOfMachine self.now }
@@ -237,10 +265,11 @@ impl World {
     }
 
     /// Whether, of any two ranks that know each other at their present incarnations, no session with the other holds a
-    /// frame that waits or is unacknowledged. Left out of account is a session of which one side does not know the other as
-    /// it is: with a former incarnation, or with one that was not yet heard of. Between ranks that know each other, then, no
-    /// receive that waits accepts a pending message, what was matched is finished on both sides, and no probe misses a
-    /// message that is there: see `history`; and no rank holds a frame of the other before its turn. It takes no memory.
+    /// frame that waits or is unacknowledged. Left out of account is a session of which one side does not know the
+    /// other as it is: with a former incarnation, or with one that was not yet heard of. Between ranks that know each
+    /// other, then, no receive that waits accepts a pending message, what was matched is finished on both sides, and no
+    /// probe misses a message that is there: see `history`; and no rank holds a frame of the other before its turn. It
+    /// takes no memory.
     pub fn is_quiet(&self) -> bool
         ensures quiet { IsTrue result ↔ AreQuiet (sessions_in self.now.engines) }
         ensures held { IsTrue result → NothingIsHeld self.now.engines }
@@ -250,23 +279,24 @@ impl World {
 
     /// One event: a call, a delivery, stray bytes, a tick or a restart at one rank, whose engine alone changes.
     ///
-    /// Answers the numbers of the datagrams that were emitted, and where the history has what the event answered. A restart
-    /// puts an engine at its start in the place of the rank's engine, at the next incarnation, and emits nothing; datagrams
-    /// that were emitted before may still be delivered. MPI 3.1 has no restarts of a rank: they are this project's own.
+    /// Answers the numbers of the datagrams that were emitted, and where the history has what the event answered. A
+    /// restart puts an engine at its start in the place of the rank's engine, at the next incarnation, and emits
+    /// nothing; datagrams that were emitted before may still be delivered. MPI 3.1 has no restarts of a rank: they are
+    /// this project's own.
     ///
-    /// Refused is the first that holds of: 62 (no such datagram), 61 (no such rank), 63 (stray bytes that carry job 1) or the
-    /// number of what else is wrong with stray bytes, the rule or limit by which the rank's engine refuses a call
-    /// (`Engine::judge`), 13 (a restart of a rank at incarnation 65,535, the last one), 14 (want of memory for what the event
-    /// may add to the world, where it has no room for that, or for a copy of a call), what the rank's engine refuses with: a
-    /// datagram or a tick by its rules, a collective that is entered where what the rank then does of itself meets a limit
-    /// (13), and any event for want of memory (14). So a call or a restart is refused with 14 only
-    /// where no rule and no limit refuses it. A refusal hands the event back, and changes nothing but this: with 29, the
-    /// refusal of a datagram for a former incarnation of its target, a reset goes out to the datagram's source, unless the
-    /// datagram was a reset; it is numbered, and the refusal tells its number.
+    /// Refused is the first that holds of: 62 (no such datagram), 61 (no such rank), 63 (stray bytes that carry job 1)
+    /// or the number of what else is wrong with stray bytes, the rule or limit by which the rank's engine refuses a
+    /// call (`Engine::judge`), 13 (a restart of a rank at incarnation 65,535, the last one), 14 (want of memory for
+    /// what the event may add to the world, where it has no room for that, or for a copy of a call), what the rank's
+    /// engine refuses with: a datagram or a tick by its rules, a collective that is entered where what the rank then
+    /// does of itself meets a limit (13), and any event for want of memory (14). So a call or a restart is refused with
+    /// 14 only where no rule and no limit refuses it. A refusal hands the event back, and changes nothing but this:
+    /// with 29, the refusal of a datagram for a former incarnation of its target, a reset goes out to the datagram's
+    /// source, unless the datagram was a reset; it is numbered, and the refusal tells its number.
     ///
-    /// Whatever run of the machine the world had come by, it has now come by that run and steps of the machine at the event's own
-    /// endpoint alone, which is that of the rank's engine before the event; and by the very same run where the event is refused
-    /// (`event_by_event`).
+    /// Whatever run of the machine the world had come by, it has now come by that run and steps of the machine at the
+    /// event's own endpoint alone, which is that of the rank's engine before the event; and by the very same run where
+    /// the event is refused (`event_by_event`).
     pub fn step(&mut self, event: Event) -> StepResult
         ensures exact { StepGives self.old event result self.new }
         ensures headline { IsRunOfMachine self.new }
@@ -281,14 +311,14 @@ impl World {
         )
     }
 
-    /// The events in order, and what the step of each answers; one that is refused does not stop the others, and the reset
-    /// that goes out with it is numbered.
+    /// The events in order, and what the step of each answers; one that is refused does not stop the others, and the
+    /// reset that goes out with it is numbered.
     ///
-    /// Room for all answers is made first. Where memory for that is wanting, which is 14, nothing happens, and the events are
-    /// handed back. For every list of events, what is seen of the world after each of them is a run of the machine of
-    /// queues and groups, which has come to rest where the world is quiet: see `history`. Each of these runs goes on from the one
-    /// before by its event's own steps: see `step`. And of any two worlds on the way, be it that a rank was started anew between
-    /// them, ranks share one group for each context (`event_by_event`).
+    /// Room for all answers is made first. Where memory for that is wanting, which is 14, nothing happens, and the
+    /// events are handed back. For every list of events, what is seen of the world after each of them is a run of the
+    /// machine of queues and groups, which has come to rest where the world is quiet: see `history`. Each of these runs
+    /// goes on from the one before by its event's own steps: see `step`. And of any two worlds on the way, be it that a
+    /// rank was started anew between them, ranks share one group for each context (`event_by_event`).
     pub fn run(&mut self, events: Vec<Event>) -> Result<Vec<StepResult>, FailedRun>
         ensures exact { IfOk result (λ answers. RunGives self.old events.items answers.items self.new) }
         ensures refused { IfErr result (λ failed. IsNotRun self.old events.items failed self.new) }

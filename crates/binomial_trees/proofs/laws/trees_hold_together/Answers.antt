@@ -1,6 +1,8 @@
 -- The laws of the binomial tree.
 use Rattle.std.proofs.Common.{ℕ}
-use Rattle.binomial_trees.proofs.TreeProofs.{children_are_few, children_have_their_parent, children_partition, folds_go_by_pieces, parents_have_their_child, places_turn, subtrees_fold, top_stands_above_all}
+use Rattle.binomial_trees.proofs.TreeProofs.{children_are_few, children_have_their_parent, children_partition}
+use Rattle.binomial_trees.proofs.TreeProofs.{folds_go_by_pieces, parents_have_their_child, places_turn, subtrees_fold}
+use Rattle.binomial_trees.proofs.TreeProofs.{top_stands_above_all}
 use Rattle.binomial_trees.proofs.laws.trees_hold_together.Goals as goal
 
 pub returns-clause-partition : goal.returns-clause-partition

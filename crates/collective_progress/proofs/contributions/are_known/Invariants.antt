@@ -5,4 +5,5 @@ use Rattle.collective_progress.proofs.contributions.are_known.Given as goal
 
 abbrev pub invariant-loop-rank : goal.invariant-loop-rank
 invariant-loop-rank l =
-    are_known l.own l.mine l.inside.incarnation l.inside.context l.inside.number l.notes (take l.rank-index l.ranks) ≡ true
+    are_known l.own l.mine l.inside.incarnation l.inside.context l.inside.number l.notes (take l.rank-index l.ranks) ≡
+    true

@@ -15,6 +15,7 @@ loop-count-preserved c =
     let count : c.loop-count.count ≡ p.count = c.loop-count.invariant.1 in
     let lt : p.count < length notes = grind (arith, common_steps) in
     let at : n ≡ get_or notes p.count n = grind (arith, common_steps) in (
-      subst (λ (q : Seen). IsKept own i notes q) (sym c.look_at.ensures) (looked_next own i notes n p lt at c.loop-count.invariant.0),
+      subst (λ (q : Seen). IsKept own i notes q) (sym c.look_at.ensures)
+          (looked_next own i notes n p lt at c.loop-count.invariant.0),
       ap (λ (k : ℕ). k + 1) count ∙ sym (ap (λ (q : Seen). q.count) c.look_at.ensures),
     )

@@ -47,9 +47,13 @@ returns-in_ok-all-in-Some-block_known g c =
     let is : of c.in-Some.first.now ≡ Some b = grind (arith, common_steps) in
     let like = known_like c.args.own mine c.args.inside.now.context c.args.inside.now.number c.args.notes.now (member_at c.args.inside.now.incarnation c.in-Some.first.now) b is in
     c.fold_rest.ensures
-    ∙ ap (λ (v : Contents). contents v.basic (fold (λ (all : List ℕ) (next : Option Contents). one_more f all next) v.values (map of rest))) c.in_ok-all-in-Some-block_known.ensures
-    ∙ ap (λ (t : BasicType). contents t (fold (λ (all : List ℕ) (next : Option Contents). one_more f all next) b.values (map of rest))) like.basic_is
-    ∙ ap (contents mine.basic) (sym (folded_from f of c.args.ranks.now rest c.in-Some.first.now b c.in-Some.ensures.cases.0 is))
+    ∙ ap (λ (v : Contents). contents v.basic
+    (fold (λ (all : List ℕ) (next : Option Contents). one_more f all next) v.values (map of rest)))
+    c.in_ok-all-in-Some-block_known.ensures
+    ∙ ap (λ (t : BasicType). contents t
+    (fold (λ (all : List ℕ) (next : Option Contents). one_more f all next) b.values (map of rest))) like.basic_is
+    ∙ ap (contents mine.basic)
+    (sym (folded_from f of c.args.ranks.now rest c.in-Some.first.now b c.in-Some.ensures.cases.0 is))
 
 pub returns-in-None : goal.returns-in-None
 returns-in-None g c =
@@ -58,4 +62,5 @@ returns-in-None g c =
     let of : ℕ → Option Contents = λ r. block_known c.args.own mine c.args.inside.now.context c.args.inside.now.number c.args.notes.now (member_at c.args.inside.now.incarnation r) in
     let is : of c.in-Some.first.now ≡ None = grind (arith, common_steps) in
     let made : c.new-in-None.result ≡ contents mine.basic [] = grind (arith, common_steps) in
-    made ∙ ap (contents mine.basic) (sym (folded_none f of c.args.ranks.now c.in-Some.rest.now c.in-Some.first.now c.in-Some.ensures.cases.0 is))
+    made ∙ ap (contents mine.basic)
+    (sym (folded_none f of c.args.ranks.now c.in-Some.rest.now c.in-Some.first.now c.in-Some.ensures.cases.0 is))

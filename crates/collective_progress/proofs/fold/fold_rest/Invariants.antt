@@ -15,4 +15,5 @@ abbrev pub invariant-loop-rank : goal.invariant-loop-rank
 invariant-loop-rank g l =
     HasFolded l.fn.all l.mine l.all
     (fold (λ (all : List ℕ) (next : Option Contents). one_more (g.R.ReduceOp.combines l.op) all next) l.fn.all.values
-    (blocks_known l.own l.mine l.inside.incarnation l.inside.context l.inside.number l.notes (take l.rank-index l.ranks)))
+    (blocks_known l.own l.mine l.inside.incarnation l.inside.context l.inside.number l.notes
+    (take l.rank-index l.ranks)))

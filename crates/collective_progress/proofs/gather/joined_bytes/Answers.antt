@@ -1,5 +1,6 @@
 -- One more block stands behind those before it.
-use Rattle.std.proofs.Common.{◌≡◌, ◌%◌, ◌<◌, ℕ, List, [], ◌++◌, length, map, take, get_or, sym, ap, subst, ◌∙◌, arith, Option, Some, None}
+use Rattle.std.proofs.Common.{◌≡◌, ◌%◌, ◌<◌, ℕ, List, [], ◌++◌, length, map, take, get_or, sym, ap, subst, ◌∙◌, arith}
+use Rattle.std.proofs.Common.{Option, Some, None}
 use Rattle.std.proofs.lemmas.Grind.{common_steps}
 use Rattle.std.proofs.lemmas.List.{append-nil}
 use Rattle.collective_progress.specs.Blocks.{block_known, joined_values, values_in}
@@ -16,7 +17,8 @@ pub loop-rank-init : goal.loop-rank-init
 loop-rank-init c =
     let none : c.new-bytes.result.items ≡ [] = c.new-bytes.ensures.items in
     record {
-      values_are = ap (values_of (size_of c.args.mine.now.basic)) none ∙ values_of-nil (size_of c.args.mine.now.basic) (sizes c.args.mine.now.basic).positive;
+      values_are = ap (values_of (size_of c.args.mine.now.basic)) none ∙
+          values_of-nil (size_of c.args.mine.now.basic) (sizes c.args.mine.now.basic).positive;
       whole = ap (λ (xs : List ℕ). length xs % size_of c.args.mine.now.basic) none ∙ whole_none c.args.mine.now.basic;
     }
 
@@ -44,15 +46,18 @@ loop-rank-preserved c =
             values_are = ap (values_of (size_of mine.basic)) items
                 ∙ joined_step mine.basic front b.values c.loop-rank.invariant.whole within
                 ∙ ap (λ (t : List ℕ). t ++ b.values) c.loop-rank.invariant.values_are
-                ∙ sym (joined_more of ranks k 0 lt ∙ ap (λ (o : Option Contents). joined_values (map of (take k ranks)) ++ values_in o) is);
-            whole = ap (λ (xs : List ℕ). length xs % size_of mine.basic) items ∙ whole_step mine.basic front b.values c.loop-rank.invariant.whole;
+                ∙ sym (joined_more of ranks k 0 lt ∙
+                ap (λ (o : Option Contents). joined_values (map of (take k ranks)) ++ values_in o) is);
+            whole = ap (λ (xs : List ℕ). length xs % size_of mine.basic) items ∙
+                whole_step mine.basic front b.values c.loop-rank.invariant.whole;
           }
       | in_default w ↦
           let is : of here ≡ None = grind (arith, common_steps) in
           let items : c.match-block_known.bytes.items ≡ front = grind (arith, common_steps) in
           record {
             values_are = ap (values_of (size_of mine.basic)) items ∙ c.loop-rank.invariant.values_are
-                ∙ sym (joined_more of ranks k 0 lt ∙ ap (λ (o : Option Contents). joined_values (map of (take k ranks)) ++ values_in o) is
+                ∙ sym (joined_more of ranks k 0 lt ∙
+                ap (λ (o : Option Contents). joined_values (map of (take k ranks)) ++ values_in o) is
                 ∙ append-nil (joined_values (map of (take k ranks))));
             whole = ap (λ (xs : List ℕ). length xs % size_of mine.basic) items ∙ c.loop-rank.invariant.whole;
           }

@@ -13,4 +13,6 @@ pub record HasJoined (size : ℕ) (bytes values : List ℕ) : Type 0 where
 abbrev pub invariant-loop-rank : goal.invariant-loop-rank
 invariant-loop-rank l =
     HasJoined (size_of l.mine.basic) l.bytes.items
-    (joined_values (blocks_known l.own l.mine l.inside.incarnation l.inside.context l.inside.number l.notes (take l.rank-index l.ranks)))
+    (joined_values
+    (blocks_known l.own l.mine l.inside.incarnation l.inside.context l.inside.number l.notes
+    (take l.rank-index l.ranks)))

@@ -8,9 +8,11 @@ use Rattle.collective_progress.proofs.progress.result_behind.Goals as goal
 pub returns-in-Some : goal.returns-in-Some
 returns-in-Some c =
     let rest : position (tells_result c.args.context c.args.number) (drop c.args.start c.args.notes.now) ≡ Some c.in-Some.place = grind (arith, common_steps) in
-    sym (position_behind (tells_result c.args.context c.args.number) c.args.notes.now c.args.start c.requires.start c.requires.before ∙ ap (option_map (λ x. c.args.start + x)) rest)
+    sym (position_behind (tells_result c.args.context c.args.number) c.args.notes.now c.args.start c.requires.start
+    c.requires.before ∙ ap (option_map (λ x. c.args.start + x)) rest)
 
 pub returns-in-None : goal.returns-in-None
 returns-in-None c =
     let rest : position (tells_result c.args.context c.args.number) (drop c.args.start c.args.notes.now) ≡ None = grind (arith, common_steps) in
-    sym (position_behind (tells_result c.args.context c.args.number) c.args.notes.now c.args.start c.requires.start c.requires.before ∙ ap (option_map (λ x. c.args.start + x)) rest)
+    sym (position_behind (tells_result c.args.context c.args.number) c.args.notes.now c.args.start c.requires.start
+    c.requires.before ∙ ap (option_map (λ x. c.args.start + x)) rest)

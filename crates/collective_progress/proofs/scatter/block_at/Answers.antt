@@ -12,7 +12,8 @@ split_at-requires c =
     let values = c.args.all.now.values in
     let place : c.from.result ≡ c.args.place = grind (arith, common_steps) in
     let size : c.from-size.result ≡ size_of basic = grind (arith, common_steps) in
-    rw (place, size, c.as_bytes.ensures.bytes) (front_room basic values (c.args.place * c.args.count) c.args.count c.requires)
+    rw (place, size, c.as_bytes.ensures.bytes)
+    (front_room basic values (c.args.place * c.args.count) c.args.count c.requires)
 
 pub split_at-requires-2 : goal.split_at-requires-2
 split_at-requires-2 c =
@@ -32,4 +33,5 @@ returns c =
     let made : c.from_bytes.result ≡ record { basic = basic; values = values_of (size_of basic) c.in_ok-bytes.bytes.items } = grind (arith, common_steps) in
     made
     ∙ ap (λ (vs : List ℕ). record { basic = basic; values = vs })
-    (ap (values_of (size_of basic)) items ∙ block_values basic values (c.args.place * c.args.count) c.args.count c.as_bytes.ensures.within c.requires)
+    (ap (values_of (size_of basic)) items ∙
+    block_values basic values (c.args.place * c.args.count) c.args.count c.as_bytes.ensures.within c.requires)

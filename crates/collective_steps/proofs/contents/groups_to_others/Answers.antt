@@ -10,6 +10,7 @@ returns c =
     let i = c.args.inside.now in
     let made = c.args.made.now in
     subst (λ (xs : List CollectiveMessage). IfOk c.groups_to_each.result (λ messages. messages.items ≡ xs))
-    (ap (λ (rs : List ℕ). map (λ r. message_to i (given_of (mine r made)) r) rs) (c.deref.ensures.value ∙ c.in_ok-others.ensures)
+    (ap (λ (rs : List ℕ). map (λ r. message_to i (given_of (mine r made)) r) rs) (c.deref.ensures.value ∙
+    c.in_ok-others.ensures)
     ∙ to_others_is c.args.own i (λ r. given_of (mine r made)) c.args.ranks.now)
     c.groups_to_each.ensures

@@ -28,5 +28,6 @@ loop-rank-preserved c =
       | else-not-is_same w ↦
           rw w.others-is
           (c.loop-rank.invariant
-          ∙ sym (more ∙ ap (λ (b : Bool). so_far ++ cond b (r ∷ []) []) (ap not (sym asked ∙ w.if-not-is_same.false)) ∙ append-nil so_far))
+          ∙ sym (more ∙ ap (λ (b : Bool). so_far ++ cond b (r ∷ []) []) (ap not (sym asked ∙ w.if-not-is_same.false)) ∙
+          append-nil so_far))
     ]

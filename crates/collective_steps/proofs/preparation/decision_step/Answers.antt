@@ -11,5 +11,7 @@ returns-in-Dup-clause-err c =
     let i = c.args.inside.now in
     let h = c.args.contexts.now.state in
     let ranks = c.args.group.now in
-    subst (λ (e : Entry). IfErr c.copy_step.result (LacksFor h (IsDecided own i h ranks c.args.notes.now e))) (sym c.in-Dup.is)
-    (err_more c.copy_step.result (IsLacking h 1) (LacksFor h (λ step. step ≡ copy_step own i h ranks)) (lacks_copy own i h ranks) c.copy_step.ensures.err)
+    subst (λ (e : Entry). IfErr c.copy_step.result (LacksFor h (IsDecided own i h ranks c.args.notes.now e)))
+    (sym c.in-Dup.is)
+    (err_more c.copy_step.result (IsLacking h 1) (LacksFor h (λ step. step ≡ copy_step own i h ranks))
+    (lacks_copy own i h ranks) c.copy_step.ensures.err)

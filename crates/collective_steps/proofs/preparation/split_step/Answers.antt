@@ -16,7 +16,8 @@ returns-in-Ok-made_by-clause-ok c =
     let made = c.in-Ok-made_by.made.items in
     let are : made ≡ made_by h group 0 plan =
     c.in-Ok-made_by.ensures.ok ∙ ap (λ (parts : List SplitPart). made_by h group 0 parts) c.deref.ensures.value in
-    ok_more c.made_step.result (λ (step : Prepared). step ≡ made_step own i c.ranks.result.now c.deref-in-Ok-made_by.result.now) (IsSplit own i h group notes)
+    ok_more c.made_step.result (λ (step : Prepared). step ≡
+    made_step own i c.ranks.result.now c.deref-in-Ok-made_by.result.now) (IsSplit own i h group notes)
     (λ step is. split_made own i h group notes plan made c.in-Ok.ensures.plan are step
     (rw (c.ranks.ensures.ranks, c.deref-in-Ok-made_by.ensures.value) at is))
     c.made_step.ensures.ok
@@ -24,5 +25,7 @@ returns-in-Ok-made_by-clause-ok c =
 pub returns-clause-err : goal.returns-clause-err
 returns-clause-err c =
     let h = c.args.contexts.now.state in
-    lacks_split c.args.own c.args.inside.now h c.args.group.now c.args.notes.now c.in-Ok.plan.items c.in-Ok.ensures.plan c.in-Err.refused
-    (subst (λ (parts : List SplitPart). IsLacking h (length parts) c.in-Err.refused) c.deref.ensures.value c.in-Err.ensures.err)
+    lacks_split c.args.own c.args.inside.now h c.args.group.now c.args.notes.now c.in-Ok.plan.items c.in-Ok.ensures.plan
+    c.in-Err.refused
+    (subst (λ (parts : List SplitPart). IsLacking h (length parts) c.in-Err.refused) c.deref.ensures.value
+    c.in-Err.ensures.err)

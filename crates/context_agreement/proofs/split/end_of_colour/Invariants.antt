@@ -7,7 +7,8 @@ abbrev pub invariant-loop-end : goal.invariant-loop-end
 invariant-loop-end l = record {
   later : l.start < l.end;
   within : l.end ≤ length l.sorted;
-  same : (k : ℕ) (d : SplitRow) → l.start ≤ k → k < l.end → (get_or l.sorted k d).colour ≡ (get_or l.sorted l.start d).colour;
+  same : (k : ℕ) (d : SplitRow) → l.start ≤ k → k < l.end → (get_or l.sorted k d).colour ≡
+      (get_or l.sorted l.start d).colour;
 }
 
 abbrev pub decreases-loop-end : goal.decreases-loop-end

@@ -39,8 +39,10 @@ returns-clause-whole c =
     let len : length c.piece.result.now ≡ a.size = ap length piece ∙ length-bytes_high_first a.size a.number in
     let put : c.copy_within.new.bytes ≡ with_piece a.size a.bytes.now a.place (big_bytes a.size a.number) =
     c.copy_within.ensures
-    ∙ ap (λ (n : ℕ). take (a.place * a.size) a.bytes.now ++ c.piece.result.now ++ drop (a.place * a.size + n) a.bytes.now) len
-    ∙ ap (λ (t : List ℕ). take (a.place * a.size) a.bytes.now ++ t ++ drop (a.place * a.size + a.size) a.bytes.now) piece
+    ∙ ap (λ (n : ℕ). take (a.place * a.size) a.bytes.now ++ c.piece.result.now ++
+    drop (a.place * a.size + n) a.bytes.now) len
+    ∙ ap (λ (t : List ℕ). take (a.place * a.size) a.bytes.now ++ t ++ drop (a.place * a.size + a.size) a.bytes.now)
+    piece
     in
     let step = with_number-is a.size a.bytes.now a.place a.number c.requires.low c.requires.fits c.requires.bytes c.requires.place in
     subst (AreWhole a.size) (sym put) step.0
@@ -57,8 +59,10 @@ returns-clause-values c =
     let len : length c.piece.result.now ≡ a.size = ap length piece ∙ length-bytes_high_first a.size a.number in
     let put : c.copy_within.new.bytes ≡ with_piece a.size a.bytes.now a.place (big_bytes a.size a.number) =
     c.copy_within.ensures
-    ∙ ap (λ (n : ℕ). take (a.place * a.size) a.bytes.now ++ c.piece.result.now ++ drop (a.place * a.size + n) a.bytes.now) len
-    ∙ ap (λ (t : List ℕ). take (a.place * a.size) a.bytes.now ++ t ++ drop (a.place * a.size + a.size) a.bytes.now) piece
+    ∙ ap (λ (n : ℕ). take (a.place * a.size) a.bytes.now ++ c.piece.result.now ++
+    drop (a.place * a.size + n) a.bytes.now) len
+    ∙ ap (λ (t : List ℕ). take (a.place * a.size) a.bytes.now ++ t ++ drop (a.place * a.size + a.size) a.bytes.now)
+    piece
     in
     let step = with_number-is a.size a.bytes.now a.place a.number c.requires.low c.requires.fits c.requires.bytes c.requires.place in
     ap (values_of a.size) put ∙ step.1

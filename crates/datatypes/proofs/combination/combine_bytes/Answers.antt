@@ -16,4 +16,5 @@ returns-clause-values g c =
     let len : length new ≡ c.args.all.now.len = c.combine_sized.ensures.len ∙ ap length c.deref_mut.ensures.value ∙ sym c.args.all.now.ok.0 in
     rw (take_at new _ c.args.all.now.len len)
     (c.combine_sized.ensures.values
-    ∙ ap (λ (t : List ℕ). combined_values (g.P.PairOp.makes c.args.op.now) (values_of c.args.size t) (values_of c.args.size c.args.next.now)) c.deref_mut.ensures.value)
+    ∙ ap (λ (t : List ℕ). combined_values (g.P.PairOp.makes c.args.op.now) (values_of c.args.size t)
+    (values_of c.args.size c.args.next.now)) c.deref_mut.ensures.value)

@@ -11,7 +11,8 @@ number_at-first-requires-clause-room g c =
     let same = ap (λ (n : ℕ). n / a.size) c.loop-place.invariant.len in
     let like = ap (λ (n : ℕ). n / a.size) c.requires.like in
     let lt : c.loop-place.place < length a.next.now / a.size = omega arith in
-    element_fits a.size c.loop-place.all c.loop-place.place c.loop-place.invariant.whole (omega (arith, length-values_of a.size c.loop-place.all))
+    element_fits a.size c.loop-place.all c.loop-place.place c.loop-place.invariant.whole
+    (omega (arith, length-values_of a.size c.loop-place.all))
 
 pub number_at-second-requires-clause-room : goal.number_at-second-requires-clause-room
 number_at-second-requires-clause-room g c =
@@ -19,7 +20,8 @@ number_at-second-requires-clause-room g c =
     let same = ap (λ (n : ℕ). n / a.size) c.loop-place.invariant.len in
     let like = ap (λ (n : ℕ). n / a.size) c.requires.like in
     let lt : c.loop-place.place < length a.next.now / a.size = omega arith in
-    element_fits a.size a.next.now c.loop-place.place c.requires.next (omega (arith, length-values_of a.size a.next.now))
+    element_fits a.size a.next.now c.loop-place.place c.requires.next
+    (omega (arith, length-values_of a.size a.next.now))
 
 pub put_number_at-requires-clause-place : goal.put_number_at-requires-clause-place
 put_number_at-requires-clause-place g c =
@@ -47,7 +49,8 @@ loop-place-preserved g c =
     let below : k < length a.next.now / size = omega arith in
     let lt : k < length old = omega arith in
     let first : c.number_at-first.result ≡ get_or old k 0 =
-    c.number_at-first.ensures ∙ sym (get_or-values_of size c.loop-place.all k (omega arith)) ∙ ap (λ (t : List ℕ). get_or t k 0) inv.values ∙ combined_to-at f k old next same
+    c.number_at-first.ensures ∙ sym (get_or-values_of size c.loop-place.all k (omega arith)) ∙
+    ap (λ (t : List ℕ). get_or t k 0) inv.values ∙ combined_to-at f k old next same
     in
     let second : c.number_at-second.result ≡ get_or next k 0 = c.number_at-second.ensures ∙ sym (get_or-values_of size a.next.now k below) in
     let number : c.apply-number.result ≡ f (get_or old k 0) (get_or next k 0) =

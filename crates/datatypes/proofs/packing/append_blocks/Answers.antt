@@ -89,5 +89,6 @@ loop-number-preserved c =
     ∙ ap (λ (t : List ℕ). c.loop-number.out.items ++ t) c.run.ensures
     ∙ ap (λ (t : List ℕ). t ++ here) c.loop-number.invariant
     ∙ append_assoc a.out.now.items front here
-    ∙ ap (λ (t : List ℕ). a.out.now.items ++ t) (sym (block_piece size a.block k a.from a.bytes.now xs c.requires.blocks there))
+    ∙ ap (λ (t : List ℕ). a.out.now.items ++ t)
+    (sym (block_piece size a.block k a.from a.bytes.now xs c.requires.blocks there))
     ∙ ap (λ (n : ℕ). a.out.now.items ++ pieces_of size a.bytes.now (moved a.from (take n xs))) next

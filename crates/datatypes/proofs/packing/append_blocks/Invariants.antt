@@ -4,4 +4,5 @@ use Rattle.datatypes.specs.Pieces.{pieces_of}
 use Rattle.datatypes.proofs.packing.append_blocks.Given as goal
 
 abbrev pub invariant-loop-number : goal.invariant-loop-number
-invariant-loop-number l = l.out.items ≡ l.fn.out.items ++ pieces_of l.size l.bytes (moved l.from (take (l.number * l.block) l.offsets))
+invariant-loop-number l = l.out.items ≡ l.fn.out.items ++
+    pieces_of l.size l.bytes (moved l.from (take (l.number * l.block) l.offsets))

@@ -14,7 +14,8 @@ use Rattle.datatypes.proofs.packing.append_copied_blocks.Goals as goal
 pub loop-copy-init : goal.loop-copy-init
 loop-copy-init c =
     let a = c.args in
-    sym (ap (λ (t : List ℕ). a.out.now.items ++ pieces_of a.size a.bytes.now t) (copies_at-none 0 a.offsets.now) ∙ append-nil a.out.now.items)
+    sym (ap (λ (t : List ℕ). a.out.now.items ++ pieces_of a.size a.bytes.now t) (copies_at-none 0 a.offsets.now) ∙
+    append-nil a.out.now.items)
 
 pub overflow_mul-copy : goal.overflow_mul-copy
 overflow_mul-copy c =
@@ -52,5 +53,6 @@ loop-copy-preserved c =
     ∙ ap (λ (t : List ℕ). t ++ here) c.loop-copy.invariant
     ∙ append_assoc a.out.now.items front here
     ∙ ap (λ (e : ℕ). a.out.now.items ++ (front ++ pieces_of a.size bytes (moved (k * e) xs))) c.requires.extent
-    ∙ ap (λ (t : List ℕ). a.out.now.items ++ t) (sym (flat_map-append (λ (place : ℕ). piece_at a.size bytes place) (places k xs) (moved (k * extent_of xs) xs)))
+    ∙ ap (λ (t : List ℕ). a.out.now.items ++ t)
+    (sym (flat_map-append (λ (place : ℕ). piece_at a.size bytes place) (places k xs) (moved (k * extent_of xs) xs)))
     ∙ ap (λ (t : List ℕ). a.out.now.items ++ pieces_of a.size bytes t) (sym (places_suc k xs))

@@ -128,5 +128,6 @@ loop-i-preserved c =
       whole = c.put_number_at.ensures.whole;
       len = c.put_number_at.ensures.len ∙ inv.len;
       elements = ap length values ∙ length-set now (a.at + i) (get_or vs p 0) ∙ inv.elements;
-      values = values ∙ ap (λ (v : List ℕ). set v (a.at + i) (get_or vs p 0)) inv.values ∙ fill_more old vs xs a.at a.from i lt room;
+      values = values ∙ ap (λ (v : List ℕ). set v (a.at + i) (get_or vs p 0)) inv.values ∙
+          fill_more old vs xs a.at a.from i lt room;
     }

@@ -9,7 +9,9 @@ pub record HasFilled (size at from count : ℕ) (old bytes offsets new : List �
   pub whole : AreWhole size new
   pub len : length new ≡ length old
   pub elements : length (values_of size new) ≡ length (values_of size old)
-  pub values : values_of size new ≡ (take at (values_of size old) ++ elements_at (values_of size bytes) (moved from (take count offsets))) ++ drop (at + count) (values_of size old)
+  pub values : values_of size new ≡
+      (take at (values_of size old) ++ elements_at (values_of size bytes) (moved from (take count offsets))) ++
+      drop (at + count) (values_of size old)
 
 abbrev pub invariant-loop-i : goal.invariant-loop-i
 invariant-loop-i l = HasFilled l.size l.at l.from l.i l.fn.out l.bytes l.offsets l.out

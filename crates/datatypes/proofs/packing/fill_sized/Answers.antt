@@ -1,4 +1,5 @@
-use Rattle.std.proofs.Common.{◌≡◌, ℕ, suc, ◌+◌, ◌*◌, ◌/◌, ◌<◌, ◌≤◌, ◌++◌, List, length, take, drop, sym, ap, subst, refl, ◌∙◌, arith}
+use Rattle.std.proofs.Common.{◌≡◌, ℕ, suc, ◌+◌, ◌*◌, ◌/◌, ◌<◌, ◌≤◌, ◌++◌, List, length, take, drop, sym, ap, subst}
+use Rattle.std.proofs.Common.{refl, ◌∙◌, arith}
 use Rattle.std.proofs.Math.Nat.{suc-mul, mul-le-mul_left, mul-le-mul_right}
 use Rattle.datatypes.specs.Contents.{values_of}
 use Rattle.datatypes.specs.ContentLaws.{whole, length-values_of}
@@ -153,7 +154,8 @@ loop-copy-preserved c =
       whole = c.fill_elements.ensures.whole;
       len = c.fill_elements.ensures.len ∙ inv.len;
       values = c.fill_elements.ensures.values
-          ∙ ap (λ (e : ℕ). take (k * l) now ++ elements_at vs (moved (k * e) xs) ++ drop (k * l + l) now) c.requires.extent
+          ∙ ap (λ (e : ℕ). take (k * l) now ++ elements_at vs (moved (k * e) xs) ++ drop (k * l + l) now)
+          c.requires.extent
           ∙ ap (λ (t : List ℕ). take (k * l) t ++ part ++ drop (k * l + l) t) inv.values
           ∙ copy_filled old vs xs k;
     }
@@ -163,12 +165,16 @@ returns-clause-values c =
     let a = c.args in
     let is : c.loop-copy.copy ≡ a.copies = omega arith in
     c.loop-copy.invariant.values
-    ∙ ap (λ (k : ℕ). elements_at (values_of a.size a.bytes.now) (places k a.offsets.now) ++ drop (k * length a.offsets.now) (values_of a.size a.out.now)) is
-    ∙ all_filled (values_of a.size a.out.now) (elements_at (values_of a.size a.bytes.now) (places a.copies a.offsets.now)) (a.copies * length a.offsets.now) c.requires.room
+    ∙ ap (λ (k : ℕ). elements_at (values_of a.size a.bytes.now) (places k a.offsets.now) ++
+    drop (k * length a.offsets.now) (values_of a.size a.out.now)) is
+    ∙ all_filled (values_of a.size a.out.now)
+    (elements_at (values_of a.size a.bytes.now) (places a.copies a.offsets.now)) (a.copies * length a.offsets.now)
+    c.requires.room
 
 pub loop-copy-init : goal.loop-copy-init
 loop-copy-init c = record {
   whole = c.requires.out;
   len = refl;
-  values = none_filled (values_of c.args.size c.args.out.now) (values_of c.args.size c.args.bytes.now) c.args.offsets.now;
+  values = none_filled (values_of c.args.size c.args.out.now) (values_of c.args.size c.args.bytes.now)
+      c.args.offsets.now;
 }

@@ -8,7 +8,8 @@ use Rattle.datatypes.proofs.packing.fill_sized.Given as goal
 pub record HasGathered (size copies : ℕ) (old bytes offsets new : List ℕ) : Type 0 where
   pub whole : AreWhole size new
   pub len : length new ≡ length old
-  pub values : values_of size new ≡ elements_at (values_of size bytes) (places copies offsets) ++ drop (copies * length offsets) (values_of size old)
+  pub values : values_of size new ≡ elements_at (values_of size bytes) (places copies offsets) ++
+      drop (copies * length offsets) (values_of size old)
 
 abbrev pub invariant-loop-copy : goal.invariant-loop-copy
 invariant-loop-copy l = HasGathered l.size l.copy l.fn.out l.bytes l.offsets l.out

@@ -11,7 +11,8 @@ returns-clause-whole c =
     let at = places a.copies a.offsets.now in
     let are = pieces_are a.size a.bytes.now at c.requires.size c.requires.bytes (near_from_room at (length (values_of a.size a.bytes.now)) c.requires.near) in
     let is : c.append_copied_blocks.new.out.items ≡ pieces_of a.size a.bytes.now at =
-    c.in_ok-append_copied_blocks.ensures ∙ ap (λ (t : List ℕ). t ++ pieces_of a.size a.bytes.now at) c.in_ok-out.ensures.items
+    c.in_ok-append_copied_blocks.ensures ∙
+    ap (λ (t : List ℕ). t ++ pieces_of a.size a.bytes.now at) c.in_ok-out.ensures.items
     in
     subst (AreWhole a.size) (sym is) are.0
 
@@ -21,6 +22,7 @@ returns-clause-values c =
     let at = places a.copies a.offsets.now in
     let are = pieces_are a.size a.bytes.now at c.requires.size c.requires.bytes (near_from_room at (length (values_of a.size a.bytes.now)) c.requires.near) in
     let is : c.append_copied_blocks.new.out.items ≡ pieces_of a.size a.bytes.now at =
-    c.in_ok-append_copied_blocks.ensures ∙ ap (λ (t : List ℕ). t ++ pieces_of a.size a.bytes.now at) c.in_ok-out.ensures.items
+    c.in_ok-append_copied_blocks.ensures ∙
+    ap (λ (t : List ℕ). t ++ pieces_of a.size a.bytes.now at) c.in_ok-out.ensures.items
     in
     ap (values_of a.size) is ∙ are.1

@@ -92,7 +92,8 @@ returns-then-is_run-clause-whole c =
     let p : 0 < length xs = omega arith in
     let run : AreRun xs = c.is_run.ensures c.if-is_run.true in
     let are = run_gathered a.size a.copies a.bytes.now xs c.requires.size c.requires.bytes p run c.requires.near in
-    if_ok c.from_slice.result (λ out e. subst (AreWhole a.size) (sym (e ∙ c.run.ensures)) are.0) c.from_slice.ensures.items
+    if_ok c.from_slice.result (λ out e. subst (AreWhole a.size) (sym (e ∙ c.run.ensures)) are.0)
+    c.from_slice.ensures.items
 
 pub returns-then-is_run-clause-values : goal.returns-then-is_run-clause-values
 returns-then-is_run-clause-values c =

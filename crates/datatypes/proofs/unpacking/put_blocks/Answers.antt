@@ -200,7 +200,8 @@ loop-number-preserved c =
     record {
       whole = subst (AreWhole size) (sym c.copy_within.ensures) put.1;
       len = len ∙ inv.len;
-      elements = length-values_of size c.copy_within.new.bytes ∙ bytes ∙ sym (length-values_of size items) ∙ inv.elements;
+      elements = length-values_of size c.copy_within.new.bytes ∙ bytes ∙ sym (length-values_of size items) ∙
+          inv.elements;
       values = ap (values_of size) c.copy_within.ensures
           ∙ put.2
           ∙ ap (λ (t : List ℕ). put_at t (range_with_len at a.block) part) inv.values

@@ -132,5 +132,6 @@ loop-i-preserved c =
       whole = c.put_number_at.ensures.whole;
       len = c.put_number_at.ensures.len ∙ inv.len;
       elements = ap length values ∙ length-set vs p m ∙ inv.elements;
-      values = values ∙ ap (λ (v : List ℕ). set v p m) inv.values ∙ sym (moved_more (values_of size a.bytes.now) xs ms a.from a.start i lt within);
+      values = values ∙ ap (λ (v : List ℕ). set v p m) inv.values ∙
+          sym (moved_more (values_of size a.bytes.now) xs ms a.from a.start i lt within);
     }

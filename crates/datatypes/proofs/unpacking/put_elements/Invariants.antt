@@ -9,7 +9,8 @@ pub record HasMoved (size from start count : ℕ) (old message offsets new : Lis
   pub whole : AreWhole size new
   pub len : length new ≡ length old
   pub elements : length (values_of size new) ≡ length (values_of size old)
-  pub values : values_of size new ≡ put_at (values_of size old) (moved from (take count offsets)) (take count (drop start (values_of size message)))
+  pub values : values_of size new ≡
+      put_at (values_of size old) (moved from (take count offsets)) (take count (drop start (values_of size message)))
 
 abbrev pub invariant-loop-i : goal.invariant-loop-i
 invariant-loop-i l = HasMoved l.size l.from l.start l.i l.fn.bytes l.message l.offsets l.bytes

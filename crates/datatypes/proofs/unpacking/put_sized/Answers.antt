@@ -1,4 +1,5 @@
-use Rattle.std.proofs.Common.{◌≡◌, ℕ, ◌+◌, ◌*◌, ◌/◌, ◌%◌, ◌<◌, ◌≤◌, List, length, take, drop, sym, ap, subst, ◌∙◌, arith}
+use Rattle.std.proofs.Common.{◌≡◌, ℕ, ◌+◌, ◌*◌, ◌/◌, ◌%◌, ◌<◌, ◌≤◌, List, length, take, drop, sym, ap, subst, ◌∙◌}
+use Rattle.std.proofs.Common.{arith}
 use Rattle.std.proofs.Math.Nat.{mod-lt, div-add-mod', mul-le-mul_left, mul-le-mul_right}
 use Rattle.std.proofs.lemmas.Bool.{eqb-false}
 use Rattle.std.proofs.lemmas.List.{length-take, take_all}
@@ -7,7 +8,8 @@ use Rattle.datatypes.specs.ContentLaws.{length-values_of}
 use Rattle.derived_types.specs.Layouts.{extent_of, moved, places}
 use Rattle.datatypes.specs.Transfers.{put_at, first_places, AreNear}
 use Rattle.datatypes.proofs.BufferSteps.{element_fits}
-use Rattle.datatypes.proofs.PlaceLaws.{near_copy_whole, near_part, near_moved, whole_more, part_more, first_split, first_places-is}
+use Rattle.datatypes.proofs.PlaceLaws.{near_copy_whole, near_part, near_moved, whole_more, part_more, first_split}
+use Rattle.datatypes.proofs.PlaceLaws.{first_places-is}
 use Rattle.derived_types.proofs.LayoutLaws.{length-copies_at}
 use Rattle.datatypes.proofs.unpacking.put_sized.Goals as goal
 
@@ -114,7 +116,8 @@ loop-copy-preserved c =
     record {
       whole = c.put_copy.ensures.whole;
       len = c.put_copy.ensures.len ∙ inv.len;
-      elements = length-values_of size c.put_copy.new.bytes ∙ bytes ∙ sym (length-values_of size c.loop-copy.bytes) ∙ inv.elements;
+      elements = length-values_of size c.put_copy.new.bytes ∙ bytes ∙ sym (length-values_of size c.loop-copy.bytes) ∙
+          inv.elements;
       values = c.put_copy.ensures.values
           ∙ ap (λ (e : ℕ). put_at before (moved (k * e) xs) part) c.requires.extent
           ∙ ap (λ (t : List ℕ). put_at t (moved by xs) part) inv.values

@@ -9,7 +9,8 @@ pub record HasCopies (size copies : ℕ) (old message offsets new : List ℕ) : 
   pub whole : AreWhole size new
   pub len : length new ≡ length old
   pub elements : length (values_of size new) ≡ length (values_of size old)
-  pub values : values_of size new ≡ put_at (values_of size old) (places copies offsets) (take (copies * length offsets) (values_of size message))
+  pub values : values_of size new ≡
+      put_at (values_of size old) (places copies offsets) (take (copies * length offsets) (values_of size message))
 
 abbrev pub invariant-loop-copy : goal.invariant-loop-copy
 invariant-loop-copy l = HasCopies l.size l.copy l.fn.bytes l.message l.offsets l.bytes

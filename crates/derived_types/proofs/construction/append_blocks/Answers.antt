@@ -28,4 +28,6 @@ loop-block-preserved c =
     c.in_ok-append_copies.ensures
     ∙ ap (λ (t : List ℕ). t ++ block) c.loop-block.invariant
     ∙ append_assoc c.args.offsets.now.items (indexed_offsets (take i blocks) old) block
-    ∙ ap (λ (t : List ℕ). c.args.offsets.now.items ++ t) (sym (ap (λ (bs : List IndexedBlock). indexed_offsets bs old) (take_more blocks i no_block lt) ∙ indexed_offsets-more (take i blocks) b old))
+    ∙ ap (λ (t : List ℕ). c.args.offsets.now.items ++ t)
+    (sym (ap (λ (bs : List IndexedBlock). indexed_offsets bs old) (take_more blocks i no_block lt) ∙
+    indexed_offsets-more (take i blocks) b old))

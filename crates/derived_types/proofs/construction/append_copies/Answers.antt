@@ -45,5 +45,6 @@ loop-i-preserved c =
     c.in_ok-append_moved.ensures
     ∙ ap (λ (t : List ℕ). t ++ moved by old) c.loop-i.invariant
     ∙ append_assoc c.args.offsets.now.items (copies_at c.args.first c.loop-i.i old) (moved by old)
-    ∙ ap (λ (e : ℕ). c.args.offsets.now.items ++ (copies_at c.args.first c.loop-i.i old ++ moved ((c.args.first + c.loop-i.i) * e) old)) c.requires.extent
+    ∙ ap (λ (e : ℕ). c.args.offsets.now.items ++
+    (copies_at c.args.first c.loop-i.i old ++ moved ((c.args.first + c.loop-i.i) * e) old)) c.requires.extent
     ∙ ap (λ (t : List ℕ). c.args.offsets.now.items ++ t) (sym (copies_at-more c.args.first c.loop-i.i old))

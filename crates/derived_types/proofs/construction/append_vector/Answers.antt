@@ -2,11 +2,13 @@ use Rattle.std.proofs.Common.{◌≤◌, ◌+◌, ◌*◌, ◌++◌, ℕ, List, 
 use Rattle.std.proofs.Math.Nat.{mul-le-mul_left}
 use Rattle.std.proofs.lemmas.List.{append-nil, append_assoc}
 use Rattle.derived_types.specs.Layouts.{extent_of, copies_at, vector_offsets}
-use Rattle.derived_types.proofs.LayoutLaws.{place-le, extent-positive, vector_offsets-none, vector_offsets-more, block-le-vector}
+use Rattle.derived_types.proofs.LayoutLaws.{place-le, extent-positive, vector_offsets-none, vector_offsets-more}
+use Rattle.derived_types.proofs.LayoutLaws.{block-le-vector}
 use Rattle.derived_types.proofs.construction.append_vector.Goals as goal
 
 pub loop-i-init : goal.loop-i-init
-loop-i-init c = rw (vector_offsets-none c.args.blocklength c.args.stride c.args.old.now, append-nil c.args.offsets.now.items) refl
+loop-i-init c =
+    rw (vector_offsets-none c.args.blocklength c.args.stride c.args.old.now, append-nil c.args.offsets.now.items) refl
 
 pub overflow_mul-i : goal.overflow_mul-i
 overflow_mul-i c =
@@ -32,4 +34,5 @@ loop-i-preserved c =
     c.in_ok-append_copies.ensures
     ∙ ap (λ (t : List ℕ). t ++ block) c.loop-i.invariant
     ∙ append_assoc c.args.offsets.now.items (vector_offsets c.loop-i.i c.args.blocklength c.args.stride old) block
-    ∙ ap (λ (t : List ℕ). c.args.offsets.now.items ++ t) (sym (vector_offsets-more c.loop-i.i c.args.blocklength c.args.stride old))
+    ∙ ap (λ (t : List ℕ). c.args.offsets.now.items ++ t)
+    (sym (vector_offsets-more c.loop-i.i c.args.blocklength c.args.stride old))

@@ -9,5 +9,6 @@ use Rattle.derived_types.proofs.construction.occurs_twice.Goals as goal
 pub returns : goal.returns
 returns c =
     let made : IsFromIterResult nat_eq c.args.offsets.now c.in_ok-kinds.kinds = search rules in
-    ap (λ (n : ℕ). ltb n (length c.args.offsets.now)) (c.len.ensures.len ∙ hash_set_len-from_list nat_eq_equiv c.args.offsets.now c.in_ok-kinds.kinds made)
+    ap (λ (n : ℕ). ltb n (length c.args.offsets.now))
+    (c.len.ensures.len ∙ hash_set_len-from_list nat_eq_equiv c.args.offsets.now c.in_ok-kinds.kinds made)
     ∙ sym (has_repeats_is c.args.offsets.now)

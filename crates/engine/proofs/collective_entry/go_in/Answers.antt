@@ -35,30 +35,39 @@ returns-in-Ok-send_step-clause-ok c =
         c.enter.ensures.ending ∙ ap (λ (k : ContextsState). ending_of k step.outcome) kept.1,
         c.enter.ensures.collective
             ∙ ap (λ (s : State). after_step (entered s c.in-Ok-prepare_entry.ready.inside) step.outcome) kept.0
-            ∙ ap (λ (i : Inside). after_step (entered c.args.communicators.now.collective.state i) step.outcome) c.in-Ok-prepare_entry.ensures.inside,
+            ∙ ap (λ (i : Inside). after_step (entered c.args.communicators.now.collective.state i) step.outcome)
+            c.in-Ok-prepare_entry.ensures.inside,
         c.enter.ensures.contexts ∙ ap (λ (k : ContextsState). contexts_after k step.drawn step.outcome) kept.1,
       );
       whole = subst AreWhole c.messages.ensures c.in-Ok-send_step.ensures.whole;
       goes = subst (λ (n : List Numbers). step_limit c.args.sessions.now n None step.messages ≡ None) first
-          (subst (λ (ms : List CollectiveMessage). step_limit c.args.sessions.now ns None ms ≡ None) c.messages.ensures c.in-Ok-send_step.ensures.goes);
+          (subst (λ (ms : List CollectiveMessage). step_limit c.args.sessions.now ns None ms ≡ None) c.messages.ensures
+          c.in-Ok-send_step.ensures.goes);
       counted = c.set_numbers.ensures.exact
           ∙ ap (λ (n : List Numbers). with_numbers c.args.core.now.state n)
-          (subst (λ (ms : List CollectiveMessage). c.send_step.new.numbers.items ≡ step_numbers ns ms) c.messages.ensures c.in-Ok-send_step.ensures.numbers
+          (subst (λ (ms : List CollectiveMessage). c.send_step.new.numbers.items ≡ step_numbers ns ms)
+          c.messages.ensures c.in-Ok-send_step.ensures.numbers
           ∙ ap (λ (n : List Numbers). step_numbers n step.messages) first);
       kept = c.announce.ensures.state
-          ∙ ap (λ (q : payloads.State). after_announcing q c.in-Ok-send_step.announced.items) c.send_step.ensures.payloads
+          ∙ ap (λ (q : payloads.State). after_announcing q c.in-Ok-send_step.announced.items)
+          c.send_step.ensures.payloads
           ∙ ap (λ (l : List Announced). after_announcing c.args.payloads.now.state l)
-          (subst (λ (ms : List CollectiveMessage). c.in-Ok-send_step.announced.items ≡ step_payloads ns ms) c.messages.ensures c.in-Ok-send_step.ensures.announced
+          (subst (λ (ms : List CollectiveMessage). c.in-Ok-send_step.announced.items ≡ step_payloads ns ms)
+          c.messages.ensures c.in-Ok-send_step.ensures.announced
           ∙ ap (λ (n : List Numbers). step_payloads n step.messages) first);
-      sent = subst (λ (n : List Numbers). c.send_step.new.sessions ≡ after_event c.args.sessions.now None (step_sendings c.args.sessions.now.place n step.messages)) first
+      sent = subst (λ (n : List Numbers). c.send_step.new.sessions ≡
+          after_event c.args.sessions.now None (step_sendings c.args.sessions.now.place n step.messages)) first
           (subst
-          (λ (ms : List CollectiveMessage). c.send_step.new.sessions ≡ after_event c.args.sessions.now None (step_sendings c.args.sessions.now.place ns ms))
+          (λ (ms : List CollectiveMessage). c.send_step.new.sessions ≡
+          after_event c.args.sessions.now None (step_sendings c.args.sessions.now.place ns ms))
           c.messages.ensures c.in-Ok-send_step.ensures.sent);
     }
 
 -- why what a rank would do of itself can't be sent, as its entry says it
-why_not : (s : State) (h : ContextsState) (ns first : List Numbers) (links : SessionsState) (place : ℕ) (x : Entry) (step : Prepared) (ms : List CollectiveMessage) (e : Refusal) →
-    IsPreparedEntry s.own (inside_of s h place x) h s.kept step → ns ≡ first → ms ≡ step.messages → StepStops (step_limit links ns None ms) e → WhyNot s h first links place x e
+why_not : (s : State) (h : ContextsState) (ns first : List Numbers) (links : SessionsState) (place : ℕ) (x : Entry)
+    (step : Prepared) (ms : List CollectiveMessage) (e : Refusal) →
+    IsPreparedEntry s.own (inside_of s h place x) h s.kept step → ns ≡ first → ms ≡ step.messages →
+    StepStops (step_limit links ns None ms) e → WhyNot s h first links place x e
 why_not s h ns first links place x step ms refusals.Count is same these stops = absurd stops
 why_not s h ns first links place x step ms refusals.WrongType is same these stops = absurd stops
 why_not s h ns first links place x step ms refusals.Tag is same these stops = absurd stops
@@ -91,11 +100,16 @@ why_not s h ns first links place x step ms refusals.ClockBack is same these stop
 
 pub returns-in-Err-send_step-clause-err : goal.returns-in-Err-send_step-clause-err
 returns-in-Err-send_step-clause-err c =
-    why_not c.args.communicators.now.collective.state c.args.communicators.now.contexts.state c.in-Ok.numbers.items c.args.core.now.state.transfers.numbers c.args.sessions.now
+    why_not c.args.communicators.now.collective.state c.args.communicators.now.contexts.state c.in-Ok.numbers.items
+    c.args.core.now.state.transfers.numbers c.args.sessions.now
     c.args.place c.args.entry c.in-Ok-prepare_entry.ready.step c.messages.result.now c.in-Err-send_step.refused
     c.in-Ok-prepare_entry.ensures.step c.in-Ok.ensures.ok c.messages.ensures c.in-Err-send_step.ensures.why
 
 pub returns-in-Ok-send_step-clause-few : goal.returns-in-Ok-send_step-clause-few
 returns-in-Ok-send_step-clause-few c =
     let s : SessionsState = c.args.sessions.now in
-    omega (arith, most_within None s c.send_step.new.sessions s.place.size c.place-place.ensures.peers c.in-Ok-send_step.ensures.within)
+    omega (
+      arith,
+      most_within None s c.send_step.new.sessions s.place.size c.place-place.ensures.peers
+          c.in-Ok-send_step.ensures.within,
+    )

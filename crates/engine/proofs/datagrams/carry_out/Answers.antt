@@ -19,7 +19,8 @@ carry_out-requires-clause-frames c =
     (c.deref-2.ensures.value ∙ c.in_ok-outgoing.ensures.ok ∙ ap (map outgoing_of) c.deref.ensures.value)
     (c.in_ok-frames.ensures.exact ∙ ap (news_frames core) c.news_of.ensures))
     c.requires.place
-    (subst (λ (n : NewsText). AllByRecursion (CanGo core.place.size) (news_frames core n)) c.news_of.ensures c.frames_for.ensures.go)
+    (subst (λ (n : NewsText). AllByRecursion (CanGo core.place.size) (news_frames core n)) c.news_of.ensures
+    c.frames_for.ensures.go)
 
 pub returns-in-Ok-clause-ok : goal.returns-in-Ok-clause-ok
 returns-in-Ok-clause-ok c =
@@ -41,4 +42,5 @@ returns-clause-err c =
     c.of_sessions.ensures
     ∙ ap of_sessions
     (only_memory (event_limit c.args.sessions.now (Some h) (sendings c.deref-2.result.now)) c.in-Err.refused
-    (ap (λ (fs : List Sending). event_limit c.args.sessions.now (Some h) fs) says ∙ c.requires.limit) c.in-Err.ensures.exact.1)
+    (ap (λ (fs : List Sending). event_limit c.args.sessions.now (Some h) fs) says ∙ c.requires.limit)
+    c.in-Err.ensures.exact.1)

@@ -14,11 +14,15 @@ returns-in-Some c =
     let h = heard_text c.args.heard in
     let count = c.frame_count-count.ensures ∙ ap (λ (n : NewsText). length (news_frames core n)) c.news_of.ensures in
     rw c.of_sessions.ensures
-    (ap fault_of_sessions (sym c.in-Some.is ∙ c.limit_of_replies.ensures (replies core h) (replies_are_for core h c.frame_count-count.result count)))
+    (ap fault_of_sessions
+    (sym c.in-Some.is ∙
+    c.limit_of_replies.ensures (replies core h) (replies_are_for core h c.frame_count-count.result count)))
 
 pub returns-in-None : goal.returns-in-None
 returns-in-None c =
     let core = c.args.core.now.state in
     let h = heard_text c.args.heard in
     let count = c.frame_count-count.ensures ∙ ap (λ (n : NewsText). length (news_frames core n)) c.news_of.ensures in
-    ap fault_of_sessions (sym c.in-None.is ∙ c.limit_of_replies.ensures (replies core h) (replies_are_for core h c.frame_count-count.result count))
+    ap fault_of_sessions
+    (sym c.in-None.is ∙
+    c.limit_of_replies.ensures (replies core h) (replies_are_for core h c.frame_count-count.result count))

@@ -10,5 +10,6 @@ pub returns-in-Err-clause-err : goal.returns-in-Err-clause-err
 returns-in-Err-clause-err c =
     let a = c.args in
     subst
-    (λ (w : Whole). WhyUnnoticed (engine_held a.core.now a.communicators.now None a.payloads.now.state a.sessions.now) (heard_text a.heard) w c.in-Err.refused)
+    (λ (w : Whole). WhyUnnoticed (engine_held a.core.now a.communicators.now None a.payloads.now.state a.sessions.now)
+    (heard_text a.heard) w c.in-Err.refused)
     c.received_whole-message.ensures c.in-Err.ensures.err

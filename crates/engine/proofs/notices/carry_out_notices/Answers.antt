@@ -27,20 +27,26 @@ returns-in_err-announced-clause-err c =
     let h = heard_text c.args.heard in
     let ms = c.args.messages.now in
     rw p.1
-    (subst (λ (e : Refusal). StepStops (step_limit c.args.sessions.now (numbers_met c.args.core.now.state h) (Some h) ms) e) (sym p.2)
+    (subst (λ (e : Refusal). StepStops
+    (step_limit c.args.sessions.now (numbers_met c.args.core.now.state h) (Some h) ms) e) (sym p.2)
     (subst (λ (n : List Numbers). StepStops (step_limit c.args.sessions.now n (Some h) ms) c.in_err-announced.field-0.0)
     c.in_ok-numbers.ensures.ok c.in_err-announced.ensures.why))
 
 pub returns-clause-ok : goal.returns-clause-ok
 returns-clause-ok c =
-    told c.args.core.now.state c.args.payloads.now.state c.args.sessions.now (heard_text c.args.heard) c.args.messages.now
-    c.prepare_news.new.self.state c.take_news.new.self.state c.set_numbers.new.self.state c.in_ok-numbers.numbers.items c.send_step.new.numbers.items
-    c.in_ok-announced.announced.items c.send_step.new.payloads.state c.forget.new.payloads.state c.announce.new.self.state c.send_step.new.sessions
+    told c.args.core.now.state c.args.payloads.now.state c.args.sessions.now (heard_text c.args.heard)
+    c.args.messages.now
+    c.prepare_news.new.self.state c.take_news.new.self.state c.set_numbers.new.self.state c.in_ok-numbers.numbers.items
+    c.send_step.new.numbers.items
+    c.in_ok-announced.announced.items c.send_step.new.payloads.state c.forget.new.payloads.state
+    c.announce.new.self.state c.send_step.new.sessions
     (record {
       kept = c.prepare_news.ensures.kept;
       taken = c.take_news.ensures.exact;
       counted = c.set_numbers.ensures.exact;
-      numbers = c.in_ok-numbers.ensures.ok ∙ ap (λ (x : CoreState). numbers_met x (heard_text c.args.heard)) (sym c.prepare_news.ensures.kept);
+      numbers =
+          c.in_ok-numbers.ensures.ok ∙
+          ap (λ (x : CoreState). numbers_met x (heard_text c.args.heard)) (sym c.prepare_news.ensures.kept);
       next = c.in_ok-announced.ensures.numbers;
       whole = c.in_ok-announced.ensures.whole;
       goes = c.in_ok-announced.ensures.goes;

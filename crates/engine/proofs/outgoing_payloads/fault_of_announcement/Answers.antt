@@ -9,4 +9,5 @@ pub returns : goal.returns
 returns c =
     let h = heard_text c.args.heard in
     let t = request_text c.args.request in
-    c.limit_of.ensures (answer_to h t ∷ []) (answer_is_for h t) ∙ mode_fault c.args.request.mode _ _ c.in_default.not-Synchronous (sym c.is_next.ensures ∙ c.if-not-is_next.false)
+    c.limit_of.ensures (answer_to h t ∷ []) (answer_is_for h t) ∙
+    mode_fault c.args.request.mode _ _ c.in_default.not-Synchronous (sym c.is_next.ensures ∙ c.if-not-is_next.false)

@@ -12,7 +12,8 @@ pub returns-in-Some-clause-err : goal.returns-in-Some-clause-err
 returns-in-Some-clause-err c =
     let r = c.args.heard.source.rank in
     limit_met _ c.in-Some.limit
-    (sym (c.limit_of.ensures (data_sent r c.args.transfer c.args.bytes.now) (data_go_to r c.args.transfer c.count_of.result c.args.bytes.now c.count_of.ensures)) ∙ c.in-Some.is)
+    (sym (c.limit_of.ensures (data_sent r c.args.transfer c.args.bytes.now)
+    (data_go_to r c.args.transfer c.count_of.result c.args.bytes.now c.count_of.ensures)) ∙ c.in-Some.is)
 
 pub returns-in_err-frames-clause-err : goal.returns-in_err-frames-clause-err
 returns-in_err-frames-clause-err c =
@@ -26,25 +27,30 @@ pub carry_out-requires-clause-go : goal.carry_out-requires-clause-go
 carry_out-requires-clause-go c =
     let says = ap sendings c.deref.ensures.value ∙ c.in_ok-frames.ensures.ok in
     subst (λ (fs : List Sending). All (CanSend c.args.sessions.now.place) fs) (sym says)
-    (data_can_go c.args.sessions.now.place c.args.heard.source.rank c.args.transfer c.args.bytes.now c.requires.there c.requires.limit)
+    (data_can_go c.args.sessions.now.place c.args.heard.source.rank c.args.transfer c.args.bytes.now c.requires.there
+    c.requires.limit)
 
 pub carry_out-requires-clause-limit : goal.carry_out-requires-clause-limit
 carry_out-requires-clause-limit c =
     let r = c.args.heard.source.rank in
     let says = ap sendings c.deref.ensures.value ∙ c.in_ok-frames.ensures.ok in
-    ap (λ (fs : List Sending). fault_of_sessions (event_limit c.args.sessions.now (Some (heard_text c.args.heard)) fs)) says
-    ∙ sym (c.limit_of.ensures (data_sent r c.args.transfer c.args.bytes.now) (data_go_to r c.args.transfer c.count_of.result c.args.bytes.now c.count_of.ensures))
+    ap (λ (fs : List Sending). fault_of_sessions (event_limit c.args.sessions.now (Some (heard_text c.args.heard)) fs))
+    says
+    ∙ sym (c.limit_of.ensures (data_sent r c.args.transfer c.args.bytes.now)
+    (data_go_to r c.args.transfer c.count_of.result c.args.bytes.now c.count_of.ensures))
     ∙ c.in_default.is
 
 pub returns-clause-none : goal.returns-clause-none
 returns-clause-none c =
     let r = c.args.heard.source.rank in
     on_ok c.carry_out.result
-    (sym (c.limit_of.ensures (data_sent r c.args.transfer c.args.bytes.now) (data_go_to r c.args.transfer c.count_of.result c.args.bytes.now c.count_of.ensures)) ∙ c.in_default.is)
+    (sym (c.limit_of.ensures (data_sent r c.args.transfer c.args.bytes.now)
+    (data_go_to r c.args.transfer c.count_of.result c.args.bytes.now c.count_of.ensures)) ∙ c.in_default.is)
 
 pub returns-clause-err : goal.returns-clause-err
 returns-clause-err c =
     let r = c.args.heard.source.rank in
     memory_wanting _ c.carry_out.result
-    (sym (c.limit_of.ensures (data_sent r c.args.transfer c.args.bytes.now) (data_go_to r c.args.transfer c.count_of.result c.args.bytes.now c.count_of.ensures)) ∙ c.in_default.is)
+    (sym (c.limit_of.ensures (data_sent r c.args.transfer c.args.bytes.now)
+    (data_go_to r c.args.transfer c.count_of.result c.args.bytes.now c.count_of.ensures)) ∙ c.in_default.is)
     c.carry_out.ensures.err

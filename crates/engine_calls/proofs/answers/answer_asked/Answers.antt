@@ -15,10 +15,13 @@ answer-requires-clause-clear c =
 
 pub returns-in-Ok-clause-exact : goal.returns-in-Ok-clause-exact
 returns-in-Ok-clause-exact c =
-    answer_told c.args.core.now.state c.answer.new.core.state (groups_of c.args.communicators.now) c.args.sessions.now c.answer.new.sessions
-    c.args.asked c.share_members.new.asked c.answer.result c.reply_of_core.result c.in-Ok.ensures.ok c.answer.ensures.exact c.reply_of_core.ensures
+    answer_told c.args.core.now.state c.answer.new.core.state (groups_of c.args.communicators.now) c.args.sessions.now
+    c.answer.new.sessions
+    c.args.asked c.share_members.new.asked c.answer.result c.reply_of_core.result c.in-Ok.ensures.ok
+    c.answer.ensures.exact c.reply_of_core.ensures
 
 pub returns-in-Err-clause-exact : goal.returns-in-Err-clause-exact
 returns-in-Err-clause-exact c =
-    group_told c.args.core.now.state (groups_of c.args.communicators.now) c.args.sessions.now c.args.asked c.share_members.new.asked c.into_call.result
+    group_told c.args.core.now.state (groups_of c.args.communicators.now) c.args.sessions.now c.args.asked
+    c.share_members.new.asked c.into_call.result
     c.into_call.ensures c.in-Err.ensures.unchanged c.in-Err.ensures.need

@@ -9,7 +9,9 @@ pub loop-message-preserved : goal.loop-message-preserved
 loop-message-preserved c =
     let before = c.loop-message in
     one_chosen c.args.rank c.args.messages.now before.message-index c.message-item.result
-    (sendings c.args.frames.now.items) (sendings before.frames.items) (sendings c.add_if_for.new.frames.items) c.loop-message-test.true before.invariant
+    (sendings c.args.frames.now.items) (sendings before.frames.items) (sendings c.add_if_for.new.frames.items)
+    c.loop-message-test.true before.invariant
     (subst
-    (λ (w : Written). sendings c.add_if_for.new.frames.items ≡ sendings before.frames.items ++ filter (λ (f : Sending). f.rank == c.args.rank) (written w ∷ []))
+    (λ (w : Written). sendings c.add_if_for.new.frames.items ≡ sendings before.frames.items ++
+    filter (λ (f : Sending). f.rank == c.args.rank) (written w ∷ []))
     c.message-item.is c.in_ok-add_if_for.ensures.ok)

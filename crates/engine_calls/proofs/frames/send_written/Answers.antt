@@ -11,23 +11,27 @@ carry_out-requires-clause-frames c =
     let are = frames_are c.args.sessions.now.place c.place-place.result (map written c.args.messages.now) c.in_ok-frames.frames.items c.deref.result.now
     c.place-place.ensures.place c.in_ok-frames.ensures.ok c.deref.ensures.value in
     subst (λ (fs : List Sending). All (CanSend c.args.sessions.now.place) fs) (sym are)
-    (all_by_rank c.args.sessions.now.place c.args.sessions.now.place.size (map written c.args.messages.now) c.requires.go)
+    (all_by_rank c.args.sessions.now.place c.args.sessions.now.place.size (map written c.args.messages.now)
+    c.requires.go)
 
 pub returns-in-Ok-clause-limit : goal.returns-in-Ok-clause-limit
 returns-in-Ok-clause-limit c =
     let are = frames_are c.args.sessions.now.place c.place-place.result (map written c.args.messages.now) c.in_ok-frames.frames.items c.deref.result.now
     c.place-place.ensures.place c.in_ok-frames.ensures.ok c.deref.ensures.value in
-    ap (λ (fs : List Sending). event_limit c.args.sessions.now (heard_option c.args.heard) fs) (sym are) ∙ c.in-Ok.ensures.exact.0
+    ap (λ (fs : List Sending). event_limit c.args.sessions.now (heard_option c.args.heard) fs) (sym are) ∙
+    c.in-Ok.ensures.exact.0
 
 pub returns-in-Ok-clause-sent : goal.returns-in-Ok-clause-sent
 returns-in-Ok-clause-sent c =
     let are = frames_are c.args.sessions.now.place c.place-place.result (map written c.args.messages.now) c.in_ok-frames.frames.items c.deref.result.now
     c.place-place.ensures.place c.in_ok-frames.ensures.ok c.deref.ensures.value in
-    c.in-Ok.ensures.exact.1 ∙ ap (λ (fs : List Sending). after_event c.args.sessions.now (heard_option c.args.heard) fs) are
+    c.in-Ok.ensures.exact.1 ∙ ap (λ (fs : List Sending). after_event c.args.sessions.now (heard_option c.args.heard) fs)
+    are
 
 pub returns-clause-why : goal.returns-clause-why
 returns-clause-why c =
     let are = frames_are c.args.sessions.now.place c.place-place.result (map written c.args.messages.now) c.in_ok-frames.frames.items c.deref.result.now
     c.place-place.ensures.place c.in_ok-frames.ensures.ok c.deref.ensures.value in
     rw c.of_sessions.ensures
-    (sessions_stop c.args.sessions.now (heard_option c.args.heard) _ (sendings c.deref.result.now) c.in-Err.refused are c.in-Err.ensures.exact.1)
+    (sessions_stop c.args.sessions.now (heard_option c.args.heard) _ (sendings c.deref.result.now) c.in-Err.refused are
+    c.in-Err.ensures.exact.1)

@@ -13,10 +13,12 @@ loop-message-preserved c =
     let before = c.loop-message in
     let after = c.add_message.new in
     one_more c.args.place c.args.numbers.now.items c.args.messages.now before.message-index c.message-item.result
-    (map written before.frames.items) (map written after.frames.items) before.announced.items after.announced.items before.numbers.items after.numbers.items
+    (map written before.frames.items) (map written after.frames.items) before.announced.items after.announced.items
+    before.numbers.items after.numbers.items
     c.loop-message-test.true before.invariant
     (subst
-    (λ (m : CollectiveMessage). IsAdded c.args.place before.numbers.items m (map written before.frames.items) (map written after.frames.items) before.announced.items
+    (λ (m : CollectiveMessage). IsAdded c.args.place before.numbers.items m (map written before.frames.items)
+    (map written after.frames.items) before.announced.items
     after.announced.items after.numbers.items)
     c.message-item.is c.in_ok-add_message.ensures.ok)
 
@@ -25,8 +27,12 @@ returns-in_err-add_message-clause-err c =
     let p = err_from_is_err_and c.from_residual.result c.from_residual.ensures.1 in
     let before = c.loop-message in
     rw p.1
-    (subst (λ (e : Refusal). IsLeftOut (all_can_go c.args.place c.args.numbers.now.items c.args.messages.now) e) (sym p.2)
-    (one_left_out c.args.place c.args.numbers.now.items before.numbers.items c.args.messages.now before.message-index c.message-item.result
-    (map written before.frames.items) before.announced.items c.in_err-add_message.field-0.0 c.loop-message-test.true before.invariant
-    (subst (λ (m : CollectiveMessage). IsLeftOut (can_go c.args.place before.numbers.items m) c.in_err-add_message.field-0.0) c.message-item.is
+    (subst (λ (e : Refusal). IsLeftOut (all_can_go c.args.place c.args.numbers.now.items c.args.messages.now) e)
+    (sym p.2)
+    (one_left_out c.args.place c.args.numbers.now.items before.numbers.items c.args.messages.now before.message-index
+    c.message-item.result
+    (map written before.frames.items) before.announced.items c.in_err-add_message.field-0.0 c.loop-message-test.true
+    before.invariant
+    (subst (λ (m : CollectiveMessage). IsLeftOut (can_go c.args.place before.numbers.items m)
+    c.in_err-add_message.field-0.0) c.message-item.is
     c.in_err-add_message.ensures.err)))

@@ -7,7 +7,9 @@ use Rattle.engine_calls.proofs.judgement.ask_to_probe.Goals as goal
 
 pub returns : goal.returns
 returns c =
-    probe_asks c.args.core.now.state (groups_of c.args.communicators.now) c.args.sessions.now c.args.probe (route_text c.in-Some.route)
-    c.rule_of_source-rule.result c.route_probe.result c.asked_unless_refused.result (sym c.is_busy.ensures ∙ c.if-is_busy.false)
+    probe_asks c.args.core.now.state (groups_of c.args.communicators.now) c.args.sessions.now c.args.probe
+    (route_text c.in-Some.route)
+    c.rule_of_source-rule.result c.route_probe.result c.asked_unless_refused.result (sym c.is_busy.ensures ∙
+    c.if-is_busy.false)
     (sym c.route.ensures ∙ ap (λ (o : Option Route). option_map route_text o) c.in-Some.is)
     c.rule_of_source-rule.ensures c.route_probe.ensures c.asked_unless_refused.ensures

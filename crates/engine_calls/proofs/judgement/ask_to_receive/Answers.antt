@@ -7,7 +7,9 @@ use Rattle.engine_calls.proofs.judgement.ask_to_receive.Goals as goal
 
 pub returns : goal.returns
 returns c =
-    receive_asks c.args.core.now.state (groups_of c.args.communicators.now) c.args.sessions.now c.args.receive (route_text c.in-Some.route)
-    c.rule_of_source-rule.result c.route_receive.result c.asked_unless_refused.result (sym c.is_busy.ensures ∙ c.if-is_busy.false)
+    receive_asks c.args.core.now.state (groups_of c.args.communicators.now) c.args.sessions.now c.args.receive
+    (route_text c.in-Some.route)
+    c.rule_of_source-rule.result c.route_receive.result c.asked_unless_refused.result (sym c.is_busy.ensures ∙
+    c.if-is_busy.false)
     (sym c.route.ensures ∙ ap (λ (o : Option Route). option_map route_text o) c.in-Some.is)
     c.rule_of_source-rule.ensures c.route_receive.ensures c.asked_unless_refused.ensures

@@ -8,4 +8,6 @@ pub loop-place-init : goal.loop-place-init
 loop-place-init c = begins c.args.from c.args.lines.now c.new-read.result c.new-read.ensures
 
 pub returns : goal.returns
-returns c = all_read line_read c.loop-place.read (c.loop-place.place + 1) c.loop-place.place c.args.lines.now _ c.loop-place-test.false c.loop-place.invariant
+returns c =
+    all_read line_read c.loop-place.read (c.loop-place.place + 1) c.loop-place.place c.args.lines.now _
+    c.loop-place-test.false c.loop-place.invariant

@@ -6,4 +6,5 @@ use Rattle.event_files.proofs.parsing.lines_behind.Given as goal
 
 abbrev pub invariant-loop-place : goal.invariant-loop-place
 invariant-loop-place l =
-    with_front l.read (lines_from line_read (l.place + 1) (shown (drop l.place l.lines))) ≡ lines_from line_read (l.fn.from + 1) (drop l.fn.from (shown l.lines))
+    with_front l.read (lines_from line_read (l.place + 1) (shown (drop l.place l.lines))) ≡
+    lines_from line_read (l.fn.from + 1) (drop l.fn.from (shown l.lines))

@@ -16,7 +16,13 @@ loop-preserved g c =
         driven.0 ++ c.now-now.result ∷ [],
         tells_more g.C.Clock.told driven.0 _ _ _ _ driven.1 c.now-now.ensures,
         rounds_more g.P.Runner.does g.T.Transport.passed c.args.patience driven.0 _ _ c.now-now.result
-            (record { engine = c.make_round.new.engine; runner = c.make_round.new.runner; standing = c.make_round.new.standing; transport = c.make_round.new.transport })
+            (record {
+              engine = c.make_round.new.engine;
+              runner = c.make_round.new.runner;
+              standing =
+                  c.make_round.new.standing;
+              transport = c.make_round.new.transport;
+            })
             driven.2 exact,
       ),
     )
@@ -27,7 +33,13 @@ returns-in-Ok-Some-clause-exact g c =
     record {
       times = driven.0;
       now = c.now-now.result;
-      course = record { engine = c.loop.engine; runner = c.loop.runner; standing = c.loop.standing; transport = c.loop.transport };
+      course = record {
+        engine = c.loop.engine;
+        runner = c.loop.runner;
+        standing = c.loop.standing;
+        transport =
+            c.loop.transport;
+      };
       clock = tells_more g.C.Clock.told driven.0 _ _ _ _ driven.1 c.now-now.ensures;
       rounds_on = driven.2;
       last = rw c.in-Ok-Some.field-0-is at c.in-Ok-Some.ensures.exact;
@@ -39,7 +51,13 @@ returns-in-Err-clause-exact g c =
     record {
       times = driven.0;
       now = c.now-now.result;
-      course = record { engine = c.loop.engine; runner = c.loop.runner; standing = c.loop.standing; transport = c.loop.transport };
+      course = record {
+        engine = c.loop.engine;
+        runner = c.loop.runner;
+        standing = c.loop.standing;
+        transport =
+            c.loop.transport;
+      };
       clock = tells_more g.C.Clock.told driven.0 _ _ _ _ driven.1 c.now-now.ensures;
       rounds_on = driven.2;
       last = c.in-Err.ensures.exact;

@@ -23,6 +23,7 @@ loop-preserved g c =
         heard.0 ++ w ∷ [],
         takes_more heard.0 _ _ _ w heard.1 c.on_datagram-heard.ensures.1,
         rw (map_push received heard.0 w) (g.met.T.Transport.joined _ _ _ _ _ heard.2 one),
-        c.on_datagram-heard.ensures.2 ∙ ap (λ (h : Input). after_one h w.1) heard.3 ∙ sym (heard_more heard.0 nothing_heard w),
+        c.on_datagram-heard.ensures.2 ∙ ap (λ (h : Input). after_one h w.1) heard.3 ∙
+            sym (heard_more heard.0 nothing_heard w),
       ),
     )

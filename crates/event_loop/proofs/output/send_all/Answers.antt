@@ -13,6 +13,9 @@ pub loop-target-preserved : goal.loop-target-preserved
 loop-target-preserved g c =
     let one = rw c.as_slice.ensures at c.in-Ok.ensures.passed in (
       c.in-Ok.ensures.failures ∙ c.loop-target.invariant.0,
-      rw (map_more sent c.args.out.now c.loop-target.target-index c.loop-target-item.result c.loop-target-test.true, ← c.loop-target-item.is)
+      rw (
+        map_more sent c.args.out.now c.loop-target.target-index c.loop-target-item.result c.loop-target-test.true,
+        ← c.loop-target-item.is,
+      )
           (g.met.T.Transport.joined _ _ _ _ _ c.loop-target.invariant.1 one),
     )

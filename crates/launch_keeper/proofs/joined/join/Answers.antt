@@ -7,4 +7,6 @@ use Rattle.launch_keeper.proofs.joined.join.Goals as goal
 pub returns-clause-lines : goal.returns-clause-lines
 returns-clause-lines c =
     let outputs = map (λ output. output.items) c.args.outputs.now in
-    IfOk-weaker c.join_outputs.result (λ text. text.items ≡ join_outputs 0 outputs) (λ text. IsJoined 0 outputs text.items) (λ text e. subst (IsJoined 0 outputs) (sym e) (is_joined 0 outputs)) c.join_outputs.ensures
+    IfOk-weaker c.join_outputs.result (λ text. text.items ≡ join_outputs 0 outputs)
+    (λ text. IsJoined 0 outputs text.items) (λ text e. subst (IsJoined 0 outputs) (sym e) (is_joined 0 outputs))
+    c.join_outputs.ensures

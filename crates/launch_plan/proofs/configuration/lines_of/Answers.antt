@@ -9,4 +9,6 @@ pub returns : goal.returns
 returns c =
     let items = c.deref-line-items.result.now in
     let i = c.loop-line.line-index in
-    all_taken c.loop-line.lines.items c.end_line.new.lines.items (lines_of c.args.bytes.now) c.loop-line.begun c.loop-line.words (shown (drop i items)) (shown_all items i c.loop-line-test.false) c.in_ok-end_line.ensures c.loop-line.invariant
+    all_taken c.loop-line.lines.items c.end_line.new.lines.items (lines_of c.args.bytes.now) c.loop-line.begun
+    c.loop-line.words (shown (drop i items)) (shown_all items i c.loop-line-test.false) c.in_ok-end_line.ensures
+    c.loop-line.invariant

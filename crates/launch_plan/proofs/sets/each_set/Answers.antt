@@ -12,7 +12,8 @@ returns-in_err-set c =
     let front = c.loop-line.sets.items in
     let i = c.loop-line.line-index in
     let here = shown_more c.args.lines.now i c.line-item.result c.loop-line-test.true c.line-item.is in
-    rw (p.1, p.2) (each_ends c.in_err-set.field-0.0 front c.line-item.result.now (shown (drop (i + 1) c.args.lines.now)) (each_set (shown c.args.lines.now)) c.requires c.in_err-set.ensures
+    rw (p.1, p.2) (each_ends c.in_err-set.field-0.0 front c.line-item.result.now (shown (drop (i + 1) c.args.lines.now))
+    (each_set (shown c.args.lines.now)) c.requires c.in_err-set.ensures
     (ap (λ (ls : List (List Word)). with_front front (each_set ls)) (sym here) ∙ c.loop-line.invariant))
 
 pub loop-line-preserved : goal.loop-line-preserved
@@ -20,11 +21,14 @@ loop-line-preserved c =
     let front = c.loop-line.sets.items in
     let i = c.loop-line.line-index in
     let here = shown_more c.args.lines.now i c.line-item.result c.loop-line-test.true c.line-item.is in
-    rw c.in_ok-push.ensures.items (each_goes_on front c.line-item.result.now (shown (drop (i + 1) c.args.lines.now)) c.in_ok-set.set (each_set (shown c.args.lines.now)) c.in_ok-set.ensures
+    rw c.in_ok-push.ensures.items
+    (each_goes_on front c.line-item.result.now (shown (drop (i + 1) c.args.lines.now)) c.in_ok-set.set
+    (each_set (shown c.args.lines.now)) c.in_ok-set.ensures
     (ap (λ (ls : List (List Word)). with_front front (each_set ls)) (sym here) ∙ c.loop-line.invariant))
 
 pub returns : goal.returns
 returns c =
     let front = c.loop-line.sets.items in
     let nothing = shown_all c.args.lines.now c.loop-line.line-index c.loop-line-test.false in
-    each_is_done front (each_set (shown c.args.lines.now)) (ap (λ (ls : List (List Word)). with_front front (each_set ls)) (sym nothing) ∙ c.loop-line.invariant)
+    each_is_done front (each_set (shown c.args.lines.now))
+    (ap (λ (ls : List (List Word)). with_front front (each_set ls)) (sym nothing) ∙ c.loop-line.invariant)

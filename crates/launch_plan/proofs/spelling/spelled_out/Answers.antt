@@ -11,5 +11,7 @@ pub returns-clause-same : goal.returns-clause-same
 returns-clause-same c =
     let words = c.args.words.now in
     let config = option_copied c.args.config in
-    IfOk-weaker c.spelled_by.result (λ all. all ≡ spelled_out words config) (λ all. (other : Option (List ℕ)) (launch : Launch) → AskFor words config launch → AskFor all other launch)
-    (λ all e other launch ask. subst (λ w. AskFor w other launch) (sym e) (spelled_same words config other launch ask)) c.spelled_by.ensures
+    IfOk-weaker c.spelled_by.result (λ all. all ≡ spelled_out words config)
+    (λ all. (other : Option (List ℕ)) (launch : Launch) → AskFor words config launch → AskFor all other launch)
+    (λ all e other launch ask. subst (λ w. AskFor w other launch) (sym e) (spelled_same words config other launch ask))
+    c.spelled_by.ensures

@@ -8,7 +8,8 @@ use Rattle.launch_plan.proofs.CutLaws.{left_len}
 use Rattle.launch_plan.proofs.validation.tally_lines.Given as goal
 
 abbrev pub invariant-loop-left : goal.invariant-loop-left
-invariant-loop-left l = tally_lines l.tally (parts_left is_line_end (option_copied l.left)) ≡ tally_lines nothing_tallied (slice_split is_line_end l.bytes)
+invariant-loop-left l = tally_lines l.tally (parts_left is_line_end (option_copied l.left)) ≡
+    tally_lines nothing_tallied (slice_split is_line_end l.bytes)
 
 abbrev pub decreases-loop-left : goal.decreases-loop-left
 decreases-loop-left l = left_len (option_copied l.left)

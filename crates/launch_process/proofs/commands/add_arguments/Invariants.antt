@@ -5,4 +5,5 @@ use Rattle.launch_process.proofs.commands.add_arguments.Given as goal
 
 abbrev pub invariant-loop-word : goal.invariant-loop-word
 invariant-loop-word l =
-    (command_program l.command ≡ command_program l.fn.command) × (command_args l.command ≡ command_args l.fn.command ++ take l.word-index l.words)
+    (command_program l.command ≡ command_program l.fn.command) ×
+    (command_args l.command ≡ command_args l.fn.command ++ take l.word-index l.words)

@@ -23,4 +23,5 @@ returns-clause-round c = received_as_sent
 
 pub returns-clause-examples : goal.returns-clause-examples
 unfolding copies_at
-returns-clause-examples c = record { extent = refl; places_are = refl; sent = refl; received = refl; block_extent = refl }
+returns-clause-examples c =
+    record { extent = refl; places_are = refl; sent = refl; received = refl; block_extent = refl }

@@ -1,4 +1,6 @@
-use Rattle.one_meaning.proofs.Examples.{copies_are_apart, deadlock_waits, later_message_is_received_by_tag, messages_are_received_in_order, ping_pong_ends, refusals_are_told, sums_are_printed}
+use Rattle.one_meaning.proofs.Examples.{copies_are_apart, deadlock_waits, later_message_is_received_by_tag}
+use Rattle.one_meaning.proofs.Examples.{messages_are_received_in_order, ping_pong_ends, refusals_are_told}
+use Rattle.one_meaning.proofs.Examples.{sums_are_printed}
 use Rattle.one_meaning.proofs.laws.examples_come_out.Goals as goal
 
 pub returns-clause-ping_pong : goal.returns-clause-ping_pong

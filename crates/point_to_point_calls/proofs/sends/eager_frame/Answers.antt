@@ -10,7 +10,8 @@ returns-clause-fits c =
     let bytes = ap length c.as_bytes.ensures.bytes in
     let size : length c.as_bytes.result.now ≡ length c.args.elements.now.values * size_of c.args.elements.now.basic = bytes ∙ length-bytes_of (size_of c.args.elements.now.basic) c.args.elements.now.values in
     let few : length c.args.elements.now.values * size_of c.args.elements.now.basic ≤ 1024 = ltb-false 1024 (length c.args.elements.now.values * size_of c.args.elements.now.basic) c.requires.small in
-    rw (c.basic.ensures, c.len.ensures) (record { tag = c.requires.sendable.tag_is; size = size; limit = omega (arith, size, few); plane = tt })
+    rw (c.basic.ensures, c.len.ensures)
+    (record { tag = c.requires.sendable.tag_is; size = size; limit = omega (arith, size, few); plane = tt })
 
 pub overflow_cast-result : goal.overflow_cast-result
 overflow_cast-result c =

@@ -10,7 +10,8 @@ returns-clause-fits c =
     let size = length-bytes_of (size_of c.args.elements.now.basic) c.args.elements.now.values in
     let large : may_be_announced c.args.mode (length c.args.elements.now.values * size_of c.args.elements.now.basic) ≡ true = announced_is c.args.mode c.args.elements.now c.requires.large in
     let limit : length c.args.elements.now.values * size_of c.args.elements.now.basic ≤ 1048576 = omega (arith, size, c.requires.sendable.count) in
-    rw (c.basic.ensures, c.len.ensures) (record { tag = c.requires.sendable.tag_is; large = large; limit = limit; plane = tt })
+    rw (c.basic.ensures, c.len.ensures)
+    (record { tag = c.requires.sendable.tag_is; large = large; limit = limit; plane = tt })
 
 pub overflow_cast-result : goal.overflow_cast-result
 overflow_cast-result c =

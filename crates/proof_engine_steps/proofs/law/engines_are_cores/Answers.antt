@@ -15,7 +15,8 @@ use Rattle.proof_engine_steps.proofs.Waking.{wakes_are_shown}
 use Rattle.proof_engine_steps.proofs.law.engines_are_cores.Goals as goal
 
 pub returns-clause-calls : goal.returns-clause-calls
-returns-clause-calls c = calls_are_shown posts_match arrivals_match takes_match outcomes_agree own_outcomes_agree announcements_agree
+returns-clause-calls c =
+    calls_are_shown posts_match arrivals_match takes_match outcomes_agree own_outcomes_agree announcements_agree
 
 pub returns-clause-looks : goal.returns-clause-looks
 returns-clause-looks c = looks_are_shown takes_match

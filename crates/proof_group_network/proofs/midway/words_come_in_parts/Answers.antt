@@ -1,5 +1,6 @@
 use Rattle.proof_group_network.proofs.MidwayStands.{midway_stands, words_go_on}
-use Rattle.proof_group_network.proofs.MidwaySteps.{events_settle, messages_come, notices_come, parts_add_up, words_come, words_settle}
+use Rattle.proof_group_network.proofs.MidwaySteps.{events_settle, messages_come, notices_come, parts_add_up, words_come}
+use Rattle.proof_group_network.proofs.MidwaySteps.{words_settle}
 use Rattle.proof_group_network.proofs.midway.words_come_in_parts.Goals as goal
 
 pub returns-clause-words : goal.returns-clause-words

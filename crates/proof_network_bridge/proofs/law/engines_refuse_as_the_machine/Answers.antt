@@ -1,4 +1,5 @@
-use Rattle.proof_network_bridge.proofs.Reasons.{engines_are_ranks, engines_judge_as_the_machine, engines_refuse_as_the_machine, engines_take_no_fault}
+use Rattle.proof_network_bridge.proofs.Reasons.{engines_are_ranks, engines_judge_as_the_machine}
+use Rattle.proof_network_bridge.proofs.Reasons.{engines_refuse_as_the_machine, engines_take_no_fault}
 use Rattle.proof_network_bridge.proofs.law.engines_refuse_as_the_machine.Goals as goal
 
 pub returns-clause-refused : goal.returns-clause-refused

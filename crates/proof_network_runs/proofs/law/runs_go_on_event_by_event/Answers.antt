@@ -1,4 +1,5 @@
-use Rattle.proof_network_runs.proofs.GoingOn.{each_has_a_run, happenings_go_on, none_is_a_run, one_group_along_runs, runs_show_all}
+use Rattle.proof_network_runs.proofs.GoingOn.{each_has_a_run, happenings_go_on, none_is_a_run, one_group_along_runs}
+use Rattle.proof_network_runs.proofs.GoingOn.{runs_show_all}
 use Rattle.proof_network_runs.proofs.law.runs_go_on_event_by_event.Goals as goal
 
 pub returns-clause-none : goal.returns-clause-none

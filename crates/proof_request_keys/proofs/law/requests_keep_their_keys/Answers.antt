@@ -1,4 +1,5 @@
-use Rattle.proof_request_keys.proofs.Engines.{calls_keep_keys, datagrams_keep_keys, given_are_named, named_are_own, ticks_keep_keys}
+use Rattle.proof_request_keys.proofs.Engines.{calls_keep_keys, datagrams_keep_keys, given_are_named, named_are_own}
+use Rattle.proof_request_keys.proofs.Engines.{ticks_keep_keys}
 use Rattle.proof_request_keys.proofs.law.requests_keep_their_keys.Goals as goal
 
 pub returns-clause-calls : goal.returns-clause-calls

@@ -1,4 +1,5 @@
-use Rattle.proof_session_carrying.proofs.EventSteps.{announcements_are_carried, answers_are_carried, entries_are_carried, notices_are_carried, parts_are_carried}
+use Rattle.proof_session_carrying.proofs.EventSteps.{announcements_are_carried, answers_are_carried}
+use Rattle.proof_session_carrying.proofs.EventSteps.{entries_are_carried, notices_are_carried, parts_are_carried}
 use Rattle.proof_session_carrying.proofs.events.collectives_are_carried.Goals as goal
 
 pub returns-clause-entries : goal.returns-clause-entries

@@ -1,4 +1,5 @@
-use Rattle.proof_session_carrying.proofs.MessageSteps.{messages_are_carried, others_are_carried, queue_calls_are_carried, still_texts_are_quiet}
+use Rattle.proof_session_carrying.proofs.MessageSteps.{messages_are_carried, others_are_carried}
+use Rattle.proof_session_carrying.proofs.MessageSteps.{queue_calls_are_carried, still_texts_are_quiet}
 use Rattle.proof_session_carrying.proofs.messages.messages_are_carried.Goals as goal
 
 pub returns-clause-calls : goal.returns-clause-calls

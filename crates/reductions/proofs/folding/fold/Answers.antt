@@ -19,7 +19,8 @@ loop-next-preserved g c =
     let lt : i < length rest = omega arith in
     let is : item ≡ get_or rest i item = c.next-item.is in
     let like : IsLike first.basic first.values item =
-    subst (IsLike first.basic first.values) (sym is) (All-get_or (IsLike first.basic first.values) rest i item lt c.requires.like)
+    subst (IsLike first.basic first.values) (sym is)
+    (All-get_or (IsLike first.basic first.values) rest i item lt c.requires.like)
     in
     let so_far : List ℕ = folded_values f first.values (take i rest) in
     let step : combined_values f so_far item.values ≡ folded_values f first.values (take (i + 1) rest) =
@@ -29,7 +30,9 @@ loop-next-preserved g c =
     let same : length item.values ≡ length before.values = like.len ∙ sym c.loop-next.invariant.len in
     record {
       folded = c.accumulate.ensures
-          ∙ ap (λ (v : Contents). contents_of v.basic (combined_values f v.values item.values)) c.loop-next.invariant.folded
+          ∙ ap (λ (v : Contents). contents_of v.basic (combined_values f v.values item.values))
+          c.loop-next.invariant.folded
           ∙ ap (contents_of first.basic) step;
-      len = ap (λ (v : Contents). length v.values) c.accumulate.ensures ∙ length-combined_values f before.values item.values same ∙ c.loop-next.invariant.len;
+      len = ap (λ (v : Contents). length v.values) c.accumulate.ensures ∙
+          length-combined_values f before.values item.values same ∙ c.loop-next.invariant.len;
     }

@@ -5,7 +5,8 @@ use Rattle.datatypes.proofs.BufferSteps.{contents_of}
 use Rattle.reductions.proofs.folding.fold.Given as goal
 
 -- as far as the members before one are combined
-pub record HasFolded (f : ℕ → ℕ → ℕ) (first : Contents) (count : ℕ) (rest : List Contents) (all : Contents) : Type 0 where
+pub record HasFolded (f : ℕ → ℕ → ℕ) (first : Contents) (count : ℕ) (rest : List Contents) (all : Contents) : Type
+    0 where
   pub folded : all ≡ contents_of first.basic (folded_values f first.values (take count rest))
   pub len : length all.values ≡ length first.values
 

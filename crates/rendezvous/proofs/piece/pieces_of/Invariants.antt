@@ -5,6 +5,7 @@ use Rattle.rendezvous.proofs.piece.pieces_of.Given as goal
 
 abbrev pub invariant-loop-number : goal.invariant-loop-number
 invariant-loop-number l = record {
-  cut : map (λ p. (p.offset, p.bytes.now)) l.pieces.items ≡ map (piece_at piece_bytes l.contents) (range_with_len 0 l.number);
+  cut : map (λ p. (p.offset, p.bytes.now)) l.pieces.items ≡
+      map (piece_at piece_bytes l.contents) (range_with_len 0 l.number);
   room : vec_len l.pieces + (l.count - l.number) ≤ vec_capacity l.pieces;
 }

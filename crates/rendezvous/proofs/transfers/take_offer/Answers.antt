@@ -40,6 +40,7 @@ returns-in-Some-clause-taken c =
     let offers = c.args.offers.now.items in
     let place = c.in-Some.place in
     let at : offer_for c.args.target c.args.transfer offers ≡ Some place =
-    sym (c.place_of_offer.ensures ∙ ap (offer_for c.args.target c.args.transfer) c.as_slice.ensures.value) ∙ c.in-Some.is in
+    sym (c.place_of_offer.ensures ∙ ap (offer_for c.args.target c.args.transfer) c.as_slice.ensures.value) ∙
+    c.in-Some.is in
     let there = (position-Some (is_to c.args.target c.args.transfer) offers place c.remove.result at).0 in
     ap Some c.remove.ensures.value ∙ sym (ap (offer_at offers) at ∙ slice_get-get_or offers place c.remove.result there)

@@ -22,7 +22,8 @@ push_piece-requires-clause-room c =
     let place = c.in-Some.place in
     let before = get_or collections place blank in
     let at : collection_for c.args.source c.args.transfer collections ≡ Some place =
-    sym (c.place_of_collection.ensures ∙ ap (collection_for c.args.source c.args.transfer) c.as_slice.ensures.value) ∙ c.in-Some.is in
+    sym (c.place_of_collection.ensures ∙ ap (collection_for c.args.source c.args.transfer) c.as_slice.ensures.value) ∙
+    c.in-Some.is in
     let there = (position-Some (is_from c.args.source c.args.transfer) collections place blank at).0 in
     let found : collection_at collections (collection_for c.args.source c.args.transfer collections) ≡ Some before =
     ap (collection_at collections) at ∙ slice_get-get_or collections place blank there in

@@ -5,4 +5,5 @@ use Rattle.script_files.specs.Reading.{line_read}
 use Rattle.script_files.proofs.parsing.script_of.Given as goal
 
 abbrev pub invariant-loop-place : goal.invariant-loop-place
-invariant-loop-place l = with_front l.script (lines_from line_read (l.place + 1) (shown (drop l.place l.lines.items))) ≡ lines_from line_read 1 (shown l.lines.items)
+invariant-loop-place l = with_front l.script (lines_from line_read (l.place + 1) (shown (drop l.place l.lines.items))) ≡
+    lines_from line_read 1 (shown l.lines.items)

@@ -7,4 +7,6 @@ use Rattle.script_plays.proofs.playing.go.Goals as goal
 pub returns : goal.returns
 returns c =
     on_ok c.go_on.result _ _
-    (λ g. player_goes c.args.world.now c.go_on.new.world c.args.players.now.items c.args.rank c.index_mut-player.result.now c.go_on.new.self (grind (arith, common_steps)) c.index_mut-player.ensures.value g) c.go_on.ensures
+    (λ g. player_goes c.args.world.now c.go_on.new.world c.args.players.now.items c.args.rank
+    c.index_mut-player.result.now c.go_on.new.self (grind (arith, common_steps)) c.index_mut-player.ensures.value g)
+    c.go_on.ensures

@@ -8,6 +8,7 @@ returns-in-Ok-clause-exact c =
     on_ok c.tell.result _ _
     (λ told. (
       Ok c.in-Ok.stepped,
-      event_taken c.args.world.now c.step.new.self c.args.event c.in-Ok.stepped c.in-Ok.ensures.exact c.index-history-stepped.result c.history.result.now c.history.ensures.entries c.index-history-stepped.is
+      event_taken c.args.world.now c.step.new.self c.args.event c.in-Ok.stepped c.in-Ok.ensures.exact
+          c.index-history-stepped.result c.history.result.now c.history.ensures.entries c.index-history-stepped.is
           c.args.players.now.items c.tell.new.players.items told,
     )) c.tell.ensures

@@ -4,11 +4,13 @@ use Rattle.script_runner.proofs.runner.go_on.Goals as goal
 
 pub returns-in-Some-2 : goal.returns-in-Some-2
 returns-in-Some-2 c =
-    sym c.loop-line.invariant ∙ along_first _ _ c.in-Some.line _ (Some c.in-Some-2.step) _ c.in-Some.ensures (rw c.in-Some-2.is at c.in_ok-step.ensures)
+    sym c.loop-line.invariant ∙ along_first _ _ c.in-Some.line _ (Some c.in-Some-2.step) _ c.in-Some.ensures
+    (rw c.in-Some-2.is at c.in_ok-step.ensures)
 
 pub loop-line-preserved : goal.loop-line-preserved
 loop-line-preserved c =
-    sym (along_first c.loop-line.lines c.loop-line.rank c.in-Some.line c.next.new.self None c.act.new.self c.in-Some.ensures (rw c.in_default-2.is at c.in_ok-step.ensures)) ∙ c.loop-line.invariant
+    sym (along_first c.loop-line.lines c.loop-line.rank c.in-Some.line c.next.new.self None c.act.new.self
+    c.in-Some.ensures (rw c.in_default-2.is at c.in_ok-step.ensures)) ∙ c.loop-line.invariant
 
 pub returns : goal.returns
 returns c = sym c.loop-line.invariant ∙ along_none _ _ _ c.in_default.ensures.0 c.in_default.ensures.1

@@ -10,12 +10,15 @@ use Rattle.sessions.proofs.event_execution.take_back_each.Goals as goal
 
 pub loop-done-init : goal.loop-done-init
 loop-done-init c =
-    ap (λ (t : List Outgoing). all_taken_back c.args.peers.now.items (sendings t)) (sym (drop_all (length c.args.frames.now - 0) c.args.frames.now (omega arith)))
+    ap (λ (t : List Outgoing). all_taken_back c.args.peers.now.items (sendings t))
+    (sym (drop_all (length c.args.frames.now - 0) c.args.frames.now (omega arith)))
 
 pub take_back_at-requires : goal.take_back_at-requires
 take_back_at-requires c =
     let many : length c.loop-done.peers.items ≡ length c.args.peers.now.items =
-    ap length c.loop-done.invariant ∙ length_back c.args.peers.now.items (sendings (drop (length c.args.frames.now - c.loop-done.done) c.args.frames.now)) in
+    ap length c.loop-done.invariant ∙
+    length_back c.args.peers.now.items
+    (sendings (drop (length c.args.frames.now - c.loop-done.done) c.args.frames.now)) in
     let there : c.frame_at-last.result.target < vec_len c.args.peers.now = there_at (vec_len c.args.peers.now) c.args.frames.now _ _ c.frame_at-last.ensures c.requires in
     omega (arith, many, there)
 
@@ -23,5 +26,6 @@ pub loop-done-preserved : goal.loop-done-preserved
 loop-done-preserved c =
     c.take_back_at.ensures
     ∙ ap (λ (t : List Peer). taken_back t c.frame_at-last.result.target) c.loop-done.invariant
-    ∙ back_more c.args.peers.now.items c.args.frames.now (length c.args.frames.now - 1 - c.loop-done.done) (length c.args.frames.now - c.loop-done.done) (length c.args.frames.now - (c.loop-done.done + 1)) _
+    ∙ back_more c.args.peers.now.items c.args.frames.now (length c.args.frames.now - 1 - c.loop-done.done)
+    (length c.args.frames.now - c.loop-done.done) (length c.args.frames.now - (c.loop-done.done + 1)) _
     c.frame_at-last.ensures (omega arith) (omega arith)

@@ -4,4 +4,5 @@ use Rattle.sessions.specs.Arranging.{order_of}
 use Rattle.sessions.proofs.output_order.arrange.Goals as goal
 
 pub returns-clause-order : goal.returns-clause-order
-returns-clause-order c = IsNonDecreasingBy-from_sort_by_key order_of _ c.sort_unstable_by_key.ensures.sorted (λ a r q k. search rules)
+returns-clause-order c =
+    IsNonDecreasingBy-from_sort_by_key order_of _ c.sort_unstable_by_key.ensures.sorted (λ a r q k. search rules)

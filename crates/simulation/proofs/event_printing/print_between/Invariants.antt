@@ -7,4 +7,5 @@ use Rattle.simulation.proofs.event_printing.print_between.Given as goal
 abbrev pub invariant-loop-number : goal.invariant-loop-number
 invariant-loop-number g l =
     (l.fn.first ≤ l.number)
-    × Prints (g.W.Write.contents l.fn.out) (g.W.Write.contents l.out) (lines_between l.world.datagrams l.fn.first l.number)
+    × Prints (g.W.Write.contents l.fn.out) (g.W.Write.contents l.out)
+    (lines_between l.world.datagrams l.fn.first l.number)

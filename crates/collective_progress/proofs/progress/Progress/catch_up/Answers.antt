@@ -13,4 +13,5 @@ returns-clause-kept c =
       found = c.self.inside.found;
       result = c.self.inside.result;
     })
-    c.look_at_all.new.progress c.first_known-entered.result c.self.view_is c.look_at_all.ensures.kept c.first_known-entered.ensures.first
+    c.look_at_all.new.progress c.first_known-entered.result c.self.view_is c.look_at_all.ensures.kept
+    c.first_known-entered.ensures.first

@@ -9,4 +9,6 @@ pub returns-in-Some : goal.returns-in-Some
 returns-in-Some c =
     let i = c.args.inside.now in
     let at : position (tells_entry i.context i.number (member_at i.incarnation c.args.rank)) c.args.notes.now ≡ Some c.in-Some.place = grind (arith, common_steps) in
-    c.note_there.ensures ∙ sym (found_there (tells_entry i.context i.number (member_at i.incarnation c.args.rank)) c.args.notes.now c.in-Some.place at)
+    c.note_there.ensures ∙
+    sym (found_there (tells_entry i.context i.number (member_at i.incarnation c.args.rank)) c.args.notes.now
+    c.in-Some.place at)

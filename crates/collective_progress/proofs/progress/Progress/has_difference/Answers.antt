@@ -11,7 +11,8 @@ returns-then-difference_seen c =
     let p = c.args.self.now in
     let rest = differs_in i.context i.number i.entry (drop p.count c.args.notes.now) in
     c.if-difference_seen.true
-    ∙ sym (differs_is i c.args.notes.now p c.requires ∙ ap (λ (b : Bool). b || rest) (sym c.difference_seen.ensures ∙ c.if-difference_seen.true))
+    ∙ sym (differs_is i c.args.notes.now p c.requires ∙
+    ap (λ (b : Bool). b || rest) (sym c.difference_seen.ensures ∙ c.if-difference_seen.true))
 
 pub returns-else-difference_seen : goal.returns-else-difference_seen
 returns-else-difference_seen c =
@@ -19,4 +20,5 @@ returns-else-difference_seen c =
     let p = c.args.self.now in
     let rest = differs_in i.context i.number i.entry (drop p.count c.args.notes.now) in
     let is : c.differs_in.result ≡ rest = grind (arith, common_steps) in
-    is ∙ sym (differs_is i c.args.notes.now p c.requires ∙ ap (λ (b : Bool). b || rest) (sym c.difference_seen.ensures ∙ c.if-difference_seen.false))
+    is ∙ sym (differs_is i c.args.notes.now p c.requires ∙
+    ap (λ (b : Bool). b || rest) (sym c.difference_seen.ensures ∙ c.if-difference_seen.false))

@@ -11,7 +11,8 @@ returns-then-difference_found c =
     let p = c.args.self.now in
     let rest = found_in i.context i.number i.entry (drop p.count c.args.notes.now) in
     c.if-difference_found.true
-    ∙ sym (found_is i c.args.notes.now p c.requires ∙ ap (λ (b : Bool). b || rest) (sym c.difference_found.ensures ∙ c.if-difference_found.true))
+    ∙ sym (found_is i c.args.notes.now p c.requires ∙
+    ap (λ (b : Bool). b || rest) (sym c.difference_found.ensures ∙ c.if-difference_found.true))
 
 pub returns-else-difference_found : goal.returns-else-difference_found
 returns-else-difference_found c =
@@ -19,4 +20,5 @@ returns-else-difference_found c =
     let p = c.args.self.now in
     let rest = found_in i.context i.number i.entry (drop p.count c.args.notes.now) in
     let is : c.found_in.result ≡ rest = grind (arith, common_steps) in
-    is ∙ sym (found_is i c.args.notes.now p c.requires ∙ ap (λ (b : Bool). b || rest) (sym c.difference_found.ensures ∙ c.if-difference_found.false))
+    is ∙ sym (found_is i c.args.notes.now p c.requires ∙
+    ap (λ (b : Bool). b || rest) (sym c.difference_found.ensures ∙ c.if-difference_found.false))

@@ -16,4 +16,5 @@ combine_bytes-requires-clause-like g c =
     let vb : values_of size b.bytes.items ≡ c.args.self.now.values = ap (λ (v : Contents). v.values) c.self.view_is in
     let len : length (values_of size f.bytes.items) ≡ length (values_of size b.bytes.items) = ap length vf ∙ c.requires.like.len ∙ sym (ap length vb) in
     let q : length f.bytes.items / size ≡ length b.bytes.items / size = omega (arith, length-values_of size f.bytes.items, length-values_of size b.bytes.items) in
-    ap length c.as_slice.ensures.value ∙ whole size f.bytes.items front.no_rest ∙ ap (λ (n : ℕ). n * size) q ∙ sym (whole size b.bytes.items c.self.invariant.no_rest)
+    ap length c.as_slice.ensures.value ∙ whole size f.bytes.items front.no_rest ∙ ap (λ (n : ℕ). n * size) q ∙
+    sym (whole size b.bytes.items c.self.invariant.no_rest)

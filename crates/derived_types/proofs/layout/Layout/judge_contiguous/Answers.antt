@@ -9,5 +9,6 @@ pub returns : goal.returns
 returns c =
     let offsets = c.args.self.now.offsets in
     judges (contiguous_offsets c.args.count offsets) c.copies.result c.span_or_refusal.result
-    (c.copies.ensures ∙ ap (λ (s : Span). unless_far (copied_span s 0 c.args.count)) c.span.ensures.span ∙ ap unless_far (sym (span_of-copies 0 c.args.count offsets)))
+    (c.copies.ensures ∙ ap (λ (s : Span). unless_far (copied_span s 0 c.args.count)) c.span.ensures.span ∙
+    ap unless_far (sym (span_of-copies 0 c.args.count offsets)))
     c.span_or_refusal.ensures

@@ -4,7 +4,8 @@ use Rattle.derived_types.specs.declared.block.IndexedBlock.{IndexedBlock}
 use Rattle.derived_types.specs.declared.span.Span.{Span}
 use Rattle.derived_types.specs.Layouts.{copies_at, indexed_offsets}
 use Rattle.derived_types.specs.Spans.{span_of, copied_span, joined_near, unless_far}
-use Rattle.derived_types.proofs.LayoutLaws.{indexed_offsets-none, indexed_offsets-more, span_of-copies, joined_near-span_of, judges}
+use Rattle.derived_types.proofs.LayoutLaws.{indexed_offsets-none, indexed_offsets-more, span_of-copies}
+use Rattle.derived_types.proofs.LayoutLaws.{joined_near-span_of, judges}
 use Rattle.derived_types.proofs.layout.Layout.judge_indexed.Goals as goal
 
 abbrev no_block : IndexedBlock
@@ -30,7 +31,9 @@ loop-block-preserved c =
     ∙ ap (λ (o : Option Span). joined_near o c.copies.result) c.loop-block.invariant
     ∙ ap (joined_near (unless_far (span_of front))) next
     ∙ joined_near-span_of front block
-    ∙ ap (λ (t : List ℕ). unless_far (span_of t)) (sym (ap (λ (bs : List IndexedBlock). indexed_offsets bs old) (take_more blocks i no_block lt) ∙ indexed_offsets-more (take i blocks) b old))
+    ∙ ap (λ (t : List ℕ). unless_far (span_of t))
+    (sym (ap (λ (bs : List IndexedBlock). indexed_offsets bs old) (take_more blocks i no_block lt) ∙
+    indexed_offsets-more (take i blocks) b old))
 
 pub returns : goal.returns
 returns c =
@@ -39,4 +42,5 @@ returns c =
     let i = c.loop-block.block-index in
     let all : take i blocks ≡ blocks = take_all i blocks (omega arith) in
     judges (indexed_offsets blocks old) c.loop-block.all c.span_or_refusal.result
-    (c.loop-block.invariant ∙ ap (λ (bs : List IndexedBlock). unless_far (span_of (indexed_offsets bs old))) all) c.span_or_refusal.ensures
+    (c.loop-block.invariant ∙ ap (λ (bs : List IndexedBlock). unless_far (span_of (indexed_offsets bs old))) all)
+    c.span_or_refusal.ensures

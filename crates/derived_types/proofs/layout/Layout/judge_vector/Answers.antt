@@ -10,5 +10,6 @@ returns c =
     let offsets = c.args.self.now.offsets in
     let a = c.args in
     judges (vector_offsets a.count a.blocklength a.stride offsets) c.vector.result c.span_or_refusal.result
-    (c.vector.ensures ∙ ap (λ (s : Span). unless_far (vector_span s a.count a.blocklength a.stride)) c.span.ensures.span ∙ ap unless_far (sym (span_of-vector a.count a.blocklength a.stride offsets)))
+    (c.vector.ensures ∙ ap (λ (s : Span). unless_far (vector_span s a.count a.blocklength a.stride)) c.span.ensures.span
+    ∙ ap unless_far (sym (span_of-vector a.count a.blocklength a.stride offsets)))
     c.span_or_refusal.ensures

@@ -11,19 +11,22 @@ use Rattle.engine_calls.specs.EngineState.{EngineState}
 use Rattle.engine.specs.Datagrams.{HeardGives, notice_in, without_next}
 use Rattle.engine.specs.Following.{FollowEnds}
 use Rattle.engine.proofs.Hearing.{unheard_leaves}
-use Rattle.engine.proofs.Turning.{can_hear, discard_within, longer, of_bytes, refused, replaced, stays, taken, turn_known, turn_within}
+use Rattle.engine.proofs.Turning.{can_hear, discard_within, longer, of_bytes, refused, replaced, stays, taken}
+use Rattle.engine.proofs.Turning.{turn_known, turn_within}
 use Rattle.engine.proofs.engine.Engine.+follow.Goals as goal
 
 pub returns-in_default-turn_in-clause-within : goal.returns-in_default-turn_in-clause-within
 returns-in_default-turn_in-clause-within t c =
-    discard_within c.args.self.now c.discard.new.self c.args.source c.requires.there c.in-Ok.ensures.peers c.discard.ensures
+    discard_within c.args.self.now c.discard.new.self c.args.source c.requires.there c.in-Ok.ensures.peers
+    c.discard.ensures
 
 pub take_heard-requires-clause-can : goal.take_heard-requires-clause-can
 take_heard-requires-clause-can t c =
     let h : HeardText = heard_text c.in-Some-turn_in.heard in
     let s = c.args.self.now.sessions in
     subst (λ (e : EngineState). CanHear e.sessions (Some h)) (sym c.spell_turn.ensures.kept)
-    (can_hear s c.args.source h (of_bytes c.args.source _ h c.in-Some-turn_in.ensures.exact) (omega (arith, c.requires.there, c.in-Ok.ensures.peers)))
+    (can_hear s c.args.source h (of_bytes c.args.source _ h c.in-Some-turn_in.ensures.exact)
+    (omega (arith, c.requires.there, c.in-Ok.ensures.peers)))
 
 pub replace-requires : goal.replace-requires
 replace-requires t c =
@@ -31,7 +34,11 @@ replace-requires t c =
     let mid : EngineState = c.take_heard.new.self in
     let h : HeardText = heard_text c.in-Some-turn_in.heard in
     let gives : HeardGives old h (Ok tt) mid = subst (λ (e : EngineState). HeardGives e h (Ok tt) mid) c.spell_turn.ensures.kept c.in-Ok-take_heard.ensures.exact in
-    omega (arith, c.requires.at, longer old mid c.args.source h (of_bytes c.args.source _ h c.in-Some-turn_in.ensures.exact) gives)
+    omega (
+      arith,
+      c.requires.at,
+      longer old mid c.args.source h (of_bytes c.args.source _ h c.in-Some-turn_in.ensures.exact) gives,
+    )
 
 pub follow-requires : goal.follow-requires
 follow-requires t c =
@@ -41,7 +48,8 @@ follow-requires t c =
     let gives : HeardGives old h (Ok tt) mid = subst (λ (e : EngineState). HeardGives e h (Ok tt) mid) c.spell_turn.ensures.kept c.in-Ok-take_heard.ensures.exact in
     let some : 0 < c.args.turns = grind (arith, common_steps, c.if-turns-eq0.false) in
     let size = ap (λ (e : EngineState). e.sessions.place.size) c.replace.ensures
-    ∙ ap (λ p. p.size) c.take_heard.ensures.placed ∙ ap (λ (e : EngineState). e.sessions.place.size) c.spell_turn.ensures.kept in (
+    ∙ ap (λ p. p.size) c.take_heard.ensures.placed ∙
+    ap (λ (e : EngineState). e.sessions.place.size) c.spell_turn.ensures.kept in (
       omega (arith, some, c.decreases),
       (
         omega (arith, c.requires.there, size),
@@ -64,9 +72,12 @@ returns-in-Ok-take_heard-clause-exact t c =
     let is = ap (option_map (turn_of c.args.source)) (sym c.in-Ok.ensures.ok ∙ c.in-Some.is) ∙ ap Some (sym c.in-Some-turn_in.ensures.exact) in
     let gives : HeardGives old h (Ok tt) mid = subst (λ (e : EngineState). HeardGives e h (Ok tt) mid) c.spell_turn.ensures.kept c.in-Ok-take_heard.ensures.exact in
     let put = c.replace.ensures
-    ∙ replaced old mid c.args.at c.args.source h c.in-Ok-spell_turn.ack turn (omega (arith, c.requires.there, c.in-Ok.ensures.peers)) gives c.in-Ok-spell_turn.ensures.ack in
-    taken c.follow.result c.args.turns c.args.at c.args.source old mid c.follow.new.self h (grind (arith, common_steps, c.if-turns-eq0.false)) is gives
-    (subst (λ (e : EngineState). FollowEnds c.follow.result (c.args.turns - 1) c.args.at c.args.source e c.follow.new.self) put c.follow.ensures.exact)
+    ∙ replaced old mid c.args.at c.args.source h c.in-Ok-spell_turn.ack turn
+    (omega (arith, c.requires.there, c.in-Ok.ensures.peers)) gives c.in-Ok-spell_turn.ensures.ack in
+    taken c.follow.result c.args.turns c.args.at c.args.source old mid c.follow.new.self h
+    (grind (arith, common_steps, c.if-turns-eq0.false)) is gives
+    (subst (λ (e : EngineState). FollowEnds c.follow.result (c.args.turns - 1) c.args.at c.args.source e
+    c.follow.new.self) put c.follow.ensures.exact)
 
 pub returns-in-Ok-take_heard-clause-within : goal.returns-in-Ok-take_heard-clause-within
 returns-in-Ok-take_heard-clause-within t c =
@@ -81,7 +92,8 @@ returns-in-Ok-take_heard-clause-within t c =
       ap (λ (e : EngineState). room e.sessions.peers) c.replace.ensures,
       length-set mid.sessions.out c.args.at (c.args.source.rank, c.in-Ok-spell_turn.ack),
       turn_within old.sessions mid.sessions c.args.source h turn
-          (subst (λ (e : EngineState). StaysWithin (Some h) e.sessions mid.sessions) c.spell_turn.ensures.kept c.in-Ok-take_heard.ensures.within),
+          (subst (λ (e : EngineState). StaysWithin (Some h) e.sessions mid.sessions) c.spell_turn.ensures.kept
+          c.in-Ok-take_heard.ensures.within),
     )
 
 pub returns-in-Ok-take_heard-clause-longer : goal.returns-in-Ok-take_heard-clause-longer
@@ -113,9 +125,11 @@ returns-in-Err-BadFrame-clause-exact t c =
     let mid : EngineState = c.take_heard.new.self in
     let h : HeardText = heard_text c.in-Some-turn_in.heard in
     let is = ap (option_map (turn_of c.args.source)) (sym c.in-Ok.ensures.ok ∙ c.in-Some.is) ∙ ap Some (sym c.in-Some-turn_in.ensures.exact) in
-    refused c.args.turns c.args.at c.args.source old mid c.discard-in-Err-BadFrame.new.self h (grind (arith, common_steps, c.if-turns-eq0.false)) is
+    refused c.args.turns c.args.at c.args.source old mid c.discard-in-Err-BadFrame.new.self h
+    (grind (arith, common_steps, c.if-turns-eq0.false)) is
     (subst (λ (r : Refusal). HeardGives old h (Err r) mid) c.in-Err-BadFrame.field-0-is
-    (subst (λ (e : EngineState). HeardGives e h (Err c.in-Err-BadFrame.field-0) mid) c.spell_turn.ensures.kept c.in-Err-BadFrame.ensures.exact))
+    (subst (λ (e : EngineState). HeardGives e h (Err c.in-Err-BadFrame.field-0) mid) c.spell_turn.ensures.kept
+    c.in-Err-BadFrame.ensures.exact))
     c.discard-in-Err-BadFrame.ensures
 
 pub returns-in-Err-BadFrame-clause-within : goal.returns-in-Err-BadFrame-clause-within
@@ -125,7 +139,8 @@ returns-in-Err-BadFrame-clause-within t c =
     let h : HeardText = heard_text c.in-Some-turn_in.heard in
     let same = unheard_leaves (notice_in h.lesson before.payloads h.source.rank h.word) before mid h c.in-Err-BadFrame.field-0 c.in-Err-BadFrame.ensures.exact
     ∙ c.spell_turn.ensures.kept in
-    discard_within c.args.self.now c.discard-in-Err-BadFrame.new.self c.args.source c.requires.there c.in-Ok.ensures.peers
+    discard_within c.args.self.now c.discard-in-Err-BadFrame.new.self c.args.source c.requires.there
+    c.in-Ok.ensures.peers
     (c.discard-in-Err-BadFrame.ensures ∙ ap (λ (e : EngineState). without_next e c.args.source) same)
 
 pub returns-in-Err-Limit-clause-exact : goal.returns-in-Err-Limit-clause-exact
@@ -135,7 +150,8 @@ returns-in-Err-Limit-clause-exact t c =
     let h : HeardText = heard_text c.in-Some-turn_in.heard in
     let same = unheard_leaves (notice_in h.lesson before.payloads h.source.rank h.word) before mid h c.in-Err-Limit.field-0 c.in-Err-Limit.ensures.exact
     ∙ c.spell_turn.ensures.kept in
-    stays _ c.args.turns c.args.at c.args.source c.args.self.now mid (grind (arith, common_steps, c.if-turns-eq0.false)) (inl refl) same
+    stays _ c.args.turns c.args.at c.args.source c.args.self.now mid (grind (arith, common_steps, c.if-turns-eq0.false))
+    (inl refl) same
 
 pub returns : goal.returns
 returns t c =
@@ -146,7 +162,8 @@ returns t c =
     let same : mid ≡ old = unheard_leaves (notice_in h.lesson before.payloads h.source.rank h.word) before mid h c.in-Err-take_heard.field-0 c.in-Err-take_heard.ensures.exact
     ∙ c.spell_turn.ensures.kept in
     rw same (record {
-      exact = stays _ c.args.turns c.args.at c.args.source old old (grind (arith, common_steps, c.if-turns-eq0.false)) (inr refl) refl;
+      exact = stays _ c.args.turns c.args.at c.args.source old old (grind (arith, common_steps, c.if-turns-eq0.false))
+          (inr refl) refl;
       within = omega arith;
       longer = omega arith;
       known = refl;

@@ -1,4 +1,7 @@
 use Rattle.engine.proofs.engine.Engine.asked_on_requests.Goals as goal
 
 pub returns : goal.returns
-returns c = rw (← c.self.view_is) (c.ask_on_requests.ensures (record { ended = c.self.inside.ended; payloads = c.self.inside.payloads.state }) c.self.inside.sessions)
+returns c =
+    rw (← c.self.view_is)
+    (c.ask_on_requests.ensures (record { ended = c.self.inside.ended; payloads = c.self.inside.payloads.state })
+    c.self.inside.sessions)

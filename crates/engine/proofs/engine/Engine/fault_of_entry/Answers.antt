@@ -9,11 +9,17 @@ pub returns-in-Some : goal.returns-in-Some
 returns-in-Some c =
     rw (← c.self.view_is, c.of_rule.ensures)
     (ap (option_map of_rule) (sym c.in-Some.is)
-    ∙ entry_ruled (engine_held c.self.inside.core c.self.inside.communicators c.self.inside.ended c.self.inside.payloads.state c.self.inside.sessions) c.is_blocked.result c.incarnations-known.result.now c.args.comm c.args.entry.now c.fault_of_entry.result
+    ∙ entry_ruled
+    (engine_held c.self.inside.core c.self.inside.communicators c.self.inside.ended c.self.inside.payloads.state
+    c.self.inside.sessions) c.is_blocked.result c.incarnations-known.result.now c.args.comm c.args.entry.now
+    c.fault_of_entry.result
     c.is_blocked.ensures c.incarnations-known.ensures c.fault_of_entry.ensures)
 
 pub returns-in-None : goal.returns-in-None
 returns-in-None c =
     rw (← c.self.view_is) (ap (option_map of_rule) (sym c.in-None.is)
-    ∙ entry_ruled (engine_held c.self.inside.core c.self.inside.communicators c.self.inside.ended c.self.inside.payloads.state c.self.inside.sessions) c.is_blocked.result c.incarnations-known.result.now c.args.comm c.args.entry.now c.fault_of_entry.result
+    ∙ entry_ruled
+    (engine_held c.self.inside.core c.self.inside.communicators c.self.inside.ended c.self.inside.payloads.state
+    c.self.inside.sessions) c.is_blocked.result c.incarnations-known.result.now c.args.comm c.args.entry.now
+    c.fault_of_entry.result
     c.is_blocked.ensures c.incarnations-known.ensures c.fault_of_entry.ensures)

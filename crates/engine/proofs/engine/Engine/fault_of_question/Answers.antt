@@ -9,11 +9,15 @@ pub returns-in-Some : goal.returns-in-Some
 returns-in-Some c =
     rw (← c.self.view_is, c.of_rule.ensures)
     (ap (option_map of_rule) (sym c.in-Some.is)
-    ∙ question_ruled (engine_held c.self.inside.core c.self.inside.communicators c.self.inside.ended c.self.inside.payloads.state c.self.inside.sessions) c.is_blocked.result c.args.comm c.args.question c.fault_of_question.result
+    ∙ question_ruled
+    (engine_held c.self.inside.core c.self.inside.communicators c.self.inside.ended c.self.inside.payloads.state
+    c.self.inside.sessions) c.is_blocked.result c.args.comm c.args.question c.fault_of_question.result
     c.is_blocked.ensures c.fault_of_question.ensures)
 
 pub returns-in-None : goal.returns-in-None
 returns-in-None c =
     rw (← c.self.view_is) (ap (option_map of_rule) (sym c.in-None.is)
-    ∙ question_ruled (engine_held c.self.inside.core c.self.inside.communicators c.self.inside.ended c.self.inside.payloads.state c.self.inside.sessions) c.is_blocked.result c.args.comm c.args.question c.fault_of_question.result
+    ∙ question_ruled
+    (engine_held c.self.inside.core c.self.inside.communicators c.self.inside.ended c.self.inside.payloads.state
+    c.self.inside.sessions) c.is_blocked.result c.args.comm c.args.question c.fault_of_question.result
     c.is_blocked.ensures c.fault_of_question.ensures)

@@ -13,5 +13,6 @@ pub returns-in-Err : goal.returns-in-Err
 returns-in-Err c =
     let i = c.self.inside in
     rw (← c.self.view_is)
-    (looking_refused (engine_held i.core i.communicators i.ended i.payloads.state i.sessions) c.args.probe c.in-Err.refused
+    (looking_refused (engine_held i.core i.communicators i.ended i.payloads.state i.sessions) c.args.probe
+    c.in-Err.refused
     (c.in-Err.ensures (record { ended = i.ended; payloads = i.payloads.state })))

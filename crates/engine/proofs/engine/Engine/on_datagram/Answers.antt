@@ -13,25 +13,30 @@ returns-in-Ok-clause-exact c =
     let h : HeardText = heard_text c.in-Ok.heard in
     rw (← c.self.view_is, c.in-Ok.ensures.exact)
     (subst (λ (e : EngineState). HearingGives (Ok h) e c.take_in.result c.take_in.new.self) (sym c.self.view_is)
-    (hearing_is h c.args.self.now c.take_in.new.self c.take_in.result c.take_in.ensures.taken c.take_in.ensures.refused))
+    (hearing_is h c.args.self.now c.take_in.new.self c.take_in.result c.take_in.ensures.taken
+    c.take_in.ensures.refused))
 
 pub returns-in-Err-clause-exact : goal.returns-in-Err-clause-exact
 returns-in-Err-clause-exact c =
     let i = c.self.inside in
     rw (← c.self.view_is, c.of_sessions.ensures, c.in-Err.ensures.exact)
-    (turned_away (engine_held i.core i.communicators i.ended i.payloads.state i.sessions) c.turn_away.new.self c.in-Err.unheard c.turn_away.result c.turn_away.ensures.exact)
+    (turned_away (engine_held i.core i.communicators i.ended i.payloads.state i.sessions) c.turn_away.new.self
+    c.in-Err.unheard c.turn_away.result c.turn_away.ensures.exact)
 
 pub returns-in-Ok-clause-known : goal.returns-in-Ok-clause-known
 returns-in-Ok-clause-known c =
     let i = c.self.inside in
     let h : HeardText = heard_text c.in-Ok.heard in
-    heard_is_known (engine_held i.core i.communicators i.ended i.payloads.state i.sessions) c.take_in.new.self c.args.bytes.now h c.take_in.result
+    heard_is_known (engine_held i.core i.communicators i.ended i.payloads.state i.sessions) c.take_in.new.self
+    c.args.bytes.now h c.take_in.result
     c.place-place.ensures.known c.in-Ok.ensures.exact
-    (subst (λ (e : EngineState). OnOk c.take_in.result (c.take_in.new.self.sessions.known ≡ taught_known h.lesson e.sessions.known h.source)) (sym c.self.view_is)
+    (subst (λ (e : EngineState). OnOk c.take_in.result (c.take_in.new.self.sessions.known ≡
+    taught_known h.lesson e.sessions.known h.source)) (sym c.self.view_is)
     c.take_in.ensures.known)
 
 pub returns-in-Ok-clause-unchanged : goal.returns-in-Ok-clause-unchanged
-returns-in-Ok-clause-unchanged c = refusal_leaves c.args.self.now _ c.args.bytes.now c.take_in.result (returns-in-Ok-clause-exact c)
+returns-in-Ok-clause-unchanged c =
+    refusal_leaves c.args.self.now _ c.args.bytes.now c.take_in.result (returns-in-Ok-clause-exact c)
 
 pub returns-in-Err-clause-unchanged : goal.returns-in-Err-clause-unchanged
 returns-in-Err-clause-unchanged c =

@@ -11,9 +11,11 @@ limit_of-requires-clause-can c =
     let s = c.self.inside.sessions in
     let within : c.args.source.rank < s.place.size = subst (λ (e : EngineState). c.args.source.rank < e.sessions.place.size) (sym c.self.view_is) c.requires.there in
     let there : c.args.source.rank < length s.peers = omega (arith, within, c.place-place.ensures.peers) in
-    can_hear s c.args.source (heard_text c.args.heard) (of_bytes c.args.source c.args.bytes.now (heard_text c.args.heard) c.requires.turn) there
+    can_hear s c.args.source (heard_text c.args.heard)
+    (of_bytes c.args.source c.args.bytes.now (heard_text c.args.heard) c.requires.turn) there
 
 pub spell_behind-requires-clause-left : goal.spell_behind-requires-clause-left
 spell_behind-requires-clause-left c =
-    left c.self.inside.sessions c.args.source (heard_text c.args.heard) (of_bytes c.args.source c.args.bytes.now (heard_text c.args.heard) c.requires.turn)
+    left c.self.inside.sessions c.args.source (heard_text c.args.heard)
+    (of_bytes c.args.source c.args.bytes.now (heard_text c.args.heard) c.requires.turn)
     (ap is_some (sym c.limit_of.ensures) ∙ sym c.if-is_some.ensures)

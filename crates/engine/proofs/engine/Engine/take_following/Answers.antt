@@ -7,14 +7,16 @@ returns-clause-within c =
     omega (
       arith,
       c.follow-why.ensures.within,
-      arranged_within (suc c.args.at) c.follow-why.new.self.sessions c.arrange.new.self.sessions c.arrange.ensures.arranged,
+      arranged_within (suc c.args.at) c.follow-why.new.self.sessions c.arrange.new.self.sessions
+          c.arrange.ensures.arranged,
     )
 
 pub returns-clause-exact : goal.returns-clause-exact
 returns-clause-exact c =
     record {
       last = c.follow-why.new.self;
-      turns = forget c.follow-why.result 64 c.args.at c.args.source c.args.self.now c.follow-why.new.self c.follow-why.ensures.exact;
+      turns = forget c.follow-why.result 64 c.args.at c.args.source c.args.self.now c.follow-why.new.self
+          c.follow-why.ensures.exact;
       same = c.arrange.ensures.same;
       arranged = c.arrange.ensures.arranged;
     }

@@ -18,7 +18,8 @@ returns-in_err-take_heard-clause-few c =
     omega (
       arith,
       ap (λ (e : EngineState). length e.sessions.out)
-          (unheard_leaves (notice_in h.lesson old.payloads h.source.rank h.word) old c.take_heard.new.self h _ c.in_err-take_heard.ensures.exact),
+          (unheard_leaves (notice_in h.lesson old.payloads h.source.rank h.word) old c.take_heard.new.self h _
+          c.in_err-take_heard.ensures.exact),
     )
 
 pub take_following-requires-clause-at : goal.take_following-requires-clause-at
@@ -26,7 +27,8 @@ take_following-requires-clause-at c =
     let h : HeardText = heard_text c.args.heard in
     omega (
       arith,
-      acknowledged_first c.args.self.now c.take_heard.new.self h (frame_text c.in-Hands.field-0) (ap word_text c.in-Hands.is) c.in_ok-take_heard.ensures.exact,
+      acknowledged_first c.args.self.now c.take_heard.new.self h (frame_text c.in-Hands.field-0)
+          (ap word_text c.in-Hands.is) c.in_ok-take_heard.ensures.exact,
       c.emitted-at.ensures,
       ap (λ (e : EngineState). length e.sessions.out) c.self.view_is,
     )
@@ -38,13 +40,17 @@ returns-clause-taken c =
     let h : HeardText = heard_text c.args.heard in
     let at : c.emitted-at.result ≡ length old.sessions.out = c.emitted-at.ensures ∙ ap (λ (e : EngineState). length e.sessions.out) c.self.view_is in
     let follows : FollowedBy h.word (length old.sessions.out) h.source first c.match-heard.self = elim c.match-heard.branch [
-      | in-Hands w ↦ subst (λ (e : EngineState). FollowedBy h.word (length old.sessions.out) h.source first e) (sym w.self-is)
-          (follows_handed h.word (frame_text w.in-Hands.field-0) c.emitted-at.result (length old.sessions.out) h.source first w.take_following.new.self
+      | in-Hands w ↦ subst (λ (e : EngineState). FollowedBy h.word (length old.sessions.out) h.source first e)
+          (sym w.self-is)
+          (follows_handed h.word (frame_text w.in-Hands.field-0) c.emitted-at.result (length old.sessions.out) h.source
+          first w.take_following.new.self
           (ap word_text w.in-Hands.is) at w.take_following.ensures.exact)
-      | in_default w ↦ subst (λ (e : EngineState). FollowedBy h.word (length old.sessions.out) h.source first e) (sym w.self-is)
+      | in_default w ↦ subst (λ (e : EngineState). FollowedBy h.word (length old.sessions.out) h.source first e)
+          (sym w.self-is)
           (follows_none c.args.heard.word (length old.sessions.out) h.source first w.in_default.not-Hands)
     ] in
-    taken_unless (says_nothing h.lesson h.word) old h c.wake.new.self (sym c.says_nothing.ensures ∙ c.if-says_nothing.false) (record {
+    taken_unless (says_nothing h.lesson h.word) old h c.wake.new.self (sym c.says_nothing.ensures ∙
+    c.if-says_nothing.false) (record {
       first = first;
       last = c.match-heard.self;
       takes = c.in_ok-take_heard.ensures.exact;
@@ -84,12 +90,14 @@ returns-clause-few c =
       )
     ] in
     let each : length old.sessions.peers ≡ old.sessions.place.size =
-    subst (λ (e : EngineState). length e.sessions.peers ≡ e.sessions.place.size) c.self.view_is c.place-place.ensures.peers in
+    subst (λ (e : EngineState). length e.sessions.peers ≡ e.sessions.place.size) c.self.view_is
+    c.place-place.ensures.peers in
     omega (
       arith,
       here,
       ap (λ (e : EngineState). length e.sessions.out) c.wake.ensures.exact,
-      few_within (Some h) old.sessions first.sessions old.sessions.place.size each (omega (arith, c.requires.there)) c.in_ok-take_heard.ensures.within,
+      few_within (Some h) old.sessions first.sessions old.sessions.place.size each (omega (arith, c.requires.there))
+          c.in_ok-take_heard.ensures.within,
     )
 
 pub returns-clause-core_placed : goal.returns-clause-core_placed

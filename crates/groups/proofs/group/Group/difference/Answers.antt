@@ -6,4 +6,6 @@ use Rattle.groups.proofs.group.Group.difference.Goals as goal
 
 pub invariant_of-result : goal.invariant_of-result
 invariant_of-result c =
-    rw c.in-Ok.ensures (HasNoRepeats-filter (passes c.ranks-second.result.now false) c.ranks-first.result.now c.ranks-first.ensures.apart)
+    rw c.in-Ok.ensures
+    (HasNoRepeats-filter (passes c.ranks-second.result.now false) c.ranks-first.result.now
+    c.ranks-first.ensures.apart)

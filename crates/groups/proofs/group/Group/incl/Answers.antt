@@ -5,4 +5,5 @@ use Rattle.groups.proofs.group.Group.incl.Goals as goal
 pub invariant_of-result : goal.invariant_of-result
 invariant_of-result c =
     rw c.in-Ok.ensures
-    (HasNoRepeats-members_at c.ranks-ranks.result.now c.args.positions.now c.ranks-ranks.ensures.apart c.in_default.ensures.0 c.in_default.ensures.1)
+    (HasNoRepeats-members_at c.ranks-ranks.result.now c.args.positions.now c.ranks-ranks.ensures.apart
+    c.in_default.ensures.0 c.in_default.ensures.1)

@@ -9,6 +9,8 @@ use Rattle.interpreter.proofs.names.Names.receive.Goals as goal
 pub returns : goal.returns
 returns c =
     receive_made c.args.receiving (place_named c.args.self.now c.args.receiving.communicator)
-    (places_named c.args.self.now c.args.receiving.through) (here c.args.self.now c.args.receiving.buffer) c.args.self.now
-    (pendings.Starting c.args.request (Some c.args.receiving.buffer)) c.in_ok-call.call c.lend_for.new.self c.in_ok-call.ensures
+    (places_named c.args.self.now c.args.receiving.through) (here c.args.self.now c.args.receiving.buffer)
+    c.args.self.now
+    (pendings.Starting c.args.request (Some c.args.receiving.buffer)) c.in_ok-call.call c.lend_for.new.self
+    c.in_ok-call.ensures
     ∙ ap (λ (asked : StatementCall). let acted : Acts = (asked, c.lend_for.new.self) in acted) (sym c.asked_by.ensures)

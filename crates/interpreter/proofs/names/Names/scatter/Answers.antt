@@ -7,6 +7,9 @@ use Rattle.interpreter.proofs.names.Names.scatter.Goals as goal
 
 pub returns : goal.returns
 returns c =
-    scatter_made c.args.said (place_named c.args.self.now c.args.said.communicator) (here c.args.self.now c.args.said.into)
-    (blocks_named c.args.self.now (is_root c.args.self.now c.args.said.communicator c.args.said.root) c.args.said.buffer) c.args.self.now
-    ∙ ap (λ (asked : StatementCall). let acted : Acts = (asked, c.args.self.now) in acted) (sym (rw c.in_ok-call.ensures at c.asked_by.ensures))
+    scatter_made c.args.said (place_named c.args.self.now c.args.said.communicator)
+    (here c.args.self.now c.args.said.into)
+    (blocks_named c.args.self.now (is_root c.args.self.now c.args.said.communicator c.args.said.root)
+    c.args.said.buffer) c.args.self.now
+    ∙ ap (λ (asked : StatementCall). let acted : Acts = (asked, c.args.self.now) in acted)
+    (sym (rw c.in_ok-call.ensures at c.asked_by.ensures))

@@ -14,11 +14,15 @@ pub loop-place-preserved : goal.loop-place-preserved
 loop-place-preserved c =
     let lt : c.loop-place.place < length c.args.self.now.slots = omega (arith, c.len-place-end.ensures, c.loop-place-test.true) in
     record {
-      slots = c.drop_at.ensures.slots ∙ cleaned_next (λ (r : PostedReceive). names r.source c.args.rank) c.loop-place.place c.args.self.now.slots c.loop-place.self.slots _ c.loop-place.invariant.slots lt refl;
+      slots = c.drop_at.ensures.slots ∙
+          cleaned_next (λ (r : PostedReceive). names r.source c.args.rank) c.loop-place.place c.args.self.now.slots
+          c.loop-place.self.slots _ c.loop-place.invariant.slots lt refl;
       room = c.drop_at.ensures.room ∙ c.loop-place.invariant.room;
     }
 
 pub returns-clause-kept : goal.returns-clause-kept
 returns-clause-kept c =
     let all : c.loop-place.place ≡ length c.args.self.now.slots = omega (arith, c.len-place-end.ensures, c.loop-place-test.false, c.loop-place.auto.place-end) in
-    ap somes c.loop-place.invariant.slots ∙ ap (λ (n : ℕ). somes (cleaned (λ (r : PostedReceive). names r.source c.args.rank) n c.args.self.now.slots)) all ∙ cleaned-all (λ (r : PostedReceive). names r.source c.args.rank) c.args.self.now.slots
+    ap somes c.loop-place.invariant.slots ∙
+    ap (λ (n : ℕ). somes (cleaned (λ (r : PostedReceive). names r.source c.args.rank) n c.args.self.now.slots)) all
+    ∙ cleaned-all (λ (r : PostedReceive). names r.source c.args.rank) c.args.self.now.slots

@@ -7,6 +7,7 @@ use Rattle.match_queues.proofs.unexpected.UnexpectedQueue.drop_former.Given as g
 
 abbrev pub invariant-loop-place : goal.invariant-loop-place
 invariant-loop-place l = record {
-  slots : l.self.slots ≡ cleaned (λ (m : Message). is_former l.rank l.incarnation m.sender) l.place l.initial.self.slots;
+  slots : l.self.slots ≡
+      cleaned (λ (m : Message). is_former l.rank l.incarnation m.sender) l.place l.initial.self.slots;
   room : l.self.room ≡ l.initial.self.room;
 }

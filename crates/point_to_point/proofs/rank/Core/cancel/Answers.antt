@@ -14,7 +14,9 @@ pub cancel-requires-2 : goal.cancel-requires-2
 cancel-requires-2 c = search rules
 
 pub invariant_of-self-2 : goal.invariant_of-self-2
-invariant_of-self-2 c = rw (c.cancel.ensures.exact, c.cancel-2.ensures.state) (kept_on_cancel _ _ _ _ (kept_on_withdrawal _ _ _ _ _ c.self.invariant) _)
+invariant_of-self-2 c =
+    rw (c.cancel.ensures.exact, c.cancel-2.ensures.state)
+    (kept_on_cancel _ _ _ _ (kept_on_withdrawal _ _ _ _ _ c.self.invariant) _)
 
 pub returns-then-cancel-clause-exact : goal.returns-then-cancel-clause-exact
 returns-then-cancel-clause-exact c = search rules

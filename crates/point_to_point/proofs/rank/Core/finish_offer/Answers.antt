@@ -14,7 +14,9 @@ pub drop-offer-requires : goal.drop-offer-requires
 drop-offer-requires c = search rules
 
 pub invariant_of-self : goal.invariant_of-self
-invariant_of-self c = rw (c.finish_send.ensures, c.on_cts.ensures.state) (kept_on_answer _ _ _ _ (kept_on_cts _ _ _ _ _ _ c.self.invariant) _)
+invariant_of-self c =
+    rw (c.finish_send.ensures, c.on_cts.ensures.state)
+    (kept_on_answer _ _ _ _ (kept_on_cts _ _ _ _ _ _ c.self.invariant) _)
 
 pub invariant_of-self-in_default : goal.invariant_of-self-in_default
 invariant_of-self-in_default c = rw c.on_cts.ensures.state (kept_on_cts _ _ _ _ _ _ c.self.invariant)

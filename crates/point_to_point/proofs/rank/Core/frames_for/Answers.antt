@@ -8,9 +8,11 @@ use Rattle.point_to_point.proofs.rank.Core.frames_for.Goals as goal
 pub returns-clause-go : goal.returns-clause-go
 returns-clause-go c =
     frames_go c.args.self.now.state (news_text c.args.news)
-    (subst (λ (h : Held). IsKept h.state.place h.state.queues h.state.transfers h.state.slots) c.self.view_is c.self.invariant) c.requires.allowed
+    (subst (λ (h : Held). IsKept h.state.place h.state.queues h.state.transfers h.state.slots) c.self.view_is
+    c.self.invariant) c.requires.allowed
 
 pub returns-clause-few : goal.returns-clause-few
 returns-clause-few c =
     frames_are_few c.args.self.now.state (news_text c.args.news)
-    (subst (λ (h : Held). IsKept h.state.place h.state.queues h.state.transfers h.state.slots) c.self.view_is c.self.invariant)
+    (subst (λ (h : Held). IsKept h.state.place h.state.queues h.state.transfers h.state.slots) c.self.view_is
+    c.self.invariant)

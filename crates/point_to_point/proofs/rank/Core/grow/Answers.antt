@@ -4,4 +4,6 @@ use Rattle.point_to_point.proofs.Taken.{kept_on_delivery}
 use Rattle.point_to_point.proofs.rank.Core.grow.Goals as goal
 
 pub invariant_of-self : goal.invariant_of-self
-invariant_of-self c = rw (c.deliver.ensures, c.on_data.ensures.state) (kept_on_delivery _ _ _ _ (kept_on_data _ _ _ _ _ _ _ c.self.invariant) _ _)
+invariant_of-self c =
+    rw (c.deliver.ensures, c.on_data.ensures.state)
+    (kept_on_delivery _ _ _ _ (kept_on_data _ _ _ _ _ _ _ c.self.invariant) _ _)

@@ -19,7 +19,8 @@ begin_send-transfer-requires-clause-number c = search rules
 
 pub invariant_of-self : goal.invariant_of-self
 invariant_of-self c =
-    rw c.begin_send-transfer.ensures.state (kept_on_begin _ _ _ _ _ _ _ (kept_on_start _ _ _ _ c.self.invariant _ _ _ tt c.start-request.ensures.entry)
+    rw c.begin_send-transfer.ensures.state
+    (kept_on_begin _ _ _ _ _ _ _ (kept_on_start _ _ _ _ c.self.invariant _ _ _ tt c.start-request.ensures.entry)
     (subst (λ (h : Held). c.args.rank < h.state.place.size) (sym c.self.view_is) c.requires.there) c.requires.limit)
 
 pub returns-clause-exact : goal.returns-clause-exact

@@ -8,19 +8,29 @@ use Rattle.point_to_point.proofs.rank.Core.receive_or_keep.Goals as goal
 pub invariant_of-self-in-Whole : goal.invariant_of-self-in-Whole
 invariant_of-self-in-Whole c =
     rw (c.finish.ensures, c.arrive.ensures.state) (kept_on_finish _ _ _ _
-    (kept_on_arrival _ _ _ _ _ c.self.invariant (subst (λ (h : Held). IsAnswerable h.state.place.size c.args.message c.args.message.body) (sym c.self.view_is) c.requires.answerable)) _ _ _)
+    (kept_on_arrival _ _ _ _ _ c.self.invariant
+    (subst (λ (h : Held). IsAnswerable h.state.place.size c.args.message c.args.message.body)
+    (sym c.self.view_is) c.requires.answerable)) _ _ _)
 
 pub invariant_of-self-in-Own : goal.invariant_of-self-in-Own
 invariant_of-self-in-Own c =
-    rw (c.finish_send.ensures, c.finish-in-Own.ensures, c.arrive.ensures.state) (kept_on_answer _ _ _ _ (kept_on_finish _ _ _ _
-    (kept_on_arrival _ _ _ _ _ c.self.invariant (subst (λ (h : Held). IsAnswerable h.state.place.size c.args.message c.args.message.body) (sym c.self.view_is) c.requires.answerable)) _ _ _) _)
+    rw (c.finish_send.ensures, c.finish-in-Own.ensures, c.arrive.ensures.state)
+    (kept_on_answer _ _ _ _ (kept_on_finish _ _ _ _
+    (kept_on_arrival _ _ _ _ _ c.self.invariant
+    (subst (λ (h : Held). IsAnswerable h.state.place.size c.args.message c.args.message.body)
+    (sym c.self.view_is) c.requires.answerable)) _ _ _) _)
 
 pub invariant_of-self-in-Some : goal.invariant_of-self-in-Some
 invariant_of-self-in-Some c =
-    rw (c.announce.ensures, c.collect.ensures.state, c.arrive.ensures.state) (kept_on_announcement _ _ _ _ (kept_on_collection _ _ _ _ _
-    (kept_on_arrival _ _ _ _ _ c.self.invariant (subst (λ (h : Held). IsAnswerable h.state.place.size c.args.message c.args.message.body) (sym c.self.view_is) c.requires.answerable))) _ _ _)
+    rw (c.announce.ensures, c.collect.ensures.state, c.arrive.ensures.state)
+    (kept_on_announcement _ _ _ _ (kept_on_collection _ _ _ _ _
+    (kept_on_arrival _ _ _ _ _ c.self.invariant
+    (subst (λ (h : Held). IsAnswerable h.state.place.size c.args.message c.args.message.body)
+    (sym c.self.view_is) c.requires.answerable))) _ _ _)
 
 pub invariant_of-self-in_default-collection : goal.invariant_of-self-in_default-collection
 invariant_of-self-in_default-collection c =
     rw (c.announce.ensures, c.arrive.ensures.state) (kept_on_announcement _ _ _ _
-    (kept_on_arrival _ _ _ _ _ c.self.invariant (subst (λ (h : Held). IsAnswerable h.state.place.size c.args.message c.args.message.body) (sym c.self.view_is) c.requires.answerable)) _ _ _)
+    (kept_on_arrival _ _ _ _ _ c.self.invariant
+    (subst (λ (h : Held). IsAnswerable h.state.place.size c.args.message c.args.message.body)
+    (sym c.self.view_is) c.requires.answerable)) _ _ _)

@@ -5,4 +5,6 @@ use Rattle.point_to_point.proofs.Taken.{kept_on_completion}
 use Rattle.point_to_point.proofs.rank.Core.test.Goals as goal
 
 pub invariant_of-self : goal.invariant_of-self
-invariant_of-self c = kept_on_completion _ _ _ _ c.self.invariant c.self.inside.requests c.complete.new.self (One c.args.request) c.complete.result refl c.complete.ensures
+invariant_of-self c =
+    kept_on_completion _ _ _ _ c.self.invariant c.self.inside.requests c.complete.new.self
+    (One c.args.request) c.complete.result refl c.complete.ensures

@@ -4,4 +4,6 @@ use Rattle.point_to_point.proofs.Taken.{kept_on_completion}
 use Rattle.point_to_point.proofs.rank.Core.wake.Goals as goal
 
 pub invariant_of-self : goal.invariant_of-self
-invariant_of-self c = kept_on_completion _ _ _ _ c.self.invariant c.self.inside.requests c.complete.new.self c.in-Some.awaited c.complete.result refl c.complete.ensures
+invariant_of-self c =
+    kept_on_completion _ _ _ _ c.self.invariant c.self.inside.requests c.complete.new.self c.in-Some.awaited
+    c.complete.result refl c.complete.ensures

@@ -5,4 +5,5 @@ use Rattle.printed_lines.proofs.communicators.FurtherMembersDisplay.fmt.Given as
 
 abbrev pub invariant-loop-place : goal.invariant-loop-place
 invariant-loop-place g l =
-    IsPlainFormatter l.initial.f → HasWritten g.W.Write.write_str_gives l.initial.f (further_members_text (take l.place l.self.ranks.now)) l.f
+    IsPlainFormatter l.initial.f →
+    HasWritten g.W.Write.write_str_gives l.initial.f (further_members_text (take l.place l.self.ranks.now)) l.f

@@ -5,4 +5,5 @@ use Rattle.printed_lines.proofs.outcomes.FurtherOutcomesDisplay.fmt.Given as goa
 
 abbrev pub invariant-loop-place : goal.invariant-loop-place
 invariant-loop-place g l =
-    IsPlainFormatter l.initial.f → HasWritten g.W.Write.write_str_gives l.initial.f (further_text (take l.place l.self.outcomes.now)) l.f
+    IsPlainFormatter l.initial.f →
+    HasWritten g.W.Write.write_str_gives l.initial.f (further_text (take l.place l.self.outcomes.now)) l.f

@@ -4,4 +4,5 @@ use Rattle.reductions.proofs.operation.ReductionPairOp.apply.Goals as goal
 pub returns-clause-within : goal.returns-clause-within
 returns-clause-within c =
     let r = c.args.self.now in
-    rw c.combine_numbers.ensures (combined-within r.operation r.basic c.args.first c.args.second r.defined c.requires.first c.requires.second)
+    rw c.combine_numbers.ensures
+    (combined-within r.operation r.basic c.args.first c.args.second r.defined c.requires.first c.requires.second)

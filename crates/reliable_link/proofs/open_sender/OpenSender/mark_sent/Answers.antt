@@ -10,4 +10,5 @@ pub returns-then-self : goal.returns-then-self
 returns-then-self c = unticked _ _ c.args.now c.self.view_is c.if-now-self.true _ c.if-self.true c.self.invariant
 
 pub invariant_of-self : goal.invariant_of-self
-invariant_of-self c = kept_ticked c.self.inside.lowest c.args.now _ c.self.inside.frames _ c.mark_due.ensures refl (omega arith)
+invariant_of-self c =
+    kept_ticked c.self.inside.lowest c.args.now _ c.self.inside.frames _ c.mark_due.ensures refl (omega arith)

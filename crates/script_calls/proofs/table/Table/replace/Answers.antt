@@ -18,6 +18,7 @@ returns-clause-before g c =
 pub returns-clause-after : goal.returns-clause-after
 returns-clause-after g c =
     ap entries_of (c.get_mut.follows.holds c.replace.new.dest).0
-    ∙ is_written c.self.inside.values.entries c.as_bytes.result.now c.in_ok-there.there.now c.replace.new.dest c.self.view_is c.as_bytes.ensures
+    ∙ is_written c.self.inside.values.entries c.as_bytes.result.now c.in_ok-there.there.now c.replace.new.dest
+    c.self.view_is c.as_bytes.ensures
     (sym c.in_ok-there.ensures.value)
     ∙ ap (λ (v : _). with_value c.args.self.now c.args.name.now v) c.replace.ensures.after

@@ -7,7 +7,8 @@ use Rattle.script_calls.proofs.table.Table.set.Goals as goal
 pub returns-in-Some-clause-set : goal.returns-in-Some-clause-set
 returns-in-Some-clause-set g c =
     ap entries_of (c.get_mut.follows.holds c.args.value).0
-    ∙ is_written c.self.inside.values.entries c.as_bytes.result.now c.in-Some.there.now c.args.value c.self.view_is c.as_bytes.ensures
+    ∙ is_written c.self.inside.values.entries c.as_bytes.result.now c.in-Some.there.now c.args.value c.self.view_is
+    c.as_bytes.ensures
     (sym c.in-Some.ensures.value)
 
 pub returns-clause-new : goal.returns-clause-new
