@@ -1,5 +1,7 @@
-//! What a rank keeps beside the notes of the collective that it is in: it grows note by note, and says what the notes
-//! themselves would say, with no look at them all.
+//! What a rank keeps beside the notes of the collective that it is in, and what the members' blocks give.
+//!
+//! What is kept grows note by note, and says what the notes themselves would say, with no look at them all. The blocks
+//! that members entered are joined or folded in the order of ranks, whatever order they came in.
 #![tactic(auto)]
 
 mod contributions;

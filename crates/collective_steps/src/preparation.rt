@@ -94,7 +94,7 @@ fn copy_step(
     ensures ok { IfOk result (λ step. step ≡ copy_step own inside.now contexts.now.state group.now) }
     ensures err { IfErr result (IsLacking contexts.now.state 1) }
 {
-    let Some(context) = contexts.next_context(0) else {
+    let Some(context) = contexts.context_after(0) else {
         return Err(CollectiveRefusal::Limit);
     };
     let words = ToAll::Context(context.number());

@@ -77,7 +77,7 @@ fn one_made(
     }) }
     ensures err { IfErr result (IsLacking contexts.now.state (further + 1)) }
 {
-    let Some(context) = contexts.next_context(further) else {
+    let Some(context) = contexts.context_after(further) else {
         return Err(CollectiveRefusal::Limit);
     };
     match group.incl(part.ranks()) {

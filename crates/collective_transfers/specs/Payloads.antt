@@ -46,8 +46,8 @@ abbrev pub is_from : (source transfer : ℕ) → Coming → Bool
 is_from source transfer c = (c.source == source) && (c.transfer == transfer)
 
 -- whether these bytes from this place on are its next piece
-abbrev pub is_next_piece : Coming → (offset : ℕ) → List ℕ → Bool
-is_next_piece c offset piece = is_next_piece c.total (length c.bytes) offset piece
+abbrev pub is_next_data : Coming → (offset : ℕ) → List ℕ → Bool
+is_next_data c offset piece = is_next_piece c.total (length c.bytes) offset piece
 
 -- with one more piece
 abbrev pub with_piece : Coming → List ℕ → Coming

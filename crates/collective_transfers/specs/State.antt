@@ -2,7 +2,7 @@
 use Rattle.std.specs.Prelude.{ℕ, ◌==◌, not, Bool, false, List, [], ◌∷◌, ◌++◌, Option, Some, None, position, insert}
 use Rattle.std.specs.Prelude.{remove, filter, slice_get, slice_set, slice_index_or, if◌then◌else◌}
 use Rattle.collective_transfers.specs.Payloads.{Announced, Coming, Taken, Whole, is_from, is_to, is_whole}
-use Rattle.collective_transfers.specs.Payloads.{is_next_piece, whole_of, with_piece}
+use Rattle.collective_transfers.specs.Payloads.{is_next_data, whole_of, with_piece}
 
 -- the oldest first
 pub record State : Type 0 where
@@ -57,7 +57,7 @@ coming_from s rank transfer = coming_at s.coming (place_from rank transfer s.com
 -- whether the bytes are the next piece of what was found
 abbrev pub is_taken : Option Coming → (offset : ℕ) → List ℕ → Bool
 is_taken None offset piece = false
-is_taken (Some c) offset piece = is_next_piece c offset piece
+is_taken (Some c) offset piece = is_next_data c offset piece
 
 -- whether the bytes are the next piece of this transfer
 abbrev pub is_due : State → (rank transfer offset : ℕ) → List ℕ → Bool

@@ -2,7 +2,7 @@
 
 ghost use Rattle.std.specs.Prelude.{◌≡◌, ◌+◌, ◌≤◌, ◌++◌, [], length, IfOk};
 ghost use Rattle.vocabulary.specs.Limits.{send_limit};
-ghost use Rattle.collective_transfers.specs.Payloads.{cut_to, is_from, is_to, is_whole, is_next_piece, whole_of};
+ghost use Rattle.collective_transfers.specs.Payloads.{cut_to, is_from, is_to, is_whole, is_next_data, whole_of};
 ghost use Rattle.collective_transfers.specs.Payloads.{with_piece};
 
 use rendezvous::is_next_piece;
@@ -167,8 +167,8 @@ impl ComingPayload {
     }
 
     /// Whether these bytes are the next piece: they stand where those that have come end, and are as many as are due.
-    pub fn is_next_piece(&self, offset: u32, bytes: &[u8]) -> bool
-        ensures { result ≡ is_next_piece self.now offset bytes.now }
+    pub fn is_next_data(&self, offset: u32, bytes: &[u8]) -> bool
+        ensures { result ≡ is_next_data self.now offset bytes.now }
     {
         is_next_piece(self.total, self.bytes.len(), offset, bytes)
     }

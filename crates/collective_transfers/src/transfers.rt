@@ -257,7 +257,7 @@ impl CollectiveTransfers {
         ensures { result ≡ is_due self.now.state rank transfer offset bytes.now }
     {
         match find_coming(&self.coming, rank, transfer) {
-            Some(payload) => payload.is_next_piece(offset, bytes),
+            Some(payload) => payload.is_next_data(offset, bytes),
             None => false,
         }
     }

@@ -53,8 +53,8 @@ coming_context s further =
     record { rank = s.rank; incarnation = s.incarnation; serial = s.next_serial + further }
 
 -- the same, where as many contexts are left to give
-abbrev pub next_context : ContextsState → (further : ℕ) → Option Context
-next_context s further =
+abbrev pub context_after : ContextsState → (further : ℕ) → Option Context
+context_after s further =
     if nat_lt (s.next_serial + further) (2 ^ 32) then Some (coming_context s further) else None
 
 -- the state once so many contexts were given

@@ -3,7 +3,7 @@
 ghost use Rattle.std.specs.Prelude.{◌≡◌, ◌<◌, ◌≤◌, ◌+◌, ◌^◌, ◌↔◌, position, find, length, slice_get, IsTrue, IfOk};
 ghost use Rattle.std.specs.Prelude.{OnOk, IsOkUnless};
 ghost use Rattle.std.specs.Option.{option_copied};
-ghost use Rattle.context_agreement.specs.Communicators.{opening, next_context, NextGives, InstallGives, after_draw};
+ghost use Rattle.context_agreement.specs.Communicators.{opening, context_after, NextGives, InstallGives, after_draw};
 ghost use Rattle.context_agreement.specs.Communicators.{after_install, is_same, place_of, group_of};
 
 use crate::communicator::{Communicator, NotInstalled};
@@ -157,8 +157,8 @@ impl Contexts {
 
     /// The context that is given once `further` others are, where as many are left to give. It takes
     /// no memory.
-    pub fn next_context(&self, further: u64) -> Option<Context>
-        ensures { result ≡ next_context self.now.state further }
+    pub fn context_after(&self, further: u64) -> Option<Context>
+        ensures { result ≡ context_after self.now.state further }
     {
         if further >= self.serials_left() {
             return None;
@@ -170,7 +170,7 @@ impl Contexts {
         })
     }
 
-    /// Gives the next contexts, as many as `count`: those that `next_context` shows from 0 on.
+    /// Gives the next contexts, as many as `count`: those that `context_after` shows from 0 on.
     pub fn draw(&mut self, count: u64)
         requires { self.old.state.next_serial + count ≤ 2 ^ 32 }
         ensures state { self.new.state ≡ after_draw self.old.state count }

@@ -118,7 +118,7 @@ fn communicators_have_places_in_order(rt: HostRuntime) {
 
 /// The number of the context that is given once so many others are.
 fn coming(contexts: &Contexts, further: u64) -> Option<u64> {
-    match contexts.next_context(further) {
+    match contexts.context_after(further) {
         Some(context) => Some(context.number()),
         None => None,
     }

@@ -16,7 +16,7 @@ use Rattle.point_to_point_calls.specs.declared.news.PreparedNews.{PreparedNews}
 use Rattle.point_to_point_calls.specs.declared.news.Match.{Match}
 use Rattle.point_to_point_calls.specs.declared.refusal.Refusal.{Refusal}
 use Rattle.point_to_point.specs.CoreState.{CoreState, Held}
-use Rattle.point_to_point.specs.Sending.{after_arrival}
+use Rattle.point_to_point.specs.Sending.{after_message}
 use Rattle.point_to_point_calls.specs.Hearing.{NewsText, heard_fault, transfers_met, message_of, announced_of, sent_by}
 use Rattle.point_to_point_calls.specs.Hearing.{delivered_by, match_by, asks_for_data, wanted_frames, message_from}
 use Rattle.point_to_point_calls.specs.Hearing.{needs_message_room}
@@ -66,11 +66,11 @@ after_piece c rank transfer bytes = record c {
 
 -- an announcement has come: its transfer is counted, and its message stands in the queues like any other
 abbrev pub after_announcement : CoreState → Endpoint → RequestText → CoreState
-after_announcement c s t = after_arrival (record c { transfers = after_rts c.transfers s.rank }) (announced_of s t)
+after_announcement c s t = after_message (record c { transfers = after_rts c.transfers s.rank }) (announced_of s t)
 
 -- what a frame of an endpoint makes of the core
 abbrev pub after_frame : CoreState → Endpoint → FrameText → CoreState
-after_frame c s (EagerFrame t) = after_arrival c (message_of s t)
+after_frame c s (EagerFrame t) = after_message c (message_of s t)
 after_frame c s (RequestFrame t) = after_announcement c s t
 after_frame c s (ClearFrame t) = after_answer c s.rank t.transfer
 after_frame c s (DataFrame t) = after_piece c s.rank t.transfer t.bytes

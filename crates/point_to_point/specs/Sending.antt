@@ -37,8 +37,8 @@ frame_of c s = frame_to c.place c.transfers s.mode (destination s.target s.tag s
 -- THE MESSAGE TO THE OWN RANK
 
 -- the message has come: it ends the receive that takes it, or is kept; one that is announced and wanted is collected
-unfoldable pub after_arrival : CoreState → Message → CoreState
-after_arrival c m = record c {
+unfoldable pub after_message : CoreState → Message → CoreState
+after_message c m = record c {
   queues = after_arrival c.queues m;
   slots = slots_on_arrival c.slots (arrival_of c.queues m);
   transfers = transfers_on_arrival c.transfers c.slots (arrival_of c.queues m);
@@ -46,7 +46,7 @@ after_arrival c m = record c {
 
 -- so it is where the destination is the own rank
 abbrev pub arrived_if : Bool → CoreState → Destination → (waiting : Option Request) → Contents → CoreState
-arrived_if true c d waiting elements = after_arrival c (own_message c.place d.context d.tag waiting elements)
+arrived_if true c d waiting elements = after_message c (own_message c.place d.context d.tag waiting elements)
 arrived_if false c d waiting elements = c
 
 -- what these elements make of the core where they go to the own rank

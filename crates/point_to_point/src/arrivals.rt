@@ -6,7 +6,7 @@ ghost use Rattle.match_queues.specs.Arrivals.{arrival_of};
 ghost use Rattle.rendezvous.specs.State.{is_due, is_next};
 ghost use Rattle.point_to_point.specs.CoreState.{IsAnswerable};
 ghost use Rattle.point_to_point_calls.specs.Receiving.{collection_on_arrival};
-ghost use Rattle.point_to_point.specs.Sending.{after_arrival};
+ghost use Rattle.point_to_point.specs.Sending.{after_message};
 ghost use Rattle.point_to_point.specs.Waiting.{after_wake};
 ghost use Rattle.point_to_point_calls.specs.Hearing.{news_text, frame_option, IsWhole, needs_message_room, heard_fault};
 ghost use Rattle.point_to_point_calls.specs.Hearing.{message_from, announced_of};
@@ -23,13 +23,13 @@ use vocabulary::{Endpoint, replace};
 impl Core {
     /// The message ends the oldest receive that accepts it, or is kept in the room that there is. One that was
     /// announced is collected where that receive wants its data.
-    #[tactic(auto, unfolding(crate::specs::Sending::after_arrival))]
+    #[tactic(auto, unfolding(crate::specs::Sending::after_message))]
     fn receive_or_keep(&mut self, message: Message, collection: Option<Collection>)
         requires room { 0 < self.old.messages }
         requires answerable { IsAnswerable self.old.state.place.size message message.body }
         requires collection { collection ≡ collection_on_arrival self.old.state.slots (arrival_of self.old.state.queues message) }
         requires place { is_some collection ≡ true → 0 < self.old.collections }
-        ensures exact { self.new.state ≡ after_arrival self.old.state message }
+        ensures exact { self.new.state ≡ after_message self.old.state message }
         ensures placed { self.new.state.place ≡ self.old.state.place }
     {
         let Arrival::Matched(receive, message) = self.queues.arrive(message) else {
@@ -62,7 +62,7 @@ impl Core {
     pub(crate) fn arrive(&mut self, message: Message)
         requires room { 0 < self.old.messages }
         requires whole { IsWhole message.body }
-        ensures exact { self.new.state ≡ after_arrival self.old.state message }
+        ensures exact { self.new.state ≡ after_message self.old.state message }
         ensures placed { self.new.state.place ≡ self.old.state.place }
     {
         self.receive_or_keep(message, None);

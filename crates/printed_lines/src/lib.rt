@@ -1,4 +1,4 @@
-//! The texts of answers and of datagrams that went out.
+//! The texts of answers and of datagrams that went out, and the lines that scripts print.
 //!
 //! A value that is written lends what it tells of, and each text is stated byte by byte. The texts are this project's
 //! own.

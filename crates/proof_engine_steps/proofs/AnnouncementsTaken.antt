@@ -287,7 +287,7 @@ came_so links core s t frame is =
 
 -- each announcement is taken alike
 pub announcements_are_taken : ArrivalsMatch → AnnouncementsAgree → AnnouncementsAreTaken
-unfolding rank.after_arrival announced_of
+unfolding rank.after_message announced_of
 announcements_are_taken match agree links e known core s t frame meets =
     record {
       both = subst (λ (f : Effect). HoldBoth links (after_announcement e s t) known f.core) (sym same)

@@ -200,9 +200,9 @@ pub record IsHeldAfter (links : Announcements) (rows : List Row) (new : CoreStat
 elements_hold : ArrivalsMatch → OutcomesAgree →
     (links : Announcements) (old : CoreState) (known : List ℕ) (core : Core) (rows : List Row) (m : Message)
     (c : Contents) → Holding links old known core rows →
-    IsHeldAfter links rows (rank.after_arrival old (whole m c)) known core
+    IsHeldAfter links rows (rank.after_message old (whole m c)) known core
     (arrived core (held_of links.from (whole m c)))
-unfolding rank.after_arrival
+unfolding rank.after_message
 elements_hold match agree links old known core rows m c h =
     let a : Arrives links rows old.slots (slots_on_arrival old.slots (arrival_of old.queues (whole m c))) (after_arrival old.queues (whole m c)) core (arrived core (held_of links.from (whole m c))) =
     message_arrives match agree links rows old.slots old.queues core m c h.jobs h.table h.posted h.held in
@@ -239,9 +239,9 @@ pub message_holds : ArrivalsMatch → OutcomesAgree →
     (links : Announcements) (old : CoreState) (known : List ℕ) (core : Core) (rows : List Row) (m : Message)
     (c : Contents) → m.body ≡ bodies.Whole c →
     Holding links old known core rows →
-    IsHeldAfter links rows (rank.after_arrival old m) known core (arrived core (held_of links.from m))
+    IsHeldAfter links rows (rank.after_message old m) known core (arrived core (held_of links.from m))
 message_holds match agree links old known core rows m c is h =
-    subst (λ (x : Message). IsHeldAfter links rows (rank.after_arrival old x) known core
+    subst (λ (x : Message). IsHeldAfter links rows (rank.after_message old x) known core
     (arrived core (held_of links.from x))) (sym (whole_of m c is))
     (elements_hold match agree links old known core rows m c h)
 
@@ -251,6 +251,6 @@ pub record Keeps (old new : CoreState) : Type 0 where
   pub blocked : new.blocked ≡ old.blocked
   pub completion : new.completion ≡ old.completion
 
-pub arrived_keeps : (c : CoreState) (m : Message) → Keeps c (rank.after_arrival c m)
-unfolding rank.after_arrival
+pub arrived_keeps : (c : CoreState) (m : Message) → Keeps c (rank.after_message c m)
+unfolding rank.after_message
 arrived_keeps c m = record { place = refl; blocked = refl; completion = refl }

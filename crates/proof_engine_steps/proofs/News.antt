@@ -65,12 +65,12 @@ eager_whole s t = refl
 pub messages_are_taken : ArrivalsMatch → OutcomesAgree → MessagesAreTaken
 messages_are_taken match agree links e known core s t frame meets =
     record {
-      both = subst (λ (x : Effect). HoldBoth links (rank.after_arrival e m) known x.core) (sym same)
+      both = subst (λ (x : Effect). HoldBoth links (rank.after_message e m) known x.core) (sym same)
           (record {
             rows = a.left;
             holding = a.holding;
             awaited =
-                blocked_stays meets.both.rows a.left (rank.after_arrival e m).blocked core.blocked
+                blocked_stays meets.both.rows a.left (rank.after_message e m).blocked core.blocked
                 (arrived core (held_of links.from m)).core.blocked
                 (subst (λ (x : Option Awaited). IsBlocked meets.both.rows x core.blocked)
                 (sym keeps.blocked) meets.both.awaited) a.blocked a.waits;
@@ -85,10 +85,10 @@ messages_are_taken match agree links e known core s t frame meets =
     m : Message
     m = message_of s t
 
-    keeps : Keeps e (rank.after_arrival e m)
+    keeps : Keeps e (rank.after_message e m)
     keeps = arrived_keeps e m
 
-    a : IsHeldAfter links meets.both.rows (rank.after_arrival e m) known core (arrived core (held_of links.from m))
+    a : IsHeldAfter links meets.both.rows (rank.after_message e m) known core (arrived core (held_of links.from m))
     a = message_holds match agree links e known core meets.both.rows m
         (record { basic = t.basic; values = values_of (size_of t.basic) t.elements })
         (eager_whole s t) meets.both.holding

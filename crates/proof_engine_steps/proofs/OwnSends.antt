@@ -142,10 +142,10 @@ own_send_shown match agree links old new known core s q to tag shown free standa
     started : CoreState
     started = record old { slots = sent.started; serial = old.serial + 1 }
 
-    keeps : Keeps started (rank.after_arrival started m)
+    keeps : Keeps started (rank.after_message started m)
     keeps = arrived_keeps started m
 
-    rest : new ≡ rank.after_arrival started m
+    rest : new ≡ rank.after_message started m
     rest = sent.rest ∙ ap₂ (λ (t : Source) (g : Option ℕ). arrived_at_itself started (destination t g s.context) None c)
         target_is tag_is ∙
         ap (λ (b : Bool). arrived_if b started (record { rank = to; tag = tag; context = s.context }) None c) own
@@ -155,7 +155,7 @@ own_send_shown match agree links old new known core s q to tag shown free standa
     came = arrived (pushed_over core) (held_of links.from m)
 
     after : IsHeldAfter links (shown.rows ++ record { key = q.key; job = Over ends.Sent } ∷ [])
-        (rank.after_arrival started m) known (pushed_over core) came
+        (rank.after_message started m) known (pushed_over core) came
     after = message_holds match agree links started known (pushed_over core)
         (shown.rows ++ record { key = q.key; job = Over ends.Sent } ∷ []) m c refl
         (send_holds links old known core s q new shown sent)
@@ -225,10 +225,10 @@ own_waits_shown match agree links old new known core s q to tag shown free synch
         (λ (w : Option Request). IsSet old.slots sent.started q.key
         (Some (record { serial = old.serial; progress = begun w (announced_to old.place s) }))) waits sent.entry
 
-    keeps : Keeps started (rank.after_arrival started m)
+    keeps : Keeps started (rank.after_message started m)
     keeps = arrived_keeps started m
 
-    rest : new ≡ rank.after_arrival started m
+    rest : new ≡ rank.after_message started m
     rest = sent.rest
         ∙ (ap₂ (λ (a : Option ℕ) (w : Option Request). arrived_at_itself
         (record old {
@@ -258,7 +258,7 @@ own_waits_shown match agree links old new known core s q to tag shown free synch
     here : slice_get rows q.serial ≡ Some (own_row old q.key)
     here = ap (slice_get rows) (sent.serial ∙ sym shown.count) ∙ push_at shown.rows (own_row old q.key)
 
-    after : IsHeldAfter links rows (rank.after_arrival started m) known (pushed_own core e) came
+    after : IsHeldAfter links rows (rank.after_message started m) known (pushed_own core e) came
     after = own_message_holds match agree links started known (pushed_own core e) rows m o
         (own_begun links old known core sent.started q.key shown sent.fresh entry) refl here
         (own_unclaimed links old known core q.serial shown sent.serial)

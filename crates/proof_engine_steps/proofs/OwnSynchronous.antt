@@ -306,9 +306,9 @@ pub own_message_holds : ArrivalsMatch → OutcomesAgree →
     (links : Announcements) (e : CoreState) (known : List ℕ) (core : Core) (rows : List Row) (m : Message)
     (o : OwnSend) → Holding links e known core rows → m.sender ≡ e.place.endpoint →
     slice_get rows o.serial ≡ Some (row_of o.key (Unmatched e.place.endpoint)) → claims o.serial core ≡ 0 →
-    IsHeldAfter links rows (rank.after_arrival e (own_as m o)) known core
+    IsHeldAfter links rows (rank.after_message e (own_as m o)) known core
     (arrived core (held_of links.from (own_as m o)))
-unfolding rank.after_arrival
+unfolding rank.after_message
 own_message_holds match agree links e known core rows m o h sender row none =
     go (match links.from rows e.queues message h.posted)
   where
@@ -337,7 +337,7 @@ own_message_holds match agree links e known core rows m o h sender row none =
 
     go : IsKept links.from rows e.queues message ⊎
         ((k : ℕ) × (key : ℕ) × (p : Receive) × IsMatchedTo links.from rows e.queues message k key p) →
-        IsHeldAfter links rows (rank.after_arrival e message) known core (arrived core (held_of links.from message))
+        IsHeldAfter links rows (rank.after_message e message) known core (arrived core (held_of links.from message))
     go (inl kept) =
         become Kept (record e.queues { unexpected = e.queues.unexpected ++ message ∷ [] }) None kept.arrival kept.queues
         kept.core (own_kept links e known core rows m o h sender row)

@@ -7,7 +7,8 @@ use Rattle.perfect_queues.proofs.EndpointLemmas.{same_eq}
 use Rattle.proof_group_network.proofs.HappeningSteps.{words}
 use Rattle.proof_group_network.proofs.LinksOfMessages.{note_some_net, run_keeps_net}
 use Rattle.proof_group_network.proofs.MidwaySteps.{known_midway}
-use Rattle.proof_group_network.proofs.NetworkKept.{NetworkDoing, NetworkKept, new_kept_with_groups, real_of}
+use Rattle.proof_group_network.proofs.NetworkKept.{new_kept_with_groups, real_of}
+use Rattle.proof_group_network.proofs.UnderWay.{NetworkDoing, NetworkKept}
 use Rattle.proof_group_network.proofs.NetworkKept.{run_kept_with_groups, word_current, word_doing}
 use Rattle.proof_group_network.proofs.NetworkLive.{Both, Live, new_live, run_live, word_both}
 use Rattle.proof_group_network.proofs.NoticesStand.{notices_stand, stands_by}

@@ -17,7 +17,7 @@ use Rattle.perfect_groups.specs.Soundness.{IsAmong}
 use Rattle.perfect_queues.specs.Calls as queues
 use Rattle.perfect_queues.specs.Messages.{Message}
 use Rattle.perfect_queues.specs.State.{with_number}
-use Rattle.proof_group_network.proofs.NetworkKept.{NetworkDoing, NetworkKept, call_doing_with_groups}
+use Rattle.proof_group_network.proofs.UnderWay.{NetworkDoing, NetworkKept, call_doing_with_groups}
 use Rattle.proof_group_network.proofs.NetworkKept.{happens_extends_with_groups, new_kept_with_groups, real_of}
 use Rattle.proof_group_network.proofs.NetworkKept.{run_kept_with_groups, word_current, word_doing}
 use Rattle.proof_group_network.proofs.NetworkLive.{Live, new_live, run_live}

@@ -39,8 +39,10 @@ use Rattle.proof_pure_network.specs.Matching.{answer, arrived, arrived_at, found
 use Rattle.proof_pure_network.specs.Matching.{receives, taken_at}
 use Rattle.proof_pure_network.specs.Transfers.{answered, collected, data_frames, wanted_data, cut}
 use Rattle.proof_pure_network.proofs.Counts.{OwnCore, count_append, is_own, is_part_from, one, taken_is}
-use Rattle.proof_pure_network.proofs.EngineSteps.{AreOwn, IsLast, Steps, arrive_steps, collect_steps, look_steps}
-use Rattle.proof_pure_network.proofs.EngineSteps.{none_steps, post_steps, same_local, search_steps, taken_steps}
+use Rattle.proof_pure_network.proofs.EngineSteps.{AreOwn, IsLast, Steps, arrive_steps}
+use Rattle.proof_pure_network.proofs.ProbeSteps.{collect_steps, look_steps}
+use Rattle.proof_pure_network.proofs.EngineSteps.{none_steps, post_steps, same_local}
+use Rattle.proof_pure_network.proofs.ProbeSteps.{search_steps, taken_steps}
 use Rattle.proof_pure_network.proofs.HonestJobs.{honest_push}
 use Rattle.proof_pure_network.proofs.HonestValues.{HonestCore, HonestJobs, IsHonest}
 use Rattle.proof_pure_network.proofs.JobLemmas.{all_changed_map, changed_map, closed_gone, dropped_cancelled}

@@ -34,7 +34,7 @@ use Rattle.point_to_point.specs.CoreState.{CoreState}
 use Rattle.point_to_point.specs.Arrivals.{after_any, after_frame, after_news, keys_ending, after_lesson}
 use Rattle.point_to_point.specs.Messages.{Receives, Searches, SearchesFrom, TakesOut, found_for, own_send_of, received}
 use Rattle.point_to_point.specs.Receiving.{IsPosting, IsReceiving, IsReceivingNothing, ReceivesFrom}
-use Rattle.point_to_point.specs.Sending.{IsSending, after_arrival, arrived_at_itself, arrived_if, waiting_of}
+use Rattle.point_to_point.specs.Sending.{IsSending, after_message, arrived_at_itself, arrived_if, waiting_of}
 use Rattle.point_to_point.specs.Waiting.{Cancels, Tests, TestsBy, Waits, WaitsBy, answered_by, cancelled, cancelled_at}
 use Rattle.point_to_point.specs.Waiting.{after_wake, woken_by}
 use Rattle.vocabulary.specs.declared.endpoint.Endpoint.{Endpoint}
@@ -74,8 +74,8 @@ pub as_stays : (old mid new : CoreState) → new ≡ mid → StaysIn old mid →
 as_stays old mid new same stays = then_stays old mid new stays (same_stays mid new same)
 
 -- a message came
-arrived_stays : (c : CoreState) (m : Message) → StaysIn c (after_arrival c m)
-unfolding after_arrival
+arrived_stays : (c : CoreState) (m : Message) → StaysIn c (after_message c m)
+unfolding after_message
 arrived_stays c m = record {
   all = λ P all. arrival_stays P c.slots (arrival_of c.queues m) all;
   serial = refl;

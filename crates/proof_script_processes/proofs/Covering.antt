@@ -23,7 +23,7 @@ use Rattle.one_meaning.specs.Courses.{Calls, Refused, Replied, Told}
 use Rattle.perfect_groups.specs.Calls as machine
 use Rattle.perfect_queues.specs.Calls as queues
 use Rattle.observation.specs.EngineCalls.{call_seen}
-use Rattle.proof_one_meaning.proofs.Playing.{StaysGood}
+use Rattle.proof_one_meaning.proofs.PlayersAndRanks.{StaysGood}
 use Rattle.proof_one_meaning.specs.Following.{IsCovered, IsNotAny}
 use Rattle.event_loop.specs.declared.runner.RunnerStep.{RunnerStep}
 use Rattle.event_loop.specs.declared.runner.RunnerStep.TheVariants as steps

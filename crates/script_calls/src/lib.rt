@@ -1,7 +1,8 @@
-//! Tables from names to what they stand for.
+//! What the names of a script stand for, and what its calls await.
 //!
 //! A table finds a name by its hash, so a look-up takes as long among thousands of names as among a few. Contracts see
-//! a table as the list of its entries, in the order in which their names were first set.
+//! a table as the list of its entries, in the order in which their names were first set. Of a call that was made, it is
+//! kept what its answer is awaited for, and what is entered in a collective.
 #![tactic(auto)]
 
 mod entries;

@@ -1,4 +1,5 @@
-//! Running the script of a rank, line after line, and where it stands: at which line, and why it can't go on.
+//! Running the script of a rank, line after line: what each line asks of the rank and what is printed; at which line the
+//! script stands, and why it can't go on.
 #![tactic(auto)]
 
 mod lines;

@@ -1,4 +1,4 @@
-//! Running a file of events, and what it prints.
+//! Running a file of events in a world, and the lines that it prints: each is stated byte by byte.
 #![tactic(auto)]
 
 mod copies;

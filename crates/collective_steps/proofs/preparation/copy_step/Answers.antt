@@ -2,8 +2,8 @@
 use Rattle.std.proofs.Common.{rules}
 use Rattle.collective_steps.proofs.preparation.copy_step.Goals as goal
 
-pub next_context-requires : goal.next_context-requires
-next_context-requires c = search rules
+pub context_after-requires : goal.context_after-requires
+context_after-requires c = search rules
 
 pub returns-in_default-clause-ok : goal.returns-in_default-clause-ok
 returns-in_default-clause-ok c = search rules

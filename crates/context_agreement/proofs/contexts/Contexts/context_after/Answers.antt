@@ -1,6 +1,6 @@
 -- FOR SPEED ALONE: each goal here is proved without this file, too; with it a wrong body is refused soon.
 use Rattle.std.proofs.Common.{rules}
-use Rattle.context_agreement.proofs.contexts.Contexts.next_context.Goals as goal
+use Rattle.context_agreement.proofs.contexts.Contexts.context_after.Goals as goal
 
 pub serials_left-requires : goal.serials_left-requires
 serials_left-requires c = search rules
