@@ -5,6 +5,7 @@ usage: ./run                            two ranks play ping-pong
        ./run FILE                       a file of events: its first line is 'world N'
        ./run --lines FILE               the same, each line with its answers
        ./run --picture FILE             the same as a picture in the terminal, a column a rank
+       ./run --explore [-n N] SCRIPT    all schedules of a script that can matter: what may go wrong
        ./run build                      builds the programs, and runs nothing
        ./run --proved [..]              as above, by proved programs alone; proves them first
        ./run --help
@@ -15,13 +16,14 @@ options, as mpiexec has them:
        -job J          the job's number (one at random)
        -baseport P     the port of rank 0; the others have the ports behind it (free ones)
 
-Scripts are run by mpiexec and rank_main, files of events by mpisim, and drawn by mpidraw. The proved programs are taken
+Scripts are run by mpiexec and rank_main and explored by mpiexplore, files of events are run by mpisim and drawn by
+mpidraw. The proved programs are taken
 where `rt ci` or `./run --proved` has left them and no source has changed since. Else programs of
 the same sources are taken, of which nothing is proved: they are built once, in two to three minutes,
 and kept in out/unproved. RUN_PROGRAMS may name a folder whose programs are taken as they are.
 
 What `run` itself says stands on standard error behind 'run:'. The status is that of mpiexec,
-mpisim or mpidraw; 125 where `run` itself fails. Begin with docs/TUTORIAL.md.
+mpisim, mpidraw or mpiexplore; 125 where `run` itself fails. Begin with docs/TUTORIAL.md.
 """
 
 import os
@@ -39,7 +41,7 @@ import programs
 TOP = programs.TOP
 PINGPONG = TOP / "examples" / "scripts" / "pingpong.txt"
 OWN_FAILURE = 125
-VIEWS = ("--lines", "--picture")
+VIEWS = ("--lines", "--picture", "--explore")
 PASSED_ON = ("-job", "-baseport", "-restart", "-patience")
 
 
@@ -69,7 +71,7 @@ class Request:
             raise Fault("'%s': one file is run, and nothing stands behind its name (./run --help)" % words[1])
         self.file = Path(words[0]) if words else PINGPONG
         if self.view and not words:
-            raise Fault("behind '%s' a file of events is missing" % self.view)
+            raise Fault("behind '%s' a file is missing" % self.view)
 
     def take_option(self, words):
         option = words.pop(0)
@@ -135,7 +137,7 @@ def find(names, is_proved):
         say("the proved programs")
         return found
     if programs.unproved_folders(names) is None:
-        programs.build_unproved(say)
+        programs.build_unproved(say, names)
     found = programs.unproved_folders(names)
     if found is None:
         raise Fault("a source changed while the programs were built: run it again")
@@ -152,13 +154,17 @@ def command(request):
     """The words to run."""
     lines = lines_of(request.file)
     if is_events(lines):
+        if request.view == "--explore":
+            raise Fault("%s is a file of events: it has one schedule, its own" % request.file)
         if request.ranks or request.options:
             raise Fault("%s is a file of events, which takes no options: its first line says how many ranks there are" % request.file)
         if request.view == "--picture":
             return [short(find(["mpidraw"], request.is_proved)["mpidraw"]), "--text", short(request.file)]
         return [short(find(["mpisim"], request.is_proved)["mpisim"]), short(request.file)]
-    if request.view:
+    if request.view and request.view != "--explore":
         raise Fault("%s is no file of events" % request.file)
+    if request.view and request.options:
+        raise Fault("'%s': a script is explored without processes (./run --help)" % next(iter(request.options)))
     ranks = request.ranks or ranks_named(lines)
     if ranks is None:
         say("the script names no rank, so one runs it: '-n N' for more")
@@ -166,6 +172,8 @@ def command(request):
     named = ranks_named(lines) or 0
     if str(ranks).isdecimal() and 0 < int(ranks) < named:
         say("the script names rank %d, and '-n %s' starts the ranks below %s" % (named - 1, ranks, ranks))
+    if request.view:
+        return [short(find(["mpiexplore"], request.is_proved)["mpiexplore"]), "-n", str(ranks), short(request.file)]
     found = find(["mpiexec", "rank_main"], request.is_proved)
     options = {"-job": random_below(10**15), **request.options}
     if "-baseport" not in options:

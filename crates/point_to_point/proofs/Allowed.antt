@@ -25,7 +25,7 @@ use Rattle.rendezvous.specs.State.{State, is_full_to}
 use Rattle.point_to_point_calls.specs.Sending.{announced_to, destination, is_announced, or_worn_out, rank_to}
 use Rattle.point_to_point_calls.specs.Sending.{send_fault}
 use Rattle.point_to_point.specs.Sending.{or_full}
-use Rattle.point_to_point_calls.proofs.Sends.{long_enough, rank_is_there, same_type, within_limit}
+use Rattle.point_to_point_calls.proofs.SendLaws.{long_enough, rank_is_there, same_type, within_limit}
 
 -- nothing else was found while no earlier call is blocked
 unblocked : (a : Option Awaited) (c : CoreState) (call : CoreCall) → fault_at a c call ≡ None → free_fault c call ≡ None

@@ -342,7 +342,7 @@ impl Core {
         }
     }
 
-    #[tactic(auto, using(point_to_point_calls::proofs::Sends::is_sendable, point_to_point_calls::proofs::Sends::is_there))]
+    #[tactic(auto, using(point_to_point_calls::proofs::SendLaws::is_sendable, point_to_point_calls::proofs::SendLaws::is_there))]
     fn frame_of_send<'a>(
         &self,
         send: &'a CoreSend,

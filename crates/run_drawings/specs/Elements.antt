@@ -67,9 +67,13 @@ anchor sides.Middle = codes "middle"
 unfoldable pub coordinates_text : Point → List ℕ
 coordinates_text at = codes "x=\"" ++ decimal at.x ++ codes "\" y=\"" ++ decimal at.y ++ codes "\""
 
+-- `text-anchor="SIDE"`
+abbrev pub anchor_text : Side → List ℕ
+anchor_text side = codes "text-anchor=\"" ++ anchor side ++ codes "\""
+
 -- where a text stands
 abbrev pub stand_text : (at : Point) (side : Side) → List ℕ
-stand_text at side = coordinates_text at ++ codes " text-anchor=\"" ++ anchor side ++ codes "\""
+stand_text at side = coordinates_text at ++ codes " " ++ anchor_text side
 
 abbrev pub text_text : Text → List ℕ
 text_text t =

@@ -198,6 +198,24 @@ impl fmt::Display for Coordinates {
     }
 }
 
+/// `text-anchor="SIDE"`: the attribute that says where a text stands to its place.
+#[derive(Clone, Copy)]
+struct Anchor {
+    side: Side,
+}
+
+impl fmt::Display for Anchor {
+    ghost use Rattle.std.specs.Prelude.{Some};
+    ghost use Rattle.run_drawings.specs.Elements.{anchor_text};
+
+    ghost output = { λ a. Some (anchor_text a.side) };
+
+    fn fmt<W: fmt::Write>(&self, f: &mut fmt::Formatter<W>) -> fmt::Result {
+        let anchor = self.side.anchor();
+        write!(f, "text-anchor=\"{anchor}\"")
+    }
+}
+
 /// The attributes of a text that say where it stands.
 #[derive(Clone, Copy)]
 struct Stand {
@@ -213,8 +231,8 @@ impl fmt::Display for Stand {
 
     fn fmt<W: fmt::Write>(&self, f: &mut fmt::Formatter<W>) -> fmt::Result {
         let coordinates = Coordinates { at: self.at };
-        let anchor = self.side.anchor();
-        write!(f, "{coordinates} text-anchor=\"{anchor}\"")
+        let anchor = Anchor { side: self.side };
+        write!(f, "{coordinates} {anchor}")
     }
 }
 

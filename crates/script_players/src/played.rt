@@ -16,6 +16,7 @@ use script_runner::ScriptRunner;
 use std::alloc::{AllocError, Global};
 use std::marker::Model;
 use std::mem;
+use vocabulary::replace;
 use world::{Event, Failed, HistoryEntry, World, WorldRefusal};
 
 /// How a rank stands.
@@ -46,13 +47,6 @@ impl Model for Played {
     ghost view = { λ p. record { runner = p.runner; stage = p.stage; lines = p.lines.items; refused = p.refused.items } };
 }
 
-/// What stood here gives way to this, and is dropped.
-fn give_way(place: &mut Stage, next: Stage)
-    ensures { place.new ≡ next }
-{
-    drop(mem::replace(place, next));
-}
-
 /// Takes what a rank that may go on was told last. None where it may not.
 fn take_told(stage: &mut Stage) -> Option<Option<Reply>>
     ensures { TakesTold stage.old result stage.new }
@@ -60,7 +54,7 @@ fn take_told(stage: &mut Stage) -> Option<Option<Reply>>
     match mem::replace(stage, Stage::Ready(None)) {
         Stage::Ready(told) => Some(told),
         other => {
-            give_way(stage, other);
+            replace(stage, other);
             None
         }
     }
@@ -115,7 +109,7 @@ fn hand_back(failed: Failed, stage: &mut Stage, refused: &mut Vec<u8>) -> Result
     match (why, event) {
         (WorldRefusal::Engine(why), Event::Call(_, call)) => {
             refused.push(why.number())?;
-            give_way(stage, Stage::Ready(Some(Reply::Refused(why, call))));
+            replace(stage, Stage::Ready(Some(Reply::Refused(why, call))));
             Ok(())
         }
         (_, event) => {
@@ -145,7 +139,7 @@ fn call(
             let entry = &world.history()[stepped.place];
             let told = told_again(alloc, &entry.reply)?;
             let next = stage_behind(alloc, entry, told)?;
-            give_way(stage, next);
+            replace(stage, next);
             Ok(())
         }
         Err(failed) => hand_back(failed, stage, refused),
@@ -174,7 +168,7 @@ fn follow(
             Ok(())
         }
         RunnerStep::End(status, _) => {
-            give_way(stage, Stage::Over(status));
+            replace(stage, Stage::Over(status));
             Ok(())
         }
         RunnerStep::Call(asked) => call(alloc, world, rank, asked, stage, refused),
@@ -223,7 +217,7 @@ fn hear(alloc: Global, stage: &mut Stage, completion: &Option<Completion>) -> Re
 {
     if let (Stage::Waits(_), Some(completion)) = (&*stage, completion) {
         let told = completion_as_reply(alloc, completion)?;
-        give_way(stage, Stage::Ready(Some(told)));
+        replace(stage, Stage::Ready(Some(told)));
     }
     Ok(())
 }

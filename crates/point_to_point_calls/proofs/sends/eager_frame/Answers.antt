@@ -2,7 +2,7 @@ use Rattle.std.proofs.Common.{◌≡◌, ◌≤◌, ◌*◌, length, ap, ◌∙�
 use Rattle.std.proofs.lemmas.Bool.{ltb-false}
 use Rattle.vocabulary.specs.BasicTypes.{size_of}
 use Rattle.datatypes.specs.ContentLaws.{length-bytes_of}
-use Rattle.point_to_point_calls.proofs.Sends.{few_elements}
+use Rattle.point_to_point_calls.proofs.SendLaws.{few_elements}
 use Rattle.point_to_point_calls.proofs.sends.eager_frame.Goals as goal
 
 pub returns-clause-fits : goal.returns-clause-fits

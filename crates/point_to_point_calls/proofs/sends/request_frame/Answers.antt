@@ -2,7 +2,7 @@ use Rattle.std.proofs.Common.{◌≡◌, ◌≤◌, ◌*◌, true, length, arith
 use Rattle.vocabulary.specs.Modes.{may_be_announced}
 use Rattle.vocabulary.specs.BasicTypes.{size_of}
 use Rattle.datatypes.specs.ContentLaws.{length-bytes_of}
-use Rattle.point_to_point_calls.proofs.Sends.{announced_is, few_elements}
+use Rattle.point_to_point_calls.proofs.SendLaws.{announced_is, few_elements}
 use Rattle.point_to_point_calls.proofs.sends.request_frame.Goals as goal
 
 pub returns-clause-fits : goal.returns-clause-fits

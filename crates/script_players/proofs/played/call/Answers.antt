@@ -10,9 +10,9 @@ returns-in_ok-next-in-Ok c = record {
     Ok c.in-Ok.stepped,
     λ s lines. call_taken c.args.world.now c.step.new.self c.args.rank c.args.call c.in-Ok.stepped c.in-Ok.ensures.exact
         c.index-history-stepped.result c.history.result.now c.history.ensures.entries c.index-history-stepped.is
-        c.in_ok-told-in-Ok.told c.in_ok-told-in-Ok.ensures c.args.stage.now c.give_way.new.place
+        c.in_ok-told-in-Ok.told c.in_ok-told-in-Ok.ensures c.args.stage.now c.replace.new.place
         c.args.refused.now.items
-        (λ is. c.give_way.ensures ∙ c.in_ok-next-in-Ok.ensures c.args.rank c.args.call is) s lines,
+        (λ is. c.replace.ensures ∙ c.in_ok-next-in-Ok.ensures c.args.rank c.args.call is) s lines,
   );
 }
 

@@ -20,8 +20,8 @@ pub returns-in-Err-clause-exact : goal.returns-in-Err-clause-exact
 returns-in-Err-clause-exact c =
     let i = c.self.inside in
     rw (← c.self.view_is, c.of_sessions.ensures, c.in-Err.ensures.exact)
-    (turned_away (engine_held i.core i.communicators i.ended i.payloads.state i.sessions) c.turn_away.new.self
-    c.in-Err.unheard c.turn_away.result c.turn_away.ensures.exact)
+    (turned_away (engine_held i.core i.communicators i.ended i.payloads.state i.sessions) c.refuse.new.self
+    c.in-Err.unheard c.refuse.result c.refuse.ensures.exact)
 
 pub returns-in-Ok-clause-known : goal.returns-in-Ok-clause-known
 returns-in-Ok-clause-known c =

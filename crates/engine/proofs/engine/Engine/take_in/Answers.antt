@@ -29,7 +29,7 @@ take_following-requires-clause-at c =
       arith,
       acknowledged_first c.args.self.now c.take_heard.new.self h (frame_text c.in-Hands.field-0)
           (ap word_text c.in-Hands.is) c.in_ok-take_heard.ensures.exact,
-      c.emitted-at.ensures,
+      c.emitted_count-at.ensures,
       ap (λ (e : EngineState). length e.sessions.out) c.self.view_is,
     )
 
@@ -38,11 +38,11 @@ returns-clause-taken c =
     let old : EngineState = c.args.self.now in
     let first : EngineState = c.take_heard.new.self in
     let h : HeardText = heard_text c.args.heard in
-    let at : c.emitted-at.result ≡ length old.sessions.out = c.emitted-at.ensures ∙ ap (λ (e : EngineState). length e.sessions.out) c.self.view_is in
+    let at : c.emitted_count-at.result ≡ length old.sessions.out = c.emitted_count-at.ensures ∙ ap (λ (e : EngineState). length e.sessions.out) c.self.view_is in
     let follows : FollowedBy h.word (length old.sessions.out) h.source first c.match-heard.self = elim c.match-heard.branch [
       | in-Hands w ↦ subst (λ (e : EngineState). FollowedBy h.word (length old.sessions.out) h.source first e)
           (sym w.self-is)
-          (follows_handed h.word (frame_text w.in-Hands.field-0) c.emitted-at.result (length old.sessions.out) h.source
+          (follows_handed h.word (frame_text w.in-Hands.field-0) c.emitted_count-at.result (length old.sessions.out) h.source
           first w.take_following.new.self
           (ap word_text w.in-Hands.is) at w.take_following.ensures.exact)
       | in_default w ↦ subst (λ (e : EngineState). FollowedBy h.word (length old.sessions.out) h.source first e)
