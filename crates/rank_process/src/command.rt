@@ -6,6 +6,7 @@ use crate::clock::HostClock;
 use crate::error_lines::{
     ErrorReport, tell, tell_of, tell_port, tell_unread, tell_usage, tell_words,
 };
+use crate::exit_status::ExitStatus;
 use crate::udp::Udp;
 use engine::{Engine, Place};
 use event_loop::{Ended, TransportFault, drive};
@@ -20,54 +21,48 @@ use std::time::Clock;
 use std::{env, fs, io};
 use vocabulary::Endpoint;
 
-/// The script is faulty or can't be read.
-const SCRIPT: u8 = 1;
+/// The status with which a runner ends at a line that can't be followed.
+const FAULTY_LINE: u8 = 1;
 
-/// The words are wrong.
-const WORDS: u8 = 2;
-
-/// The socket or the output failed.
-const TRANSPORT: u8 = 3;
-
-/// Memory was refused to the runner or at the start.
-const MEMORY: u8 = 6;
-
-/// The status of a start that failed so.
-fn status_of(error: &io::Error) -> u8 {
+/// With what a start ends that failed so.
+fn status_of(error: &io::Error) -> ExitStatus {
     match error.kind() {
-        ErrorKind::OutOfMemory => MEMORY,
-        _ => TRANSPORT,
+        ErrorKind::OutOfMemory => ExitStatus::OutOfMemory,
+        _ => ExitStatus::TransportFailed,
     }
 }
 
 /// The text of the script's file, or the status where it can't be read.
-fn read_text<R: Files + Eprint + AllocGlobal>(rt: &R, settings: &Settings) -> Result<Vec<u8>, u8> {
+fn read_text<R: Files + Eprint + AllocGlobal>(
+    rt: &R,
+    settings: &Settings,
+) -> Result<Vec<u8>, ExitStatus> {
     match fs::read(rt, settings.file) {
         Ok(text) => Ok(text),
         Err(error) => {
             if error.kind() == ErrorKind::OutOfMemory {
-                return Err(MEMORY);
+                return Err(ExitStatus::OutOfMemory);
             }
             tell_unread(rt, settings);
-            Err(SCRIPT)
+            Err(ExitStatus::NoScript)
         }
     }
 }
 
 /// The script of this text, or the status where there is none.
-fn read_script<R: Eprint + AllocGlobal>(rt: &R, told: &ErrorReport) -> Result<Script, u8> {
+fn read_script<R: Eprint + AllocGlobal>(rt: &R, told: &ErrorReport) -> Result<Script, ExitStatus> {
     match parse(rt.alloc(), told.text) {
         Ok(script) => Ok(script),
-        Err(ParseError::OutOfMemory) => Err(MEMORY),
+        Err(ParseError::OutOfMemory) => Err(ExitStatus::OutOfMemory),
         Err(ParseError::Line(line)) => {
             told.tell_faulty(rt, line);
-            Err(SCRIPT)
+            Err(ExitStatus::NoScript)
         }
     }
 }
 
 /// The engine of the rank.
-fn new_engine<R: AllocGlobal>(rt: &R, settings: &Settings) -> Result<Engine, u8> {
+fn new_engine<R: AllocGlobal>(rt: &R, settings: &Settings) -> Result<Engine, ExitStatus> {
     let place = Place {
         endpoint: Endpoint {
             rank: settings.rank,
@@ -78,7 +73,7 @@ fn new_engine<R: AllocGlobal>(rt: &R, settings: &Settings) -> Result<Engine, u8>
     };
     match Engine::new(rt.alloc(), place) {
         Ok(engine) => Ok(engine),
-        Err(_) => Err(MEMORY),
+        Err(_) => Err(ExitStatus::OutOfMemory),
     }
 }
 
@@ -91,7 +86,7 @@ fn tell_end<R: Print + Eprint + AllocGlobal + Clock>(
     ended: Result<Ended, TransportFault>,
 ) {
     match ended {
-        Ok(Ended::Runner(SCRIPT, line)) => told.tell_stopped(rt, runner, line),
+        Ok(Ended::Runner(FAULTY_LINE, line)) => told.tell_stopped(rt, runner, line),
         Ok(Ended::Runner(_, _)) => {}
         Ok(Ended::Patience) => told.tell_patience(rt, runner),
         Err(_) if udp.has_lost_line() => tell_of(rt, told.settings.rank, "its output failed"),
@@ -106,16 +101,16 @@ fn end<R: Print + Eprint + AllocGlobal + Clock>(
     runner: &ScriptRunner,
     udp: &mut Udp<'_, R>,
     ended: Result<Ended, TransportFault>,
-) -> Result<u8, u8> {
+) -> ExitStatus {
     let last = udp.finish();
     tell_end(rt, told, runner, udp, ended);
     match (ended, last) {
-        (Ok(ended), Ok(_)) => Ok(ended.status()),
+        (Ok(ended), Ok(_)) => ExitStatus::Ended(ended.status()),
         (Ok(_), Err(_)) => {
             tell_of(rt, told.settings.rank, "its socket failed");
-            Err(TRANSPORT)
+            ExitStatus::TransportFailed
         }
-        (Err(_), _) => Err(TRANSPORT),
+        (Err(_), _) => ExitStatus::TransportFailed,
     }
 }
 
@@ -126,12 +121,12 @@ fn meet<R: Wait + Print + Eprint + AllocGlobal + Clock>(
     runner: &mut ScriptRunner,
     engine: &mut Engine,
     udp: &mut Udp<'_, R>,
-) -> Result<u8, u8>
+) -> ExitStatus
     requires { udp.old.failures ≡ 0 }
 {
     let mut clock = match HostClock::new(rt) {
         Ok(clock) => clock,
-        Err(error) => return Err(status_of(&error)),
+        Err(error) => return status_of(&error),
     };
     let ended = drive(rt, engine, runner, told.settings.patience, udp, &mut clock);
     end(rt, told, runner, udp, ended)
@@ -143,15 +138,15 @@ fn open<R: Net + Wait + Print + Eprint + AllocGlobal + Clock>(
     told: &ErrorReport,
     runner: &mut ScriptRunner,
     engine: &mut Engine,
-) -> Result<u8, u8> {
+) -> ExitStatus {
     match Udp::new(rt, rt.alloc(), told.settings.rank, told.settings.port) {
         Ok(mut udp) => meet(rt, told, runner, engine, &mut udp),
         Err(error) => {
             let status = status_of(&error);
-            if status == TRANSPORT {
+            if let ExitStatus::TransportFailed = status {
                 tell_port(rt, told.settings);
             }
-            Err(status)
+            status
         }
     }
 }
@@ -161,10 +156,10 @@ fn start<R: Net + Wait + Print + Eprint + AllocGlobal + Clock>(
     rt: &R,
     told: &ErrorReport,
     runner: &mut ScriptRunner,
-) -> Result<u8, u8> {
+) -> ExitStatus {
     match new_engine(rt, told.settings) {
         Ok(mut engine) => open(rt, told, runner, &mut engine),
-        Err(status) => Err(status),
+        Err(status) => status,
     }
 }
 
@@ -172,16 +167,22 @@ fn start<R: Net + Wait + Print + Eprint + AllocGlobal + Clock>(
 fn run_rank<R: Net + Wait + Files + Print + Eprint + AllocGlobal + Clock>(
     rt: &R,
     settings: &Settings,
-) -> Result<u8, u8> {
-    let text = read_text(rt, settings)?;
+) -> ExitStatus {
+    let text = match read_text(rt, settings) {
+        Ok(text) => text,
+        Err(status) => return status,
+    };
     let told = ErrorReport {
         settings,
         text: &text,
     };
-    let script = read_script(rt, &told)?;
+    let script = match read_script(rt, &told) {
+        Ok(script) => script,
+        Err(status) => return status,
+    };
     match ScriptRunner::new(rt.alloc(), script, settings.rank, settings.incarnation) {
         Ok(mut runner) => start(rt, &told, &mut runner),
-        Err(_) => Err(MEMORY),
+        Err(_) => ExitStatus::OutOfMemory,
     }
 }
 
@@ -194,19 +195,16 @@ pub fn run_words<R: Net + Wait + Files + Print + Eprint + AllocGlobal + Clock>(
 ) -> u8 {
     match settings_of(rt.alloc(), words) {
         Ok(settings) => {
-            let status = match run_rank(rt, &settings) {
-                Ok(status) => status,
-                Err(status) => status,
-            };
-            if status == MEMORY {
+            let status = run_rank(rt, &settings).number();
+            if status == ExitStatus::OutOfMemory.number() {
                 tell_of(rt, settings.rank, "memory was refused");
             }
             status
         }
-        Err(SettingsRefusal::OutOfMemory) => MEMORY,
+        Err(SettingsRefusal::OutOfMemory) => ExitStatus::OutOfMemory.number(),
         Err(SettingsRefusal::Words) => {
             tell_words(rt, words);
-            WORDS
+            ExitStatus::WrongWords.number()
         }
     }
 }
@@ -217,15 +215,15 @@ pub fn run<R: Net + Wait + Env + Files + Print + Eprint + AllocGlobal + Clock>(r
         Ok(words) => words.collect::<Vec<String>>(rt.alloc()),
         Err(error) => {
             if error.kind() == ErrorKind::OutOfMemory {
-                return MEMORY;
+                return ExitStatus::OutOfMemory.number();
             }
             tell(rt, 64, None);
             tell_usage(rt);
-            return WORDS;
+            return ExitStatus::WrongWords.number();
         }
     };
     match words {
         Ok(words) => run_words(rt, words.as_slice()),
-        Err(_) => MEMORY,
+        Err(_) => ExitStatus::OutOfMemory.number(),
     }
 }

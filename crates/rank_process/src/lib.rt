@@ -5,6 +5,7 @@
 mod clock;
 mod command;
 mod error_lines;
+mod exit_status;
 mod udp;
 
 pub use crate::command::{run, run_words};
