@@ -5,11 +5,11 @@ use crate::faults::{tell, tell_faulty, tell_file};
 use crate::summary::summary_of;
 use crate::words::{Settings, explore_program, settings_in};
 use clap::error::ErrorKind as Mistake;
-use schedule_search::SearchError;
 use std::io::{ErrorKind, Write};
 use std::rt::{Env, Files};
 use std::time::{Clock, Instant};
 use std::{env, fs, io};
+use stepped_plays::PlayError;
 
 /// Something was found, or the script is faulty or can't be read.
 const FOUND: u8 = 1;
@@ -45,9 +45,6 @@ impl<'a, R: Eprint + Clock> Drop for Teller<'a, R> {
 
 impl<'a, R: Eprint + Clock> Progress for Teller<'a, R> {
     fn tell(&mut self, plays: u64, results: usize) {
-        if plays % 64 != 0 {
-            return;
-        }
         if let Some(start) = &self.start {
             if let Ok(passed) = start.elapsed(self.rt) {
                 let seconds = passed.as_secs();
@@ -147,7 +144,7 @@ fn explored_of<R: Eprint + AllocGlobal + Clock>(
     let mut teller = Teller { rt, start, told: 0 };
     match explore(rt.alloc(), text, settings, &mut teller) {
         Ok(explored) => Ok(explored),
-        Err(SearchError::Line(line)) => {
+        Err(PlayError::Line(line)) => {
             tell_faulty(rt, text, line);
             Err(FOUND)
         }

@@ -5,5 +5,5 @@ mod account;
 mod lines;
 mod writing;
 
-pub use account::{Account, AccountError, CallAt, account_of, scripts_of};
+pub use account::{Account, CallAt, account_of};
 pub use lines::ScriptLines;

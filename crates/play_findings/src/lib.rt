@@ -6,6 +6,7 @@ mod ending;
 mod outcome;
 mod printed;
 mod report;
+mod teller;
 
 pub use ending::{Verdict, verdict_of};
 pub use outcome::{Outcome, outcome_of};

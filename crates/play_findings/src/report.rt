@@ -1,21 +1,17 @@
 //! The report of a play.
 
+ghost use Rattle.std.specs.Prelude.{◌≡◌, IfOk};
+ghost use Rattle.play_findings.specs.Outcomes.{IsVerdictOf};
+
 use crate::ending::Verdict;
 use crate::outcome::{Outcome, outcome_of};
-use crate::printed::{add_printed, errors_in};
-use engine::Request;
-use line_diagnostics::explanation;
-use play_events::{Account, AccountError, ScriptLines, account_of, scripts_of};
-use play_waits::{
-    Communicators, Entered, Group, Leftover, Page, Waiter, Waiting, add_elements, add_source,
-    add_tag, blocked_in, communicators_of, cycle_in, left_of, leftovers_of, requests_in,
-    waiting_of, waits_alone,
-};
-use script_files::parse;
-use script_plays::{Move, Played, Stage};
-use script_runner::line_of_number;
-use std::alloc::{AllocError, Global};
-use world::World;
+use crate::printed::errors_in;
+use crate::teller::Teller;
+use play_events::{Account, ScriptLines, account_of};
+use play_waits::{Page, communicators_of};
+use script_plays::Move;
+use std::alloc::Global;
+use stepped_plays::{PlayError, scripts_of};
 
 /// The report of a play.
 #[derive(Drop)]
@@ -41,467 +37,77 @@ impl Report {
     }
 }
 
-/// A play that is told of.
+/// What is told of a play but how it ended.
 #[derive(Drop)]
-struct Teller<'a> {
-    alloc: Global,
-    text: &'a [u8],
-    lines: &'a ScriptLines<'a>,
-    size: u16,
-    schedule: &'a [Move],
-    account: &'a Account,
-    world: &'a World,
-    players: &'a [Played],
-    communicators: &'a Communicators,
+struct Told {
+    text: Vec<u8>,
+    errors: Vec<u8>,
+    is_entered_differently: bool,
+    has_findings: bool,
 }
 
-/// The schedule without the last step of this rank.
-fn without_last(alloc: Global, schedule: &[Move], rank: u16) -> Result<Vec<Move>, AllocError> {
-    let last = schedule.iter().rposition(|one| *one == Move::Go(rank));
-    let mut shorter = Vec::new(alloc);
-    for place in 0..schedule.len() {
-        if let Some(one) = schedule.get(place) {
-            if last != Some(place) {
-                shorter.push(*one)?;
-            }
-        }
-    }
-    Ok(shorter)
-}
-
-/// The world behind a play of this schedule.
-fn world_behind(
-    alloc: Global,
-    text: &[u8],
-    size: u16,
-    schedule: &[Move],
-) -> Result<World, AccountError> {
-    let outcome = outcome_of(alloc, scripts_of(alloc, text, size)?, schedule)?;
-    let Outcome {
-        world,
-        players,
-        verdict: _,
-    } = outcome;
-    drop(players);
-    Ok(world)
-}
-
-impl Teller<'_> {
-    /// The number of the line that a rank took last.
-    fn line(&self, rank: u16) -> usize {
-        self.account.lines.get(rank as usize).copied().unwrap_or(0)
-    }
-
-    /// Adds ` at line L: TEXT`.
-    fn add_line(&self, page: &mut Page, number: usize) -> Result<(), AllocError> {
-        page.add(" at line ")?;
-        page.add_number(number)?;
-        page.add(": ")?;
-        page.add_bytes(self.lines.line(number))
-    }
-
-    /// Why a rank ended at a line that can't be followed.
-    fn reason(&self, rank: u16, player: &Played) -> Option<Vec<u8>> {
-        let script = parse(self.alloc, self.text).ok()?;
-        let lines = script.into_lines_for(self.alloc, rank, 0).ok()?;
-        let number = self.line(rank);
-        let reached = line_of_number(lines, number)?;
-        let fault = player
-            .runner()
-            .lack_of(self.alloc, &reached.statement)
-            .ok()??;
-        let front = format!(in self.alloc;
-            "rank {rank} ended with status 1 at line {number}"
-        ).ok()?;
-        explanation(
-            self.alloc,
-            front.as_bytes(),
-            &fault,
-            self.lines.line(number),
-        )
-        .ok()
-    }
-
-    fn add_end(
-        &self,
-        page: &mut Page,
-        rank: u16,
-        player: &Played,
-        status: u8,
-    ) -> Result<(), AllocError> {
-        if let Some(text) = self.reason(rank, player) {
-            if status == 1 {
-                page.add_bytes(&text)?;
-                return page.add("\n");
-            }
-        }
-        page.add_rank(rank)?;
-        page.add(" ended with status ")?;
-        page.add_number(status as usize)?;
-        self.add_line(page, self.line(rank))?;
-        page.add("\n")
-    }
-
-    /// Adds how those ranks ended that did with another status than 0.
-    fn add_ends(&self, page: &mut Page) -> Result<(), AllocError> {
-        for rank in 0..self.size {
-            if let Some(player) = self.players.get(rank as usize) {
-                if let Stage::Over(status) = player.stage() {
-                    if *status != 0 {
-                        self.add_end(page, rank, player, *status)?;
-                    }
-                }
-            }
-        }
-        Ok(())
-    }
-
-    /// Those requests of a rank that are unfinished, of a call that waits for all of several.
-    fn left(&self, rank: u16, player: &Played) -> Result<Vec<Option<Request>>, AccountError> {
-        let Some(call) = blocked_in(player) else {
-            return Ok(Vec::new(self.alloc));
-        };
-        let requests = requests_in(call);
-        if requests.is_empty() {
-            return Ok(Vec::new(self.alloc));
-        }
-        let shorter = without_last(self.alloc, self.schedule, rank)?;
-        let mut world = world_behind(self.alloc, self.text, self.size, &shorter)?;
-        let left = left_of(self.alloc, &mut world, rank, requests)?;
-        drop(world);
-        Ok(left)
-    }
-
-    /// Whom a rank waits for; none where it doesn't wait.
-    fn waiting(&self, rank: u16) -> Result<Option<Waiting>, AccountError> {
-        let Some(player) = self.players.get(rank as usize) else {
-            return Ok(None);
-        };
-        let Some(call) = blocked_in(player) else {
-            return Ok(None);
-        };
-        let left = self.left(rank, player)?;
-        let waiter = Waiter {
-            alloc: self.alloc,
-            rank,
-            history: self.world.history(),
-            communicators: self.communicators,
-        };
-        Ok(Some(waiting_of(waiter, call, &left)?))
-    }
-
-    fn has_ended(&self, rank: u16) -> bool {
-        match self.players.get(rank as usize) {
-            Some(player) => player.has_ended(),
-            None => false,
-        }
-    }
-
-    fn add_waiting(&self, page: &mut Page, rank: u16, waiting: &Waiting) -> Result<(), AllocError> {
-        page.add_rank(rank)?;
-        page.add(" waits")?;
-        self.add_line(page, self.line(rank))?;
-        page.add("\n  for ")?;
-        page.add_bytes(waiting.words.as_slice())?;
-        page.add("\n")?;
-        for other in waiting.whom.as_slice() {
-            if self.has_ended(*other) {
-                page.add("  ")?;
-                page.add_rank(*other)?;
-                page.add(" has ended\n")?;
-            }
-        }
-        Ok(())
-    }
-
-    /// Adds whom each rank waits for that can't go on.
-    fn add_waits(&self, page: &mut Page) -> Result<(), AccountError> {
-        let mut waits = Vec::new(self.alloc);
-        for rank in 0..self.size {
-            match self.waiting(rank)? {
-                Some(waiting) => {
-                    self.add_waiting(page, rank, &waiting)?;
-                    let Waiting { words, whom } = waiting;
-                    drop(words);
-                    waits.push(whom)?;
-                }
-                None => waits.push(Vec::new(self.alloc))?,
-            }
-        }
-        self.add_cycle(page, &cycle_in(self.alloc, &waits)?)?;
-        Ok(())
-    }
-
-    fn add_cycle(&self, page: &mut Page, cycle: &[u16]) -> Result<(), AllocError> {
-        if cycle.is_empty() {
-            return Ok(());
-        }
-        page.add("a cycle: ")?;
-        for place in 0..cycle.len() {
-            if let Some(rank) = cycle.get(place) {
-                page.add(match place {
-                    0 => "",
-                    1 => " waits for ",
-                    _ => ", which waits for ",
-                })?;
-                page.add_rank(*rank)?;
-            }
-        }
-        page.add("\n")
-    }
-
-    /// Adds which communicator it is.
-    fn add_group(&self, page: &mut Page, place: usize, group: &Group) -> Result<(), AllocError> {
-        if place == 0 {
-            return page.add("world");
-        }
-        if group.line == 0 {
-            return page.add("self");
-        }
-        page.add("the communicator that line ")?;
-        page.add_number(group.line)?;
-        page.add(" made")
-    }
-
-    fn add_entered(&self, page: &mut Page, one: &Entered) -> Result<(), AllocError> {
-        page.add("  ")?;
-        page.add_rank(one.rank)?;
-        page.add(" entered")?;
-        self.add_line(page, one.line)?;
-        add_elements(page, one.record)?;
-        page.add("\n")
-    }
-
-    /// Adds who entered the collective of this number on a communicator, and who didn't.
-    fn add_all_entered(
-        &self,
-        page: &mut Page,
-        place: usize,
-        group: &Group,
-        number: usize,
-    ) -> Result<(), AllocError> {
-        for rank in group.members.as_slice() {
-            let found = self
-                .communicators
-                .entered()
-                .iter()
-                .position(|one| one.rank == *rank && one.is(place, number));
-            match found {
-                Some(found) => {
-                    if let Some(one) = self.communicators.entered().get(found) {
-                        self.add_entered(page, one)?;
-                    }
-                }
-                None => {
-                    page.add("  ")?;
-                    page.add_rank(*rank)?;
-                    page.add(" never entered\n")?;
-                }
-            }
-        }
-        Ok(())
-    }
-
-    /// Whether members entered the collective of this number differently.
-    fn differ(&self, place: usize, number: usize) -> bool {
-        let entered = self.communicators.entered();
-        let Some(first) = entered.iter().position(|one| one.is(place, number)) else {
-            return false;
-        };
-        match entered.get(first) {
-            Some(first) => entered
-                .iter()
-                .any(|one| one.is(place, number) && one.record != first.record),
-            None => false,
-        }
-    }
-
-    fn count_entered(&self, place: usize, number: usize) -> usize {
-        self.communicators
-            .entered()
-            .iter()
-            .filter(|one| one.is(place, number))
-            .count()
-    }
-
-    /// Adds what is wrong with the collective of this number on a communicator.
-    fn add_collective(
-        &self,
-        page: &mut Page,
-        place: usize,
-        group: &Group,
-        number: usize,
-    ) -> Result<(), AllocError> {
-        let differ = self.differ(place, number);
-        if !differ && self.count_entered(place, number) == group.members.len() {
-            return Ok(());
-        }
-        page.add("collective ")?;
-        page.add_number(number)?;
-        page.add(" of ")?;
-        self.add_group(page, place, group)?;
-        page.add(if differ {
-            " was entered differently:\n"
-        } else {
-            " was not entered by all members:\n"
-        })?;
-        self.add_all_entered(page, place, group, number)
-    }
-
-    fn most_entered(&self, place: usize, group: &Group) -> usize {
-        let mut most = 0;
-        for rank in group.members.as_slice() {
-            let count = self.communicators.count_of(*rank, place);
-            if count > most {
-                most = count;
-            }
-        }
-        most
-    }
-
-    /// Adds what is wrong with collectives. Answers whether one was entered differently.
-    fn add_collectives(&self, page: &mut Page) -> Result<bool, AllocError> {
-        let mut any = false;
-        let groups = self.communicators.groups();
-        for place in 0..groups.len() {
-            if let Some(group) = groups.get(place) {
-                for number in 0..self.most_entered(place, group) {
-                    self.add_collective(page, place, group, number)?;
-                    any = any || self.differ(place, number);
-                }
-            }
-        }
-        Ok(any)
-    }
-
-    fn add_leftover(&self, page: &mut Page, rank: u16, one: Leftover) -> Result<(), AllocError> {
-        page.add_rank(rank)?;
-        page.add(" never received a message of ")?;
-        add_source(page, one.status.source)?;
-        page.add(" with ")?;
-        add_tag(page, one.status.tag)?;
-        if one.comm != 0 {
-            page.add(" on ")?;
-            if let (Some(place), Some(group)) = (
-                self.communicators.group_at(rank, one.comm),
-                self.communicators.held_by(rank, one.comm),
-            ) {
-                self.add_group(page, place, group)?;
-            }
-        }
-        page.add("\n")
-    }
-
-    /// The world in which this rank can be asked for its messages; none where it can't be.
-    fn world_to_ask(&self, rank: u16, player: &Played) -> Result<Option<World>, AccountError> {
-        match blocked_in(player) {
-            None => Ok(Some(world_behind(self.alloc, self.text, self.size, self.schedule)?)),
-            Some(call) => {
-                if !waits_alone(call) {
-                    return Ok(None);
-                }
-                let shorter = without_last(self.alloc, self.schedule, rank)?;
-                Ok(Some(world_behind(self.alloc, self.text, self.size, &shorter)?))
-            }
-        }
-    }
-
-    fn add_leftovers_of(
-        &self,
-        page: &mut Page,
-        rank: u16,
-        player: &Played,
-    ) -> Result<(), AccountError> {
-        if let Some(mut world) = self.world_to_ask(rank, player)? {
-            let count = self.communicators.count(rank);
-            let leftovers = leftovers_of(self.alloc, &mut world, rank, count)?;
-            drop(world);
-            for one in leftovers.as_slice() {
-                self.add_leftover(page, rank, *one)?;
-            }
-        }
-        Ok(())
-    }
-
-    /// Adds the messages that nobody received.
-    fn add_leftovers(&self, page: &mut Page) -> Result<(), AccountError> {
-        for rank in 0..self.size {
-            if let Some(player) = self.players.get(rank as usize) {
-                self.add_leftovers_of(page, rank, player)?;
-            }
-        }
-        Ok(())
-    }
-
-    fn add_all_printed(&self, page: &mut Page) -> Result<(), AllocError> {
-        for rank in 0..self.size {
-            if let Some(player) = self.players.get(rank as usize) {
-                add_printed(page, rank, player)?;
-            }
-        }
-        Ok(())
-    }
-
-    /// What is to be told but what each rank printed. Answers whether a collective was entered differently.
-    fn add_findings(&self, page: &mut Page) -> Result<bool, AccountError> {
-        self.add_ends(page)?;
-        self.add_waits(page)?;
-        let differ = self.add_collectives(page)?;
-        self.add_leftovers(page)?;
-        Ok(differ)
-    }
-}
-
-/// The parts of a report: what was printed, what else is to be told, and whether a collective was entered differently.
-fn told(teller: &Teller<'_>) -> Result<(Page, Page, bool), AccountError> {
-    let mut printed = Page::new(teller.alloc);
-    teller.add_all_printed(&mut printed)?;
+/// What each rank printed, and behind it what else is to be told.
+fn tell(teller: &Teller<'_>) -> Result<Told, PlayError> {
+    let mut page = Page::new(teller.alloc);
+    teller.add_all_printed(&mut page)?;
     let mut findings = Page::new(teller.alloc);
-    let differ = teller.add_findings(&mut findings)?;
-    Ok((printed, findings, differ))
+    let is_entered_differently = teller.add_findings(&mut findings)?;
+    page.add_bytes(findings.as_slice())?;
+    let errors = errors_in(teller.alloc, teller.players)?;
+    Ok(Told {
+        text: page.into_text(),
+        errors,
+        is_entered_differently,
+        has_findings: !findings.is_empty(),
+    })
 }
 
-/// The report of the play by this schedule of the script of this text, at so many ranks.
-pub fn report_of(
+/// What is told of the play with this account, of which this came.
+fn tell_of(
     alloc: Global,
     text: &[u8],
     size: u16,
     schedule: &[Move],
-) -> Result<Report, AccountError> {
+    account: &Account,
+    outcome: &Outcome,
+) -> Result<Told, PlayError> {
     let lines = ScriptLines::new(alloc, text)?;
-    let account = account_of(alloc, text, size, schedule)?;
-    let outcome = outcome_of(alloc, scripts_of(alloc, text, size)?, schedule)?;
-    let (world, players) = (&outcome.world, &outcome.players);
+    let world = &outcome.world;
     let communicators = communicators_of(alloc, size, world.history(), &account.calls)?;
-    let (mut printed, findings, differ) = told(&Teller {
+    tell(&Teller {
         alloc,
         text,
         lines: &lines,
         size,
         schedule,
-        account: &account,
+        account,
         world,
-        players,
+        players: &outcome.players,
         communicators: &communicators,
-    })?;
-    let has_findings = !findings.is_empty();
-    printed.add_bytes(findings.as_slice())?;
-    let errors = errors_in(alloc, players)?;
+    })
+}
+
+/// The report of the play by this schedule of the script of this text, at so many ranks. How it ended is how that play
+/// ended, as `outcome_of` gives it.
+pub fn report_of(
+    alloc: Global,
+    text: &[u8],
+    size: u16,
+    schedule: &[Move],
+) -> Result<Report, PlayError>
+    ensures { IfOk result (λ report. IsVerdictOf text.now size schedule.now report.verdict) }
+{
+    let account = account_of(alloc, text, size, schedule)?;
+    let outcome = outcome_of(alloc, scripts_of(alloc, text, size)?, schedule)?;
+    let told = tell_of(alloc, text, size, schedule, &account, &outcome)?;
     let verdict = outcome.verdict;
     drop(outcome);
-    let Account {
-        events,
-        calls,
-        lines: numbers,
-    } = account;
-    drop(calls);
-    drop(numbers);
     Ok(Report {
         verdict,
-        text: printed.into_text(),
-        events,
-        errors,
-        is_entered_differently: differ,
-        has_findings,
+        text: told.text,
+        events: account.into_events(),
+        errors: told.errors,
+        is_entered_differently: told.is_entered_differently,
+        has_findings: told.has_findings,
     })
 }
