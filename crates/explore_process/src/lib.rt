@@ -7,7 +7,7 @@ mod running;
 mod summary;
 mod words;
 
-pub use exploring::{Explored, Progress, explore};
+pub use exploring::{DistinctResult, Explored, Progress, explore};
 pub use running::{run, run_words};
 pub use summary::summary_of;
 pub use words::{Settings, explore_program, settings_in};

@@ -63,16 +63,14 @@ fn write_results<R: Files + Eprint + AllocGlobal>(
     folder: &str,
     explored: &Explored,
 ) -> Result<(), u8> {
-    for place in 0..explored.results.len() {
-        if let Some((_, report)) = explored.results.get(place) {
-            let number = place.saturating_add(1);
-            let Ok(name) = format!(in rt.alloc(); "{folder}/result{number}.txt") else {
-                return Err(MEMORY);
-            };
-            if fs::write(rt, name.as_str(), report.events.as_slice()).is_err() {
-                tell_file(rt, 59, name.as_str(), "written");
-                return Err(OUTPUT);
-            }
+    for (place, found) in explored.results.iter().enumerate() {
+        let number = place + 1;
+        let Ok(name) = format!(in rt.alloc(); "{folder}/result{number}.txt") else {
+            return Err(MEMORY);
+        };
+        if fs::write(rt, name.as_str(), found.report.events.as_slice()).is_err() {
+            tell_file(rt, 59, name.as_str(), "written");
+            return Err(OUTPUT);
         }
     }
     Ok(())
@@ -93,7 +91,7 @@ fn print_events<R: Print + Eprint>(rt: &R, explored: &Explored, number: u64) -> 
         .unwrap_or(usize::MAX)
         .wrapping_sub(1);
     match explored.results.get(place) {
-        Some((_, report)) => print(rt, report.events.as_slice()),
+        Some(found) => print(rt, found.report.events.as_slice()),
         None => {
             let _ = eprintln!(rt; "mpiexplore: there is no result {number}, but {count}");
             Err(WORDS)

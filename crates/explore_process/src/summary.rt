@@ -1,8 +1,8 @@
 //! What is printed of what was found.
 
-use crate::exploring::Explored;
+use crate::exploring::{DistinctResult, Explored};
 use crate::words::Settings;
-use play_findings::{Report, Verdict};
+use play_findings::Verdict;
 use std::alloc::{AllocError, Global};
 
 /// Adds text.
@@ -62,17 +62,16 @@ fn add_result(
     page: &mut Vec<u8>,
     number: usize,
     explored: &Explored,
-    times: u64,
-    report: &Report,
+    found: &DistinctResult,
 ) -> Result<(), AllocError> {
     let (count, plays) = (explored.results.len(), explored.plays);
-    let verdict = verdict_text(report.verdict);
+    let (times, verdict) = (found.times, verdict_text(found.report.verdict));
     let many = plural(plays);
     let head = format!(in alloc;
         "\nresult {number} of {count}, in {times} of {plays} play{many}: {verdict}\n"
     )?;
     add(page, head.as_str())?;
-    page.extend_from_slice(&report.text)?;
+    page.extend_from_slice(&found.report.text)?;
     Ok(())
 }
 
@@ -86,7 +85,7 @@ fn add_error(
     let all = explored
         .results
         .iter()
-        .all(|(_, report)| report.errors.contains(&error));
+        .all(|found| found.report.errors.contains(&error));
     if all {
         return Ok(());
     }
@@ -94,13 +93,11 @@ fn add_error(
         "error {error} comes in some schedules and not in others: in result"
     )?;
     add(page, front.as_str())?;
-    for place in 0..explored.results.len() {
-        if let Some((_, report)) = explored.results.get(place) {
-            if report.errors.contains(&error) {
-                let number = place.saturating_add(1);
-                let text = format!(in alloc; " {number}")?;
-                add(page, text.as_str())?;
-            }
+    for (place, found) in explored.results.iter().enumerate() {
+        if found.report.errors.contains(&error) {
+            let number = place + 1;
+            let text = format!(in alloc; " {number}")?;
+            add(page, text.as_str())?;
         }
     }
     add(page, "\n")
@@ -127,11 +124,8 @@ pub fn summary_of(
 ) -> Result<Vec<u8>, AllocError> {
     let mut page = Vec::new(alloc);
     add_head(alloc, &mut page, settings.size, explored)?;
-    for place in 0..explored.results.len() {
-        if let Some((times, report)) = explored.results.get(place) {
-            let number = place.saturating_add(1);
-            add_result(alloc, &mut page, number, explored, *times, report)?;
-        }
+    for (place, found) in explored.results.iter().enumerate() {
+        add_result(alloc, &mut page, place + 1, explored, found)?;
     }
     add_errors(alloc, &mut page, explored)?;
     Ok(page)

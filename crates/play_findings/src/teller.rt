@@ -43,11 +43,9 @@ pub(crate) struct Teller<'a> {
 fn without_last(alloc: Global, schedule: &[Move], rank: u16) -> Result<Vec<Move>, AllocError> {
     let last = schedule.iter().rposition(|one| *one == Move::Go(rank));
     let mut shorter = Vec::new(alloc);
-    for place in 0..schedule.len() {
-        if let Some(one) = schedule.get(place) {
-            if last != Some(place) {
-                shorter.push(*one)?;
-            }
+    for (place, one) in schedule.iter().enumerate() {
+        if last != Some(place) {
+            shorter.push(*one)?;
         }
     }
     Ok(shorter)
@@ -221,15 +219,13 @@ impl Teller<'_> {
             return Ok(());
         }
         page.add("a cycle: ")?;
-        for place in 0..cycle.len() {
-            if let Some(rank) = cycle.get(place) {
-                page.add(match place {
-                    0 => "",
-                    1 => " waits for ",
-                    _ => ", which waits for ",
-                })?;
-                page.add_rank(*rank)?;
-            }
+        for (place, rank) in cycle.iter().enumerate() {
+            page.add(match place {
+                0 => "",
+                1 => " waits for ",
+                _ => ", which waits for ",
+            })?;
+            page.add_rank(*rank)?;
         }
         page.add("\n")
     }
@@ -346,13 +342,10 @@ impl Teller<'_> {
     /// Adds what is wrong with collectives. Answers whether one was entered differently.
     fn add_collectives(&self, page: &mut Page) -> Result<bool, AllocError> {
         let mut any = false;
-        let groups = self.communicators.groups();
-        for place in 0..groups.len() {
-            if let Some(group) = groups.get(place) {
-                for number in 0..self.most_entered(place, group) {
-                    self.add_collective(page, place, group, number)?;
-                    any = any || self.differ(place, number);
-                }
+        for (place, group) in self.communicators.groups().iter().enumerate() {
+            for number in 0..self.most_entered(place, group) {
+                self.add_collective(page, place, group, number)?;
+                any = any || self.differ(place, number);
             }
         }
         Ok(any)

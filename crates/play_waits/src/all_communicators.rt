@@ -120,10 +120,7 @@ impl Communicators {
     fn new_members(&self, made: Entered) -> Result<Vec<u16>, AllocError> {
         let mut keyed = Vec::new(self.alloc);
         if let Some(parent) = self.groups.get(made.group) {
-            for place in 0..parent.members.len() {
-                let Some(rank) = parent.members.get(place) else {
-                    continue;
-                };
+            for (place, rank) in parent.members.iter().enumerate() {
                 for one in &self.entered {
                     if one.rank == *rank && one.is(made.group, made.number) {
                         if let Some(key) = with_key(one.choice, made.colour()) {
@@ -217,10 +214,8 @@ pub fn communicators_of(
     calls: &[CallAt],
 ) -> Result<Communicators, AllocError> {
     let mut all = Communicators::new(alloc, size)?;
-    for place in 0..history.len() {
-        if let Some(entry) = history.get(place) {
-            all.take_in(entry, line_at(calls, place))?;
-        }
+    for (place, entry) in history.iter().enumerate() {
+        all.take_in(entry, line_at(calls, place))?;
     }
     Ok(all)
 }
