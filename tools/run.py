@@ -5,6 +5,7 @@ usage: ./run                            two ranks play ping-pong
        ./run FILE                       a file of events: its first line is 'world N'
        ./run --lines FILE               the same, each line with its answers
        ./run --picture FILE             the same as a picture in the terminal, a column a rank
+       ./run --picture [-n N] SCRIPT    one play of a script as a picture
        ./run --explore [-n N] SCRIPT    all schedules of a script that can matter: what may go wrong
        ./run build                      builds the programs, and runs nothing
        ./run --proved [..]              as above, by proved programs alone; proves them first
@@ -161,10 +162,11 @@ def command(request):
         if request.view == "--picture":
             return [short(find(["mpidraw"], request.is_proved)["mpidraw"]), "--text", short(request.file)]
         return [short(find(["mpisim"], request.is_proved)["mpisim"]), short(request.file)]
-    if request.view and request.view != "--explore":
+    if request.view == "--lines":
         raise Fault("%s is no file of events" % request.file)
     if request.view and request.options:
-        raise Fault("'%s': a script is explored without processes (./run --help)" % next(iter(request.options)))
+        option = next(iter(request.options))
+        raise Fault("'%s': a script is explored and drawn without processes (./run --help)" % option)
     ranks = request.ranks or ranks_named(lines)
     if ranks is None:
         say("the script names no rank, so one runs it: '-n N' for more")
@@ -172,6 +174,8 @@ def command(request):
     named = ranks_named(lines) or 0
     if str(ranks).isdecimal() and 0 < int(ranks) < named:
         say("the script names rank %d, and '-n %s' starts the ranks below %s" % (named - 1, ranks, ranks))
+    if request.view == "--picture":
+        return [short(find(["mpidraw"], request.is_proved)["mpidraw"]), "--text", "--ranks", str(ranks), short(request.file)]
     if request.view:
         return [short(find(["mpiexplore"], request.is_proved)["mpiexplore"]), "-n", str(ranks), short(request.file)]
     found = find(["mpiexec", "rank_main"], request.is_proved)

@@ -1,18 +1,20 @@
-//! Draws a file of events as a sequence diagram.
+//! Draws what a file of events or a script does, as a sequence diagram.
 //!
-//! `mpidraw [--svg | --text] [--width W] FILE`. Status 0 where the file ran to its end; 1 with `mpidraw: refused N line
-//! L` on standard error where a line is faulty (51), and with `mpidraw: refused N` where the file can't be read (59) or
-//! for want of memory (14); 2 where the words are wrong; 3 where the output fails. What ran before a line that can't be
-//! followed is drawn.
+//! `mpidraw [--svg | --text] [--width W] [--ranks N] FILE`. Status 0 where the file ran to its end; 1 with `mpidraw:
+//! refused N line L` on standard error where a line is faulty (51), and with `mpidraw: refused N` where the file can't
+//! be read (59) or for want of memory (14); 2 where the words are wrong; 3 where the output fails. What ran before a
+//! line that can't be followed is drawn. With `--ranks N` the file is a script, of which one play is drawn.
 #![tactic(auto)]
 
 mod telling;
 mod words;
 
-use crate::telling::{faulty, refused, unread};
-use crate::words::{Form, Settings, Words, words_of};
+use crate::telling::{faulty_events, faulty_script, refused, unread};
+use crate::words::{Form, Settings, Source, Words, words_of};
 use run_drawings::{Picture, svg_of, text_of};
 use run_recording::{Recording, record};
+use schedule_search::SearchError;
+use script_events::events_of;
 use simulation::{SimulateError, Stopped};
 use std::alloc::{AllocError, Global};
 use std::io::{ErrorKind, Write};
@@ -31,7 +33,7 @@ fn drawing_of(alloc: Global, picture: &Picture, form: Form) -> Result<String, Al
 /// Says why the file was not drawn to its end, and answers the status.
 fn told_of(rt: &(impl Eprint + AllocGlobal), text: &[u8], stopped: Stopped) -> u8 {
     match stopped.error {
-        SimulateError::Script(line) => faulty(rt, text, line, stopped.fault),
+        SimulateError::Script(line) => faulty_events(rt, text, line, stopped.fault),
         SimulateError::OutOfMemory => refused(rt, 14, None),
         SimulateError::Output => 3,
     }
@@ -65,6 +67,24 @@ fn draw(
     }
 }
 
+/// Draws what a file of events does, and answers the status.
+fn draw_events(rt: &(impl Print + Eprint + AllocGlobal), text: &[u8], form: Form) -> u8 {
+    match record(rt.alloc(), text) {
+        Ok(recording) => draw(rt, text, recording, form),
+        Err(stopped) => told_of(rt, text, stopped),
+    }
+}
+
+/// Draws one play of a script at so many ranks, and answers the status.
+fn draw_script(rt: &(impl Print + Eprint + AllocGlobal), text: &[u8], size: u16, form: Form) -> u8 {
+    match events_of(rt.alloc(), text, size) {
+        Ok(events) => draw_events(rt, &events, form),
+        Err(SearchError::Line(line)) => faulty_script(rt, text, line),
+        Err(SearchError::Size) => refused(rt, 13, None),
+        Err(SearchError::OutOfMemory) => refused(rt, 14, None),
+    }
+}
+
 /// Draws the file that the settings name, and answers the status.
 fn run(rt: &(impl Files + Print + Eprint + AllocGlobal), settings: &Settings<'_>) -> u8 {
     let text = match fs::read(rt, settings.file) {
@@ -72,9 +92,9 @@ fn run(rt: &(impl Files + Print + Eprint + AllocGlobal), settings: &Settings<'_>
         Err(e) if e.kind() == ErrorKind::OutOfMemory => return refused(rt, 14, None),
         Err(_) => return unread(rt, settings.file),
     };
-    match record(rt.alloc(), &text) {
-        Ok(recording) => draw(rt, &text, recording, settings.form),
-        Err(stopped) => told_of(rt, &text, stopped),
+    match settings.source {
+        Source::Events => draw_events(rt, &text, settings.form),
+        Source::Script(size) => draw_script(rt, &text, size, settings.form),
     }
 }
 

@@ -1,6 +1,6 @@
 //! What the program says on standard error.
 
-use line_diagnostics::{LineFault, event_fault, explanation, line_at};
+use line_diagnostics::{LineFault, event_fault, explanation, line_at, script_fault};
 use std::alloc::Global;
 use std::str;
 
@@ -25,7 +25,12 @@ pub fn unread(rt: &impl Eprint, name: &str) -> u8 {
 
 /// Why the line of this number is faulty: as it was found when it was reached, or else since it is no line of a file of
 /// events.
-fn told_of(alloc: Global, text: &[u8], number: usize, fault: Option<LineFault>) -> Option<Vec<u8>> {
+fn told_of_event(
+    alloc: Global,
+    text: &[u8],
+    number: usize,
+    fault: Option<LineFault>,
+) -> Option<Vec<u8>> {
     let line = line_at(alloc, text, number).ok()?.unwrap_or(b"");
     let fault = match fault {
         Some(fault) => fault,
@@ -34,18 +39,35 @@ fn told_of(alloc: Global, text: &[u8], number: usize, fault: Option<LineFault>) 
     explanation(alloc, b"mpidraw", &fault, line).ok()
 }
 
-/// Says at which line the file is faulty, and why, and answers the status.
-pub fn faulty(
-    rt: &(impl Eprint + AllocGlobal),
-    text: &[u8],
-    number: usize,
-    fault: Option<LineFault>,
-) -> u8 {
+/// Why the line of this number is no line of a script.
+fn told_of_script(alloc: Global, text: &[u8], number: usize) -> Option<Vec<u8>> {
+    let line = line_at(alloc, text, number).ok()?.unwrap_or(b"");
+    let fault = script_fault(alloc, line).ok()?;
+    explanation(alloc, b"mpidraw", &fault, line).ok()
+}
+
+/// Says at which line a file is faulty, and why, if that is known, and answers the status.
+fn faulty(rt: &impl Eprint, number: usize, why: Option<Vec<u8>>) -> u8 {
     let status = refused(rt, 51, Some(number));
-    if let Some(line) = told_of(rt.alloc(), text, number, fault) {
+    if let Some(line) = why {
         if let Ok(told) = str::from_utf8(&line) {
             let _told = eprintln!(rt; "{told}");
         }
     }
     status
+}
+
+/// Says at which line a file of events is faulty, and why, and answers the status.
+pub fn faulty_events(
+    rt: &(impl Eprint + AllocGlobal),
+    text: &[u8],
+    number: usize,
+    fault: Option<LineFault>,
+) -> u8 {
+    faulty(rt, number, told_of_event(rt.alloc(), text, number, fault))
+}
+
+/// Says at which line a script is faulty, and why, and answers the status.
+pub fn faulty_script(rt: &(impl Eprint + AllocGlobal), text: &[u8], number: usize) -> u8 {
+    faulty(rt, number, told_of_script(rt.alloc(), text, number))
 }

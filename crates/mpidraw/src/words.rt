@@ -15,11 +15,22 @@ pub enum Form {
     Text(usize),
 }
 
+/// What a file is.
+#[derive(Clone, Copy, Debug, PartialEq, Eq)]
+pub enum Source {
+    /// A file of events.
+    Events,
+    /// A script that so many ranks run.
+    Script(u16),
+}
+
 /// What the words ask for.
 #[derive(Clone, Copy, Debug)]
 pub struct Settings<'a> {
     /// In which form to draw.
     pub form: Form,
+    /// What the file is.
+    pub source: Source,
     /// The name of the file.
     pub file: &'a str,
 }
@@ -33,8 +44,8 @@ pub enum Words<'a> {
     Over(u8),
 }
 
-/// The options of the program.
-fn program<'a>(alloc: Global) -> Result<Command<'a>, AllocError> {
+/// The program with the options that say in which form to draw.
+fn with_forms<'a>(alloc: Global) -> Result<Command<'a>, AllocError> {
     let svg = Arg::new(alloc, "svg")
         .long("svg")
         .action(ArgAction::SetTrue)
@@ -49,15 +60,25 @@ fn program<'a>(alloc: Global) -> Result<Command<'a>, AllocError> {
         .value_name("W")
         .value_parser(value_parser!(u16).range(20..=10_000))
         .help("How many characters a row has with --text, 20 to 10000; usually 80");
-    let file = Arg::new(alloc, "FILE")
-        .required(true)
-        .help("A file of events");
     Command::new(alloc, "mpidraw")
-        .about("Draws what a file of events does, as a sequence diagram")
+        .about("Draws what a file of events or a script does, as a sequence diagram")
         .arg(svg)?
         .arg(text)?
-        .arg(width)?
-        .arg(file)
+        .arg(width)
+}
+
+/// The options of the program, and the file.
+fn program<'a>(alloc: Global) -> Result<Command<'a>, AllocError> {
+    let ranks = Arg::new(alloc, "ranks")
+        .short('n')
+        .long("ranks")
+        .value_name("N")
+        .value_parser(value_parser!(u16).range(1..=1_024))
+        .help("FILE is a script: draw one play of it at so many ranks, 1 to 1024");
+    let file = Arg::new(alloc, "FILE")
+        .required(true)
+        .help("A file of events, or a script with --ranks");
+    with_forms(alloc)?.arg(ranks)?.arg(file)
 }
 
 /// What the matches ask for.
@@ -72,7 +93,11 @@ fn settings_in<'a>(matches: &ArgMatches<'a>) -> Option<Settings<'a>> {
     } else {
         Form::Svg
     };
-    Some(Settings { form, file })
+    let source = match matches.get_one::<u16>("ranks") {
+        Some(size) => Source::Script(size),
+        None => Source::Events,
+    };
+    Some(Settings { form, source, file })
 }
 
 /// Says that memory is wanting, and answers the status.

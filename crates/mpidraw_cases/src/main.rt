@@ -1,11 +1,12 @@
-//! Draws the files of events that it is given one after the other, as SVG and in rows of 80 characters: worked rows as
-//! data.
+//! Draws the files of events that it is given one after the other, and one play of each script, in front of which
+//! stands its number of ranks, as SVG and in rows of 80 characters: worked rows as data.
 //!
 //! Status 0 where each file could be read, drawn and printed, else 1.
 #![tactic(auto)]
 
 use run_drawings::{svg_of, text_of};
 use run_recording::{Recording, record};
+use script_events::events_of;
 use std::alloc::Global;
 use std::io::{BufWriter, Write};
 use std::process::ExitCode;
@@ -20,13 +21,11 @@ fn draw<W: Write>(alloc: Global, recording: &Recording, out: &mut W) -> io::Resu
     out.write_all(svg.as_bytes())
 }
 
-/// Runs one file, and prints its name, its drawings, and how it ended.
-fn run<W: Write>(rt: &(impl Files + AllocGlobal), out: &mut W, name: &str) -> io::Result<()> {
-    let text = fs::read(rt, name)?;
-    writeln!(out, "== {name}")?;
-    match record(rt.alloc(), &text) {
+/// Draws what a file of events did, and prints how it ended.
+fn draw_events<W: Write>(alloc: Global, text: &[u8], out: &mut W) -> io::Result<()> {
+    match record(alloc, text) {
         Ok(recording) => {
-            draw(rt.alloc(), &recording, out)?;
+            draw(alloc, &recording, out)?;
             match recording.stopped {
                 Some(_) => writeln!(out, "stopped"),
                 None => writeln!(out, "ended"),
@@ -36,10 +35,37 @@ fn run<W: Write>(rt: &(impl Files + AllocGlobal), out: &mut W, name: &str) -> io
     }
 }
 
+/// Draws one play of a script at so many ranks.
+fn draw_script<W: Write>(alloc: Global, text: &[u8], size: u16, out: &mut W) -> io::Result<()> {
+    match events_of(alloc, text, size) {
+        Ok(events) => draw_events(alloc, &events, out),
+        Err(_) => writeln!(out, "not played"),
+    }
+}
+
+/// Draws one file, which is a script where it has a number of ranks, behind its name.
+fn run<W: Write>(
+    rt: &(impl Files + AllocGlobal),
+    out: &mut W,
+    size: Option<u16>,
+    name: &str,
+) -> io::Result<()> {
+    let text = fs::read(rt, name)?;
+    writeln!(out, "== {name}")?;
+    match size {
+        Some(size) => draw_script(rt.alloc(), &text, size, out),
+        None => draw_events(rt.alloc(), &text, out),
+    }
+}
+
 fn run_all(rt: &(impl Env + Files + Print + AllocGlobal)) -> io::Result<()> {
     let mut out = BufWriter::new(rt.alloc(), io::writer(rt))?;
-    for name in env::args(rt)?.skip(1) {
-        run(rt, &mut out, name.as_str())?;
+    let mut size = None;
+    for word in env::args(rt)?.skip(1) {
+        match word.as_str().parse::<u16>() {
+            Ok(number) => size = Some(number),
+            Err(_) => run(rt, &mut out, size.take(), word.as_str())?,
+        }
     }
     out.flush()
 }
