@@ -14,7 +14,7 @@ use crate::words::{Form, Settings, Source, Words, words_of};
 use run_drawings::{Picture, svg_of, text_of};
 use run_recording::{Recording, record};
 use schedule_search::SearchError;
-use script_events::events_of;
+use script_events::{ScriptPlay, play_of};
 use simulation::{SimulateError, Stopped};
 use std::alloc::{AllocError, Global};
 use std::io::{ErrorKind, Write};
@@ -75,11 +75,28 @@ fn draw_events(rt: &(impl Print + Eprint + AllocGlobal), text: &[u8], form: Form
     }
 }
 
+/// Draws a play of a script, tells which line of it couldn't be followed, if there is one, and answers the status.
+fn draw_play(
+    rt: &(impl Print + Eprint + AllocGlobal),
+    text: &[u8],
+    play: ScriptPlay,
+    form: Form,
+) -> u8 {
+    let status = draw_events(rt, &play.events, form);
+    match play.unfollowed {
+        Some(at) if status == 0 => faulty_script(rt, text, at.line, Some(at.fault)),
+        other => {
+            drop(other);
+            status
+        }
+    }
+}
+
 /// Draws one play of a script at so many ranks, and answers the status.
 fn draw_script(rt: &(impl Print + Eprint + AllocGlobal), text: &[u8], size: u16, form: Form) -> u8 {
-    match events_of(rt.alloc(), text, size) {
-        Ok(events) => draw_events(rt, &events, form),
-        Err(SearchError::Line(line)) => faulty_script(rt, text, line),
+    match play_of(rt.alloc(), text, size) {
+        Ok(play) => draw_play(rt, text, play, form),
+        Err(SearchError::Line(line)) => faulty_script(rt, text, line, None),
         Err(SearchError::Size) => refused(rt, 13, None),
         Err(SearchError::OutOfMemory) => refused(rt, 14, None),
     }

@@ -39,10 +39,18 @@ fn told_of_event(
     explanation(alloc, b"mpidraw", &fault, line).ok()
 }
 
-/// Why the line of this number is no line of a script.
-fn told_of_script(alloc: Global, text: &[u8], number: usize) -> Option<Vec<u8>> {
+/// Why the line of this number is faulty: as it was found when it was reached, or else since it is no line of a script.
+fn told_of_script(
+    alloc: Global,
+    text: &[u8],
+    number: usize,
+    fault: Option<LineFault>,
+) -> Option<Vec<u8>> {
     let line = line_at(alloc, text, number).ok()?.unwrap_or(b"");
-    let fault = script_fault(alloc, line).ok()?;
+    let fault = match fault {
+        Some(fault) => fault,
+        None => script_fault(alloc, line).ok()?,
+    };
     explanation(alloc, b"mpidraw", &fault, line).ok()
 }
 
@@ -68,6 +76,11 @@ pub fn faulty_events(
 }
 
 /// Says at which line a script is faulty, and why, and answers the status.
-pub fn faulty_script(rt: &(impl Eprint + AllocGlobal), text: &[u8], number: usize) -> u8 {
-    faulty(rt, number, told_of_script(rt.alloc(), text, number))
+pub fn faulty_script(
+    rt: &(impl Eprint + AllocGlobal),
+    text: &[u8],
+    number: usize,
+    fault: Option<LineFault>,
+) -> u8 {
+    faulty(rt, number, told_of_script(rt.alloc(), text, number, fault))
 }

@@ -6,7 +6,7 @@
 
 use run_drawings::{svg_of, text_of};
 use run_recording::{Recording, record};
-use script_events::events_of;
+use script_events::{ScriptPlay, play_of};
 use std::alloc::Global;
 use std::io::{BufWriter, Write};
 use std::process::ExitCode;
@@ -37,9 +37,17 @@ fn draw_events<W: Write>(alloc: Global, text: &[u8], out: &mut W) -> io::Result<
 
 /// Draws one play of a script at so many ranks.
 fn draw_script<W: Write>(alloc: Global, text: &[u8], size: u16, out: &mut W) -> io::Result<()> {
-    match events_of(alloc, text, size) {
-        Ok(events) => draw_events(alloc, &events, out),
-        Err(_) => writeln!(out, "not played"),
+    let Ok(play) = play_of(alloc, text, size) else {
+        return writeln!(out, "not played");
+    };
+    let ScriptPlay { events, unfollowed } = play;
+    draw_events(alloc, &events, out)?;
+    match unfollowed {
+        Some(at) => {
+            let line = at.line;
+            writeln!(out, "line {line} wasn't followed")
+        }
+        None => Ok(()),
     }
 }
 
