@@ -13,7 +13,6 @@ use crate::telling::{faulty_events, faulty_script, refused, unread};
 use crate::words::{Form, Settings, Source, Words, words_of};
 use run_drawings::{Picture, svg_of, text_of};
 use run_recording::{Recording, record};
-use schedule_search::SearchError;
 use script_events::{ScriptPlay, play_of};
 use simulation::{SimulateError, Stopped};
 use std::alloc::{AllocError, Global};
@@ -21,6 +20,7 @@ use std::io::{ErrorKind, Write};
 use std::process::ExitCode;
 use std::rt::{Env, Files};
 use std::{env, fs, io};
+use stepped_plays::PlayError;
 
 /// The picture in the form that is asked for.
 fn drawing_of(alloc: Global, picture: &Picture, form: Form) -> Result<String, AllocError> {
@@ -96,9 +96,9 @@ fn draw_play(
 fn draw_script(rt: &(impl Print + Eprint + AllocGlobal), text: &[u8], size: u16, form: Form) -> u8 {
     match play_of(rt.alloc(), text, size) {
         Ok(play) => draw_play(rt, text, play, form),
-        Err(SearchError::Line(line)) => faulty_script(rt, text, line, None),
-        Err(SearchError::Size) => refused(rt, 13, None),
-        Err(SearchError::OutOfMemory) => refused(rt, 14, None),
+        Err(PlayError::Line(line)) => faulty_script(rt, text, line, None),
+        Err(PlayError::Size) => refused(rt, 13, None),
+        Err(PlayError::OutOfMemory) => refused(rt, 14, None),
     }
 }
 
