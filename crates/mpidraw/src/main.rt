@@ -57,8 +57,9 @@ fn draw(
     recording: Recording,
     form: Form,
 ) -> u8 {
-    let status = write_drawing(rt, drawing_of(rt.alloc(), &recording.picture, form));
-    match recording.stopped {
+    let Recording { picture, stopped } = recording;
+    let status = write_drawing(rt, drawing_of(rt.alloc(), &picture, form));
+    match stopped {
         Some(stopped) if status == 0 => told_of(rt, text, stopped),
         other => {
             drop(other);
