@@ -13,7 +13,7 @@ use crate::telling::{faulty_events, faulty_script, refused, unread};
 use crate::words::{Form, Settings, Source, Words, words_of};
 use run_drawings::{Picture, svg_of, text_of};
 use run_recording::{Recording, record};
-use script_events::{ScriptPlay, play_of};
+use script_events::{ScriptPlay, Unfollowed, play_of};
 use simulation::{SimulateError, Stopped};
 use std::alloc::{AllocError, Global};
 use std::io::{ErrorKind, Write};
@@ -83,9 +83,12 @@ fn draw_play(
     play: ScriptPlay,
     form: Form,
 ) -> u8 {
-    let status = draw_events(rt, &play.events, form);
-    match play.unfollowed {
-        Some(at) if status == 0 => faulty_script(rt, text, at.line, Some(at.fault)),
+    let ScriptPlay { events, unfollowed } = play;
+    let status = draw_events(rt, &events, form);
+    match unfollowed {
+        Some(Unfollowed { line, fault }) if status == 0 => {
+            faulty_script(rt, text, line, Some(fault))
+        }
         other => {
             drop(other);
             status
