@@ -4,10 +4,10 @@ ghost use Rattle.std.specs.Prelude.{◌≡◌, IfOk};
 ghost use Rattle.play_findings.specs.Outcomes.{IsVerdictOf};
 
 use crate::ending::Verdict;
-use crate::outcome::{Outcome, outcome_of};
+use crate::outcome::outcome_of;
 use crate::printed::errors_in;
 use crate::teller::Teller;
-use play_events::{Account, ScriptLines, account_of};
+use play_events::{ScriptLines, account_of};
 use play_waits::{Page, communicators_of};
 use script_plays::Move;
 use std::alloc::Global;
@@ -47,13 +47,13 @@ struct Told {
 }
 
 /// What each rank printed, and behind it what else is to be told.
-fn tell(teller: &Teller<'_>) -> Result<Told, PlayError> {
+fn tell(teller: &Teller<'_, '_>) -> Result<Told, PlayError> {
     let mut page = Page::new(teller.alloc);
     teller.add_all_printed(&mut page)?;
     let mut findings = Page::new(teller.alloc);
     let is_entered_differently = teller.add_findings(&mut findings)?;
     page.add_bytes(findings.as_slice())?;
-    let errors = errors_in(teller.alloc, teller.players)?;
+    let errors = errors_in(teller.alloc, &teller.outcome.players)?;
     Ok(Told {
         text: page.into_text(),
         errors,
@@ -62,29 +62,42 @@ fn tell(teller: &Teller<'_>) -> Result<Told, PlayError> {
     })
 }
 
-/// What is told of the play with this account, of which this came.
-fn tell_of(
+/// The play by this schedule of the script of this text, at so many ranks, as it is told of.
+fn teller_of<'t, 's>(
     alloc: Global,
-    text: &[u8],
+    text: &'t [u8],
     size: u16,
-    schedule: &[Move],
-    account: &Account,
-    outcome: &Outcome,
-) -> Result<Told, PlayError> {
+    schedule: &'s [Move],
+) -> Result<Teller<'t, 's>, PlayError>
+    ensures { IfOk result (λ teller. IsVerdictOf text.now size schedule.now teller.outcome.verdict) }
+{
+    let outcome = outcome_of(alloc, scripts_of(alloc, text, size)?, schedule)?;
+    let account = account_of(alloc, text, size, schedule)?;
+    let communicators = communicators_of(alloc, size, outcome.world.history(), &account.calls)?;
     let lines = ScriptLines::new(alloc, text)?;
-    let world = &outcome.world;
-    let communicators = communicators_of(alloc, size, world.history(), &account.calls)?;
-    tell(&Teller {
+    Ok(Teller {
         alloc,
         text,
-        lines: &lines,
+        lines,
         size,
         schedule,
         account,
-        world,
-        players: &outcome.players,
-        communicators: &communicators,
+        outcome,
+        communicators,
     })
+}
+
+fn reported(teller: Teller<'_, '_>, told: Told) -> Report
+    ensures { result.verdict ≡ teller.outcome.verdict }
+{
+    Report {
+        verdict: teller.outcome.verdict,
+        text: told.text,
+        events: teller.account.into_events(),
+        errors: told.errors,
+        is_entered_differently: told.is_entered_differently,
+        has_findings: told.has_findings,
+    }
 }
 
 /// The report of the play by this schedule of the script of this text, at so many ranks. How it ended is how that play
@@ -97,17 +110,7 @@ pub fn report_of(
 ) -> Result<Report, PlayError>
     ensures { IfOk result (λ report. IsVerdictOf text.now size schedule.now report.verdict) }
 {
-    let account = account_of(alloc, text, size, schedule)?;
-    let outcome = outcome_of(alloc, scripts_of(alloc, text, size)?, schedule)?;
-    let told = tell_of(alloc, text, size, schedule, &account, &outcome)?;
-    let verdict = outcome.verdict;
-    drop(outcome);
-    Ok(Report {
-        verdict,
-        text: told.text,
-        events: account.into_events(),
-        errors: told.errors,
-        is_entered_differently: told.is_entered_differently,
-        has_findings: told.has_findings,
-    })
+    let teller = teller_of(alloc, text, size, schedule)?;
+    let told = tell(&teller)?;
+    Ok(reported(teller, told))
 }

@@ -18,25 +18,23 @@ use world::World;
 
 /// A play that is told of.
 #[derive(Drop)]
-pub(crate) struct Teller<'a> {
+pub(crate) struct Teller<'t, 's> {
     /// The allocator.
     pub alloc: Global,
     /// The script's text.
-    pub text: &'a [u8],
+    pub text: &'t [u8],
     /// The same by lines.
-    pub lines: &'a ScriptLines<'a>,
+    pub lines: ScriptLines<'t>,
     /// How many ranks there are.
     pub size: u16,
     /// The schedule by which it was played.
-    pub schedule: &'a [Move],
+    pub schedule: &'s [Move],
     /// Its account.
-    pub account: &'a Account,
-    /// The world behind its last move.
-    pub world: &'a World,
-    /// The ranks, as they stand then.
-    pub players: &'a [Played],
-    /// The communicators that they made.
-    pub communicators: &'a Communicators,
+    pub account: Account,
+    /// What came of it.
+    pub outcome: Outcome,
+    /// The communicators that its ranks made.
+    pub communicators: Communicators,
 }
 
 /// The schedule without the last step of this rank.
@@ -68,7 +66,7 @@ fn world_behind(
     Ok(world)
 }
 
-impl Teller<'_> {
+impl Teller<'_, '_> {
     /// The number of the line that a rank took last.
     fn line(&self, rank: u16) -> usize {
         self.account.lines.get(rank as usize).copied().unwrap_or(0)
@@ -127,7 +125,7 @@ impl Teller<'_> {
     /// Adds how those ranks ended that did with another status than 0.
     fn add_ends(&self, page: &mut Page) -> Result<(), AllocError> {
         for rank in 0..self.size {
-            if let Some(player) = self.players.get(rank as usize) {
+            if let Some(player) = self.outcome.players.get(rank as usize) {
                 if let Stage::Over(status) = player.stage() {
                     if *status != 0 {
                         self.add_end(page, rank, player, *status)?;
@@ -156,7 +154,7 @@ impl Teller<'_> {
 
     /// Whom a rank waits for; none where it doesn't wait.
     fn waiting(&self, rank: u16) -> Result<Option<Waiting>, PlayError> {
-        let Some(player) = self.players.get(rank as usize) else {
+        let Some(player) = self.outcome.players.get(rank as usize) else {
             return Ok(None);
         };
         let Some(call) = blocked_in(player) else {
@@ -166,14 +164,14 @@ impl Teller<'_> {
         let waiter = Waiter {
             alloc: self.alloc,
             rank,
-            history: self.world.history(),
-            communicators: self.communicators,
+            history: self.outcome.world.history(),
+            communicators: &self.communicators,
         };
         Ok(Some(waiting_of(waiter, call, &left)?))
     }
 
     fn has_ended(&self, rank: u16) -> bool {
-        match self.players.get(rank as usize) {
+        match self.outcome.players.get(rank as usize) {
             Some(player) => player.has_ended(),
             None => false,
         }
@@ -403,7 +401,7 @@ impl Teller<'_> {
     /// Adds the messages that nobody received.
     fn add_leftovers(&self, page: &mut Page) -> Result<(), PlayError> {
         for rank in 0..self.size {
-            if let Some(player) = self.players.get(rank as usize) {
+            if let Some(player) = self.outcome.players.get(rank as usize) {
                 self.add_leftovers_of(page, rank, player)?;
             }
         }
@@ -413,7 +411,7 @@ impl Teller<'_> {
     /// Adds what each rank printed.
     pub(crate) fn add_all_printed(&self, page: &mut Page) -> Result<(), AllocError> {
         for rank in 0..self.size {
-            if let Some(player) = self.players.get(rank as usize) {
+            if let Some(player) = self.outcome.players.get(rank as usize) {
                 add_printed(page, rank, player)?;
             }
         }

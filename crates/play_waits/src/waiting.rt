@@ -20,15 +20,15 @@ pub struct Waiting {
 
 /// What a rank that waits knows.
 #[derive(Clone, Copy)]
-pub struct Waiter<'a> {
+pub struct Waiter<'h, 'c> {
     /// The allocator.
     pub alloc: Global,
     /// The rank.
     pub rank: u16,
     /// What has happened.
-    pub history: &'a [HistoryEntry],
+    pub history: &'h [HistoryEntry],
     /// The communicators.
-    pub communicators: &'a Communicators,
+    pub communicators: &'c Communicators,
 }
 
 fn names(reply: &Option<Reply>, request: Request) -> bool {
@@ -51,7 +51,7 @@ fn call_of(history: &[HistoryEntry], rank: u16, request: Request) -> Option<&Cal
     None
 }
 
-impl Waiter<'_> {
+impl Waiter<'_, '_> {
     fn world_rank(self, comm: Option<usize>, member: u16) -> Option<u16> {
         self.communicators
             .held_by(self.rank, comm?)?
@@ -196,7 +196,7 @@ pub fn blocked_in(player: &Played) -> Option<&Call> {
 
 /// Whom a rank waits for whose call is blocked. Of a call that waits for all of several requests these are left.
 pub fn waiting_of(
-    waiter: Waiter<'_>,
+    waiter: Waiter<'_, '_>,
     call: &Call,
     left: &[Option<Request>],
 ) -> Result<Waiting, AllocError> {

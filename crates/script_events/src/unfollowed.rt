@@ -1,8 +1,9 @@
 //! The lines that ranks couldn't follow.
 
 use line_diagnostics::LineFault;
-use script_files::{RankLine, RankLines, parse};
+use script_files::parse;
 use script_plays::{Played, Stage};
+use script_runner::line_of_number;
 use std::alloc::Global;
 
 /// A line of a script that a rank couldn't follow when it came to it.
@@ -12,17 +13,6 @@ pub struct Unfollowed {
     pub line: usize,
     /// Why it couldn't.
     pub fault: LineFault,
-}
-
-/// The line of this number among those of a rank.
-fn line_of_number(mut lines: RankLines, number: usize) -> Option<RankLine> {
-    for _ in 0..lines.len() {
-        let line = lines.next()?;
-        if line.number == number {
-            return Some(line);
-        }
-    }
-    None
 }
 
 /// Why a rank couldn't follow the line of this number, which it took last; none where that wasn't its end.
