@@ -87,11 +87,11 @@ fn teller_of<'t, 's>(
     })
 }
 
-fn reported(teller: Teller<'_, '_>, told: Told) -> Report
-    ensures { result.verdict ≡ teller.outcome.verdict }
+fn reported(verdict: Verdict, teller: Teller<'_, '_>, told: Told) -> Report
+    ensures { result.verdict ≡ verdict }
 {
     Report {
-        verdict: teller.outcome.verdict,
+        verdict,
         text: told.text,
         events: teller.account.into_events(),
         errors: told.errors,
@@ -112,5 +112,6 @@ pub fn report_of(
 {
     let teller = teller_of(alloc, text, size, schedule)?;
     let told = tell(&teller)?;
-    Ok(reported(teller, told))
+    let verdict = teller.outcome.verdict;
+    Ok(reported(verdict, teller, told))
 }
