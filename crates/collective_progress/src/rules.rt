@@ -7,10 +7,11 @@ ghost use Rattle.payload.specs.Spelling.{elements_of};
 
 use crate::operation::op_of;
 use collective_messages::{Entry, root_of};
-use payload::Record;
+use payload::{RECORD_BYTES, Record};
+use vocabulary::SEND_LIMIT;
 
-/// So many bytes a member's block has at most (our own).
-const BLOCK_LIMIT: u64 = 1_048_560;
+/// So many bytes a member's block has at most (our own): with its record it goes in one message.
+const BLOCK_LIMIT: u64 = (SEND_LIMIT - RECORD_BYTES) as u64;
 
 /// A rule that what a rank enters with breaks.
 #[derive(Clone, Copy, Debug, PartialEq, Eq)]

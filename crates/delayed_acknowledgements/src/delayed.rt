@@ -4,9 +4,7 @@ ghost use Rattle.std.specs.Prelude.{◌≡◌, ◌⊎◌, option_map, IfSome, No
 ghost use Rattle.delayed_acknowledgements.specs.Acknowledgements.{Covers, short_acknowledgement};
 
 use crate::acknowledgements::{Acknowledgement, acknowledgement_in, covers};
-
-/// The length of an acknowledgement, in bytes.
-const ACK_BYTES: usize = 40;
+use datagram::ACK_BYTES;
 
 /// An acknowledgement that is kept back.
 #[derive(Clone, Copy)]

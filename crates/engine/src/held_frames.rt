@@ -21,11 +21,9 @@ use crate::datagrams::says_nothing;
 use crate::engine::Engine;
 use datagram::Bytes;
 use point_to_point::Refusal;
+use reliable_link::WINDOW;
 use sessions::{Heard, LinkEvent, turn_in};
 use vocabulary::Endpoint;
-
-/// So many frames follow one that is handed up at most; no more than 63 are held.
-const MOST_TURNS: u32 = 64;
 
 impl Engine {
     /// The bytes of the next frame of a rank, where they are held; or they have too many owners (14).
@@ -160,7 +158,8 @@ impl Engine {
         ensures placed { self.new.sessions.place ≡ self.old.sessions.place }
         ensures core_placed { self.new.core.place ≡ self.old.core.place }
     {
-        let _why = self.follow(at, source, MOST_TURNS);
+        // No more frames are held than the window has places.
+        let _why = self.follow(at, source, WINDOW as u32);
         self.arrange(at);
     }
 

@@ -5,7 +5,7 @@ ghost use Rattle.event_loop.specs.Exchanges.{FailsWith};
 ghost use Rattle.event_loop.specs.Drives.{Drives, DrivesOn};
 
 use crate::clock::Clock;
-use crate::input::LONGEST;
+use crate::input::RECEIVE_ROOM;
 use crate::loop_state::{LoopState, RunnerState};
 use crate::round::{Ended, make_round};
 use crate::runner::Runner;
@@ -29,7 +29,7 @@ fn make_rounds<R: Wait, P: Runner, T: Transport, C: Clock>(
         clock.old result engine.new runner.new standing.new transport.new clock.new }
     ensures failures { FailsWith result (T.failed transport.old) (T.failed transport.new) }
 {
-    let mut buffer = [0u8; LONGEST];
+    let mut buffer = [0u8; RECEIVE_ROOM];
     for _ in rt.forever() {
         let now = clock.now();
         match make_round(

@@ -7,12 +7,13 @@ ghost use Rattle.event_loop.specs.Exchanges.{FailsWith};
 ghost use Rattle.event_loop.specs.Listening.{ListensTo, after_one};
 
 use crate::transport::{Transport, TransportFault};
+use datagram::LONGEST_DATAGRAM;
 use engine::Engine;
 use std::sync::Wait;
 
 /// The room that a receive is given, in bytes: the longest datagram, and one byte more, so that a longer one is seen to
 /// be too long.
-pub const LONGEST: usize = 1_233;
+pub const RECEIVE_ROOM: usize = LONGEST_DATAGRAM + 1;
 
 /// What came in a turn so far.
 #[derive(Clone, Copy)]

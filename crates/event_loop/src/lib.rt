@@ -21,7 +21,7 @@ mod turn;
 pub use clock::Clock;
 pub use driver::drive;
 pub use exchange::Exchange;
-pub use input::LONGEST;
+pub use input::RECEIVE_ROOM;
 pub use memory::{Memory, Rising};
 pub use round::Ended;
 pub use runner::{Runner, RunnerStep};

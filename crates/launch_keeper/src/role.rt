@@ -10,12 +10,13 @@ use crate::word::Word;
 use crate::words::Words;
 use numerals::number_between;
 use std::alloc::{AllocError, Global};
+use vocabulary::MOST_RANKS;
 
 /// The first word of a keeper.
 const KEEPER: &[u8] = b"-keeper";
 
-/// The greatest rank.
-const GREATEST_RANK: u64 = 1_023;
+/// The greatest rank of a launch.
+const GREATEST_RANK: u64 = MOST_RANKS as u64 - 1;
 
 /// What a keeper's words say: the rank that it keeps, and the words of the launch.
 #[derive(Clone, Copy)]

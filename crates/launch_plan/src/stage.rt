@@ -8,12 +8,10 @@ ghost use Rattle.launch_plan.specs.Judging.{count_at, total_or_none, total, tota
 use crate::refusal::LaunchRefusal;
 use crate::symbol::{Symbol, is_separator, symbol_of};
 use numerals::number_between;
-
-/// The most processes of one set.
-const MOST_PROCESSES: u64 = 1_024;
+use vocabulary::MOST_RANKS;
 
 /// More ranks than a launch may have: so many stand for any greater number, too.
-const TOO_MANY: u32 = 1_025;
+const TOO_MANY: u32 = MOST_RANKS as u32 + 1;
 
 /// How far the words of a set were read.
 #[derive(Clone, Copy)]
@@ -73,7 +71,7 @@ impl Stage {
     {
         match self {
             Stage::Empty => stage_after_first(symbol_of(word)),
-            Stage::Count => match number_between(word, 1, MOST_PROCESSES) {
+            Stage::Count => match number_between(word, 1, MOST_RANKS as u64) {
                 Some(count) => Ok(Stage::Program(count as u16)),
                 None => Err(LaunchRefusal::WrongValue),
             },

@@ -21,9 +21,7 @@ use crate::refusal::LaunchRefusal;
 use crate::stage::Stage;
 use crate::symbol::is_separator;
 use launch_keeper::Word;
-
-/// The most ranks of a launch.
-const MOST_RANKS: u16 = 1_024;
+use vocabulary::MOST_RANKS;
 
 /// What was read of a configuration file.
 #[derive(Clone, Copy)]

@@ -12,6 +12,6 @@ mod writing;
 pub use operation::Operation;
 pub use payload::{Choice, Direction, NewGroup, Payload, PayloadContent};
 pub use reading::read_payload;
-pub use record::{Elements, Record, Rooted};
+pub use record::{Elements, RECORD_BYTES, Record, Rooted};
 pub use refusal::PayloadRefusal;
 pub use writing::write_payload;

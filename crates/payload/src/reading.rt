@@ -11,13 +11,10 @@ ghost use Rattle.payload.specs.Reading.{group_from, towards_root, from_root, par
 use crate::kind::{CollectiveKind, Phase};
 use crate::operation::Operation;
 use crate::payload::{Choice, Direction, NewGroup, Payload, PayloadContent};
-use crate::record::{Elements, Record, Rooted};
+use crate::record::{Elements, RECORD_BYTES, Record, Rooted};
 use crate::refusal::PayloadRefusal;
 use byteorder::{BigEndian, ByteOrder};
 use vocabulary::BasicType;
-
-/// The length of a record.
-const RECORD_BYTES: usize = 16;
 
 /// The fields of a record behind its kind.
 #[derive(Clone, Copy)]

@@ -9,6 +9,9 @@ use crate::kind::CollectiveKind;
 use crate::operation::Operation;
 use vocabulary::BasicType;
 
+/// The length of a record, in bytes.
+pub const RECORD_BYTES: usize = 16;
+
 /// So many elements of one basic type.
 #[derive(Clone, Copy, Debug, PartialEq, Eq)]
 pub struct Elements {

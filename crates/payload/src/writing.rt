@@ -10,7 +10,7 @@ ghost use Rattle.payload.specs.Spelling.{record_spelling, spelling};
 
 use crate::kind::Phase;
 use crate::payload::{Choice, Payload, PayloadContent};
-use crate::record::Record;
+use crate::record::{RECORD_BYTES, Record};
 use crate::refusal::PayloadRefusal;
 use byteorder::{BigEndian, ByteOrder};
 
@@ -129,7 +129,7 @@ pub fn write_payload(payload: &Payload, out: &mut Vec<u8>) -> Result<(), Payload
     ensures memory { IsOkUnless result PayloadRefusal.OutOfMemory }
 {
     let Payload { entered, part } = *payload;
-    let Some(room) = part.byte_len().checked_add(16) else {
+    let Some(room) = part.byte_len().checked_add(RECORD_BYTES) else {
         return Err(PayloadRefusal::OutOfMemory);
     };
     out.reserve(room).map_err(|_| PayloadRefusal::OutOfMemory)?;

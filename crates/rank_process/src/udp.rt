@@ -6,7 +6,7 @@ ghost use Rattle.event_loop.specs.Exchanges.{FailsWith};
 use delayed_acknowledgements::{
     Acknowledgement, Delay, DelayedAcknowledgement, delayed_of, is_urgent, sent_before,
 };
-use event_loop::{LONGEST, Transport, TransportFault};
+use event_loop::{RECEIVE_ROOM, Transport, TransportFault};
 use mio::net::UdpSocket;
 use mio::{Events, Interest, Poll, Token};
 use std::alloc::Global;
@@ -146,7 +146,7 @@ impl<'a, R: Print + Clock> Udp<'a, R> {
             poll,
             events,
             first_port: port.saturating_sub(rank),
-            room: vec![in alloc; 0u8; LONGEST]?,
+            room: vec![in alloc; 0u8; RECEIVE_ROOM]?,
             held: None,
             kept: None,
             delay: Delay::start(Instant::now(rt).ok()),

@@ -10,8 +10,9 @@ ghost use Rattle.reliable_link.specs.Accepting.{AcceptGives};
 ghost use Rattle.std.proofs.Common.{min};
 
 use crate::out_frame::OutFrame;
-use crate::out_frames::{OutFrames, WINDOW_FRAMES, drop_front};
+use crate::out_frames::{OutFrames, drop_front};
 use crate::refusal::{LinkRefusal, NotKept};
+use crate::window::WINDOW;
 use datagram::Bytes;
 use std::alloc::Global;
 use std::marker::Model;
@@ -46,11 +47,7 @@ fn out_of(kept: usize) -> usize
     ensures exact { result ≡ min 64 kept }
     ensures within { result ≤ kept }
 {
-    if kept < WINDOW_FRAMES {
-        kept
-    } else {
-        WINDOW_FRAMES
-    }
+    if kept < WINDOW { kept } else { WINDOW }
 }
 
 /// Whether no frame is due at the time of the last tick, where the first one may lose its mark: it was sent at any
@@ -97,7 +94,7 @@ impl OpenSender {
             held: false,
         };
         match self.frames.push(frame) {
-            Ok(()) if kept < WINDOW_FRAMES => Ok(Some(self.lowest + kept as u64)),
+            Ok(()) if kept < WINDOW => Ok(Some(self.lowest + kept as u64)),
             Ok(()) => Ok(None),
             Err(frame) => Err(NotKept {
                 refused: LinkRefusal::OutOfMemory,

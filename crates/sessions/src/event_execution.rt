@@ -28,10 +28,8 @@ use crate::refusal::SessionRefusal;
 use crate::sessions::Sessions;
 use crate::spelling::{ack_bytes, frame_bytes, reset_bytes};
 use datagram::{Bytes, Drafts};
+use reliable_link::WINDOW;
 use vocabulary::Endpoint;
-
-/// So many frames are out at one time at most.
-const WINDOW_FRAMES: usize = 64;
 
 /// The frames are taken back from the sessions with their ranks, the last one first.
 fn take_back_each(peers: &mut Vec<Peer>, frames: &[Outgoing])
@@ -115,7 +113,7 @@ impl Sessions {
             ) if source.rank == rank => sender.kept_after(n),
             _ => sender.kept(),
         };
-        kept < WINDOW_FRAMES
+        kept < WINDOW
     }
 
     /// The datagram of a frame: under the next number of its session, to its rank at the incarnation at which that is

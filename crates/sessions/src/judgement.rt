@@ -14,10 +14,8 @@ use crate::refusal::SessionRefusal;
 use crate::sessions::Sessions;
 use datagram::{Content, Datagram};
 use incarnation::Judgement;
+use reliable_link::WINDOW;
 use vocabulary::Endpoint;
-
-/// So many frames from the next one on may come.
-const WINDOW_PLACES: u64 = 64;
 
 /// The number of the frame that a session waits for; after a lesson it is a new one.
 pub(crate) fn next_in(peer: &Peer, anew: bool) -> u64
@@ -80,7 +78,7 @@ fn word_in<'a>(
             if number < next {
                 return Ok(LinkEvent::Repeats);
             }
-            if number - next >= WINDOW_PLACES {
+            if number - next >= WINDOW as u64 {
                 return Err(SessionRefusal::OutOfWindow);
             }
             if number == next {
