@@ -3,12 +3,22 @@
 
 use crate::samples::{ACKNOWLEDGEMENT, MESSAGE, RESET};
 use crate::steps::{Told, told_of_both};
+use datagram::{DatagramRefusal, read};
 use std::alloc::Global;
 use std::process::Abort;
 
 /// By which number a sample is refused that was cut to this length.
 fn number_of_cut(len: usize) -> u8 {
     if len < 32 { 21 } else { 25 }
+}
+
+/// Why bytes that were cut to this length are no datagram.
+fn fault_of_cut(len: usize) -> DatagramRefusal {
+    if len < 32 {
+        DatagramRefusal::Short
+    } else {
+        DatagramRefusal::Length
+    }
 }
 
 /// The sample, cut to this length.
@@ -24,8 +34,7 @@ fn assert_cuts(rt: &impl Abort, alloc: Global, rank: u16, sample: &[u8], whole: 
     for len in 0..sample.len() {
         let bytes = cut(sample, len);
         let number = number_of_cut(len);
-        let read = datagram::read(bytes).err().map(|it| it.number());
-        assert_eq!(rt; read, Some(number), "{len} bytes");
+        assert_eq!(rt; read(bytes).err(), Some(fault_of_cut(len)), "{len} bytes");
         let found = told_of_both(alloc, rank, bytes, sample);
         assert_eq!(rt; found, (Told::Refused(number), whole), "{len} bytes");
     }

@@ -1,7 +1,7 @@
 //! What refuses an entry or a message, and what ends a collective from outside.
 
 use crate::ranks::{End, end_of};
-use collective_messages::{Address, Entry};
+use collective_messages::{Address, CollectiveRefusal, Entry};
 use collectives::Collective;
 use context_agreement::{Context, Contexts};
 use groups::Group;
@@ -41,13 +41,13 @@ fn split() -> Entry {
     })
 }
 
-/// The number of the rule that entering would break, or of the limit that it would meet, where there is one.
-fn fault(rank: &Rank, place: usize, entry: Entry) -> Option<u8> {
+/// The rule that entering would break, or the limit that it would meet, where there is one.
+fn fault(rank: &Rank, place: usize, entry: Entry) -> Option<CollectiveRefusal> {
     if let Some(refused) = rank.collective.fault_of(&rank.contexts, place) {
-        return Some(refused.number());
+        return Some(refused);
     }
     if rank.collective.meets_limit(&rank.contexts, place, &entry) {
-        return Some(13);
+        return Some(CollectiveRefusal::Limit);
     }
     None
 }
@@ -70,7 +70,13 @@ fn enter(rank: &mut Rank, entry: Entry) -> bool {
 
 /// What entering a barrier on world would break before the rank is in a collective, and inside, where a communicator is
 /// held and where none is.
-fn blocked(rank: &mut Rank) -> (Option<u8>, bool, [Option<u8>; 2]) {
+fn blocked(
+    rank: &mut Rank,
+) -> (
+    Option<CollectiveRefusal>,
+    bool,
+    [Option<CollectiveRefusal>; 2],
+) {
     let before = fault(rank, 0, Entry::Barrier);
     let inside = enter(rank, Entry::Barrier);
     let faults = [fault(rank, 1, Entry::Barrier), fault(rank, 2, Entry::Dup)];
@@ -80,13 +86,15 @@ fn blocked(rank: &mut Rank) -> (Option<u8>, bool, [Option<u8>; 2]) {
 #[test]
 fn an_entry_in_a_collective_is_refused(rt: HostRuntime) {
     let mut rank = rank_of(rt.alloc(), 1, 3).expect(&rt, "a rank");
-    assert_eq!(rt; blocked(&mut rank), (None, true, [Some(6); 2]));
+    let inside = Some(CollectiveRefusal::Blocked);
+    assert_eq!(rt; blocked(&mut rank), (None, true, [inside; 2]));
 }
 
 #[test]
 fn no_communicator_is_refused(rt: HostRuntime) {
     let rank = rank_of(rt.alloc(), 1, 3).expect(&rt, "a rank");
-    assert_eq!(rt; fault(&rank, 2, Entry::Barrier), Some(4));
+    let found = fault(&rank, 2, Entry::Barrier);
+    assert_eq!(rt; found, Some(CollectiveRefusal::NoCommunicator));
 }
 
 /// The rank holds one more communicator, of itself alone; whether it could.
@@ -98,7 +106,7 @@ fn install(rank: &mut Rank, number: u64) -> bool {
 }
 
 /// How many of 4,094 further communicators there is room for, and what a copy, a split and a barrier would break then.
-fn fill(rank: &mut Rank) -> (u32, [Option<u8>; 3]) {
+fn fill(rank: &mut Rank) -> (u32, [Option<CollectiveRefusal>; 3]) {
     let mut installed = 0u32;
     for serial in 2..4096 {
         if install(rank, serial) {
@@ -116,7 +124,8 @@ fn fill(rank: &mut Rank) -> (u32, [Option<u8>; 3]) {
 #[test]
 fn a_copy_beyond_4096_communicators_is_refused(rt: HostRuntime) {
     let mut rank = rank_of(rt.alloc(), 1, 3).expect(&rt, "a rank");
-    assert_eq!(rt; fill(&mut rank), (4094, [Some(13), Some(13), None]));
+    let limit = Some(CollectiveRefusal::Limit);
+    assert_eq!(rt; fill(&mut rank), (4094, [limit, limit, None]));
 }
 
 /// What lessons of a rank at incarnations 0 and 1 end, and whether the rank is in a collective after each.
@@ -154,15 +163,17 @@ fn address_of(incarnation: u16) -> Address {
     }
 }
 
-/// A message of rank 0 of the first collective on world comes to the rank: the ending of its collective, or the number
-/// of the refusal.
-fn arrive(rank: &mut Rank, payload: Payload<'_>) -> Result<Option<End>, u8> {
+/// The ending of a collective, or why a message is refused.
+type Told = Result<Option<End>, CollectiveRefusal>;
+
+/// A message of rank 0 of the first collective on world comes to the rank.
+fn arrive(rank: &mut Rank, payload: Payload<'_>) -> Told {
     match rank
         .collective
         .prepare_message(&mut rank.contexts, None, address_of(0), payload)
     {
         Ok(ready) => Ok(end_of(rank.collective.on_message(&mut rank.contexts, ready))),
-        Err(refused) => Err(refused.number()),
+        Err(refused) => Err(refused),
     }
 }
 
@@ -175,7 +186,7 @@ fn group_of(ranks: &[u8]) -> Payload<'_> {
 }
 
 /// What the rank answers, in a split, to a group that names it twice, and to one that does not.
-fn told_of_groups(rank: &mut Rank) -> (bool, [Result<Option<End>, u8>; 2]) {
+fn told_of_groups(rank: &mut Rank) -> (bool, [Told; 2]) {
     let inside = enter(rank, split());
     let twice = arrive(rank, group_of(&[0, 1, 0, 1]));
     (inside, [twice, arrive(rank, group_of(&[0, 1, 0, 0]))])
@@ -197,7 +208,7 @@ fn all_have_entered() -> Payload<'static> {
 }
 
 /// What the rank answers, in a barrier, to a message whose part is of another collective, and to the one that ends it.
-fn told_of_parts(rank: &mut Rank) -> (bool, [Result<Option<End>, u8>; 2]) {
+fn told_of_parts(rank: &mut Rank) -> (bool, [Told; 2]) {
     let inside = enter(rank, Entry::Barrier);
     let context = Payload {
         entered: Record::Barrier,
@@ -212,7 +223,7 @@ fn told_of_parts(rank: &mut Rank) -> (bool, [Result<Option<End>, u8>; 2]) {
 #[test]
 fn a_part_of_another_record_is_refused(rt: HostRuntime) {
     let mut rank = rank_of(rt.alloc(), 1, 3).expect(&rt, "a rank");
-    let answers = [Err(30), Ok(Some(End::Left))];
+    let answers = [Err(CollectiveRefusal::BadFrame), Ok(Some(End::Left))];
     assert_eq!(rt; told_of_parts(&mut rank), (true, answers));
 }
 

@@ -1,7 +1,7 @@
 //! Entries of collectives, messages of others, and lessons.
 
-use crate::ranks::{End, Step, TURNED, arrive, end_of, enter, rank_of, split};
-use communicators::{Communicators, Entry};
+use crate::ranks::{End, Refused, Step, TURNED, arrive, end_of, enter, rank_of, split};
+use communicators::{CollectiveRefusal, Communicators, Entry};
 use payload::{Payload, PayloadContent, Record};
 
 /// What a barrier of the rank alone and a copy of its communicator give, and whether it holds the copy.
@@ -47,7 +47,10 @@ fn a_part_of_another_record_is_refused(rt: HostRuntime) {
         entered: Record::Barrier,
         part: PayloadContent::Context(9),
     };
-    let steps = [Ok((1, None)), Err(30)];
+    let steps = [
+        Ok((1, None)),
+        Err(Refused::Step(CollectiveRefusal::BadFrame)),
+    ];
     assert_eq!(rt;
         enter_and_hear(&mut rank, Entry::Barrier, payload),
         (steps, [false, true, true])

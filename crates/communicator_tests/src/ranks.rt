@@ -1,6 +1,9 @@
 //! A rank that holds communicators, enters collectives and is told of them. Each step answers plain values.
 
-use communicators::{Address, Communicators, Ending, Entry, entries_are_allowed};
+use communicators::{
+    Address, CollectiveRefusal, CommunicatorFault, Communicators, Ending, Entry,
+    entries_are_allowed,
+};
 use payload::{Choice, NewGroup, Payload, PayloadContent, Record};
 use std::alloc::Global;
 use vocabulary::Endpoint;
@@ -28,8 +31,17 @@ pub(crate) fn end_of(ending: Option<Ending>) -> Option<End> {
     }
 }
 
-/// How many messages go out, and the ending of the collective that the rank leaves; or the number of the refusal.
-pub(crate) type Step = Result<(usize, Option<End>), u8>;
+/// Why a step is refused.
+#[derive(Clone, Copy, Debug, PartialEq, Eq)]
+pub(crate) enum Refused {
+    /// What the rank enters with breaks a rule.
+    Entry(CommunicatorFault),
+    /// It can't be entered, or the message can't be taken in.
+    Step(CollectiveRefusal),
+}
+
+/// How many messages go out, and the ending of the collective that the rank leaves; or why the step is refused.
+pub(crate) type Step = Result<(usize, Option<End>), Refused>;
 
 /// A split in which all have one colour and one key.
 pub(crate) fn split() -> Entry {
@@ -61,7 +73,7 @@ pub(crate) fn rank_of(alloc: Global, rank: u16, size: u16) -> Option<Communicato
 #[tactic(auto, using(crate::proofs::Entering::entry_allowed))]
 pub(crate) fn enter(rank: &mut Communicators, place: usize, entry: Entry) -> Step {
     if let Some(fault) = rank.fault_of_entry(false, &[], Some(place), &entry) {
-        return Err(fault.number());
+        return Err(Refused::Entry(fault));
     }
     // An entry that breaks no rule can be made ready.
     entries_are_allowed();
@@ -70,7 +82,7 @@ pub(crate) fn enter(rank: &mut Communicators, place: usize, entry: Entry) -> Ste
             let told = ready.messages().len();
             Ok((told, end_of(rank.enter(ready))))
         }
-        Err(back) => Err(back.refused.number()),
+        Err(back) => Err(Refused::Step(back.refused)),
     }
 }
 
@@ -94,7 +106,7 @@ pub(crate) fn arrive_from(rank: &mut Communicators, sender: u16, payload: Payloa
             let told = ready.messages().len();
             Ok((told, end_of(rank.on_message(ready))))
         }
-        Err(refused) => Err(refused.number()),
+        Err(refused) => Err(Refused::Step(refused)),
     }
 }
 

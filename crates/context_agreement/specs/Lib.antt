@@ -1,6 +1,5 @@
 pub mod Communicators
 pub mod GivenOnce
 pub mod Numbers
-pub mod Refusals
 pub mod Splits
 pub mod Parts

@@ -7,12 +7,9 @@ use payload::{
 use std::alloc::Global;
 use vocabulary::BasicType;
 
-/// The number with which bytes are refused, or none where they are read.
-fn fault(bytes: &[u8]) -> Option<u8> {
-    match read_payload(bytes) {
-        Ok(_) => None,
-        Err(refused) => Some(refused.number()),
-    }
+/// Why bytes are refused, or none where they are read.
+fn fault(bytes: &[u8]) -> Option<PayloadRefusal> {
+    read_payload(bytes).err()
 }
 
 /// Whether a payload that was read is written as the bytes that it was read from.
@@ -59,7 +56,7 @@ fn a_broadcast_is_read(rt: HostRuntime) {
     let record = Record::Bcast(Rooted { elements, root: 3 });
     assert_eq!(rt; broadcast(&BCAST), Some((record, true)));
     assert!(rt; is_written_back(rt.alloc(), &BCAST));
-    assert_eq!(rt; fault(&BCAST[..19]), Some(30));
+    assert_eq!(rt; fault(&BCAST[..19]), Some(PayloadRefusal::BadFrame));
 }
 
 /// What was asked for in a split.
@@ -98,7 +95,10 @@ fn a_new_group_is_read(rt: HostRuntime) {
     // A context without a rank, and half a rank.
     assert_eq!(rt;
         (fault(&GROUP[..24]), fault(&GROUP[..27])),
-        (Some(30), Some(30))
+        (
+            Some(PayloadRefusal::BadFrame),
+            Some(PayloadRefusal::BadFrame)
+        )
     );
     // Nothing behind the record stands for MPI_COMM_NULL.
     assert_eq!(rt; fault(&GROUP[..16]), None);
@@ -154,5 +154,4 @@ fn fits() -> [bool; 3] {
 #[test]
 fn a_part_fits_its_record(rt: HostRuntime) {
     assert_eq!(rt; fits(), [false, false, true]);
-    assert_eq!(rt; PayloadRefusal::OutOfMemory.number(), 14);
 }

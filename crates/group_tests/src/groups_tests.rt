@@ -17,11 +17,11 @@ fn has(made: Result<Group, GroupRefusal>, ranks: &[u16]) -> bool {
     }
 }
 
-/// The number with which a group was refused.
-fn number(made: Result<Group, GroupRefusal>) -> Option<u8> {
+/// Why a group was refused.
+fn refusal(made: Result<Group, GroupRefusal>) -> Option<GroupRefusal> {
     match made {
         Ok(_) => None,
-        Err(refused) => Some(refused.number()),
+        Err(refused) => Some(refused),
     }
 }
 
@@ -91,25 +91,28 @@ fn members_are_selected_by_position(rt: HostRuntime) {
     assert_eq!(rt; selected(&a), [true; 2]);
 }
 
-/// The numbers with which a selection is refused.
-fn refused(a: &Group, positions: &[u16]) -> [Option<u8>; 2] {
-    [number(a.incl(positions)), number(a.excl(positions))]
+/// Why selections of these positions are refused.
+fn refused(a: &Group, positions: &[u16]) -> [Option<GroupRefusal>; 2] {
+    [refusal(a.incl(positions)), refusal(a.excl(positions))]
 }
 
 #[test]
 fn a_missing_position_comes_before_a_repeated_one(rt: HostRuntime) {
     let a = group(&rt, rt.alloc(), &[3, 1, 4]);
-    let numbers = [
+    let found = [
         refused(&a, &[1, 1, 3]),
         refused(&a, &[3, 0, 0]),
         refused(&a, &[0, 1, 0]),
     ];
-    assert_eq!(rt; numbers, [[Some(5); 2], [Some(5); 2], [Some(8); 2]]);
+    let missing = Some(GroupRefusal::NoSuchPosition);
+    let repeated = Some(GroupRefusal::Repeated);
+    assert_eq!(rt; found, [[missing; 2], [missing; 2], [repeated; 2]]);
 }
 
 #[test]
 fn groups_are_made(rt: HostRuntime) {
-    assert_eq!(rt; number(Group::from_ranks(rt.alloc(), &[3, 1, 3])), Some(8));
+    let repeated = refusal(Group::from_ranks(rt.alloc(), &[3, 1, 3]));
+    assert_eq!(rt; repeated, Some(GroupRefusal::Repeated));
     assert!(rt; has(Ok(Group::of_rank(rt.alloc(), 7)), &[7]));
     assert!(rt; has(Group::of_first_ranks(rt.alloc(), 3), &[0, 1, 2]));
 }

@@ -1,4 +1,3 @@
-pub mod Refusals
 pub mod Restarting
 pub mod Knowing
 pub mod Judging

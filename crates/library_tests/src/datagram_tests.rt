@@ -228,21 +228,6 @@ fn a_reset_has_number_0_and_no_body(rt: HostRuntime) {
     }
 }
 
-#[test]
-fn each_refusal_has_its_number(rt: HostRuntime) {
-    for (refused, number) in [
-        (DatagramRefusal::OutOfMemory, 14),
-        (DatagramRefusal::Short, 21),
-        (DatagramRefusal::Magic, 22),
-        (DatagramRefusal::Version, 23),
-        (DatagramRefusal::Kind, 24),
-        (DatagramRefusal::Length, 25),
-        (DatagramRefusal::BadFrame, 30),
-    ] {
-        assert_eq!(rt; refused.number(), number);
-    }
-}
-
 /// How many bytes are kept of a slice, and whether a second owner has them still, once the first one is gone.
 fn copied(alloc: Global, bytes: &[u8]) -> Option<(usize, bool)> {
     let copied = Bytes::from_slice(alloc, bytes).ok()?;

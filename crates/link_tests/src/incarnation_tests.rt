@@ -142,17 +142,3 @@ fn incarnations_end_at_65535(rt: HostRuntime) {
     stale_sources_stay_stale();
     what_is_handled_is_known();
 }
-
-#[test]
-fn each_refusal_has_its_number(rt: HostRuntime) {
-    for (refused, number) in [
-        (IncarnationRefusal::Limit, 13),
-        (IncarnationRefusal::OutOfMemory, 14),
-        (IncarnationRefusal::ForeignJob, 26),
-        (IncarnationRefusal::NotForMe, 27),
-        (IncarnationRefusal::StaleSource, 28),
-        (IncarnationRefusal::StaleTarget, 29),
-    ] {
-        assert_eq!(rt; refused.number(), number);
-    }
-}

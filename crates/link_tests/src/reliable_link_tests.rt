@@ -331,15 +331,3 @@ fn held_frames_are_told_until_their_turn_comes(rt: HostRuntime) {
     next.take_places(receiver);
     assert_eq!(rt; (next.next(), next.held_bits()), (0, 0));
 }
-
-#[test]
-fn each_refusal_has_its_number(rt: HostRuntime) {
-    for (refused, number) in [
-        (LinkRefusal::Limit, 13),
-        (LinkRefusal::OutOfMemory, 14),
-        (LinkRefusal::OutOfWindow, 31),
-        (LinkRefusal::ClockBack, 41),
-    ] {
-        assert_eq!(rt; refused.number(), number);
-    }
-}

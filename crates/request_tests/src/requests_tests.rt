@@ -209,9 +209,7 @@ fn a_message_goes_to_the_places_of_its_layout(rt: HostRuntime) {
 }
 
 #[test]
-fn numbers_of_refusals(rt: HostRuntime) {
-    assert_eq!(rt; RequestRefusal::Limit.number(), 13);
-    assert_eq!(rt; RequestRefusal::OutOfMemory.number(), 14);
+fn failures_have_numbers(rt: HostRuntime) {
     assert_eq!(rt; Failure::WrongType.number(), 2);
     assert_eq!(rt; Failure::Truncated.number(), 10);
 }
