@@ -3,7 +3,7 @@
 use crate::ranks::{End, end_of};
 use collective_messages::{Address, CollectiveRefusal, Entry};
 use collectives::Collective;
-use context_agreement::{Context, Contexts};
+use context_agreement::{Communicator, Context, Contexts};
 use groups::Group;
 use payload::{Choice, Direction, NewGroup, Payload, PayloadContent, Record};
 use std::alloc::Global;
@@ -99,10 +99,15 @@ fn no_communicator_is_refused(rt: HostRuntime) {
 
 /// The rank holds one more communicator, of itself alone; whether it could.
 fn install(rank: &mut Rank, number: u64) -> bool {
-    let group = Group::of_rank(rank.alloc, rank.endpoint.rank);
-    rank.contexts
-        .install(Context::from_number(number), group)
-        .is_ok()
+    if rank.contexts.is_full() || rank.contexts.reserve().is_err() {
+        return false;
+    }
+    let communicator = Communicator {
+        context: Context::from_number(number),
+        group: Group::of_rank(rank.alloc, rank.endpoint.rank),
+    };
+    let _place = rank.contexts.install_reserved(communicator);
+    true
 }
 
 /// How many of 4,094 further communicators there is room for, and what a copy, a split and a barrier would break then.

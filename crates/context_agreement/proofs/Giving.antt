@@ -67,12 +67,11 @@ none_twice s [] run = record {
 none_twice s ((asked (Ok c), t) ∷ es) run = one_more s t c (given es) run.0.1 run.0.2 (none_twice t es run.1)
 none_twice s ((asked (Err Limit), t) ∷ es) run = unchanged s t (given es) run.0.1 (none_twice t es run.1)
 none_twice s ((asked (Err OutOfMemory), t) ∷ es) run = absurd run.0
-none_twice s ((installed c g (Ok place), t) ∷ es) run =
-    let after = run.0.2 in
+none_twice s ((installed c, t) ∷ es) run =
+    let after = run.0 in
     let next : t.next_serial ≡ s.next_serial = ap (λ (x : ContextsState). x.next_serial) after in
     from_later s t (given es) (ap (λ (x : ContextsState). x.rank) after)
     (ap (λ (x : ContextsState). x.incarnation) after) (omega arith) (none_twice t es run.1)
-none_twice s ((installed c g (Err failed), t) ∷ es) run = unchanged s t (given es) run.0.2 (none_twice t es run.1)
 
 pub none_of_two : NoneOfTwo
 none_of_two s t run other one two differ = λ k d k<len k' d' k'<len same.

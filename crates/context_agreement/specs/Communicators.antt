@@ -1,10 +1,9 @@
 -- The communicators that a rank holds, and the contexts that it gives.
 use Rattle.std.specs.Prelude.{◌≡◌, ℕ, ◌+◌, ◌^◌, ◌<◌, ◌==◌, ◌&&◌, Bool, List, [], ◌∷◌, ◌++◌, length, position, Option}
-use Rattle.std.specs.Prelude.{Some, None, Result, Ok, Err, option_map, find, nat_lt, if◌then◌else◌}
+use Rattle.std.specs.Prelude.{Some, None, Result, Ok, Err, nat_lt, if◌then◌else◌}
 use Rattle.std.specs.List.{range_with_len}
 use Rattle.context_agreement.specs.declared.context.Context.{Context}
 use Rattle.context_agreement.specs.declared.communicator.Communicator.{Communicator}
-use Rattle.context_agreement.specs.declared.communicator.NotInstalled.{NotInstalled}
 use Rattle.context_agreement.specs.declared.refusal.ContextRefusal.{ContextRefusal}
 use Rattle.context_agreement.specs.declared.refusal.ContextRefusal.TheVariants.{Limit, OutOfMemory}
 
@@ -74,22 +73,6 @@ NextGives old (Err OutOfMemory) new = ⊥
 abbrev pub after_install : ContextsState → Communicator → ContextsState
 after_install s communicator = record s { held = s.held ++ communicator ∷ [] }
 
--- whether one more communicator may be refused like this: at the limit for that, and below it for
--- want of memory
-abbrev pub MayRefuse : ContextsState → ContextRefusal → Type 0
-MayRefuse s Limit = length s.held ≡ 4096
-MayRefuse s OutOfMemory = length s.held < 4096
-
--- what the installing of a communicator answers and leaves
-abbrev pub InstallGives : ContextsState → Context → List ℕ
-    → Result ℕ NotInstalled → ContextsState → Type 0
-InstallGives old context group (Ok place) new =
-    (length old.held < 4096)
-    × (place ≡ length old.held)
-    × (new ≡ after_install old (record { context = context; group = group }))
-InstallGives old context group (Err failed) new =
-    (failed.group ≡ group) × MayRefuse old failed.refused × (new ≡ old)
-
 -- two contexts are the same
 abbrev pub is_same : Context → Context → Bool
 is_same a b = (a.rank == b.rank) && ((a.incarnation == b.incarnation) && (a.serial == b.serial))
@@ -97,8 +80,3 @@ is_same a b = (a.rank == b.rank) && ((a.incarnation == b.incarnation) && (a.seri
 -- the place of the communicator with this context
 abbrev pub place_of : ContextsState → Context → Option ℕ
 place_of s context = position (λ held. is_same held.context context) s.held
-
--- the group of the communicator with this context
-abbrev pub group_of : ContextsState → Context → Option (List ℕ)
-group_of s context =
-    option_map (λ held. held.group) (find (λ held. is_same held.context context) s.held)

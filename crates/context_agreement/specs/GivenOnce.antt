@@ -2,21 +2,20 @@
 use Rattle.std.specs.Prelude.{◌≡◌, ◌≢◌, ℕ, zero, suc, ◌+◌, ◌^◌, ◌<◌, ◌≤◌, List, [], ◌∷◌, ◌++◌, Result, Ok, Err, All}
 use Rattle.std.specs.Prelude.{AllPairs}
 use Rattle.context_agreement.specs.declared.context.Context.{Context}
-use Rattle.context_agreement.specs.declared.communicator.NotInstalled.{NotInstalled}
+use Rattle.context_agreement.specs.declared.communicator.Communicator.{Communicator}
 use Rattle.context_agreement.specs.declared.refusal.ContextRefusal.{ContextRefusal}
-use Rattle.context_agreement.specs.Communicators.{ContextsState, NextGives, InstallGives, after_draw, coming_context}
+use Rattle.context_agreement.specs.Communicators.{ContextsState, NextGives, after_draw, after_install, coming_context}
 use Rattle.context_agreement.specs.Communicators.{next_context, opening, world_and_self}
 
--- a call that may change the state, with its answer: a context was asked for, or a communicator
--- installed
+-- a call that may change the state: a context was asked for, with the answer, or a communicator installed
 pub data Call : Type 0 where
   asked : Result Context ContextRefusal → Call
-  installed : Context → List ℕ → Result ℕ NotInstalled → Call
+  installed : Communicator → Call
 
 -- what the call did
 abbrev pub CallGives : ContextsState → Call → ContextsState → Type 0
 CallGives old (asked answer) new = NextGives old answer new
-CallGives old (installed context group answer) new = InstallGives old context group answer new
+CallGives old (installed communicator) new = new ≡ after_install old communicator
 
 -- calls in turn, each with the state that it left
 abbrev pub IsRun : ContextsState → List (Call × ContextsState) → Type 0
@@ -27,7 +26,7 @@ IsRun s (e ∷ es) = CallGives s e.0 e.1 × IsRun e.1 es
 abbrev pub given_by : Call → List Context
 given_by (asked (Ok context)) = context ∷ []
 given_by (asked (Err refused)) = []
-given_by (installed context group answer) = []
+given_by (installed communicator) = []
 
 -- the contexts that the calls gave, in their order
 abbrev pub given : List (Call × ContextsState) → List Context

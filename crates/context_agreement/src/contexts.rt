@@ -1,12 +1,12 @@
 //! The communicators of a rank, and the contexts that it gives.
 
-ghost use Rattle.std.specs.Prelude.{◌≡◌, ◌<◌, ◌≤◌, ◌+◌, ◌^◌, ◌↔◌, position, find, length, slice_get, IsTrue, IfOk};
+ghost use Rattle.std.specs.Prelude.{◌≡◌, ◌<◌, ◌≤◌, ◌+◌, ◌^◌, ◌↔◌, position, length, slice_get, IsTrue, IfOk};
 ghost use Rattle.std.specs.Prelude.{OnOk, IsOkUnless};
 ghost use Rattle.std.specs.Option.{option_copied};
-ghost use Rattle.context_agreement.specs.Communicators.{opening, context_after, NextGives, InstallGives, after_draw};
-ghost use Rattle.context_agreement.specs.Communicators.{after_install, is_same, place_of, group_of};
+ghost use Rattle.context_agreement.specs.Communicators.{opening, context_after, NextGives, after_draw};
+ghost use Rattle.context_agreement.specs.Communicators.{after_install, is_same, place_of};
 
-use crate::communicator::{Communicator, NotInstalled};
+use crate::communicator::Communicator;
 use crate::context::Context;
 use crate::refusal::ContextRefusal;
 use groups::Group;
@@ -122,28 +122,6 @@ impl Contexts {
         self.held.len() == MOST_COMMUNICATORS
     }
 
-    /// Takes a communicator in, behind those that the rank holds, and answers its place.
-    /// `ContextRefusal::Limit` comes where the rank holds as many as it may; a refusal hands the group
-    /// back.
-    pub fn install(&mut self, context: Context, group: Group) -> Result<usize, NotInstalled>
-        ensures exact { InstallGives self.old.state context group result self.new.state }
-    {
-        let place = self.held.len();
-        if place == MOST_COMMUNICATORS {
-            return Err(NotInstalled {
-                refused: ContextRefusal::Limit,
-                group,
-            });
-        }
-        match self.held.push(Communicator { context, group }) {
-            Ok(()) => Ok(place),
-            Err(failed) => Err(NotInstalled {
-                refused: ContextRefusal::OutOfMemory,
-                group: failed.value.group,
-            }),
-        }
-    }
-
     /// Makes room for one more communicator, or finds that there is no memory. Nothing else changes.
     pub fn reserve(&mut self) -> Result<(), ContextRefusal>
         ensures room { OnOk result (0 < self.new.more) }
@@ -192,13 +170,6 @@ impl Contexts {
         place
     }
 
-    /// How many communicators the rank holds.
-    pub fn communicator_count(&self) -> usize
-        ensures { result ≡ length self.now.state.held }
-    {
-        self.held.len()
-    }
-
     /// The communicator at a place, where there is one.
     pub fn communicator(&self, place: usize) -> Option<&Communicator>
         ensures { option_copied result ≡ slice_get self.now.state.held place }
@@ -212,17 +183,6 @@ impl Contexts {
     {
         first_place(&self.held, context)
     }
-
-    /// The group of the communicator with this context, where the rank holds it. It takes no
-    /// memory.
-    pub fn group_of(&self, context: Context) -> Option<&Group>
-        ensures { option_copied result ≡ group_of self.now.state context }
-    {
-        match first_with(&self.held, context) {
-            Some(communicator) => Some(&communicator.group),
-            None => None,
-        }
-    }
 }
 
 /// The index of the first communicator with this context.
@@ -231,12 +191,4 @@ fn first_place(held: &[Communicator], context: Context) -> Option<usize>
 {
     held.iter()
         .position(|communicator| communicator.context == context)
-}
-
-/// The first communicator with this context.
-fn first_with(held: &[Communicator], context: Context) -> Option<&Communicator>
-    ensures { option_copied result ≡ find (λ h. is_same h.context context) held.now }
-{
-    held.iter()
-        .find(|communicator| communicator.context == context)
 }

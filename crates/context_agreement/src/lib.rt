@@ -9,7 +9,7 @@ mod refusal;
 mod split;
 mod split_part;
 
-pub use communicator::{Communicator, NotInstalled};
+pub use communicator::Communicator;
 pub use context::{Context, contexts_have_their_own_numbers};
 pub use contexts::Contexts;
 pub use laws::contexts_are_given_once;

@@ -1,7 +1,7 @@
 //! Elements of one basic type.
 
 ghost use Rattle.std.specs.Prelude.{◌≡◌, ◌%◌, ◌*◌, ◌^◌, ◌<◌, ◌≤◌, ◌↔◌, ◌++◌, ◌∷◌, [], length, drop, replicate};
-ghost use Rattle.std.specs.Prelude.{slice_get, slice_index, slice_set, None, IsTrue, IfOk, OnOk, OnErr};
+ghost use Rattle.std.specs.Prelude.{slice_get, slice_index, None, IsTrue, IfOk, OnOk, OnErr};
 ghost use Rattle.derived_types.specs.Layouts.{places};
 ghost use Rattle.datatypes.specs.Transfers.{send_fault, receive_fault, unpack_fault, elements_at, put_at, first_places};
 ghost use Rattle.datatypes.specs.Transfers.{AreNear, PackGives, UnpackGives};
@@ -9,7 +9,7 @@ ghost use Rattle.vocabulary.specs.BasicTypes.{size_of};
 ghost use Rattle.datatypes.specs.Combinations.{combined_values, IsLike};
 ghost use Rattle.datatypes.specs.Contents.{values_of, bytes_of, AreWithin};
 
-use crate::bytes::{append_copies, append_number, number_at, put_number, put_over};
+use crate::bytes::{append_copies, append_number, number_at, put_over};
 use crate::combination::{PairOp, combine_bytes};
 use crate::packing::pack_bytes;
 use crate::unpacking::put_places;
@@ -280,16 +280,6 @@ impl Buffer {
     {
         let size = usize::from(self.basic.size());
         number_at(self.bytes.as_slice(), size, place)
-    }
-
-    /// Puts an element at a place, given as the unsigned number that its bytes are.
-    pub fn set_number(&mut self, place: usize, number: u64)
-        requires place { place < length self.old.values }
-        requires fits { number < 256 ^ size_of self.old.basic }
-        ensures { self.new ≡ record self.old { values = slice_set self.old.values place number } }
-    {
-        let size = usize::from(self.basic.size());
-        put_number(&mut self.bytes, number, size, place);
     }
 
     /// Puts what is made of each element, which comes first, and that of `next` at the same place in

@@ -133,17 +133,3 @@ pub fn put_number_at(bytes: &mut [u8], number: u64, size: usize, place: usize)
     write_number(&mut room, number, size);
     copy_within(bytes, place * size, piece(&room, size, 0));
 }
-
-/// Puts the number in `size` bytes at a place, where each place has `size` bytes.
-pub fn put_number(bytes: &mut Vec<u8>, number: u64, size: usize, place: usize)
-    requires low { 1 ≤ size }
-    requires high { size ≤ 8 }
-    requires fits { number < 256 ^ size }
-    requires bytes { AreWhole size bytes.old.items }
-    requires place { place < length (values_of size bytes.old.items) }
-    ensures whole { AreWhole size bytes.new.items }
-    ensures values { values_of size bytes.new.items ≡
-        slice_set (values_of size bytes.old.items) place number }
-{
-    put_number_at(bytes, number, size, place);
-}

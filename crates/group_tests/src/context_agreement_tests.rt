@@ -44,8 +44,11 @@ fn first_contexts_of_a_rank(rt: HostRuntime) {
 
 /// Whether the group of a context has just these ranks.
 fn has_group(contexts: &Contexts, context: Context, ranks: &[u16]) -> bool {
-    match contexts.group_of(context) {
-        Some(group) => group.ranks() == ranks,
+    let Some(place) = contexts.place_of(context) else {
+        return false;
+    };
+    match contexts.communicator(place) {
+        Some(communicator) => communicator.group.ranks() == ranks,
         None => false,
     }
 }
@@ -56,11 +59,11 @@ fn at(contexts: &Contexts, place: usize, ranks: &[u16]) -> Option<(u64, bool)> {
     Some((own.context.number(), own.group.ranks() == ranks))
 }
 
-/// How many communicators there are, whether there is no room for more, and whether world and self are as they should
-/// be.
-fn first_two(contexts: &Contexts) -> (usize, bool, bool, Option<(u64, bool)>) {
+/// Whether there is a third communicator, whether there is no room for more, and whether world and self are as they
+/// should be.
+fn first_two(contexts: &Contexts) -> (bool, bool, bool, Option<(u64, bool)>) {
     (
-        contexts.communicator_count(),
+        contexts.communicator(2).is_some(),
         contexts.is_full(),
         has_group(contexts, Context::WORLD, &[0, 1, 2, 3]),
         at(contexts, 1, &[3]),
@@ -71,30 +74,24 @@ fn first_two(contexts: &Contexts) -> (usize, bool, bool, Option<(u64, bool)>) {
 fn a_rank_begins_with_world_and_self(rt: HostRuntime) {
     let contexts = Contexts::new(rt.alloc(), 3, 1, 4).expect(&rt, "contexts");
     let own = Some((0x0003_0001_0000_0001, true));
-    assert_eq!(rt; first_two(&contexts), (2, false, true, own));
+    assert_eq!(rt; first_two(&contexts), (false, false, true, own));
 }
 
-/// The place of a new communicator of one rank, or the number of the refusal and whether the group came back.
-fn install(
-    alloc: Global,
-    contexts: &mut Contexts,
-    number: u64,
-    rank: u16,
-) -> Result<usize, (u8, bool)> {
-    match contexts.install(Context::from_number(number), Group::of_rank(alloc, rank)) {
-        Ok(place) => Ok(place),
-        Err(failed) => Err((
-            failed.refused.number(),
-            failed.group.ranks() == [rank].as_slice(),
-        )),
+/// The place of a new communicator of one rank, where the rank may hold one more.
+fn install(alloc: Global, contexts: &mut Contexts, number: u64, rank: u16) -> Option<usize> {
+    if contexts.is_full() || contexts.reserve().is_err() {
+        return None;
     }
+    let context = Context::from_number(number);
+    let group = Group::of_rank(alloc, rank);
+    Some(contexts.install_reserved(Communicator { context, group }))
 }
 
 /// The place of a new communicator, the places of its context and of another, and whether it has its group.
 fn install_one(
     alloc: Global,
     contexts: &mut Contexts,
-) -> (Result<usize, (u8, bool)>, [Option<usize>; 2], bool) {
+) -> (Option<usize>, [Option<usize>; 2], bool) {
     let place = install(alloc, contexts, 4, 7);
     let places = [
         contexts.place_of(Context::from_number(4)),
@@ -112,7 +109,7 @@ fn communicators_have_places_in_order(rt: HostRuntime) {
     let mut contexts = Contexts::new(rt.alloc(), 2, 0, 4).expect(&rt, "contexts");
     assert_eq!(rt;
         install_one(rt.alloc(), &mut contexts),
-        (Ok(2), [Some(2), None], true)
+        (Some(2), [Some(2), None], true)
     );
 }
 
@@ -153,48 +150,21 @@ fn drawn_contexts_are_those_that_were_to_come(rt: HostRuntime) {
     );
 }
 
-/// The place of a communicator for which room was made, and whether it is there with its group.
-fn install_with_room(alloc: Global, contexts: &mut Contexts) -> Option<(usize, bool)> {
-    if contexts.is_full() || contexts.reserve().is_err() {
-        return None;
-    }
-    let context = Context::from_number(4);
-    let group = Group::of_rank(alloc, 7);
-    let place = contexts.install_reserved(Communicator { context, group });
-    Some((place, has_group(contexts, context, &[7])))
-}
-
-#[test]
-fn a_communicator_is_installed_where_room_was_made(rt: HostRuntime) {
-    let mut contexts = Contexts::new(rt.alloc(), 2, 0, 4).expect(&rt, "contexts");
-    assert_eq!(rt;
-        install_with_room(rt.alloc(), &mut contexts),
-        Some((2, true))
-    );
-}
-
-/// How many of 4,094 further communicators there is room for, whether it is all then, and how one more is refused.
-fn fill(alloc: Global, contexts: &mut Contexts) -> (u32, bool, Result<usize, (u8, bool)>) {
+/// How many of 4,094 further communicators there is room for, and whether it is all then.
+fn fill(alloc: Global, contexts: &mut Contexts) -> (u32, bool) {
     let mut installed = 0u32;
     for serial in 2..4096 {
-        if install(alloc, contexts, serial, 0).is_ok() {
+        if install(alloc, contexts, serial, 0).is_some() {
             installed = installed.wrapping_add(1);
         }
     }
-    (
-        installed,
-        contexts.is_full(),
-        install(alloc, contexts, 4096, 9),
-    )
+    (installed, contexts.is_full())
 }
 
 #[test]
 fn a_rank_holds_4096_communicators(rt: HostRuntime) {
     let mut contexts = Contexts::new(rt.alloc(), 0, 0, 1).expect(&rt, "contexts");
-    assert_eq!(rt;
-        fill(rt.alloc(), &mut contexts),
-        (4094, true, Err((13, true)))
-    );
+    assert_eq!(rt; fill(rt.alloc(), &mut contexts), (4094, true));
 }
 
 /// Whether a plan has just these parts, each with its colour and its ranks in order.

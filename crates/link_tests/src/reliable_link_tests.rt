@@ -40,26 +40,17 @@ fn would_enter(sender: &Sender, number: u64) -> Option<(u64, u64)> {
     Some((entering.start, entering.end))
 }
 
-/// How many of 64 frames came into the window, what became of the 65th, whether there is a number left, and the next
-/// number.
-fn fill_beyond(alloc: Global, sender: &mut Sender) -> (u64, Option<Option<u64>>, bool, u64) {
+/// How many of 64 frames came into the window, what became of the 65th, and the next number.
+fn fill_beyond(alloc: Global, sender: &mut Sender) -> (u64, Option<Option<u64>>, u64) {
     let entered = fill(alloc, sender);
     let last = accepted(alloc, sender, 64);
-    (
-        entered,
-        last,
-        sender.has_number_left(),
-        sender.next_number(),
-    )
+    (entered, last, sender.next_number())
 }
 
 #[test]
 fn the_65th_frame_waits(rt: HostRuntime) {
     let mut sender = Sender::new(rt.alloc());
-    assert_eq!(rt;
-        fill_beyond(rt.alloc(), &mut sender),
-        (64, Some(None), true, 65)
-    );
+    assert_eq!(rt; fill_beyond(rt.alloc(), &mut sender), (64, Some(None), 65));
 }
 
 type Entered = Result<(u64, u64), LinkRefusal>;
