@@ -7,8 +7,9 @@ ghost use Rattle.collective_messages.specs.Entering.{agrees, is_making, own_choi
 use crate::block::Block;
 use crate::role::Role;
 use datatypes::Buffer;
-use payload::{Choice, Operation, Record, Rooted};
+use payload::{Choice, Record, Rooted};
 use std::alloc::{AllocError, Global};
+use vocabulary::Operation;
 
 /// A collective that a rank enters, and with what: the root's rank in the communicator, the operation, and the elements
 /// that the rank hands in. In a scatter it says of which type and how many elements each member's block is.

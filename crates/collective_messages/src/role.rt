@@ -11,10 +11,10 @@ ghost use Rattle.binomial_trees.specs.Trees.{children, rotate, rotate_back};
 use crate::verdict::is_at;
 use binomial_trees::{children, parent, rotate, rotate_back};
 use groups::Group;
-use payload::{Operation, Record, Rooted};
+use payload::{Record, Rooted};
 use std::alloc::{AllocError, Global};
 use std::marker::Model;
-use vocabulary::Endpoint;
+use vocabulary::{Endpoint, Operation};
 
 /// What a rank is in a collective. It is made once, on entering; ranks are those of `world`.
 #[derive(Drop)]

@@ -2,7 +2,6 @@
 use Rattle.std.specs.Prelude.{ℕ, Bool, ◌*◌, ◌==◌, ◌&&◌, List, [], ◌∷◌, length, map, take, drop, find, fold, Option}
 use Rattle.std.specs.Prelude.{Some, None, is_some, if◌then◌else◌}
 use Rattle.std.specs.List.{flat_map, list_all}
-use Rattle.collective_progress.specs.Operations.{op_of}
 use Rattle.collective_messages.specs.Notes.{member_at, tells_entry}
 use Rattle.collective_messages.specs.declared.note.Note.{Note}
 use Rattle.collective_messages.specs.declared.note.NoteContent.{NoteContent}
@@ -10,7 +9,7 @@ use Rattle.collective_messages.specs.declared.note.NoteContent.TheVariants as sa
 use Rattle.datatypes.specs.Combinations.{combined_values}
 use Rattle.datatypes.specs.Contents.{Contents}
 use Rattle.layouts.specs.Buffers.{is_same_type}
-use Rattle.payload.specs.declared.operation.Operation.{Operation}
+use Rattle.vocabulary.specs.declared.operation.Operation.{Operation}
 use Rattle.reductions.specs.Operations.{combined, is_defined}
 use Rattle.vocabulary.specs.Endpoints.{is_same}
 use Rattle.vocabulary.specs.declared.endpoint.Endpoint.{Endpoint}
@@ -82,8 +81,8 @@ folded_values f (b ∷ bs) = fold (λ (all : List ℕ) (next : Option Contents).
 -- the fold by an operation, where that is defined on the type (5.9.2)
 abbrev pub reduction_of : Operation → (mine : Contents) → List (Option Contents) → Option Contents
 reduction_of o mine blocks =
-    if is_defined (op_of o) mine.basic
-    then Some (record { basic = mine.basic; values = folded_values (combined (op_of o) mine.basic) blocks })
+    if is_defined o mine.basic
+    then Some (record { basic = mine.basic; values = folded_values (combined o mine.basic) blocks })
     else None
 
 -- the block at a place of what a root scatters, which has so many elements for each member (5.6)

@@ -1,7 +1,6 @@
 -- The rules on what a rank enters a collective with (MPI 3.1, 5.4 to 5.9).
 use Rattle.std.specs.Prelude.{ℕ, Bool, true, false, ◌*◌, ◌==◌, ◌&&◌, ◌||◌, not, length, Option, Some, None, nat_le}
 use Rattle.std.specs.Prelude.{nat_lt, if◌then◌else◌}
-use Rattle.collective_progress.specs.Operations.{op_of}
 use Rattle.collective_progress.specs.declared.rules.Rule.{Rule}
 use Rattle.collective_progress.specs.declared.rules.Rule.TheVariants.{WrongType, WrongCount, NoRoot, NotDefined}
 use Rattle.collective_messages.specs.Entering.{record_of}
@@ -49,8 +48,8 @@ is_rooted _ = false
 
 -- whether the operation isn't defined on the type (5.9.2)
 abbrev pub is_undefined : Entry → Bool
-is_undefined (Reduce o root b) = not (is_defined (op_of o) b.basic)
-is_undefined (Allreduce o b) = not (is_defined (op_of o) b.basic)
+is_undefined (Reduce o root b) = not (is_defined o b.basic)
+is_undefined (Allreduce o b) = not (is_defined o b.basic)
 is_undefined _ = false
 
 -- the number of a rule

@@ -7,13 +7,11 @@ ghost use Rattle.datatypes.specs.Contents.{Contents};
 
 use crate::Progress;
 use crate::contributions::block_known;
-use crate::operation::op_of;
 use collective_messages::{Inside, Note};
 use datatypes::Buffer;
-use payload::Operation;
-use reductions::{ReduceOp, accumulate};
+use reductions::{ReduceOp, Reduction, accumulate};
 use std::alloc::{AllocError, Global};
-use vocabulary::Endpoint;
+use vocabulary::{Endpoint, Operation};
 
 /// Combines what there is with what each of the members with these ranks handed in, in their order.
 fn fold_rest<R: ReduceOp>(
@@ -99,7 +97,7 @@ pub fn reduction_of(
         reduction_of operation mine.now
         (blocks_known own mine.now inside.now.incarnation inside.now.context inside.now.number notes.now ranks.now)) }
 {
-    let Ok(reduction) = op_of(operation).on(mine.basic()) else {
+    let Ok(reduction) = Reduction::new(operation, mine.basic()) else {
         return Ok(None);
     };
     match fold_blocks(alloc, &reduction, own, inside, mine, notes, progress, ranks) {

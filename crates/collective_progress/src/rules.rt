@@ -5,7 +5,6 @@ ghost use Rattle.collective_progress.specs.Rules.{block_bytes, is_other_type, is
 ghost use Rattle.collective_progress.specs.Rules.{number_of_rule, rule_broken};
 ghost use Rattle.payload.specs.Spelling.{elements_of};
 
-use crate::operation::op_of;
 use collective_messages::{Entry, root_of};
 use payload::{RECORD_BYTES, Record};
 use vocabulary::SEND_LIMIT;
@@ -90,7 +89,7 @@ fn is_undefined(entry: &Entry) -> bool
 {
     match entry {
         Entry::Reduce(operation, _, block) | Entry::Allreduce(operation, block) => {
-            !op_of(*operation).is_defined_on(block.buffer().basic())
+            !operation.is_defined_on(block.buffer().basic())
         }
         _ => false,
     }

@@ -19,9 +19,9 @@ use collective_messages::{CollectiveMessage, CollectiveRefusal, Inside, Note, is
 use collective_progress::Progress;
 use datatypes::Buffer;
 use groups::Group;
-use payload::{Direction, Operation, Rooted};
+use payload::{Direction, Rooted};
 use std::alloc::{AllocError, Global};
-use vocabulary::Endpoint;
+use vocabulary::{Endpoint, Operation};
 
 /// A root leaves with what was made of the blocks, where something was.
 fn leaving_with(alloc: Global, made: Option<Buffer>) -> Step

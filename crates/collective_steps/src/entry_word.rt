@@ -10,9 +10,9 @@ use crate::data_movement::reduce_blocks;
 use collective_messages::{CollectiveMessage, Entry, Inside, MessageContent, Note, is_same};
 use collective_progress::Progress;
 use datatypes::Buffer;
-use payload::{Direction, Operation};
+use payload::Direction;
 use std::alloc::{AllocError, Global};
-use vocabulary::Endpoint;
+use vocabulary::{Endpoint, Operation};
 
 /// The fold of a rank's own block and of those below it.
 fn fold_given(

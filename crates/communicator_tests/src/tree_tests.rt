@@ -3,9 +3,9 @@
 use crate::ranks::{End, Step, arrive_from, enter, rank_of};
 use communicators::{Block, Communicators, Entry};
 use datatypes::Buffer;
-use payload::{Direction, Elements, Operation, Payload, PayloadContent, Record, Rooted};
+use payload::{Direction, Elements, Payload, PayloadContent, Record, Rooted};
 use std::alloc::Global;
-use vocabulary::BasicType;
+use vocabulary::{BasicType, Operation};
 
 /// No elements, and rank 0 as their root.
 const ROOTED: Rooted = Rooted {

@@ -3,10 +3,10 @@
 ghost use Rattle.std.specs.Prelude.{◌≡◌, ◌∷◌, [], IfOk};
 
 use datatypes::{Buffer, Element, IndexedBlock, Layout, LayoutRefusal, number_of};
-use reductions::{Op, ReduceOp, accumulate, fold};
+use reductions::{ReduceOp, Reduction, accumulate, fold};
 use std::alloc::{AllocError, Global};
 use std::test::Fail;
-use vocabulary::BasicType;
+use vocabulary::{BasicType, Operation};
 
 fn int32s(alloc: Global, numbers: &[u8]) -> Result<Buffer, AllocError>
     ensures { IfOk result (λ b. b.basic ≡ BasicType.Int32) }
@@ -226,9 +226,9 @@ fn elements_of_signed_types_have_signs(rt: HostRuntime) {
 
 #[test]
 fn operations_are_defined_on_their_types(rt: HostRuntime) -> Result<(), Fail> {
-    let sum = Op::Sum.on(BasicType::Int8)?;
+    let sum = Reduction::new(Operation::Sum, BasicType::Int8)?;
     assert!(rt; sum.basic() == BasicType::Int8);
-    match Op::Land.on(BasicType::Byte) {
+    match Reduction::new(Operation::Land, BasicType::Byte) {
         Err(refusal) => assert_eq!(rt; refusal, LayoutRefusal::NotDefined),
         Ok(_) => assert!(rt; false),
     }
@@ -237,11 +237,11 @@ fn operations_are_defined_on_their_types(rt: HostRuntime) -> Result<(), Fail> {
 
 #[test]
 fn reductions_give_the_worked_values(rt: HostRuntime) -> Result<(), Fail> {
-    let sum = Op::Sum.on(BasicType::Int8)?;
+    let sum = Reduction::new(Operation::Sum, BasicType::Int8)?;
     assert_eq!(rt; sum.combine(100, 100), 200);
-    let product = Op::Prod.on(BasicType::Uint8)?;
+    let product = Reduction::new(Operation::Prod, BasicType::Uint8)?;
     assert_eq!(rt; product.combine(20, 20), 144);
-    let affine = Op::Affine.on(BasicType::Uint64)?;
+    let affine = Reduction::new(Operation::Affine, BasicType::Uint64)?;
     let two = affine.combine(8_589_934_593, 12_884_901_893);
     assert_eq!(rt; affine.combine(two, 17_179_869_191), 103_079_215_143);
     let late = affine.combine(17_179_869_191, 8_589_934_593);
@@ -251,7 +251,7 @@ fn reductions_give_the_worked_values(rt: HostRuntime) -> Result<(), Fail> {
 
 /// Whether 1 and 2 with 10 and 20 are 11 and 22.
 fn accumulated(alloc: Global) -> Option<bool> {
-    let sum = Op::Sum.on(BasicType::Int32).ok()?;
+    let sum = Reduction::new(Operation::Sum, BasicType::Int32).ok()?;
     let mut all = int32s(alloc, &[1, 2]).ok()?;
     let next = int32s(alloc, &[10, 20]).ok()?;
     if next.len() == all.len() {
@@ -289,7 +289,7 @@ fn copies_are_appended(rt: HostRuntime) {
 
 /// Whether three members of affine are combined to this number, in this order.
 fn is_folded(alloc: Global, first: u64, rest: [u64; 2], number: u64) -> bool {
-    let Ok(affine) = Op::Affine.on(BasicType::Uint64) else {
+    let Ok(affine) = Reduction::new(Operation::Affine, BasicType::Uint64) else {
         return false;
     };
     let (Ok(first), Ok(second), Ok(third)) = (

@@ -1,11 +1,11 @@
 //! Payloads of collectives: worked bytes, read and written.
 
 use payload::{
-    Choice, Direction, Elements, NewGroup, Operation, Payload, PayloadContent, PayloadRefusal,
-    Record, Rooted, read_payload, write_payload,
+    Choice, Direction, Elements, NewGroup, Payload, PayloadContent, PayloadRefusal, Record, Rooted,
+    read_payload, write_payload,
 };
 use std::alloc::Global;
-use vocabulary::BasicType;
+use vocabulary::{BasicType, Operation};
 
 /// Why bytes are refused, or none where they are read.
 fn fault(bytes: &[u8]) -> Option<PayloadRefusal> {

@@ -15,7 +15,7 @@ use Rattle.perfect_queues.specs.Outcomes.{Outcome, Received, Sent}
 use Rattle.perfect_queues.specs.Receives.{Receive}
 use Rattle.perfect_queues.specs.Requests.{Finished, Posted}
 use Rattle.reductions.specs.Operations as operations
-use Rattle.reductions.specs.declared.operation.Op.TheVariants.{Sum}
+use Rattle.vocabulary.specs.declared.operation.Operation.TheVariants.{Sum}
 use Rattle.vocabulary.specs.declared.basic_type.BasicType.TheVariants.{Int32}
 use Rattle.vocabulary.specs.declared.envelope.Source.TheVariants.{Rank}
 use Rattle.one_meaning.specs.Accounts.{Account, ForRequests, InCollective, opened}

@@ -8,7 +8,7 @@ use Rattle.perfect_queues.specs.Buffers.{whole}
 use Rattle.perfect_queues.specs.Calls.{Done}
 use Rattle.perfect_queues.specs.Completions.{ForAll, ForOne, One}
 use Rattle.perfect_queues.specs.Outcomes.{Outcome, Received}
-use Rattle.reductions.specs.declared.operation.Op.TheVariants.{Sum}
+use Rattle.vocabulary.specs.declared.operation.Operation.TheVariants.{Sum}
 use Rattle.vocabulary.specs.declared.basic_type.BasicType.TheVariants.{Int32}
 use Rattle.vocabulary.specs.declared.envelope.Source.TheVariants.{Rank}
 use Rattle.vocabulary.specs.declared.mode.Mode.TheVariants.{Standard}

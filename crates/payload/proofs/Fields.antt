@@ -11,9 +11,10 @@ use Rattle.byteorder.specs.Numbers.{big_from-lt, big_from-take}
 use Rattle.vocabulary.specs.declared.basic_type.BasicType.{BasicType}
 use Rattle.payload.specs.declared.kind.CollectiveKind.{CollectiveKind}
 use Rattle.payload.specs.declared.kind.Phase.{Phase}
-use Rattle.payload.specs.declared.operation.Operation.{Operation}
+use Rattle.vocabulary.specs.declared.operation.Operation.{Operation}
 use Rattle.vocabulary.specs.BasicTypes.{code_of, type_at}
-use Rattle.payload.specs.Codes.{kind_code, kind_at, phase_code, phase_at, operation_code, operation_at}
+use Rattle.payload.specs.Codes.{kind_code, kind_at, phase_code, phase_at}
+use Rattle.vocabulary.specs.Operations.{operation_at, operation_code}
 use Rattle.payload.specs.Reading.{◌>>=◌, given, number_at}
 
 abbrev pub IsBytes : List ℕ → Type 0

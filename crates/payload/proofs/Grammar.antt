@@ -15,8 +15,8 @@ use Rattle.vocabulary.specs.declared.basic_type.BasicType.TheVariants as basics
 use Rattle.vocabulary.specs.BasicTypes.{code_of, type_at, size_of}
 use Rattle.payload.specs.declared.refusal.PayloadRefusal.{PayloadRefusal}
 use Rattle.payload.specs.declared.refusal.PayloadRefusal.TheVariants.{OutOfMemory, BadFrame}
-use Rattle.payload.specs.declared.operation.Operation.{Operation}
-use Rattle.payload.specs.declared.operation.Operation.TheVariants as operations
+use Rattle.vocabulary.specs.declared.operation.Operation.{Operation}
+use Rattle.vocabulary.specs.declared.operation.Operation.TheVariants as operations
 use Rattle.payload.specs.declared.record.Elements.{Elements}
 use Rattle.payload.specs.declared.record.Rooted.{Rooted}
 use Rattle.payload.specs.declared.record.Record.{Record}
@@ -29,7 +29,8 @@ use Rattle.payload.specs.declared.payload.Direction.{Direction}
 use Rattle.payload.specs.declared.payload.Direction.TheVariants as directions
 use Rattle.payload.specs.declared.payload.Payload.{Payload}
 use Rattle.payload.specs.declared.reading.Fields.{Fields}
-use Rattle.payload.specs.Codes.{kind_code, kind_at, phase_code, phase_at, operation_code, operation_at}
+use Rattle.payload.specs.Codes.{kind_code, kind_at, phase_code, phase_at}
+use Rattle.vocabulary.specs.Operations.{operation_at, operation_code}
 use Rattle.payload.specs.Spelling.{PartText, Differing, NothingMore, ElementsText, ContextText, ChoiceText, NullText}
 use Rattle.payload.specs.Spelling.{GroupText, PayloadText, payload_text, kind_of, elements_of, operation_field}
 use Rattle.payload.specs.Spelling.{root_field, type_code, count_field, way_phase, phase_of, AreElements, SaysNothing}

@@ -17,7 +17,8 @@ use Rattle.payload.specs.declared.kind.Phase.TheVariants as phases
 use Rattle.payload.specs.declared.payload.Direction.{Direction}
 use Rattle.payload.specs.declared.payload.Direction.TheVariants as directions
 use Rattle.payload.specs.declared.reading.Fields.{Fields}
-use Rattle.payload.specs.Codes.{kind_at, phase_at, operation_at}
+use Rattle.payload.specs.Codes.{kind_at, phase_at}
+use Rattle.vocabulary.specs.Operations.{operation_at}
 use Rattle.payload.specs.Spelling.{PartText, Differing, NothingMore, ElementsText, ContextText, ChoiceText, NullText}
 use Rattle.payload.specs.Spelling.{GroupText, PayloadText}
 

@@ -17,7 +17,8 @@ use Rattle.payload.specs.declared.payload.Choice.{Choice}
 use Rattle.payload.specs.declared.payload.PayloadContent.{PayloadContent}
 use Rattle.payload.specs.declared.payload.PayloadContent.TheVariants as parts
 use Rattle.payload.specs.declared.payload.Payload.{Payload}
-use Rattle.payload.specs.Codes.{kind_code, phase_code, operation_code}
+use Rattle.payload.specs.Codes.{kind_code, phase_code}
+use Rattle.vocabulary.specs.Operations.{operation_code}
 
 -- what a message carries beside the record: of elements and ranks the bytes
 pub data PartText : Type 0 where

@@ -2,14 +2,12 @@
 #![tactic(auto)]
 
 mod kind;
-mod operation;
 mod payload;
 mod reading;
 mod record;
 mod refusal;
 mod writing;
 
-pub use operation::Operation;
 pub use payload::{Choice, Direction, NewGroup, Payload, PayloadContent};
 pub use reading::read_payload;
 pub use record::{Elements, RECORD_BYTES, Record, Rooted};

@@ -3,18 +3,17 @@
 ghost use Rattle.std.specs.Prelude.{◌≡◌, ◌≤◌, length, slice_index, IfOk, OnOk, Some};
 ghost use Rattle.payload.specs.Spelling.{PartText, NothingMore, part_text, PayloadText, payload_text, PayloadFits};
 ghost use Rattle.payload.specs.Spelling.{spelling};
-ghost use Rattle.payload.specs.Codes.{operation_at};
+ghost use Rattle.vocabulary.specs.Operations.{operation_at};
 ghost use Rattle.payload.specs.Reading.{Gives, without_fields, elements_in, rooted_in, reduce_in, allreduce_in};
 ghost use Rattle.payload.specs.Reading.{record_in, elements_from, nothing_from, colour_from, choice_from, context_from};
 ghost use Rattle.payload.specs.Reading.{group_from, towards_root, from_root, part_in, head_of, payload_of};
 
 use crate::kind::{CollectiveKind, Phase};
-use crate::operation::Operation;
 use crate::payload::{Choice, Direction, NewGroup, Payload, PayloadContent};
 use crate::record::{Elements, RECORD_BYTES, Record, Rooted};
 use crate::refusal::PayloadRefusal;
 use byteorder::{BigEndian, ByteOrder};
-use vocabulary::BasicType;
+use vocabulary::{BasicType, Operation};
 
 /// The fields of a record behind its kind.
 #[derive(Clone, Copy)]

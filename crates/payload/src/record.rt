@@ -6,8 +6,7 @@ ghost use Rattle.payload.specs.Spelling.{kind_of, elements_of, operation_field, 
 ghost use Rattle.payload.specs.Spelling.{RecordIsWithin};
 
 use crate::kind::CollectiveKind;
-use crate::operation::Operation;
-use vocabulary::BasicType;
+use vocabulary::{BasicType, Operation};
 
 /// The length of a record, in bytes.
 pub const RECORD_BYTES: usize = 16;

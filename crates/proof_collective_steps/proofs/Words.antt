@@ -5,7 +5,6 @@ use Rattle.std.specs.Prelude.{fold}
 use Rattle.std.specs.Option.{option_to_list}
 use Rattle.std.proofs.lemmas.Bool.{eq-eqb}
 use Rattle.std.proofs.lemmas.Option.{same_Some}
-use Rattle.collective_progress.specs.Operations.{op_of}
 use Rattle.collective_messages.specs.Entering as entering
 use Rattle.collective_messages.specs.Notes as notes
 use Rattle.collective_messages.specs.Notes.{have_entered, member_at}
@@ -149,7 +148,7 @@ says e place c inc k (entries.Reduce o root b) role ranks ns xs ps h fed hands a
     refl,
     λ t. HasEntered (record {
       record_is = (part_of (entries.Reduce o root b)).record_is;
-      values = reduced (combined_by (Some (op_of o)) (Some b.basic)) ps;
+      values = reduced (combined_by (Some o) (Some b.basic)) ps;
       colour = ap network.first_colour first.1 t;
       key = ap network.first_key first.1 t;
     }),
@@ -157,7 +156,7 @@ says e place c inc k (entries.Reduce o root b) role ranks ns xs ps h fed hands a
 )
   where
     sum : Contents
-    sum = record { basic = b.basic; values = reduced (combined_by (Some (op_of o)) (Some b.basic)) ps }
+    sum = record { basic = b.basic; values = reduced (combined_by (Some o) (Some b.basic)) ps }
 
     below : List ℕ
     below = below_place ranks (own_place e inc ranks)

@@ -11,9 +11,9 @@ use lib.Arith.{bin_ind}
 use Rattle.vocabulary.specs.declared.basic_type.BasicType.{BasicType}
 use Rattle.vocabulary.specs.declared.basic_type.BasicType.TheVariants.{Int8, Int16, Int32, Int64, Uint8, Uint16, Uint32}
 use Rattle.vocabulary.specs.declared.basic_type.BasicType.TheVariants.{Uint64, Byte}
-use Rattle.reductions.specs.declared.operation.Op.{Op}
-use Rattle.reductions.specs.declared.operation.Op.TheVariants.{Max, Min, Sum, Prod, Land, Lor, Lxor, Band, Bor, Bxor}
-use Rattle.reductions.specs.declared.operation.Op.TheVariants.{Affine}
+use Rattle.vocabulary.specs.declared.operation.Operation.{Operation}
+use Rattle.vocabulary.specs.declared.operation.Operation.TheVariants.{Max, Min, Sum, Prod, Land, Lor, Lxor, Band, Bor, Bxor}
+use Rattle.vocabulary.specs.declared.operation.Operation.TheVariants.{Affine}
 use Rattle.datatypes.specs.Elements.{numbers_of}
 use Rattle.reductions.specs.Operations.{order_of, greater_by, lesser_by, map_after, is_defined, combined}
 
@@ -214,7 +214,7 @@ maps_associate a b c =
 -- ---- all of them
 
 -- each operation is associative on the numbers of each type (MPI 3.1, 5.9.1)
-pub combined-associates : (op : Op) (basic : BasicType) (a b c : ℕ) → combined op basic (combined op basic a b) c ≡
+pub combined-associates : (op : Operation) (basic : BasicType) (a b c : ℕ) → combined op basic (combined op basic a b) c ≡
     combined op basic a (combined op basic b c)
 unfolding combined
 combined-associates Max basic a b c = greater_associates (order_of basic) a b c
@@ -316,7 +316,7 @@ maps_within Uint32 a b d = absurd cc
 maps_within Byte a b d = absurd cc
 
 -- what an operation makes of two elements, where it is defined, is an element of the same type
-pub combined-within : (op : Op) (basic : BasicType) (a b : ℕ) → is_defined op basic ≡ true → a < numbers_of basic →
+pub combined-within : (op : Operation) (basic : BasicType) (a b : ℕ) → is_defined op basic ≡ true → a < numbers_of basic →
     b < numbers_of basic → combined op basic a b < numbers_of basic
 unfolding combined
 combined-within Max basic a b d p q = either (ltb (order_of basic a) (order_of basic b)) a b (numbers_of basic) p q

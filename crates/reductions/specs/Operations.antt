@@ -3,10 +3,11 @@ use Rattle.std.specs.Prelude.{ℕ, ◌+◌, ◌-◌, ◌*◌, ◌/◌, ◌%◌, 
 use Rattle.std.specs.Prelude.{bit_xor, if◌then◌else◌}
 use Rattle.vocabulary.specs.declared.basic_type.BasicType.{BasicType}
 use Rattle.vocabulary.specs.declared.basic_type.BasicType.TheVariants.{Uint64, Byte}
-use Rattle.reductions.specs.declared.operation.Op.{Op}
-use Rattle.reductions.specs.declared.operation.Op.TheVariants.{Max, Min, Sum, Prod, Land, Lor, Lxor, Band, Bor, Bxor}
-use Rattle.reductions.specs.declared.operation.Op.TheVariants.{Affine}
+use Rattle.vocabulary.specs.declared.operation.Operation.{Operation}
+use Rattle.vocabulary.specs.declared.operation.Operation.TheVariants.{Max, Min, Sum, Prod, Land, Lor, Lxor, Band, Bor, Bxor}
+use Rattle.vocabulary.specs.declared.operation.Operation.TheVariants.{Affine}
 use Rattle.datatypes.specs.Elements.{has_sign, numbers_of}
+pub use Rattle.vocabulary.specs.Operations.{is_defined}
 
 -- the place of an element in the order of its type: that of a signed type is moved up by half the range, so that no
 -- value is below zero
@@ -42,18 +43,8 @@ map_after first second =
     first / 2 ^ 32 * (second / 2 ^ 32) % 2 ^ 32 * 2 ^ 32
     + (second / 2 ^ 32 * (first % 2 ^ 32) + second % 2 ^ 32) % 2 ^ 32
 
--- whether the operation is defined on the type: bit by bit on each, the maps on numbers of 64 bits, others on integers
-abbrev pub is_defined : Op → BasicType → Bool
-is_defined Band basic = true
-is_defined Bor basic = true
-is_defined Bxor basic = true
-is_defined Affine Uint64 = true
-is_defined Affine basic = false
-is_defined op Byte = false
-is_defined op basic = true
-
 -- what the operation makes of two elements; sums and products are two's complement, and wrap
-unfoldable pub combined : Op → BasicType → ℕ → ℕ → ℕ
+unfoldable pub combined : Operation → BasicType → ℕ → ℕ → ℕ
 combined Max basic a b = greater_by (order_of basic) a b
 combined Min basic a b = lesser_by (order_of basic) a b
 combined Sum basic a b = (a + b) % numbers_of basic
@@ -67,7 +58,7 @@ combined Bxor basic a b = bit_xor a b
 combined Affine basic a b = map_after a b
 
 -- the operations by number
-abbrev pub operation_of : ℕ → Op
+abbrev pub operation_of : ℕ → Operation
 operation_of number =
     if number == 1 then Max else
     (if number == 2 then Min else

@@ -5,4 +5,4 @@ mod folding;
 mod operation;
 
 pub use folding::{accumulate, fold};
-pub use operation::{Op, ReduceOp, Reduction};
+pub use operation::{ReduceOp, Reduction};

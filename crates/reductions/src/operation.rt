@@ -7,35 +7,7 @@ ghost use Rattle.reductions.specs.Operations.{order_of, greater_by, lesser_by, l
 ghost use Rattle.reductions.specs.Operations.{map_after, is_defined, operation_of, combined};
 
 use datatypes::{Buffer, LayoutRefusal, PairOp, is_signed, largest_number};
-use vocabulary::BasicType;
-
-/// An operation of a reduction.
-#[derive(Clone, Copy, Debug, PartialEq, Eq)]
-pub enum Op {
-    /// The greater.
-    Max,
-    /// The lesser.
-    Min,
-    /// The sum in two's complement, which wraps.
-    Sum,
-    /// The product in two's complement, which wraps.
-    Prod,
-    /// 1 where both are true, else 0; all but 0 is true.
-    Land,
-    /// 1 where one is true, else 0.
-    Lor,
-    /// 1 where just one is true, else 0.
-    Lxor,
-    /// Bit by bit, and.
-    Band,
-    /// Bit by bit, or.
-    Bor,
-    /// Bit by bit, exclusive or.
-    Bxor,
-    /// Of two maps `x -> a * x + b` modulo 2^32, `a` the high half of a number and `b` the low, the
-    /// first and then the second.
-    Affine,
-}
+use vocabulary::{BasicType, Operation};
 
 /// What combines two elements of one basic type, associatively.
 pub trait ReduceOp {
@@ -74,38 +46,21 @@ pub trait ReduceOp {
 /// An operation on a type on which it is defined.
 #[derive(Clone, Copy, Debug)]
 pub struct Reduction {
-    operation: Op,
+    operation: Operation,
     basic: BasicType,
     /// That the operation is defined on the type.
     pub ghost defined: { is_defined operation basic ≡ true },
 }
 
-impl Op {
-    /// Whether the operation is defined on the type: bit by bit on each, `Affine` on `Uint64`, each
-    /// other one on the integers.
-    pub fn is_defined_on(self, basic: BasicType) -> bool
-        ensures { result ≡ is_defined self basic }
-    {
-        match self {
-            Op::Band | Op::Bor | Op::Bxor => true,
-            Op::Affine => basic == BasicType::Uint64,
-            Op::Max | Op::Min | Op::Sum | Op::Prod | Op::Land | Op::Lor | Op::Lxor => {
-                basic != BasicType::Byte
-            }
-        }
-    }
-
+impl Reduction {
     /// The operation on the type, refused where it is not defined there.
-    pub fn on(self, basic: BasicType) -> Result<Reduction, LayoutRefusal>
-        ensures ok { IfOk result (λ r. (r.operation ≡ self) × (r.basic ≡ basic)) }
-        ensures undefined { IsErrOf result LayoutRefusal.NotDefined ↔ (is_defined self basic ≡ false) }
+    pub fn new(operation: Operation, basic: BasicType) -> Result<Reduction, LayoutRefusal>
+        ensures ok { IfOk result (λ r. (r.operation ≡ operation) × (r.basic ≡ basic)) }
+        ensures undefined { IsErrOf result LayoutRefusal.NotDefined ↔ (is_defined operation basic ≡ false) }
         ensures err { IfErr result (λ e. e ≡ LayoutRefusal.NotDefined) }
     {
-        if self.is_defined_on(basic) {
-            Ok(Reduction {
-                operation: self,
-                basic,
-            })
+        if operation.is_defined_on(basic) {
+            Ok(Reduction { operation, basic })
         } else {
             Err(LayoutRefusal::NotDefined)
         }
@@ -254,43 +209,43 @@ fn just_one_true(first: u64, second: u64) -> u64
 /// What the operation makes of two elements of the type.
 #[inline(always)]
 #[tactic(auto, unfolding(crate::specs::Operations::combined))]
-fn combine_numbers(operation: Op, basic: BasicType, first: u64, second: u64) -> u64
+fn combine_numbers(operation: Operation, basic: BasicType, first: u64, second: u64) -> u64
     requires first { first < numbers_of basic }
     requires second { second < numbers_of basic }
     ensures { result ≡ combined operation basic first second }
 {
     match operation {
-        Op::Max => greater(basic, first, second),
-        Op::Min => lesser(basic, first, second),
-        Op::Sum => wrapped_sum(basic, first, second),
-        Op::Prod => wrapped_product(basic, first, second),
-        Op::Land => both_true(first, second),
-        Op::Lor => one_true(first, second),
-        Op::Lxor => just_one_true(first, second),
-        Op::Band => first & second,
-        Op::Bor => first | second,
-        Op::Bxor => first ^ second,
-        Op::Affine => both_maps(first, second),
+        Operation::Max => greater(basic, first, second),
+        Operation::Min => lesser(basic, first, second),
+        Operation::Sum => wrapped_sum(basic, first, second),
+        Operation::Prod => wrapped_product(basic, first, second),
+        Operation::Land => both_true(first, second),
+        Operation::Lor => one_true(first, second),
+        Operation::Lxor => just_one_true(first, second),
+        Operation::Band => first & second,
+        Operation::Bor => first | second,
+        Operation::Bxor => first ^ second,
+        Operation::Affine => both_maps(first, second),
     }
 }
 
 /// The operation with this number.
 #[inline(always)]
-fn operation_at(number: u8) -> Op
+fn operation_at(number: u8) -> Operation
     ensures { result ≡ operation_of number }
 {
     match number {
-        1 => Op::Max,
-        2 => Op::Min,
-        3 => Op::Sum,
-        4 => Op::Prod,
-        5 => Op::Land,
-        6 => Op::Lor,
-        7 => Op::Lxor,
-        8 => Op::Band,
-        9 => Op::Bor,
-        10 => Op::Bxor,
-        _ => Op::Affine,
+        1 => Operation::Max,
+        2 => Operation::Min,
+        3 => Operation::Sum,
+        4 => Operation::Prod,
+        5 => Operation::Land,
+        6 => Operation::Lor,
+        7 => Operation::Lxor,
+        8 => Operation::Band,
+        9 => Operation::Bor,
+        10 => Operation::Bxor,
+        _ => Operation::Affine,
     }
 }
 
@@ -321,7 +276,7 @@ fn combine_by<const NUMBER: u8>(basic: BasicType, all: &mut Buffer, next: &Buffe
 }
 
 #[inline(always)]
-fn combine_typed(operation: Op, basic: BasicType, all: &mut Buffer, next: &Buffer)
+fn combine_typed(operation: Operation, basic: BasicType, all: &mut Buffer, next: &Buffer)
     requires defined { is_defined operation basic ≡ true }
     requires basic { all.old.basic ≡ basic }
     requires like { IsLike all.old.basic all.old.values next.now }
@@ -370,17 +325,17 @@ impl ReduceOp for Reduction {
     fn combine_each(&self, all: &mut Buffer, next: &Buffer) {
         let basic = self.basic;
         match self.operation {
-            Op::Max => combine_by::<1>(basic, all, next),
-            Op::Min => combine_by::<2>(basic, all, next),
-            Op::Sum => combine_by::<3>(basic, all, next),
-            Op::Prod => combine_by::<4>(basic, all, next),
-            Op::Land => combine_by::<5>(basic, all, next),
-            Op::Lor => combine_by::<6>(basic, all, next),
-            Op::Lxor => combine_by::<7>(basic, all, next),
-            Op::Band => combine_by::<8>(basic, all, next),
-            Op::Bor => combine_by::<9>(basic, all, next),
-            Op::Bxor => combine_by::<10>(basic, all, next),
-            Op::Affine => combine_by::<11>(basic, all, next),
+            Operation::Max => combine_by::<1>(basic, all, next),
+            Operation::Min => combine_by::<2>(basic, all, next),
+            Operation::Sum => combine_by::<3>(basic, all, next),
+            Operation::Prod => combine_by::<4>(basic, all, next),
+            Operation::Land => combine_by::<5>(basic, all, next),
+            Operation::Lor => combine_by::<6>(basic, all, next),
+            Operation::Lxor => combine_by::<7>(basic, all, next),
+            Operation::Band => combine_by::<8>(basic, all, next),
+            Operation::Bor => combine_by::<9>(basic, all, next),
+            Operation::Bxor => combine_by::<10>(basic, all, next),
+            Operation::Affine => combine_by::<11>(basic, all, next),
         }
     }
 

@@ -5,8 +5,9 @@ ghost use Rattle.script_calls.specs.Entries.{elements_like, entry_with, split_by
 
 use collective_messages::{Block, Entry};
 use datatypes::Buffer;
-use payload::{Choice, Elements, Operation};
+use payload::{Choice, Elements};
 use statements::Splitting;
+use vocabulary::Operation;
 
 /// What is entered by a split.
 pub fn split_by(splitting: &Splitting) -> Entry

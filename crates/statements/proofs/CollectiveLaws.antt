@@ -2,8 +2,8 @@
 use Rattle.std.proofs.Common.{◌≡◌, ◌≤◌, ℕ, arith, false, List, [], ◌∷◌, Option, Some, None, refl, sym, ap, subst, ◌∙◌}
 use Rattle.std.specs.Prelude.{codes, slice_index}
 use Rattle.std.specs.Str.{bytes_eq}
-use Rattle.payload.specs.declared.operation.Operation.{Operation}
-use Rattle.payload.specs.declared.operation.Operation.TheVariants as operations
+use Rattle.vocabulary.specs.declared.operation.Operation.{Operation}
+use Rattle.vocabulary.specs.declared.operation.Operation.TheVariants as operations
 use Rattle.statements.specs.declared.action.CommunicatorName.{CommunicatorName}
 use Rattle.statements.specs.declared.collective_line.Broadcasting.{Broadcasting}
 use Rattle.statements.specs.declared.collective_line.Gathering.{Gathering}

@@ -6,8 +6,8 @@ use Rattle.vocabulary.specs.declared.envelope.Source.{Source}
 use Rattle.vocabulary.specs.declared.envelope.Source.TheVariants as sources
 use Rattle.datatypes.specs.Elements.{has_sign, numbers_of}
 use Rattle.derived_types.specs.declared.block.IndexedBlock.{IndexedBlock}
-use Rattle.payload.specs.declared.operation.Operation.{Operation}
-use Rattle.payload.specs.declared.operation.Operation.TheVariants as operations
+use Rattle.vocabulary.specs.declared.operation.Operation.{Operation}
+use Rattle.vocabulary.specs.declared.operation.Operation.TheVariants as operations
 use Rattle.tokens.specs.Grammar.{Word, IsNumeral, IsCapped, IsLarge, StandFor, type_word, NamesIt}
 use Rattle.statements.specs.declared.action.CommunicatorName.{CommunicatorName}
 use Rattle.statements.specs.declared.action.CommunicatorName.TheVariants as communicators

@@ -6,8 +6,8 @@ use Rattle.std.specs.Str.{bytes_eq}
 use Rattle.vocabulary.specs.declared.basic_type.BasicType.{BasicType}
 use Rattle.vocabulary.specs.declared.envelope.Source.{Source}
 use Rattle.vocabulary.specs.declared.envelope.Source.TheVariants as sources
-use Rattle.payload.specs.declared.operation.Operation.{Operation}
-use Rattle.payload.specs.declared.operation.Operation.TheVariants as operations
+use Rattle.vocabulary.specs.declared.operation.Operation.{Operation}
+use Rattle.vocabulary.specs.declared.operation.Operation.TheVariants as operations
 use Rattle.datatypes.specs.Contents.{Contents}
 use Rattle.datatypes.specs.Elements.{number_of_value}
 use Rattle.derived_types.specs.declared.block.IndexedBlock.{IndexedBlock}

@@ -1,8 +1,8 @@
 //! What a line says of a collective that moves elements.
 
 use crate::action::CommunicatorName;
-use payload::Operation;
 use tokens::Name;
+use vocabulary::Operation;
 
 /// `COMM ROOT B`: the arguments of a broadcast (MPI 3.1, 5.4).
 #[derive(Drop)]

@@ -9,9 +9,9 @@ use crate::collective_line::{Broadcasting, Gathering, Reducing, ReducingToAll, S
 use crate::fields::communicator_and_buffer;
 use crate::front::{first_four, first_two, four_alone, one_alone};
 use crate::verb::Verb;
-use payload::Operation;
 use std::alloc::Global;
 use tokens::{LineError, Name, Token, is, name_of, rank_of, require};
+use vocabulary::Operation;
 
 /// The operation that the word names.
 #[tactic(auto, unfolding(crate::specs::Reading::operation_of))]

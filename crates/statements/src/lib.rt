@@ -23,6 +23,6 @@ pub use action::{
 };
 pub use collective_line::{Broadcasting, Gathering, Reducing, ReducingToAll, Scattering};
 pub use layout_line::{Blocks, LayoutForm, LayoutLine, OldLayout, Stripes};
-pub use payload::Operation;
 pub use reading::{action_of, receiving_of, sending_of};
 pub use tokens::{LineError, Name, ParseError, Token, Tokens};
+pub use vocabulary::Operation;

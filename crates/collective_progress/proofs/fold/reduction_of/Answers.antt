@@ -2,14 +2,11 @@
 use Rattle.std.proofs.Common.{rules}
 use Rattle.collective_progress.proofs.fold.reduction_of.Goals as goal
 
-pub op_of-requires : goal.op_of-requires
-op_of-requires c = search rules
-
 pub basic-requires : goal.basic-requires
 basic-requires c = search rules
 
-pub on-requires : goal.on-requires
-on-requires c = search rules
+pub new-requires : goal.new-requires
+new-requires c = search rules
 
 pub returns-in_default : goal.returns-in_default
 returns-in_default c = search rules

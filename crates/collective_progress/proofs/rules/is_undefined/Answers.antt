@@ -2,9 +2,6 @@
 use Rattle.std.proofs.Common.{rules}
 use Rattle.collective_progress.proofs.rules.is_undefined.Goals as goal
 
-pub op_of-requires : goal.op_of-requires
-op_of-requires c = search rules
-
 pub buffer-requires : goal.buffer-requires
 buffer-requires c = search rules
 
