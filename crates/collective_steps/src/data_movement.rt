@@ -219,7 +219,7 @@ fn leaving_on(
     bcast_step(alloc, own, inside, &all)
 }
 
-/// Member 0 leaves with these elements, and tells them all others.
+/// Member 0 leaves with these elements, and tells them these members.
 fn telling_all(
     alloc: Global,
     own: Endpoint,
@@ -243,12 +243,11 @@ fn telling_all(
     }
 }
 
-/// A reduction to all, at member 0 (MPI 3.1, 5.9.6).
+/// A reduction to all, at member 0, which tells those right below it (MPI 3.1, 5.9.6).
 pub(crate) fn allreduce_step(
     alloc: Global,
     own: Endpoint,
     inside: &Inside,
-    ranks: &[u16],
     notes: &[Note],
     progress: &Progress,
     operation: Operation,
@@ -257,7 +256,7 @@ pub(crate) fn allreduce_step(
     requires { IsProgress inside.now notes.now progress.now }
     ensures ok { IfOk result
         (λ step. step ≡
-        telling_all own inside.now ranks.now
+        telling_all own inside.now inside.now.role.onward
         (reduce_blocks own inside.now notes.now inside.now.role.feeders operation block.now)) }
     ensures err { IsOkUnless result CollectiveRefusal.OutOfMemory }
 {
@@ -271,7 +270,7 @@ pub(crate) fn allreduce_step(
         operation,
         block,
     ) {
-        Ok(made) => telling_all(alloc, own, inside, ranks, made),
+        Ok(made) => telling_all(alloc, own, inside, inside.role.onward(), made),
         Err(_) => Err(CollectiveRefusal::OutOfMemory),
     }
 }

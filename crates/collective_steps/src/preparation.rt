@@ -425,16 +425,7 @@ fn decision_step(
             )
         }
         Entry::Allreduce(op, block) => {
-            allreduce_step(
-                alloc,
-                own,
-                inside,
-                inside.role.onward(),
-                notes,
-                progress,
-                *op,
-                block.buffer(),
-            )
+            allreduce_step(alloc, own, inside, notes, progress, *op, block.buffer())
         }
         Entry::Dup => copy_step(alloc, own, inside, contexts, group),
         Entry::Split(_) => split_step(alloc, own, inside, contexts, group, notes, progress),
