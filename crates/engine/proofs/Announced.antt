@@ -4,7 +4,7 @@ use Rattle.std.proofs.Common.{Some, None, refl, sym, ap, subst, ◌∙◌}
 use Rattle.std.specs.Prelude.{All, IfErr, OnOk}
 use Rattle.std.proofs.lemmas.List.{length-map}
 use Rattle.std.proofs.lemmas.List.Elements.{All-cons, All-nil}
-use Rattle.datagram.specs.Spelling.{RequestText}
+use Rattle.datagram.specs.Spelling.{RequestText, OutgoingText}
 use Rattle.incarnation.specs.declared.place.Place.{Place}
 use Rattle.point_to_point_calls.specs.Hearing.{bad_unless, data_frame, data_frames, framed}
 use Rattle.point_to_point_calls.specs.Refusals.{IsRefusal}
@@ -13,15 +13,14 @@ use Rattle.point_to_point_calls.specs.declared.refusal.Refusal.TheVariants as re
 use Rattle.point_to_point.proofs.Replies.{data_go}
 use Rattle.rendezvous.specs.Pieces.{pieces_of}
 use Rattle.rendezvous.specs.declared.piece.Piece.{Piece}
-use Rattle.sessions.specs.Events.{AreFor, CanSend, Sending, sendings}
+use Rattle.sessions.specs.Events.{AreFor, CanSend, sendings}
 use Rattle.sessions.specs.Heard.{HeardText}
-use Rattle.sessions.specs.declared.heard.Outgoing.{Outgoing}
+use Rattle.datagram.specs.declared.frame.Outgoing.{Outgoing}
 use Rattle.vocabulary.specs.Modes.{is_standard}
 use Rattle.vocabulary.specs.declared.mode.Mode.{Mode}
 use Rattle.vocabulary.specs.declared.mode.Mode.TheVariants.{Standard, Synchronous}
 use Rattle.engine.proofs.Replies.{can_send, data_are_for}
 use Rattle.engine.specs.Datagrams.{answer_to, data_sent}
-use Rattle.engine_calls.specs.Frames.{outgoing_of, sending_of}
 use Rattle.engine_calls.specs.Refusals.{first_fault}
 
 -- ---- the answer to an announcement
@@ -50,29 +49,27 @@ mode_fault Synchronous b limit other is = absurd (other refl)
 -- ---- data
 
 said : (rank transfer : ℕ) (ps : List Piece) →
-    sendings (map (λ (p : Piece). outgoing_of (framed rank transfer p)) ps)
-    ≡ map sending_of (map (data_frame rank transfer) (map (λ (p : Piece). (p.offset, p.bytes.now)) ps))
+    sendings (map (framed rank transfer) ps)
+    ≡ map (data_frame rank transfer) (map (λ (p : Piece). (p.offset, p.bytes.now)) ps)
 said rank transfer [] = refl
 said rank transfer (p ∷ ps) =
-    ap (λ (rest : List Sending). sending_of (data_frame rank transfer (p.offset, p.bytes.now)) ∷ rest)
+    ap (λ (rest : List OutgoingText). data_frame rank transfer (p.offset, p.bytes.now) ∷ rest)
     (said rank transfer ps)
 
 -- what is handed to the sessions is the data, all of them in order
 pub data_are : (rank transfer : ℕ) (os : List Outgoing) (ps qs : List Piece) (bytes : List ℕ) →
-    os ≡ map (λ (p : Piece). outgoing_of (framed rank transfer p)) qs → qs ≡ ps →
+    os ≡ map (framed rank transfer) qs → qs ≡ ps →
     map (λ (p : Piece). (p.offset, p.bytes.now)) ps ≡ pieces_of bytes → sendings os ≡ data_sent rank transfer bytes
 data_are rank transfer os ps qs bytes made same are =
-    ap sendings made ∙ ap (λ (xs : List Piece). sendings (map (λ (p : Piece). outgoing_of (framed rank transfer p)) xs))
-    same ∙ said rank transfer ps
-    ∙ ap (λ (xs : List (ℕ × List ℕ)). map sending_of (data_frames rank transfer xs)) are
+    ap sendings made ∙ ap (λ (xs : List Piece). sendings (map (framed rank transfer) xs)) same ∙ said rank transfer ps
+    ∙ ap (λ (xs : List (ℕ × List ℕ)). data_frames rank transfer xs) are
 
 -- they go to the rank that asked for them
 pub data_go_to : (rank transfer count : ℕ) (bytes : List ℕ) → count ≡ length (pieces_of bytes) →
     AreFor rank count (data_sent rank transfer bytes)
 data_go_to rank transfer count bytes is = record {
   each = data_are_for rank transfer (pieces_of bytes);
-  many = length-map (data_frames rank transfer (pieces_of bytes)) sending_of ∙
-      length-map (pieces_of bytes) (data_frame rank transfer) ∙ sym is;
+  many = length-map (pieces_of bytes) (data_frame rank transfer) ∙ sym is;
 }
 
 -- the sessions can send them

@@ -12,6 +12,7 @@ use Rattle.collective_steps.specs.declared.step.Ending.{Ending}
 use Rattle.collective_transfers.specs.State as payloads
 use Rattle.collective_transfers.specs.State.{is_due, whole_with}
 use Rattle.datagram.specs.Spelling.{BodyText, DataText, EagerText, FrameBody, AckBody, ResetBody, DatagramText}
+use Rattle.datagram.specs.Spelling.{OutgoingText}
 use Rattle.datagram.specs.Reading.{datagram_of}
 use Rattle.incarnation.specs.declared.judgement.Judgement.{Judgement}
 use Rattle.incarnation.specs.declared.judgement.Judgement.TheVariants.{Current, Learn}
@@ -28,7 +29,7 @@ use Rattle.sessions.specs.Peers.{peer_at}
 use Rattle.sessions.specs.SessionsState.{SessionsState, knowledge}
 use Rattle.sessions.specs.Heard.{WordText, HeardText, heard_by, heard_in, heard_of, said, session_met, stale, word_of}
 use Rattle.sessions.specs.Events as links
-use Rattle.sessions.specs.Events.{Sending, TurnedAway, after_send, after_sends, taught_known}
+use Rattle.sessions.specs.Events.{TurnedAway, after_send, after_sends, taught_known}
 use Rattle.engine_calls.specs.EngineState.{EngineState, GroupsState}
 use Rattle.engine_calls.specs.Refusals.{of_sessions}
 use Rattle.engine.specs.Datagrams.{
@@ -119,13 +120,13 @@ judged_knows (Err judgings.NotForMe) s d bytes each is = tt
 judged_knows (Err judgings.StaleSource) s d bytes each is = tt
 
 -- frames that are sent teach nothing
-known_sends : (s : SessionsState) (fs : List Sending) → (after_sends s fs).known ≡ s.known
+known_sends : (s : SessionsState) (fs : List OutgoingText) → (after_sends s fs).known ≡ s.known
 known_sends s [] = refl
 known_sends s (f ∷ fs) = known_sends (after_send s f) fs
 
 -- what was heard was carried out, with these frames
 pub record IsCarried (old : SessionsState) (h : HeardText) (new : SessionsState) : Type 0 where
-  pub frames : List Sending
+  pub frames : List OutgoingText
   pub carried : new ≡ links.after_event old (Some h) frames
 
 piece_carried : (due : Bool) (w : Option Whole) (old new : EngineState) (h : HeardText) (t : DataText) (x : Unit {0}) →

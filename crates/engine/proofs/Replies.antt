@@ -2,7 +2,6 @@
 use Rattle.std.proofs.Common.{◌≡◌, ℕ, ◌<◌, List, [], ◌∷◌, length, map, Option, Some, None, refl, sym, ap, subst, ◌∙◌}
 use Rattle.std.specs.Prelude.{All}
 use Rattle.std.specs.List.{AllByRecursion}
-use Rattle.std.proofs.lemmas.List.{length-map}
 use Rattle.std.proofs.lemmas.List.Elements.{All-cons, All-nil}
 use Rattle.vocabulary.specs.declared.endpoint.Endpoint.{Endpoint}
 use Rattle.vocabulary.specs.BasicTypes.{size_of}
@@ -10,6 +9,7 @@ use Rattle.datatypes.specs.Contents.{bytes_of}
 use Rattle.datagram.specs.declared.kinds.Clearance.{Clearance}
 use Rattle.datagram.specs.declared.kinds.Clearance.TheVariants.{Send, Drop}
 use Rattle.datagram.specs.Spelling.{ClearFrame, DataFrame, EagerFrame, FrameText, RequestFrame, RequestText}
+use Rattle.datagram.specs.Spelling.{OutgoingText, outgoing_text}
 use Rattle.incarnation.specs.declared.place.Place.{Place}
 use Rattle.match_queues.specs.Arrivals.{arrival_at}
 use Rattle.match_queues.specs.declared.envelope.PostedReceive.{PostedReceive}
@@ -19,25 +19,23 @@ use Rattle.rendezvous.specs.Pieces.{pieces_of}
 use Rattle.rendezvous.specs.State.{offered}
 use Rattle.requests.specs.declared.table.TableEntry.{TableEntry}
 use Rattle.point_to_point.specs.CoreState.{CoreState}
-use Rattle.point_to_point_calls.specs.declared.sends.Addressed.{Addressed}
-use Rattle.point_to_point_calls.specs.Frames.{FrameFor, addressed_text, as_list}
+use Rattle.datagram.specs.declared.frame.Outgoing.{Outgoing}
+use Rattle.point_to_point_calls.specs.Frames.{as_list}
 use Rattle.point_to_point_calls.specs.Hearing.{CanGo, announced_of, data_frames, wanted_frames}
 use Rattle.point_to_point.specs.Arrivals.{called_for, news_frames, after_lesson}
 use Rattle.point_to_point_calls.specs.Receiving.{answer_on_arrival}
-use Rattle.sessions.specs.declared.heard.Outgoing.{Outgoing}
 use Rattle.sessions.specs.declared.refusal.SessionRefusal as lower
 use Rattle.sessions.specs.declared.refusal.SessionRefusal.TheVariants as lowers
 use Rattle.sessions.specs.Refusals as lowest
-use Rattle.sessions.specs.Events.{AreFor, CanSend, Sending, sendings}
+use Rattle.sessions.specs.Events.{AreFor, CanSend, sendings}
 use Rattle.sessions.specs.Heard.{HeardText}
-use Rattle.engine_calls.specs.Frames.{outgoing_of, sending_of}
 use Rattle.engine.specs.Datagrams.{frame_in, news_of, replies}
 
 -- ---- to whom they go
 
 -- all of these frames are for this rank
-abbrev pub AreFramesFor : ℕ → List FrameFor → Type 0
-AreFramesFor rank fs = AllByRecursion (λ f. f.rank ≡ rank) (map sending_of fs)
+abbrev pub AreFramesFor : ℕ → List OutgoingText → Type 0
+AreFramesFor rank fs = AllByRecursion (λ f. f.target ≡ rank) fs
 
 pub data_are_for : (rank transfer : ℕ) (ps : List (ℕ × List ℕ)) → AreFramesFor rank (data_frames rank transfer ps)
 data_are_for rank transfer [] = tt
@@ -70,34 +68,31 @@ pub replies_are_for : (c : CoreState) (h : HeardText) (count : ℕ) → count �
 replies_are_for c h count is =
     record {
       each = called_are_for (after_lesson h.lesson c h.source) h.source (frame_in h.word);
-      many = length-map (news_frames c (news_of h)) sending_of ∙ sym is;
+      many = sym is;
     }
 
 -- ---- the sessions can send them
 
-pub can_send : (size : ℕ) (place : Place) (fs : List FrameFor) → size ≡ place.size → AllByRecursion (CanGo size) fs →
-    All (CanSend place) (map sending_of fs)
+pub can_send : (size : ℕ) (place : Place) (fs : List OutgoingText) → size ≡ place.size →
+    AllByRecursion (CanGo size) fs →
+    All (CanSend place) fs
 can_send size place [] same go = All-nil (CanSend place)
 can_send size place (f ∷ fs) same go =
-    All-cons (CanSend place) (sending_of f) (map sending_of fs)
-    (record { there = subst (λ (n : ℕ). f.rank < n) same go.0.there; fits = go.0.fits })
+    All-cons (CanSend place) f fs
+    (record { there = subst (λ (n : ℕ). f.target < n) same go.0.there; fits = go.0.fits })
     (can_send size place fs same go.1)
 
-said : (fs : List Addressed) → sendings (map outgoing_of fs) ≡ map sending_of (map addressed_text fs)
-said [] = refl
-said (f ∷ fs) = ap (λ (rest : List Sending). sending_of (addressed_text f) ∷ rest) (said fs)
-
 -- what the program hands to the sessions says what the core calls for
-pub outgoing_says : (c : CoreState) (h : HeardText) (os : List Outgoing) (fs : List Addressed) →
-    os ≡ map outgoing_of fs →
-    map addressed_text fs ≡ news_frames c (news_of h) → sendings os ≡ replies c h
-outgoing_says c h os fs made are = ap sendings made ∙ said fs ∙ ap (map sending_of) are
+pub outgoing_says : (c : CoreState) (h : HeardText) (os : List Outgoing) (fs : List Outgoing) →
+    os ≡ fs →
+    map outgoing_text fs ≡ news_frames c (news_of h) → sendings os ≡ replies c h
+outgoing_says c h os fs same are = ap sendings same ∙ are
 
 pub outgoing_can_go : (c : CoreState) (place : Place) (h : HeardText) (os : List Outgoing) → sendings os ≡ replies c h →
     c.place ≡ place →
     AllByRecursion (CanGo c.place.size) (news_frames c (news_of h)) → All (CanSend place) (sendings os)
 outgoing_can_go c place h os says same go =
-    subst (λ (fs : List Sending). All (CanSend place) fs) (sym says)
+    subst (λ (fs : List OutgoingText). All (CanSend place) fs) (sym says)
     (can_send c.place.size place (news_frames c (news_of h)) (ap (λ (p : Place). p.size) same) go)
 
 -- ---- what becomes of it

@@ -7,7 +7,7 @@ use Rattle.std.proofs.lemmas.List.Sorted.{length_permutation}
 use Rattle.std.specs.Option.{is_some}
 use Rattle.vocabulary.specs.declared.endpoint.Endpoint.{Endpoint}
 use Rattle.datagram.specs.declared.refusal.DatagramRefusal as reading
-use Rattle.datagram.specs.Spelling.{AckBody, BodyText, DatagramText, FrameBody, FrameText, ResetBody}
+use Rattle.datagram.specs.Spelling.{AckBody, BodyText, DatagramText, FrameBody, FrameText, ResetBody, OutgoingText}
 use Rattle.datagram.specs.Reading.{datagram_of}
 use Rattle.reliable_link.specs.ReceiverState.{ReceiverState, advanced, discarded}
 use Rattle.sessions.specs.declared.peers.Peer.{Peer}
@@ -18,7 +18,7 @@ use Rattle.datagram.specs.declared.frame.Frame.{Frame}
 use Rattle.sessions.specs.declared.heard.LinkEvent.{LinkEvent}
 use Rattle.sessions.specs.declared.heard.LinkEvent.TheVariants as words
 use Rattle.sessions.specs.Heard.{CanHear, Follows, Hands, HeardText, WordText, session_met, word_text}
-use Rattle.sessions.specs.Events.{Sending, after_event, after_heard, after_send, after_sends, answer_in, event_limit}
+use Rattle.sessions.specs.Events.{after_event, after_heard, after_send, after_sends, answer_in, event_limit}
 use Rattle.sessions.specs.Events.{next_bytes, out_on_accept, taught_known}
 use Rattle.sessions.specs.Following.{turn_of, turn_of_body, turn_read}
 use Rattle.sessions.specs.Arranging.{IsArranged, IsInOrder}
@@ -90,10 +90,11 @@ receiver_kept (a ∷ rest) zero (suc r) p is = refl
 receiver_kept (a ∷ rest) (suc q) zero p is = refl
 receiver_kept (a ∷ rest) (suc q) (suc r) p is = receiver_kept rest q r p is
 
-receiver_sends : (s : SessionsState) (fs : List Sending) (rank : ℕ) → (peer_at (after_sends s fs).peers rank).receiver ≡
+receiver_sends : (s : SessionsState) (fs : List OutgoingText) (rank : ℕ) →
+    (peer_at (after_sends s fs).peers rank).receiver ≡
     (peer_at s.peers rank).receiver
 receiver_sends s [] rank = refl
-receiver_sends s (f ∷ fs) rank = receiver_sends (after_send s f) fs rank ∙ receiver_kept s.peers f.rank rank _ refl
+receiver_sends s (f ∷ fs) rank = receiver_sends (after_send s f) fs rank ∙ receiver_kept s.peers f.target rank _ refl
 
 -- the acknowledgement that was spelled before says what is reached behind it
 ack_is : (s mid : SessionsState) (source : Endpoint) (h : HeardText) → IsTurnOf source h →
@@ -132,13 +133,13 @@ replaced old mid at source h ack t there gives is =
 
 -- ---- what goes out
 
-longer_sends : (s : SessionsState) (fs : List Sending) → length s.out ≤ length (after_sends s fs).out
+longer_sends : (s : SessionsState) (fs : List OutgoingText) → length s.out ≤ length (after_sends s fs).out
 longer_sends s [] = omega arith
 longer_sends s (f ∷ fs) =
     omega (
       arith,
       longer_sends (after_send s f) fs,
-      length-append s.out (out_on_accept (peer_at s.peers f.rank).sender f.rank (next_bytes s f)),
+      length-append s.out (out_on_accept (peer_at s.peers f.target).sender f.target (next_bytes s f)),
     )
 
 -- what went out stays

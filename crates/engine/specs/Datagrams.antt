@@ -15,6 +15,7 @@ use Rattle.collectives.specs.declared.collective.ReadyMessage.{ReadyMessage}
 use Rattle.collective_steps.specs.declared.step.Ending.{Ending}
 use Rattle.datagram.specs.Reading.{datagram_of}
 use Rattle.datagram.specs.Spelling.{ClearFrame, ClearText, DataFrame, DataText, DatagramText, EagerFrame, EagerText}
+use Rattle.datagram.specs.Spelling.{OutgoingText}
 use Rattle.datagram.specs.Spelling.{FrameText, RequestFrame, RequestText, clear_text, data_text, eager_text}
 use Rattle.datagram.specs.Spelling.{request_text}
 use Rattle.datagram.specs.declared.kinds.Clearance.{Clearance}
@@ -34,7 +35,7 @@ use Rattle.rendezvous.specs.Pieces.{pieces_of}
 use Rattle.rendezvous.specs.State.{is_next, with_announced}
 use Rattle.rendezvous.specs.declared.transfers.Numbers.{Numbers}
 use Rattle.sessions.specs.Arranging.{IsArranged}
-use Rattle.sessions.specs.Events.{Sending, TurnedAway, after_event, event_limit}
+use Rattle.sessions.specs.Events.{TurnedAway, after_event, event_limit}
 use Rattle.sessions.specs.Following.{acknowledged_at, ready_from, turn_of, without_ready}
 use Rattle.sessions.specs.Heard.{Acknowledges, Follows, Hands, HeardText, Holds, Nothing, Repeats, WordText, heard_of}
 use Rattle.sessions.specs.SessionsState.{SessionsState}
@@ -46,7 +47,7 @@ use Rattle.engine.specs.declared.notices.ReceivedPayload.{ReceivedPayload}
 use Rattle.engine.specs.declared.notice_kinds.Notice.{Notice}
 use Rattle.engine.specs.declared.notice_kinds.Notice.TheVariants as notices
 use Rattle.engine_calls.specs.EngineState.{EngineState, GroupsState, or_before}
-use Rattle.engine_calls.specs.Frames.{AreWhole, sending_of, step_limit, step_numbers, step_payloads, step_sendings}
+use Rattle.engine_calls.specs.Frames.{AreWhole, step_limit, step_numbers, step_payloads, step_sendings}
 use Rattle.engine_calls.specs.Refusals.{fault_of_sessions, first_fault, of_sessions}
 use Rattle.engine_calls.specs.Steps.{ending_met}
 
@@ -101,8 +102,8 @@ hold_fault Nothing = None
 -- ---- messages, and words alone
 
 -- the frames that a core calls for then, as the sessions are to send them
-abbrev pub replies : CoreState → HeardText → List Sending
-replies c h = map sending_of (news_frames c (news_of h))
+abbrev pub replies : CoreState → HeardText → List OutgoingText
+replies c h = news_frames c (news_of h)
 
 -- the first rule or limit that it meets: the rules of a frame first
 abbrev pub heard_fault : EngineState → HeardText → Option Refusal
@@ -227,8 +228,9 @@ NoticeGives old h t (Err e) new = WhyUnnoticed old h (whole_in t) e × (new ≡ 
 -- ---- payloads of collectives that are announced to the rank
 
 -- the answer: 'send', whether or not the rank has entered the collective, or has left it (our own)
-abbrev pub answer_to : HeardText → RequestText → Sending
-answer_to h t = record { rank = h.source.rank; frame = ClearFrame (record { clearance = Send; transfer = t.transfer }) }
+abbrev pub answer_to : HeardText → RequestText → OutgoingText
+answer_to h t =
+    record { target = h.source.rank; frame = ClearFrame (record { clearance = Send; transfer = t.transfer }) }
 
 -- what comes from then on
 abbrev pub coming_by : HeardText → RequestText → Coming
@@ -269,16 +271,16 @@ AnnouncementGives old h t (Err e) new = IsRefusal (announcement_fault old.core o
 -- ---- payloads of collectives that the rank announced
 
 -- the data of a payload of these bytes, all of them in order
-abbrev pub data_sent : (rank transfer : ℕ) → List ℕ → List Sending
-data_sent rank transfer bytes = map sending_of (data_frames rank transfer (pieces_of bytes))
+abbrev pub data_sent : (rank transfer : ℕ) → List ℕ → List OutgoingText
+data_sent rank transfer bytes = data_frames rank transfer (pieces_of bytes)
 
 -- the same of one that was announced, where one was
-abbrev pub data_of : (rank transfer : ℕ) → Option Announced → List Sending
+abbrev pub data_of : (rank transfer : ℕ) → Option Announced → List OutgoingText
 data_of rank transfer None = []
 data_of rank transfer (Some a) = data_sent rank transfer a.bytes
 
 -- the data that an answer asks for
-abbrev pub data_for : payloads.State → HeardText → ClearText → List Sending
+abbrev pub data_for : payloads.State → HeardText → ClearText → List OutgoingText
 data_for p h t = data_of h.source.rank t.transfer (announced_to p h.source.rank t.transfer)
 
 -- a payload of a collective is always wanted: an answer that says otherwise is refused (our own)

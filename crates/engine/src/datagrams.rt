@@ -10,7 +10,6 @@ ghost use Rattle.sessions.specs.Windows.{StaysWithin};
 ghost use Rattle.sessions.specs.Heard.{heard_text, word_text, CanHear, WordFits};
 ghost use Rattle.sessions.specs.Events.{after_event, event_limit};
 ghost use Rattle.engine_calls.specs.EngineState.{or_before};
-ghost use Rattle.engine_calls.specs.Frames.{outgoing_of};
 ghost use Rattle.engine_calls.specs.Refusals.{fault_of_sessions};
 ghost use Rattle.engine_calls.specs.Steps.{engine_held};
 ghost use Rattle.engine.specs.Datagrams.{DatagramGives, HeardGives, NewsGives, SourceIsKnown, RefusedDatagramLeaves};
@@ -28,8 +27,8 @@ use communicators::Communicators;
 use datagram::{Eager, Frame, Plane};
 use engine_calls::of_sessions;
 use payload::read_payload;
-use point_to_point::{Addressed, Core, News, PreparedNews, Refusal};
-use sessions::{Heard, LinkEvent, Outgoing, Sessions};
+use point_to_point::{Core, News, PreparedNews, Refusal};
+use sessions::{Heard, LinkEvent, Sessions};
 use std::alloc::Global;
 
 /// The frame that is handed up, if one is.
@@ -107,24 +106,6 @@ fn news_of<'a>(heard: Heard<'a>) -> News<'a>
     }
 }
 
-/// Frames of a core, as the sessions take them; or want of memory.
-fn outgoing_of<'a>(alloc: Global, frames: &[Addressed<'a>]) -> Result<Vec<Outgoing<'a>>, Refusal>
-    ensures ok { IfOk result (λ outgoing. outgoing.items ≡ map outgoing_of frames.now) }
-    ensures err { IfErr result (λ e. e ≡ Refusal.OutOfMemory) }
-{
-    match frames
-        .iter()
-        .map(|addressed| Outgoing {
-            target: addressed.rank,
-            frame: addressed.frame,
-        })
-        .collect(alloc)
-    {
-        Ok(outgoing) => Ok(outgoing),
-        Err(_) => Err(Refusal::OutOfMemory),
-    }
-}
-
 /// The sessions take in what is heard, which breaks no rule and meets no limit, and send the frames that the core calls
 /// for; or there is no memory (14), and nothing changes.
 fn carry_out(
@@ -148,8 +129,7 @@ fn carry_out(
     ensures placed { sessions.new.place ≡ sessions.old.place }
 {
     let frames = core.frames_for(news_of(heard), ready)?;
-    let outgoing = outgoing_of(*frames.allocator(), &frames)?;
-    match sessions.carry_out(Some(heard), &outgoing) {
+    match sessions.carry_out(Some(heard), &frames) {
         Ok(()) => Ok(()),
         Err(refused) => Err(of_sessions(refused)),
     }

@@ -1,21 +1,19 @@
 //! How payloads of collectives go in pieces: announcements and answers of them.
 
-ghost use Rattle.std.specs.Prelude.{◌≡◌, ◌≤◌, ◌<◌, [], ◌∷◌, All, List, true, length, map, is_some, IfErr, IfOk, None};
+ghost use Rattle.std.specs.Prelude.{◌≡◌, ◌≤◌, ◌<◌, [], ◌∷◌, All, List, true, length, is_some, IfErr, IfOk, None};
 ghost use Rattle.std.specs.Prelude.{Ok, OnErr, OnOk, Option, Some};
 ghost use Rattle.collective_steps.specs.declared.step.Ending.{Ending};
 ghost use Rattle.collective_transfers.specs.State.{after_answer, announced_to};
-ghost use Rattle.datagram.specs.Spelling.{clear_text, request_text};
-ghost use Rattle.point_to_point_calls.specs.Hearing.{framed};
+ghost use Rattle.datagram.specs.Spelling.{clear_text, request_text, OutgoingText};
 ghost use Rattle.point_to_point_calls.specs.Refusals.{IsRefusal};
 ghost use Rattle.point_to_point.specs.CoreState.{with_numbers};
 ghost use Rattle.point_to_point.specs.Arrivals.{after_news};
 ghost use Rattle.rendezvous.specs.State.{with_announced};
 ghost use Rattle.sessions.specs.Windows.{StaysWithin};
 ghost use Rattle.sessions.specs.Heard.{heard_text, CanHear};
-ghost use Rattle.sessions.specs.Events.{AreFor, CanSend, Sending, after_event, event_limit, sendings};
+ghost use Rattle.sessions.specs.Events.{AreFor, CanSend, after_event, event_limit, sendings};
 ghost use Rattle.vocabulary.specs.Limits.{send_limit};
 ghost use Rattle.engine_calls.specs.EngineState.{or_before};
-ghost use Rattle.engine_calls.specs.Frames.{outgoing_of};
 ghost use Rattle.engine_calls.specs.Refusals.{fault_of_sessions};
 ghost use Rattle.engine_calls.specs.Steps.{engine_held};
 ghost use Rattle.engine.specs.Datagrams.{AnnouncementGives, announcement_fault, answer_fault, answer_to, coming_by};
@@ -25,18 +23,19 @@ use crate::notices::{forget, learn, lesson_in, numbers_met};
 use collective_transfers::{CollectiveTransfers, ComingPayload};
 use collectives::Ending;
 use communicators::Communicators;
-use datagram::{ClearToSend, Clearance, Data, Frame, RequestToSend};
+use datagram::{ClearToSend, Clearance, Frame, Outgoing, RequestToSend};
 use engine_calls::of_sessions;
 use point_to_point::{Core, News, Refusal};
-use rendezvous::{Piece, announce, count_of, pieces_of};
-use sessions::{Heard, Outgoing, Sessions};
+use point_to_point_calls::frames_of;
+use rendezvous::{announce, count_of, pieces_of};
+use sessions::{Heard, Sessions};
 use std::alloc::Global;
 use vocabulary::Mode;
 
 /// The limit that what is heard meets, which so many frames answer: see `Sessions::limit_of_replies`.
 pub(crate) fn limit_of(sessions: &Sessions, heard: Heard<'_>, count: usize) -> Option<Refusal>
     requires { CanHear sessions.now (Some (heard_text heard)) }
-    ensures { (frames : List Sending) → AreFor heard.entry.source.rank count frames →
+    ensures { (frames : List OutgoingText) → AreFor heard.entry.source.rank count frames →
         result ≡ fault_of_sessions (event_limit sessions.now (Some (heard_text heard.entry)) frames) }
 {
     match sessions.limit_of_replies(heard, count) {
@@ -224,33 +223,6 @@ pub(crate) fn take_announcement(
             Ok(learn(communicators, lesson))
         }
         Err(refused) => Err(refused),
-    }
-}
-
-/// The frames of pieces of a transfer for a rank; or want of memory (14).
-fn frames_of<'a>(
-    alloc: Global,
-    rank: u16,
-    transfer: u32,
-    pieces: &[Piece<'a>],
-) -> Result<Vec<Outgoing<'a>>, Refusal>
-    ensures ok { IfOk result (λ frames. frames.items ≡ map (λ piece. outgoing_of (framed rank transfer piece)) pieces.now) }
-    ensures err { IfErr result (λ e. e ≡ Refusal.OutOfMemory) }
-{
-    match pieces
-        .iter()
-        .map(|piece| Outgoing {
-            target: rank,
-            frame: Frame::Data(Data {
-                transfer,
-                offset: piece.offset,
-                bytes: piece.bytes,
-            }),
-        })
-        .collect(alloc)
-    {
-        Ok(frames) => Ok(frames),
-        Err(_) => Err(Refusal::OutOfMemory),
     }
 }
 

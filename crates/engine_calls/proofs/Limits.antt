@@ -5,7 +5,7 @@ use Rattle.std.specs.Prelude.{option_map}
 use Rattle.vocabulary.specs.declared.envelope.Source.{Source}
 use Rattle.vocabulary.specs.declared.envelope.Source.TheVariants.{Any, Rank, Null}
 use Rattle.vocabulary.specs.declared.mode.Mode.{Mode}
-use Rattle.datagram.specs.Spelling.{FrameText}
+use Rattle.datagram.specs.Spelling.{FrameText, OutgoingText}
 use Rattle.datatypes.specs.Contents.{Contents}
 use Rattle.incarnation.specs.declared.place.Place.{Place}
 use Rattle.requests.specs.Regions.{sent_from}
@@ -16,7 +16,6 @@ use Rattle.point_to_point_calls.specs.declared.refusal.Refusal.{Refusal}
 use Rattle.point_to_point_calls.specs.Calls.{NeedsMemory}
 use Rattle.point_to_point.specs.Calls.{call_frame, call_rank}
 use Rattle.point_to_point.specs.CoreState.{CoreState}
-use Rattle.point_to_point_calls.specs.Frames.{FrameFor}
 use Rattle.point_to_point.specs.Messages.{message_frame}
 use Rattle.point_to_point.specs.Receiving.{receive_frame}
 use Rattle.point_to_point_calls.specs.Sending.{destination, frame_to, frame_unless, frame_with, rank_to, rank_unless}
@@ -29,15 +28,15 @@ use Rattle.engine_calls.specs.Refusals.{fault_of_sessions}
 
 -- every frame to this rank meets this limit
 abbrev pub IsLimitTo : SessionsState → (rank : ℕ) → Option lower.SessionRefusal → Type 0
-IsLimitTo s rank limit = (f : FrameText) → limit ≡ event_limit s None (record { rank = rank; frame = f } ∷ [])
+IsLimitTo s rank limit = (f : FrameText) → limit ≡ event_limit s None (record { target = rank; frame = f } ∷ [])
 
 -- a frame meets the limit of its rank
-met_by : (s : SessionsState) (o : Option FrameFor) (rank : ℕ) (limit : Option lower.SessionRefusal) →
-    option_map (λ f. f.rank) o ≡ Some rank →
+met_by : (s : SessionsState) (o : Option OutgoingText) (rank : ℕ) (limit : Option lower.SessionRefusal) →
+    option_map (λ f. f.target) o ≡ Some rank →
     IsLimitTo s rank limit → fault_of_sessions limit ≡ frame_limit s o
 met_by s None rank limit is met = absurd cc
 met_by s (Some f) rank limit is met =
-    let same : rank ≡ f.rank = sym (same_Some f.rank rank is) in
+    let same : rank ≡ f.target = sym (same_Some f.target rank is) in
     ap fault_of_sessions (subst (λ (r : ℕ). IsLimitTo s r limit) same met f.frame)
 
 -- by whether the destination is the own rank
@@ -49,7 +48,7 @@ met_unless : (s : SessionsState) (own : Bool) (t : State) (mode : Mode) (to tag 
 met_unless s true t mode to tag context m rank limit is met = absurd cc
 met_unless s false t mode to tag context m rank limit is met =
     met_by s (Some
-    (record { rank = to; frame = frame_with t mode (record { rank = to; tag = tag; context = context }) m })) rank
+    (record { target = to; frame = frame_with t mode (record { rank = to; tag = tag; context = context }) m })) rank
     limit is met
 
 -- by the destination
@@ -79,7 +78,7 @@ limit_is_met s c (Improbe p) rank limit is met = absurd cc
 limit_is_met s c (Mrecv message into) rank limit is met = met_by s (message_frame c message into) rank limit is met
 
 -- no frame meets no limit
-none_by : (s : SessionsState) (o : Option FrameFor) → option_map (λ f. f.rank) o ≡ None → frame_limit s o ≡ None
+none_by : (s : SessionsState) (o : Option OutgoingText) → option_map (λ f. f.target) o ≡ None → frame_limit s o ≡ None
 none_by s None is = refl
 none_by s (Some f) is = absurd cc
 
@@ -113,7 +112,7 @@ no_limit_is_met s c (Improbe p) is = refl
 no_limit_is_met s c (Mrecv message into) is = none_by s (message_frame c message into) is
 
 -- a call that has a frame needs memory
-pub frame_needs : (c : CoreState) (call : CoreCall) (f : FrameFor) → call_frame c call ≡ Some f → NeedsMemory call
+pub frame_needs : (c : CoreState) (call : CoreCall) (f : OutgoingText) → call_frame c call ≡ Some f → NeedsMemory call
 frame_needs c (Isend v) f is = tt
 frame_needs c (Irecv v) f is = tt
 frame_needs c (Wait q) f is = absurd cc

@@ -9,7 +9,7 @@ use Rattle.std.proofs.lemmas.List.Elements.{All-append, All-cons, All-filter, Al
 use Rattle.collective_messages.specs.Messages.{says}
 use Rattle.collective_messages.specs.declared.message.CollectiveMessage.{CollectiveMessage}
 use Rattle.collective_transfers.specs.Payloads.{Announced}
-use Rattle.datagram.specs.Spelling.{FrameFits}
+use Rattle.datagram.specs.Spelling.{FrameFits, OutgoingText}
 use Rattle.incarnation.specs.declared.place.Place.{Place}
 use Rattle.payload.specs.Spelling.{spelling}
 use Rattle.point_to_point_calls.specs.declared.refusal.Refusal.{Refusal}
@@ -19,10 +19,10 @@ use Rattle.rendezvous.specs.declared.transfers.Numbers.{Numbers}
 use Rattle.sessions.specs.declared.peers.Peer.{Peer}
 use Rattle.sessions.specs.declared.refusal.SessionRefusal as lower
 use Rattle.sessions.specs.declared.refusal.SessionRefusal.TheVariants as lowers
-use Rattle.sessions.specs.Events.{CanSend, Sending, after_event, after_heard, after_send, event_limit, first_limit}
+use Rattle.sessions.specs.Events.{CanSend, after_event, after_heard, after_send, event_limit, first_limit}
 use Rattle.sessions.specs.Events.{heard_limit, last_limit, sendings, sends_limit, word_limit}
 use Rattle.sessions.specs.Refusals.{IsRefusal}
-use Rattle.sessions.specs.declared.heard.Outgoing.{Outgoing}
+use Rattle.datagram.specs.declared.frame.Outgoing.{Outgoing}
 use Rattle.sessions.specs.Heard.{Acknowledges, Follows, Hands, HeardText, Holds, Nothing, Repeats, WordText}
 use Rattle.sessions.specs.Heard.{session_met}
 use Rattle.sessions.specs.Peers.{peer_at}
@@ -37,26 +37,27 @@ use Rattle.engine_calls.specs.declared.frames.Written.{Written}
 -- ---- one more message, one more rank
 
 more_chosen : (r : ℕ) (ws : List Written) (i : ℕ) (d : Written) → i < length ws →
-    filter (λ (f : Sending). f.rank == r) (map written (take (i + 1) ws))
-    ≡ filter (λ (f : Sending). f.rank == r) (map written (take i ws)) ++
-    filter (λ (f : Sending). f.rank == r) (written (get_or ws i d) ∷ [])
+    filter (λ (f : OutgoingText). f.target == r) (map written (take (i + 1) ws))
+    ≡ filter (λ (f : OutgoingText). f.target == r) (map written (take i ws)) ++
+    filter (λ (f : OutgoingText). f.target == r) (written (get_or ws i d) ∷ [])
 more_chosen r ws i d within =
-    ap (filter (λ (f : Sending). f.rank == r)) (map_more written ws i d within)
-    ∙ filter-append (λ (f : Sending). f.rank == r) (map written (take i ws)) (written (get_or ws i d) ∷ [])
+    ap (filter (λ (f : OutgoingText). f.target == r)) (map_more written ws i d within)
+    ∙ filter-append (λ (f : OutgoingText). f.target == r) (map written (take i ws)) (written (get_or ws i d) ∷ [])
 
 -- the next one is put behind those that were chosen, if it is chosen
-pub one_chosen : (r : ℕ) (ws : List Written) (i : ℕ) (d : Written) (old before after : List Sending) → i < length ws →
-    before ≡ old ++ filter (λ (f : Sending). f.rank == r) (map written (take i ws)) →
-    after ≡ before ++ filter (λ (f : Sending). f.rank == r) (written (get_or ws i d) ∷ []) →
-    after ≡ old ++ filter (λ (f : Sending). f.rank == r) (map written (take (i + 1) ws))
+pub one_chosen : (r : ℕ) (ws : List Written) (i : ℕ) (d : Written) (old before after : List OutgoingText) →
+    i < length ws →
+    before ≡ old ++ filter (λ (f : OutgoingText). f.target == r) (map written (take i ws)) →
+    after ≡ before ++ filter (λ (f : OutgoingText). f.target == r) (written (get_or ws i d) ∷ []) →
+    after ≡ old ++ filter (λ (f : OutgoingText). f.target == r) (map written (take (i + 1) ws))
 one_chosen r ws i d old before after within was is =
-    let next : List Sending = filter (λ (f : Sending). f.rank == r) (written (get_or ws i d) ∷ []) in
-    is ∙ ap (λ (t : List Sending). t ++ next) was ∙
-    append_assoc old (filter (λ (f : Sending). f.rank == r) (map written (take i ws))) next
-    ∙ ap (λ (t : List Sending). old ++ t) (sym (more_chosen r ws i d within))
+    let next : List OutgoingText = filter (λ (f : OutgoingText). f.target == r) (written (get_or ws i d) ∷ []) in
+    is ∙ ap (λ (t : List OutgoingText). t ++ next) was ∙
+    append_assoc old (filter (λ (f : OutgoingText). f.target == r) (map written (take i ws))) next
+    ∙ ap (λ (t : List OutgoingText). old ++ t) (sym (more_chosen r ws i d within))
 
-pub by_rank_more : (k : ℕ) (fs : List Sending) → by_rank (k + 1) fs ≡ by_rank k fs ++
-    filter (λ (f : Sending). f.rank == k) fs
+pub by_rank_more : (k : ℕ) (fs : List OutgoingText) → by_rank (k + 1) fs ≡ by_rank k fs ++
+    filter (λ (f : OutgoingText). f.target == k) fs
 by_rank_more k fs =
     let next : k + 1 ≡ suc k = omega arith in ap (λ n. by_rank n fs) next
 
@@ -86,7 +87,8 @@ numbers_snoc ns (x ∷ xs) m = numbers_snoc (numbers_after ns x) xs m
 sent_snoc : (ns : List Numbers) (xs : List CollectiveMessage) (m : CollectiveMessage) →
     messages_sent ns (xs ++ m ∷ []) ≡ messages_sent ns xs ++ sending_of_message (step_numbers ns xs) m ∷ []
 sent_snoc ns [] m = refl
-sent_snoc ns (x ∷ xs) m = ap (λ (t : List Sending). sending_of_message ns x ∷ t) (sent_snoc (numbers_after ns x) xs m)
+sent_snoc ns (x ∷ xs) m =
+    ap (λ (t : List OutgoingText). sending_of_message ns x ∷ t) (sent_snoc (numbers_after ns x) xs m)
 
 -- what is kept of one message
 abbrev kept_of : List Numbers → CollectiveMessage → List Announced
@@ -112,14 +114,14 @@ whole_snoc : (xs : List CollectiveMessage) (m : CollectiveMessage) → AreWhole 
 whole_snoc [] m all one = (one, tt)
 whole_snoc (x ∷ xs) m all one = (all.0, whole_snoc xs m all.1 one)
 
-snoc : (p : Place) (ns : List Numbers) (xs : List CollectiveMessage) (m : CollectiveMessage) (fs gs : List Sending)
+snoc : (p : Place) (ns : List Numbers) (xs : List CollectiveMessage) (m : CollectiveMessage) (fs gs : List OutgoingText)
     (ps qs : List Announced) (n2 n3 : List Numbers) →
     AreReady p ns xs fs ps n2 → IsAdded p n2 m fs gs ps qs n3 → AreReady p ns (xs ++ m ∷ []) gs qs n3
 snoc p ns xs m fs gs ps qs n2 n3 ready added =
     let one : IsAdded p (step_numbers ns xs) m fs gs ps qs n3 = subst (λ (n : List Numbers). IsAdded p n m fs gs ps qs n3) ready.numbers added in
     record {
       go = go_snoc p ns xs m ∙ ap (λ (b : Bool). b && can_go p (step_numbers ns xs) m) ready.go ∙ one.goes;
-      frames = one.frames ∙ ap (λ (t : List Sending). t ++ sending_of_message (step_numbers ns xs) m ∷
+      frames = one.frames ∙ ap (λ (t : List OutgoingText). t ++ sending_of_message (step_numbers ns xs) m ∷
           []) ready.frames ∙ sym (sent_snoc ns xs m);
       kept = one.kept ∙ ap (λ (t : List Announced). t ++ kept_of (step_numbers ns xs) m) ready.kept ∙
           sym (kept_snoc ns xs m);
@@ -136,7 +138,7 @@ taken_more (m ∷ ms) (suc i) d within =
 
 -- one more is written out
 pub one_more : (p : Place) (ns : List Numbers) (ms : List CollectiveMessage) (i : ℕ) (d : CollectiveMessage)
-    (fs gs : List Sending) (ps qs : List Announced) (n2 n3 : List Numbers) →
+    (fs gs : List OutgoingText) (ps qs : List Announced) (n2 n3 : List Numbers) →
     i < length ms → AreReady p ns (take i ms) fs ps n2 → IsAdded p n2 (get_or ms i d) fs gs ps qs n3 →
     AreReady p ns (take (i + 1) ms) gs qs n3
 one_more p ns ms i d fs gs ps qs n2 n3 within ready added =
@@ -188,7 +190,7 @@ stops_as l k refusals.ClockBack so is = absurd is
 
 -- where one message isn't written out, its step isn't
 pub one_left_out : (p : Place) (ns n2 : List Numbers) (ms : List CollectiveMessage) (i : ℕ) (d : CollectiveMessage)
-    (fs : List Sending) (ps : List Announced) (e : Refusal) →
+    (fs : List OutgoingText) (ps : List Announced) (e : Refusal) →
     i < length ms → AreReady p ns (take i ms) fs ps n2 → IsLeftOut (can_go p n2 (get_or ms i d)) e →
     IsLeftOut (all_can_go p ns ms) e
 one_left_out p ns n2 ms i d fs ps e within ready is =
@@ -274,12 +276,12 @@ all_send p ns (m ∷ ms) is =
     (all_send p (numbers_after ns m) ms parts.1)
 
 -- and what was written out of one
-pub written_send : (p q : Place) (ns n2 : List Numbers) (ms : List CollectiveMessage) (fs gs : List Sending)
+pub written_send : (p q : Place) (ns n2 : List Numbers) (ms : List CollectiveMessage) (fs gs : List OutgoingText)
     (ps : List Announced) → p ≡ q → gs ≡ fs →
     AreReady p ns ms fs ps n2 → All (CanSend q) gs
 written_send p q ns n2 ms fs gs ps place same ready =
     subst (λ (r : Place). All (CanSend r) gs) place
-    (subst (λ (hs : List Sending). All (CanSend p) hs) (sym (same ∙ ready.frames)) (all_send p ns ms ready.go))
+    (subst (λ (hs : List OutgoingText). All (CanSend p) hs) (sym (same ∙ ready.frames)) (all_send p ns ms ready.go))
 
 numbers_stay : (b : Bool) (ns : List Numbers) (rank : ℕ) (n : Numbers) → length (cond b (set ns rank n) ns) ≡ length ns
 numbers_stay true ns rank n = length-set ns rank n
@@ -290,11 +292,11 @@ pub as_many : (ns : List Numbers) (ms : List CollectiveMessage) → length (step
 as_many ns [] = refl
 as_many ns (m ∷ ms) = as_many (numbers_after ns m) ms ∙ numbers_stay (is_large m) ns m.target.rank _
 
-pub all_by_rank : (p : Place) (k : ℕ) (fs : List Sending) → All (CanSend p) fs → All (CanSend p) (by_rank k fs)
+pub all_by_rank : (p : Place) (k : ℕ) (fs : List OutgoingText) → All (CanSend p) fs → All (CanSend p) (by_rank k fs)
 all_by_rank p zero fs all = All-nil (CanSend p)
 all_by_rank p (suc k) fs all =
-    All-append (CanSend p) (by_rank k fs) (filter (λ (f : Sending). f.rank == k) fs) (all_by_rank p k fs all)
-    (All-filter (λ (f : Sending). f.rank == k) (CanSend p) fs all)
+    All-append (CanSend p) (by_rank k fs) (filter (λ (f : OutgoingText). f.target == k) fs) (all_by_rank p k fs all)
+    (All-filter (λ (f : OutgoingText). f.target == k) (CanSend p) fs all)
 
 -- ---- why a step is stopped
 
@@ -318,7 +320,7 @@ heard_limited : (s : SessionsState) (h : Option HeardText) (e : lower.SessionRef
 heard_limited s None e is = absurd cc
 heard_limited s (Some h) e is = word_limited h.word (session_met h.lesson (peer_at s.peers h.source.rank)) e is
 
-sends_limited : (s : SessionsState) (fs : List Sending) (e : lower.SessionRefusal) → sends_limit s fs ≡ Some e →
+sends_limited : (s : SessionsState) (fs : List OutgoingText) (e : lower.SessionRefusal) → sends_limit s fs ≡ Some e →
     e ≡ lowers.Limit
 sends_limited s [] e is = absurd cc
 sends_limited s (f ∷ fs) e is = go _ (sends_limited (after_send s f) fs e) is
@@ -328,7 +330,7 @@ sends_limited s (f ∷ fs) e is = go _ (sends_limited (after_send s f) fs e) is
     go true rest q = cc
     go false rest q = rest q
 
-event_limited : (s : SessionsState) (h : Option HeardText) (fs : List Sending) (e : lower.SessionRefusal) →
+event_limited : (s : SessionsState) (h : Option HeardText) (fs : List OutgoingText) (e : lower.SessionRefusal) →
     event_limit s h fs ≡ Some e → e ≡ lowers.Limit
 event_limited s h fs e is = go (heard_limit s h) refl is
   where
@@ -373,44 +375,46 @@ by_limit (Some f) e limit only is refused =
     (is ∙ ap (λ (g : lower.SessionRefusal). Some (of_sessions g)) named)
 
 -- the sessions refuse the frames
-pub sessions_stop : (s : SessionsState) (h : Option HeardText) (gs fs : List Sending) (e : lower.SessionRefusal) →
+pub sessions_stop : (s : SessionsState) (h : Option HeardText) (gs fs : List OutgoingText) (e : lower.SessionRefusal) →
     fs ≡ gs → IsRefusal (event_limit s h fs) e →
     StepStops (fault_of_sessions (event_limit s h gs)) (of_sessions e)
 sessions_stop s h gs fs e are refused =
     by_limit (event_limit s h gs) e (fault_of_sessions (event_limit s h gs)) (event_limited s h gs) refl
-    (subst (λ (hs : List Sending). IsRefusal (event_limit s h hs) e) are refused)
+    (subst (λ (hs : List OutgoingText). IsRefusal (event_limit s h hs) e) are refused)
 
 -- what was written out is stopped as its step is
 pub step_stops : (p : Place) (s : SessionsState) (ns n2 : List Numbers) (h : Option HeardText)
-    (ms : List CollectiveMessage) (fs gs : List Sending) (ps : List Announced) (e : Refusal) →
+    (ms : List CollectiveMessage) (fs gs : List OutgoingText) (ps : List Announced) (e : Refusal) →
     p ≡ s.place → gs ≡ fs → AreReady p ns ms fs ps n2 →
     StepStops (fault_of_sessions (event_limit s h (by_rank s.place.size gs))) e → StepStops (step_limit s ns h ms) e
 step_stops p s ns n2 h ms fs gs ps e place same ready is =
     let here : AreReady s.place ns ms fs ps n2 = subst (λ (q : Place). AreReady q ns ms fs ps n2) place ready in
     subst (λ (l : Option Refusal). StepStops l e)
-    (ap (λ (hs : List Sending). fault_of_sessions (event_limit s h (by_rank s.place.size hs))) (same ∙ here.frames) ∙
+    (ap (λ (hs : List OutgoingText). fault_of_sessions (event_limit s h (by_rank s.place.size hs)))
+    (same ∙ here.frames) ∙
     sym (fit_limit s ns h ms here.go)) is
 
 -- it goes as its step does
 pub step_goes : (p : Place) (s : SessionsState) (ns n2 : List Numbers) (h : Option HeardText)
-    (ms : List CollectiveMessage) (fs gs : List Sending) (ps : List Announced) →
+    (ms : List CollectiveMessage) (fs gs : List OutgoingText) (ps : List Announced) →
     p ≡ s.place → gs ≡ fs → AreReady p ns ms fs ps n2 → event_limit s h (by_rank s.place.size gs) ≡ None →
     step_limit s ns h ms ≡ None
 step_goes p s ns n2 h ms fs gs ps place same ready is =
     let here : AreReady s.place ns ms fs ps n2 = subst (λ (q : Place). AreReady q ns ms fs ps n2) place ready in
     fit_limit s ns h ms here.go ∙
-    ap (λ (hs : List Sending). fault_of_sessions (event_limit s h (by_rank s.place.size hs)))
+    ap (λ (hs : List OutgoingText). fault_of_sessions (event_limit s h (by_rank s.place.size hs)))
     (sym (same ∙ here.frames)) ∙ ap fault_of_sessions is
 
 -- and leaves what its step does
 pub step_sent : (p : Place) (s t : SessionsState) (ns n2 : List Numbers) (h : Option HeardText)
-    (ms : List CollectiveMessage) (fs gs : List Sending) (ps : List Announced) →
+    (ms : List CollectiveMessage) (fs gs : List OutgoingText) (ps : List Announced) →
     gs ≡ fs → AreReady p ns ms fs ps n2 → t ≡ after_event s h (by_rank s.place.size gs) →
     t ≡ after_event s h (step_sendings s.place ns ms)
 step_sent p s t ns n2 h ms fs gs ps same ready is =
-    is ∙ ap (λ (hs : List Sending). after_event s h (by_rank s.place.size hs)) (same ∙ ready.frames)
+    is ∙ ap (λ (hs : List OutgoingText). after_event s h (by_rank s.place.size hs)) (same ∙ ready.frames)
 
 -- what is handed to the sessions is what was written out, in the order of the ranks
-pub frames_are : (p q : Place) (fs : List Sending) (os us : List Outgoing) → q ≡ p → sendings os ≡ by_rank q.size fs →
+pub frames_are : (p q : Place) (fs : List OutgoingText) (os us : List Outgoing) → q ≡ p →
+    sendings os ≡ by_rank q.size fs →
     us ≡ os → sendings us ≡ by_rank p.size fs
 frames_are p q fs os us place sorted last = ap sendings last ∙ sorted ∙ ap (λ (r : Place). by_rank r.size fs) place

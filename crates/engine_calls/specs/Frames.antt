@@ -5,20 +5,17 @@ use Rattle.std.specs.List.{AllByRecursion}
 use Rattle.collective_messages.specs.Messages.{IsWithinType, says}
 use Rattle.collective_messages.specs.declared.message.CollectiveMessage.{CollectiveMessage}
 use Rattle.collective_transfers.specs.Payloads.{Announced}
-use Rattle.datagram.specs.Spelling.{EagerFrame, FrameText, RequestFrame}
+use Rattle.datagram.specs.Spelling.{EagerFrame, FrameText, RequestFrame, OutgoingText}
 use Rattle.datagram.specs.declared.kinds.Plane.TheVariants.{Collective}
 use Rattle.incarnation.specs.declared.place.Place.{Place}
 use Rattle.payload.specs.Spelling.{PayloadFits, spelling}
-use Rattle.point_to_point_calls.specs.Frames.{FrameFor}
 use Rattle.point_to_point_calls.specs.declared.refusal.Refusal.{Refusal}
 use Rattle.point_to_point_calls.specs.declared.refusal.Refusal.TheVariants as refusals
-use Rattle.point_to_point_calls.specs.declared.sends.Addressed.{Addressed}
 use Rattle.rendezvous.specs.State.{is_full_to, next_to, with_begun}
 use Rattle.rendezvous.specs.declared.transfers.Numbers.{Numbers}
-use Rattle.sessions.specs.Events.{Sending, after_event, event_limit}
+use Rattle.sessions.specs.Events.{after_event, event_limit}
 use Rattle.sessions.specs.Heard.{HeardText}
 use Rattle.sessions.specs.SessionsState.{SessionsState}
-use Rattle.sessions.specs.declared.heard.Outgoing.{Outgoing}
 use Rattle.vocabulary.specs.declared.mode.Mode.TheVariants.{Standard}
 use Rattle.vocabulary.specs.declared.basic_type.BasicType.TheVariants.{Byte}
 use Rattle.vocabulary.specs.Limits.{eager_limit, highest_tag, send_limit}
@@ -26,28 +23,15 @@ use Rattle.engine_calls.specs.Refusals.{fault_of_sessions}
 
 -- THE FRAME OF A CALL
 
--- a frame for a rank, as the sessions are to send it
-abbrev pub sending_of : FrameFor → Sending
-sending_of f = record { rank = f.rank; frame = f.frame }
-
--- a frame of the core as the program hands it to the sessions
-abbrev pub outgoing_of : Addressed → Outgoing
-outgoing_of a = record { target = a.rank; frame = a.frame }
-
--- what the sessions are to send
-abbrev pub sendings_of : Option FrameFor → List Sending
-sendings_of None = []
-sendings_of (Some f) = sending_of f ∷ []
-
 -- the sessions once the frame, if the call has one, is on its way
-abbrev pub after_frame : SessionsState → Option FrameFor → SessionsState
+abbrev pub after_frame : SessionsState → Option OutgoingText → SessionsState
 after_frame s None = s
-after_frame s (Some f) = after_event s None (sendings_of (Some f))
+after_frame s (Some f) = after_event s None (f ∷ [])
 
 -- the limit that the frame meets
-abbrev pub frame_limit : SessionsState → Option FrameFor → Option Refusal
+abbrev pub frame_limit : SessionsState → Option OutgoingText → Option Refusal
 frame_limit s None = None
-frame_limit s (Some f) = fault_of_sessions (event_limit s None (sendings_of (Some f)))
+frame_limit s (Some f) = fault_of_sessions (event_limit s None (f ∷ []))
 
 -- THE FRAMES OF A COLLECTIVE
 
@@ -87,12 +71,12 @@ payload_frame (Some transfer) context number bytes = RequestFrame (record {
 
 -- a message of a collective, as the sessions are to send it: a frame of bytes, which spell its payload, or their
 -- announcement
-abbrev pub sending_of_message : List Numbers → CollectiveMessage → Sending
+abbrev pub sending_of_message : List Numbers → CollectiveMessage → OutgoingText
 sending_of_message ns m =
-    record { rank = m.target.rank; frame = payload_frame (transfer_of ns m) m.context m.number (spelling (says m)) }
+    record { target = m.target.rank; frame = payload_frame (transfer_of ns m) m.context m.number (spelling (says m)) }
 
 -- those of a list, one after the other: each announcement counts
-abbrev pub messages_sent : List Numbers → List CollectiveMessage → List Sending
+abbrev pub messages_sent : List Numbers → List CollectiveMessage → List OutgoingText
 messages_sent ns [] = []
 messages_sent ns (m ∷ ms) = sending_of_message ns m ∷ messages_sent (numbers_after ns m) ms
 
@@ -113,12 +97,12 @@ step_payloads ns (m ∷ ms) = payload_kept (transfer_of ns m) m.target.rank (spe
     step_payloads (numbers_after ns m) ms
 
 -- frames in the order of the ranks that they go to, of so many ranks; those for one rank stay in their order
-abbrev pub by_rank : (ranks : ℕ) → List Sending → List Sending
+abbrev pub by_rank : (ranks : ℕ) → List OutgoingText → List OutgoingText
 by_rank zero fs = []
-by_rank (suc k) fs = by_rank k fs ++ filter (λ (f : Sending). f.rank == k) fs
+by_rank (suc k) fs = by_rank k fs ++ filter (λ (f : OutgoingText). f.target == k) fs
 
 -- what a step of a collective sends
-abbrev pub step_sendings : Place → List Numbers → List CollectiveMessage → List Sending
+abbrev pub step_sendings : Place → List Numbers → List CollectiveMessage → List OutgoingText
 step_sendings p ns ms = by_rank p.size (messages_sent ns ms)
 
 -- whether so many bytes can go to a rank: in a frame; or, up to 1,048,576 of them, under a number that is left for a

@@ -9,7 +9,7 @@ use Rattle.collective_transfers.specs.State as payloads
 use Rattle.communicators.specs.Members.{Held}
 use Rattle.collective_steps.specs.declared.step.Ending.{Ending}
 use Rattle.context_agreement.specs.Communicators.{ContextsState}
-use Rattle.datagram.specs.Spelling.{EagerFrame, FrameText, RequestFrame}
+use Rattle.datagram.specs.Spelling.{EagerFrame, FrameText, RequestFrame, OutgoingText}
 use Rattle.datagram.specs.declared.kinds.Plane.TheVariants.{Collective}
 use Rattle.incarnation.specs.declared.place.Place.{Place}
 use Rattle.payload.specs.Spelling.{spelling}
@@ -17,7 +17,6 @@ use Rattle.point_to_point_calls.specs.declared.refusal.Refusal.{Refusal}
 use Rattle.point_to_point_calls.specs.declared.refusal.Refusal.TheVariants as refusals
 use Rattle.point_to_point.specs.CoreState as cores
 use Rattle.rendezvous.specs.declared.transfers.Numbers.{Numbers}
-use Rattle.sessions.specs.Events.{Sending}
 use Rattle.sessions.specs.SessionsState.{SessionsState}
 use Rattle.vocabulary.specs.declared.mode.Mode.TheVariants.{Standard}
 use Rattle.vocabulary.specs.declared.basic_type.BasicType.TheVariants.{Byte}
@@ -55,12 +54,12 @@ part_frame context number count (parts.Announced transfer) = RequestFrame (recor
 })
 
 -- what is sent of it
-abbrev pub written : Written → Sending
-written w = record { rank = w.target; frame = part_frame w.context w.number w.count w.part }
+abbrev pub written : Written → OutgoingText
+written w = record { target = w.target; frame = part_frame w.context w.number w.count w.part }
 
 -- One more message is written out behind others: it can go, its frame stands behind theirs, its payload is kept where
 -- it is announced, and it is counted then
-pub record IsAdded (p : Place) (ns : List Numbers) (m : CollectiveMessage) (fs gs : List Sending)
+pub record IsAdded (p : Place) (ns : List Numbers) (m : CollectiveMessage) (fs gs : List OutgoingText)
     (ps qs : List Announced) (ns2 : List Numbers) : Type 0 where
   pub goes : can_go p ns m ≡ true
   pub frames : gs ≡ fs ++ sending_of_message ns m ∷ []
@@ -70,7 +69,7 @@ pub record IsAdded (p : Place) (ns : List Numbers) (m : CollectiveMessage) (fs g
 
 -- all messages of a step are written out: each can go, these are their frames, these payloads are kept, and they are
 -- counted
-pub record AreReady (p : Place) (ns : List Numbers) (ms : List CollectiveMessage) (fs : List Sending)
+pub record AreReady (p : Place) (ns : List Numbers) (ms : List CollectiveMessage) (fs : List OutgoingText)
     (ps : List Announced) (ns2 : List Numbers) : Type 0 where
   pub go : all_can_go p ns ms ≡ true
   pub frames : fs ≡ messages_sent ns ms

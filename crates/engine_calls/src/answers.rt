@@ -15,7 +15,7 @@ use crate::reply::Reply;
 use crate::routed_call::{RoutedCall, reply_of_core, share_members};
 use communicators::Communicators;
 use point_to_point::{Core, HandedBack, PreparedCall, Refusal};
-use sessions::{Outgoing, Sessions};
+use sessions::Sessions;
 use std::alloc::Global;
 
 /// Sends the frame of what the core is asked, if it has one, which meets no limit: it is lent from the call, or from
@@ -37,12 +37,8 @@ fn send_frame(
     ensures few { length sessions.new.out ≤ length sessions.old.out + 1 }
     ensures placed { sessions.new.place ≡ sessions.old.place }
 {
-    let Some(addressed) = core.frame_of(call, prepared) else {
+    let Some(outgoing) = core.frame_of(call, prepared) else {
         return Ok(());
-    };
-    let outgoing = Outgoing {
-        target: addressed.rank,
-        frame: addressed.frame,
     };
     match sessions.carry_out(None, &[outgoing]) {
         Ok(()) => Ok(()),

@@ -3,8 +3,9 @@
 ghost use Rattle.std.specs.Prelude.{◌≡◌, ◌≤◌, ◌++◌, ◌==◌, [], ◌∷◌, false, All, IfErr, IfOk, IfSome, None, Some, OnErr};
 ghost use Rattle.std.specs.Prelude.{OnOk, filter, length, map};
 ghost use Rattle.collective_messages.specs.Messages.{IsFitting, says};
+ghost use Rattle.datagram.specs.Spelling.{outgoing_text};
 ghost use Rattle.payload.specs.Spelling.{spelling};
-ghost use Rattle.sessions.specs.Events.{CanSend, after_event, event_limit, sending_text, sendings};
+ghost use Rattle.sessions.specs.Events.{CanSend, after_event, event_limit, sendings};
 ghost use Rattle.sessions.specs.Heard.{CanHear, heard_option};
 ghost use Rattle.sessions.specs.Windows.{StaysWithin};
 ghost use Rattle.vocabulary.specs.Limits.{eager_limit, send_limit};
@@ -17,12 +18,12 @@ ghost use Rattle.engine_calls.specs.Steps.{AreReady, IsAdded, IsLeftOut, StepSto
 use crate::refusal::of_sessions;
 use collective_messages::CollectiveMessage;
 use collective_transfers::{AnnouncedPayload, CollectiveTransfers};
-use datagram::{Eager, Frame, Plane, RequestToSend};
+use datagram::{Eager, Frame, Outgoing, Plane, RequestToSend};
 use incarnation::Place;
 use payload::write_payload;
 use point_to_point::Refusal;
 use rendezvous::{Numbers, begin, is_full_to};
-use sessions::{Heard, Outgoing, Sessions};
+use sessions::{Heard, Sessions};
 use std::alloc::Global;
 use vocabulary::{BasicType, EAGER_LIMIT, HIGHEST_TAG, Mode, SEND_LIMIT};
 
@@ -230,7 +231,7 @@ fn write_each(
 
 /// The frame of a message that was written out.
 fn frame_of(message: &Written) -> Outgoing<'_>
-    ensures { sending_text result ≡ written message.now }
+    ensures { outgoing_text result ≡ written message.now }
 {
     let frame = match &message.part {
         FrameContent::Whole(bytes) => Frame::Eager(Eager {
@@ -298,7 +299,7 @@ fn add_if_for<'a>(
     frames: &mut Vec<Outgoing<'a>>,
 ) -> Result<(), Refusal>
     ensures ok { OnOk result (sendings frames.new.items ≡ sendings frames.old.items ++
-        filter (λ f. f.rank == rank) (written message.now ∷ [])) }
+        filter (λ f. f.target == rank) (written message.now ∷ [])) }
     ensures err { IfErr result (λ e. e ≡ Refusal.OutOfMemory) }
 {
     if message.target != rank {
@@ -314,7 +315,7 @@ fn add_for<'a>(
     frames: &mut Vec<Outgoing<'a>>,
 ) -> Result<(), Refusal>
     ensures ok { OnOk result (sendings frames.new.items ≡ sendings frames.old.items ++
-        filter (λ f. f.rank == rank) (map written messages.now)) }
+        filter (λ f. f.target == rank) (map written messages.now)) }
     ensures err { IfErr result (λ e. e ≡ Refusal.OutOfMemory) }
 {
     for message in messages {

@@ -1,7 +1,7 @@
 ghost use Rattle.std.specs.Prelude.{◌↔◌, IsTrue};
 ghost use Rattle.datagram.specs.Spelling.{frame_text, FrameFits};
 
-use datagram::{ClearToSend, Clearance, Data, Eager, Frame, Plane, RequestToSend};
+use datagram::{ClearToSend, Clearance, Data, Eager, Frame, Outgoing, Plane, RequestToSend};
 use sessions::*;
 use std::alloc::Global;
 use vocabulary::{BasicType, Endpoint, Mode};

@@ -3,8 +3,8 @@ use Rattle.std.proofs.Common.{◌≡◌, List, Option, Some, None, refl, ap, ◌
 use Rattle.std.specs.Prelude.{IfOk}
 use Rattle.std.specs.declared.result.Result.{Result}
 use Rattle.std.specs.declared.result.Result.TheVariants.{Ok, Err}
+use Rattle.datagram.specs.Spelling.{OutgoingText}
 use Rattle.rendezvous.specs.Collecting.{Collecting}
-use Rattle.point_to_point_calls.specs.Frames.{FrameFor}
 use Rattle.point_to_point_calls.specs.declared.refusal.Refusal.{Refusal}
 use Rattle.match_queues.specs.declared.envelope.Message.{Message}
 use Rattle.match_queues.specs.declared.envelope.PostedReceive.{PostedReceive}
@@ -50,7 +50,8 @@ collection_as (Ok x) c m n f same is found =
     found ∙ collection_found c m f is ∙ ap (λ (k : Message). collection_on_arrival c.slots (arrival_of c.queues k)) same
 collection_as (Err e) c m n f same is found = tt
 
-pub answer_as : (a : Option FrameFor) (c : CoreState) (m n : Message) (f : Option Match) → m ≡ n → f ≡ match_of c m →
+pub answer_as : (a : Option OutgoingText) (c : CoreState) (m n : Message) (f : Option Match) → m ≡ n →
+    f ≡ match_of c m →
     a ≡ answer_by_match f m → a ≡ answer_on_arrival c.slots (arrival_of c.queues n)
 answer_as a c m n f same is found =
     found ∙ answer_found c m f is ∙ ap (λ (k : Message). answer_on_arrival c.slots (arrival_of c.queues k)) same

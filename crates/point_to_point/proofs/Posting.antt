@@ -5,6 +5,7 @@ use Rattle.std.specs.Prelude.{IfSome, slice_get}
 use Rattle.std.specs.List.{AllByRecursion}
 use Rattle.std.proofs.lemmas.Bool.{cases_lt}
 use Rattle.std.proofs.lemmas.Option.{slice_get-get_or, slice_get_past}
+use Rattle.datagram.specs.Spelling.{OutgoingText}
 use Rattle.vocabulary.specs.declared.envelope.Source.{Source}
 use Rattle.vocabulary.specs.declared.envelope.Source.TheVariants as sources
 use Rattle.match_queues.specs.declared.envelope.Message.{Message}
@@ -17,9 +18,9 @@ use Rattle.requests.specs.Table.{has_room, message_in, progress_of, slot_at}
 use Rattle.requests.specs.declared.table.TableEntry.{TableEntry}
 use Rattle.requests.specs.declared.table.Request.{Request}
 use Rattle.point_to_point_calls.specs.declared.call.CoreReceive.{CoreReceive}
-use Rattle.point_to_point_calls.specs.declared.sends.Addressed.{Addressed}
+use Rattle.datagram.specs.declared.frame.Outgoing.{Outgoing}
 use Rattle.point_to_point.specs.CoreState.{CoreState, IsAnswerable, IsAnswerableAt, IsKept}
-use Rattle.point_to_point_calls.specs.Frames.{FrameFor, addressed}
+use Rattle.point_to_point_calls.specs.Frames.{addressed}
 use Rattle.point_to_point_calls.specs.Receiving.{answer_by, answer_on_post}
 use Rattle.point_to_point.specs.Messages.{found_for, message_frame, probed_by}
 use Rattle.point_to_point.specs.Receiving.{found_by, receive_frame}
@@ -51,41 +52,42 @@ found_is_answerable size ms None all = tt
 found_is_answerable size ms (Some i) all = one_of_all size ms i all
 
 there_by : (size : ℕ) (wanted : Bool) (m : Message) (b : Body) → IsAnswerable size m b →
-    IfSome (answer_by wanted m b) (λ (f : FrameFor). f.rank < size)
+    IfSome (answer_by wanted m b) (λ (f : OutgoingText). f.target < size)
 there_by size wanted m (Whole elements) answerable = tt
 there_by size wanted m (Own own) answerable = tt
 there_by size wanted m (Announced a) answerable = answerable
 
 there_on_post : (size : ℕ) (r : Region) (o : Option Message) → IfSome o (λ (m : Message). IsAnswerable size m m.body) →
-    IfSome (answer_on_post r o) (λ (f : FrameFor). f.rank < size)
+    IfSome (answer_on_post r o) (λ (f : OutgoingText). f.target < size)
 there_on_post size r None answerable = tt
 there_on_post size r (Some m) answerable =
     there_by size (has_room r (basic_of m.body) (count_of m.body)) m m.body answerable
 
 there_for : (c : CoreState) (v : CoreReceive) → IsKept c.place c.queues c.transfers c.slots →
-    IfSome (answer_on_post v.into (found_by c v)) (λ (f : FrameFor). f.rank < c.place.size)
+    IfSome (answer_on_post v.into (found_by c v)) (λ (f : OutgoingText). f.target < c.place.size)
 there_for c v kept =
     there_on_post c.place.size v.into (found_by c v)
     (found_is_answerable c.place.size c.queues.unexpected (message_for (posted_by 0 v) c.queues.unexpected)
     kept.answerable)
 
 there_from : (s : Source) (c : CoreState) (v : CoreReceive) → IsKept c.place c.queues c.transfers c.slots →
-    IfSome (receive_frame s c v) (λ (f : FrameFor). f.rank < c.place.size)
+    IfSome (receive_frame s c v) (λ (f : OutgoingText). f.target < c.place.size)
 there_from sources.Any c v kept = there_for c v kept
 there_from (sources.Rank rank) c v kept = there_for c v kept
 there_from sources.Null c v kept = tt
 
-said : (size : ℕ) (a : Option Addressed) → IfSome (addressed a) (λ (f : FrameFor). f.rank < size) →
-    IfSome a (λ (x : Addressed). x.rank < size)
+said : (size : ℕ) (a : Option Outgoing) → IfSome (addressed a) (λ (f : OutgoingText). f.target < size) →
+    IfSome a (λ (x : Outgoing). x.target < size)
 said size None there = tt
 said size (Some a) there = there
 
 -- the answer goes to a rank of the job
-pub answer_is_there : (c : CoreState) (v : CoreReceive) (a : Option Addressed) →
+pub answer_is_there : (c : CoreState) (v : CoreReceive) (a : Option Outgoing) →
     IsKept c.place c.queues c.transfers c.slots →
-    addressed a ≡ receive_frame v.source c v → IfSome a (λ (x : Addressed). x.rank < c.place.size)
+    addressed a ≡ receive_frame v.source c v → IfSome a (λ (x : Outgoing). x.target < c.place.size)
 answer_is_there c v a kept is =
-    said c.place.size a (subst (λ (o : Option FrameFor). IfSome o (λ (f : FrameFor). f.rank < c.place.size)) (sym is)
+    said c.place.size a (subst (λ (o : Option OutgoingText). IfSome o (λ (f : OutgoingText). f.target < c.place.size))
+    (sym is)
     (there_from v.source c v kept))
 
 -- THE RECEIVE OF A MESSAGE
@@ -101,18 +103,19 @@ held_there size (Some e) serial here = go (e.serial == serial)
     go false = tt
 
 there_of : (c : CoreState) (q : Option Request) (into : Region) → IsKept c.place c.queues c.transfers c.slots →
-    IfSome (message_frame c q into) (λ (f : FrameFor). f.rank < c.place.size)
+    IfSome (message_frame c q into) (λ (f : OutgoingText). f.target < c.place.size)
 there_of c None into kept = tt
 there_of c (Some q) into kept =
     there_on_post c.place.size into (message_in (progress_of (slot_at c.slots q.key) q.serial))
     (held_there c.place.size (slot_at c.slots q.key) q.serial (kept.taken q.key))
 
 -- the answer to the sender of a message that is received goes to a rank of the job
-pub message_is_there : (c : CoreState) (q : Option Request) (into : Region) (a : Option Addressed) →
+pub message_is_there : (c : CoreState) (q : Option Request) (into : Region) (a : Option Outgoing) →
     IsKept c.place c.queues c.transfers c.slots →
-    addressed a ≡ message_frame c q into → IfSome a (λ (x : Addressed). x.rank < c.place.size)
+    addressed a ≡ message_frame c q into → IfSome a (λ (x : Outgoing). x.target < c.place.size)
 message_is_there c q into a kept is =
-    said c.place.size a (subst (λ (o : Option FrameFor). IfSome o (λ (f : FrameFor). f.rank < c.place.size)) (sym is)
+    said c.place.size a (subst (λ (o : Option OutgoingText). IfSome o (λ (f : OutgoingText). f.target < c.place.size))
+    (sym is)
     (there_of c q into kept))
 
 -- the message that a probe finds is answerable

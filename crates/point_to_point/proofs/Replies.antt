@@ -15,6 +15,7 @@ use Rattle.datatypes.specs.ContentLaws.{length-bytes_of}
 use Rattle.datagram.specs.declared.kinds.Clearance.{Clearance}
 use Rattle.datagram.specs.declared.kinds.Clearance.TheVariants.{Send, Drop}
 use Rattle.datagram.specs.Spelling.{EagerFrame, RequestFrame, ClearFrame, DataFrame, FrameText, RequestText}
+use Rattle.datagram.specs.Spelling.{OutgoingText}
 use Rattle.match_queues.specs.declared.envelope.PostedReceive.{PostedReceive}
 use Rattle.match_queues.specs.Arrivals.{arrival_at}
 use Rattle.match_queues.specs.State.{receive_at, receive_for}
@@ -26,7 +27,7 @@ use Rattle.rendezvous.specs.WholePieces.{AreCut, joined}
 use Rattle.rendezvous.proofs.PieceLaws.{pieces}
 use Rattle.requests.specs.declared.table.TableEntry.{TableEntry}
 use Rattle.point_to_point.specs.CoreState.{CoreState, IsKept, IsOfferFor}
-use Rattle.point_to_point_calls.specs.Frames.{FrameFor, as_list}
+use Rattle.point_to_point_calls.specs.Frames.{as_list}
 use Rattle.point_to_point_calls.specs.Receiving.{answer_on_arrival}
 use Rattle.point_to_point_calls.specs.Hearing.{CanGo, NewsText, announced_of, data_frame, data_frames, frame_fault}
 use Rattle.point_to_point_calls.specs.Hearing.{heard_fault, transfers_met, wanted_frames}
@@ -176,7 +177,7 @@ unfolding announced_of
 answer_goes size slots None s t there = tt
 answer_goes size slots (Some r) s t there = (record { fits = tt; there = there }, tt)
 
-one_at_most : (o : Option FrameFor) → length (as_list o) ≤ 1024
+one_at_most : (o : Option OutgoingText) → length (as_list o) ≤ 1024
 one_at_most None = omega arith
 one_at_most (Some f) = omega arith
 

@@ -3,6 +3,7 @@ use Rattle.std.specs.Prelude.{◌≡◌, ℕ, ◌<◌, ◌++◌, Bool, true, fal
 use Rattle.std.specs.Global.{Vec}
 use Rattle.vocabulary.specs.declared.endpoint.Endpoint.{Endpoint}
 use Rattle.datagram.specs.Spelling.{RequestText, FrameText, EagerFrame, RequestFrame, ClearFrame, DataFrame}
+use Rattle.datagram.specs.Spelling.{OutgoingText}
 use Rattle.match_queues.specs.declared.envelope.Message.{Message}
 use Rattle.match_queues.specs.Arrivals.{arrival_of}
 use Rattle.match_queues.specs.State as queues
@@ -10,7 +11,7 @@ use Rattle.match_queues.specs.State.{keys_naming, receive_at, receive_for}
 use Rattle.rendezvous.specs.Collecting.{Collecting}
 use Rattle.rendezvous.specs.State.{after_cts, after_data, after_drop, after_rts, given, keys_with, offered}
 use Rattle.requests.specs.Table.{after_replaces, keys_of_messages}
-use Rattle.point_to_point_calls.specs.Frames.{FrameFor, as_list}
+use Rattle.point_to_point_calls.specs.Frames.{as_list}
 use Rattle.point_to_point_calls.specs.Receiving.{answer_on_arrival, collection_on_arrival}
 use Rattle.point_to_point_calls.specs.declared.news.PreparedNews.{PreparedNews}
 use Rattle.point_to_point_calls.specs.declared.news.Match.{Match}
@@ -97,19 +98,19 @@ match_of c m = match_by c.slots (receive_at c.queues.posted (receive_for m c.que
 -- WHAT IT GIVES TO OTHERS
 
 -- the answer to an announcement, if a receive finds it
-abbrev pub answer_to_announced : CoreState → Endpoint → RequestText → Option FrameFor
+abbrev pub answer_to_announced : CoreState → Endpoint → RequestText → Option OutgoingText
 answer_to_announced c s t = answer_on_arrival c.slots (arrival_of c.queues (announced_of s t))
 
 -- the frames that a frame of an endpoint calls for: the answer to an announcement that is matched, and the data of an
 -- offer that are wanted
-abbrev pub frame_calls_for : CoreState → Endpoint → FrameText → List FrameFor
+abbrev pub frame_calls_for : CoreState → Endpoint → FrameText → List OutgoingText
 frame_calls_for c s (EagerFrame t) = []
 frame_calls_for c s (RequestFrame t) = as_list (answer_to_announced c s t)
 frame_calls_for c s (ClearFrame t) = wanted_frames s.rank t.clearance (offered c.transfers s.rank t.transfer)
 frame_calls_for c s (DataFrame t) = []
 
 -- the same of the frame that came, if one did
-abbrev pub called_for : CoreState → Endpoint → Option FrameText → List FrameFor
+abbrev pub called_for : CoreState → Endpoint → Option FrameText → List OutgoingText
 called_for c s None = []
 called_for c s (Some f) = frame_calls_for c s f
 
@@ -131,7 +132,7 @@ abbrev pub news_are_answered : CoreState → NewsText → Bool
 news_are_answered c n = any_is_answered (after_lesson n.lesson c n.source) n.source n.frame
 
 -- the frames that news call for, once the lesson is learnt
-abbrev pub news_frames : CoreState → NewsText → List FrameFor
+abbrev pub news_frames : CoreState → NewsText → List OutgoingText
 news_frames c n = called_for (after_lesson n.lesson c n.source) n.source n.frame
 
 -- WHAT IS MADE READY FOR IT

@@ -1,5 +1,6 @@
 -- What a call does to the core.
 use Rattle.std.specs.Prelude.{◌≡◌, ◌<◌, ℕ, true, length, Option, Some, None, option_map, is_some}
+use Rattle.datagram.specs.Spelling.{OutgoingText}
 use Rattle.vocabulary.specs.declared.envelope.Source.{Source}
 use Rattle.vocabulary.specs.declared.envelope.Source.TheVariants as sources
 use Rattle.requests.specs.declared.awaited_requests.Awaited.{Awaited}
@@ -21,7 +22,6 @@ use Rattle.point_to_point_calls.specs.Hearing.{first_of}
 use Rattle.point_to_point_calls.specs.Sending.{send_fault, destination, is_to_itself, announced_to, or_worn_out}
 use Rattle.point_to_point_calls.specs.Sending.{rank_to}
 use Rattle.point_to_point.specs.Sending.{or_full, frame_of, IsSending}
-use Rattle.point_to_point_calls.specs.Frames.{FrameFor}
 use Rattle.point_to_point.specs.Messages.{Receives, Searches, collection_on_message, found_for, message_fault}
 use Rattle.point_to_point.specs.Messages.{message_frame, probe_rule, region_rule, search_limit}
 use Rattle.point_to_point.specs.Waiting.{cancel_fault, wait_fault, Cancels, Tests, Waits}
@@ -103,7 +103,7 @@ IsCutFault c call =
 -- ITS FRAME
 
 -- the frame that a call gives to another rank
-abbrev pub call_frame : CoreState → CoreCall → Option FrameFor
+abbrev pub call_frame : CoreState → CoreCall → Option OutgoingText
 call_frame c (calls.Isend s) = frame_of c s
 call_frame c (calls.Irecv v) = receive_frame v.source c v
 call_frame c (calls.Wait q) = None
@@ -117,14 +117,14 @@ call_frame c (calls.Mrecv q into) = message_frame c q into
 -- to which other rank it goes
 abbrev pub call_rank : CoreState → CoreCall → Option ℕ
 call_rank c (calls.Isend s) = rank_to c.place (destination s.target s.tag s.context)
-call_rank c (calls.Irecv v) = option_map (λ f. f.rank) (receive_frame v.source c v)
+call_rank c (calls.Irecv v) = option_map (λ f. f.target) (receive_frame v.source c v)
 call_rank c (calls.Wait q) = None
 call_rank c (calls.Test q) = None
 call_rank c (calls.Waitany qs) = None
 call_rank c (calls.Waitall qs) = None
 call_rank c (calls.Cancel q) = None
 call_rank c (calls.Improbe p) = None
-call_rank c (calls.Mrecv q into) = option_map (λ f. f.rank) (message_frame c q into)
+call_rank c (calls.Mrecv q into) = option_map (λ f. f.target) (message_frame c q into)
 
 -- ---- what is made ready for it
 

@@ -1,5 +1,6 @@
 -- What probes look at and take out of the core, and how a message that was taken out is received (MPI 3.1, 3.8).
 use Rattle.std.specs.Prelude.{◌≡◌, ◌+◌, ℕ, List, Option, Some, None, if◌then◌else◌, option_map}
+use Rattle.datagram.specs.Spelling.{OutgoingText}
 use Rattle.vocabulary.specs.declared.envelope.Source.{Source}
 use Rattle.vocabulary.specs.declared.envelope.Source.TheVariants as sources
 use Rattle.vocabulary.specs.declared.envelope.Status.{Status}
@@ -26,7 +27,6 @@ use Rattle.point_to_point_calls.specs.declared.call.CoreReply.{CoreReply}
 use Rattle.point_to_point_calls.specs.declared.call.CoreReply.TheVariants as replies
 use Rattle.point_to_point_calls.specs.declared.refusal.Refusal.{Refusal}
 use Rattle.point_to_point_calls.specs.declared.refusal.Refusal.TheVariants as refusals
-use Rattle.point_to_point_calls.specs.Frames.{FrameFor}
 use Rattle.rendezvous.specs.Collecting.{Collecting}
 use Rattle.point_to_point_calls.specs.Receiving.{answer_on_post, collection_on_post, status_of, transfers_on_post}
 use Rattle.point_to_point.specs.CoreState.{CoreState}
@@ -140,7 +140,7 @@ message_for_receive c None = None
 message_for_receive c (Some q) = message_in (progress_at c.slots q.key q.serial)
 
 -- the frame that answers it, where it was announced
-abbrev pub message_frame : CoreState → Option Request → Region → Option FrameFor
+abbrev pub message_frame : CoreState → Option Request → Region → Option OutgoingText
 message_frame c q into = answer_on_post into (message_for_receive c q)
 
 -- what is collected from then on, under the message's key, if anything is

@@ -1,5 +1,6 @@
 -- What a receive does to the core (MPI 3.1, 3.2.4 and 3.7).
 use Rattle.std.specs.Prelude.{◌≡◌, ◌+◌, ℕ, List, Option, Some, None, if◌then◌else◌}
+use Rattle.datagram.specs.Spelling.{OutgoingText}
 use Rattle.vocabulary.specs.declared.envelope.Source.{Source}
 use Rattle.vocabulary.specs.declared.envelope.Source.TheVariants as sources
 use Rattle.perfect_queues.specs.Buffers.{is_too_short}
@@ -9,7 +10,6 @@ use Rattle.match_queues.specs.declared.envelope.Message.{Message}
 use Rattle.match_queues.specs.State.{message_at, message_for, after_post}
 use Rattle.requests.specs.declared.table.Request.{Request}
 use Rattle.requests.specs.declared.table.RequestProgress.TheVariants.{Finished}
-use Rattle.point_to_point_calls.specs.Frames.{FrameFor}
 use Rattle.requests.specs.declared.outcome.Outcome.TheVariants as outcomes
 use Rattle.requests.specs.Regions.{handed_of, is_unfit_to_receive}
 use Rattle.requests.specs.Table.{slot_at, IsSet, is_full}
@@ -50,7 +50,7 @@ abbrev pub found_by : CoreState → CoreReceive → Option Message
 found_by c v = message_at c.queues.unexpected (message_for (posted_by 0 v) c.queues.unexpected)
 
 -- the frame that a receive gives to another rank: a receive from the null process takes no message
-abbrev pub receive_frame : Source → CoreState → CoreReceive → Option FrameFor
+abbrev pub receive_frame : Source → CoreState → CoreReceive → Option OutgoingText
 receive_frame sources.Any c v = answer_on_post v.into (found_by c v)
 receive_frame (sources.Rank rank) c v = answer_on_post v.into (found_by c v)
 receive_frame sources.Null c v = None

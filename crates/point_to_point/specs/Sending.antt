@@ -1,5 +1,6 @@
 -- What a send does to the core (MPI 3.1, 3.4 and 3.7).
 use Rattle.std.specs.Prelude.{◌≡◌, ℕ, ◌+◌, ◌==◌, List, Option, Some, None, Bool, true, false, if◌then◌else◌}
+use Rattle.datagram.specs.Spelling.{OutgoingText}
 use Rattle.datatypes.specs.Contents.{Contents}
 use Rattle.match_queues.specs.declared.envelope.Message.{Message}
 use Rattle.match_queues.specs.Arrivals.{arrival_of}
@@ -13,7 +14,6 @@ use Rattle.vocabulary.specs.declared.mode.Mode.TheVariants.{Standard, Synchronou
 use Rattle.requests.specs.Regions.{sent_from}
 use Rattle.requests.specs.Table.{slot_at, IsSet, is_full}
 use Rattle.point_to_point_calls.specs.declared.call.CoreSend.{CoreSend}
-use Rattle.point_to_point_calls.specs.Frames.{FrameFor}
 use Rattle.point_to_point_calls.specs.declared.sends.Destination.{Destination}
 use Rattle.point_to_point_calls.specs.declared.refusal.Refusal.{Refusal}
 use Rattle.point_to_point_calls.specs.declared.refusal.Refusal.TheVariants as refusals
@@ -31,7 +31,7 @@ or_full None c = if is_full c.slots c.serial then Some refusals.Limit else None
 -- THE FRAME
 
 -- the frame that a send gives to another rank
-abbrev pub frame_of : CoreState → CoreSend → Option FrameFor
+abbrev pub frame_of : CoreState → CoreSend → Option OutgoingText
 frame_of c s = frame_to c.place c.transfers s.mode (destination s.target s.tag s.context) (sent_from s.from)
 
 -- THE MESSAGE TO THE OWN RANK

@@ -2,10 +2,10 @@
 
 ghost use Rattle.std.specs.Prelude.{◌≡◌, ◌≤◌, IfOk, IfErr, OnErr, None, true, is_some, length, map};
 ghost use Rattle.std.specs.List.{AllByRecursion};
-ghost use Rattle.datagram.specs.Spelling.{request_text};
+ghost use Rattle.datagram.specs.Spelling.{request_text, outgoing_text};
 ghost use Rattle.match_queues.specs.State.{receive_at, receive_for};
 ghost use Rattle.rendezvous.specs.State.{offered};
-ghost use Rattle.point_to_point_calls.specs.Frames.{addressed, addressed_text, as_list};
+ghost use Rattle.point_to_point_calls.specs.Frames.{addressed, as_list};
 ghost use Rattle.point_to_point_calls.specs.Hearing.{CanGo, asks_for_data, data_frames, frame_option, news_text};
 ghost use Rattle.point_to_point_calls.specs.Hearing.{wanted_frames};
 ghost use Rattle.point_to_point.specs.Arrivals.{CanTake, KeysFit, answer_to_announced, any_is_answered, called_for};
@@ -13,10 +13,10 @@ ghost use Rattle.point_to_point.specs.Arrivals.{news_are_answered, news_fault, n
 ghost use Rattle.point_to_point_calls.specs.declared.refusal.Refusal.TheVariants as refusals;
 
 use crate::rank::Core;
-use datagram::{ClearToSend, Clearance, Data, Frame, RequestToSend};
+use datagram::{ClearToSend, Clearance, Data, Frame, Outgoing, RequestToSend};
 use match_queues::Message;
 use point_to_point_calls::{
-    Addressed, News, PreparedNews, Refusal, announced_of, answer_to_match, data_frames, list_of,
+    News, PreparedNews, Refusal, announced_of, answer_to_match, data_frames, list_of,
 };
 use rendezvous::piece_count;
 use vocabulary::Endpoint;
@@ -30,8 +30,8 @@ impl Core {
         source: Endpoint,
         lesson: bool,
         answer: ClearToSend,
-    ) -> Result<Vec<Addressed<'_>>, Refusal>
-        ensures ok { IfOk result (λ frames. map addressed_text frames.items
+    ) -> Result<Vec<Outgoing<'_>>, Refusal>
+        ensures ok { IfOk result (λ frames. map outgoing_text frames.items
             ≡ wanted_frames source.rank answer.clearance
             (offered (after_lesson lesson self.now.state source).transfers source.rank answer.transfer)) }
         ensures err { IfErr result (λ e. e ≡ refusals.OutOfMemory) }
@@ -56,7 +56,7 @@ impl Core {
         source: Endpoint,
         request: &RequestToSend,
         keys: &Option<Vec<usize>>,
-    ) -> Option<Addressed<'static>>
+    ) -> Option<Outgoing<'static>>
         requires { KeysFit (is_some keys.now) keys.now self.now.state source }
         ensures { addressed result ≡ answer_to_announced (after_lesson (is_some keys.now) self.now.state source) source
             (request_text request.now) }
@@ -132,9 +132,9 @@ impl Core {
         lesson: bool,
         frame: Option<Frame<'_>>,
         keys: &Option<Vec<usize>>,
-    ) -> Result<Vec<Addressed<'_>>, Refusal>
+    ) -> Result<Vec<Outgoing<'_>>, Refusal>
         requires { KeysFit lesson keys.now self.now.state source }
-        ensures exact { IfOk result (λ frames. map addressed_text frames.items
+        ensures exact { IfOk result (λ frames. map outgoing_text frames.items
             ≡ called_for (after_lesson lesson self.now.state source) source (frame_option frame.entry)) }
         ensures err { IfErr result (λ e. e ≡ refusals.OutOfMemory) }
         ensures need { OnErr result
@@ -157,10 +157,10 @@ impl Core {
         &'a self,
         news: News<'_>,
         ready: &PreparedNews,
-    ) -> Result<Vec<Addressed<'a>>, Refusal>
+    ) -> Result<Vec<Outgoing<'a>>, Refusal>
         requires allowed { news_fault self.now.state (news_text news) ≡ None }
         requires can { CanTake self.now (news_text news) ready.now }
-        ensures exact { IfOk result (λ frames. map addressed_text frames.items ≡
+        ensures exact { IfOk result (λ frames. map outgoing_text frames.items ≡
             news_frames self.now.state (news_text news.entry)) }
         ensures go { AllByRecursion (CanGo self.now.state.place.size) (news_frames self.now.state (news_text news.entry)) }
         ensures few { length (news_frames self.now.state (news_text news.entry)) ≤ 1024 }

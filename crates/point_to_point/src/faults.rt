@@ -20,8 +20,9 @@ ghost use Rattle.point_to_point.specs.Waiting.{cancel_fault, requests_fault, wai
 
 use crate::calls::probed_by;
 use crate::rank::Core;
+use datagram::Outgoing;
 use point_to_point_calls::{
-    Addressed, CoreCall, CoreProbe, CoreReceive, CoreSend, PreparedCall, Refusal, announced_to,
+    CoreCall, CoreProbe, CoreReceive, CoreSend, PreparedCall, Refusal, announced_to,
     answer_on_post, destination_of, elements_of, fault_of, frame_to, is_source_beyond,
     is_tag_above, null_status, posted_by, rank_to, show_widths, status_of,
 };
@@ -293,11 +294,11 @@ impl Core {
                 destination_of(send.target, send.tag, send.context),
             ),
             CoreCall::Irecv(receive) => match self.answer_of_receive(receive) {
-                Some(answer) => Some(answer.rank),
+                Some(answer) => Some(answer.target),
                 None => None,
             },
             CoreCall::Mrecv(message, into) => match self.answer_of_message(*message, into) {
-                Some(answer) => Some(answer.rank),
+                Some(answer) => Some(answer.target),
                 None => None,
             },
             CoreCall::Improbe(_) => None,
@@ -311,10 +312,10 @@ impl Core {
 
     /// The frame that answers the message that a receive finds, if it finds one that was announced. It takes no memory.
     #[tactic(auto, using(crate::proofs::Posting::answer_is_there))]
-    fn answer_of_receive(&self, receive: &CoreReceive) -> Option<Addressed<'static>>
+    fn answer_of_receive(&self, receive: &CoreReceive) -> Option<Outgoing<'static>>
         ensures exact { addressed result ≡ receive_frame receive.now.source self.now.state receive.now }
         ensures fits { IfSome result (λ a. FrameFits (frame_text a.frame)) }
-        ensures there { IfSome result (λ a. a.rank < self.now.state.place.size) }
+        ensures there { IfSome result (λ a. a.target < self.now.state.place.size) }
     {
         match receive.source {
             Source::Null => None,
@@ -331,10 +332,10 @@ impl Core {
         &self,
         message: Option<Request>,
         into: &Region,
-    ) -> Option<Addressed<'static>>
+    ) -> Option<Outgoing<'static>>
         ensures exact { addressed result ≡ message_frame self.now.state message into.now }
         ensures fits { IfSome result (λ a. FrameFits (frame_text a.frame)) }
-        ensures there { IfSome result (λ a. a.rank < self.now.state.place.size) }
+        ensures there { IfSome result (λ a. a.target < self.now.state.place.size) }
     {
         match message {
             Some(message) => answer_on_post(into, self.requests.message(message)),
@@ -347,12 +348,12 @@ impl Core {
         &self,
         send: &'a CoreSend,
         prepared: &'a PreparedCall,
-    ) -> Option<Addressed<'a>>
+    ) -> Option<Outgoing<'a>>
         requires allowed { send_fault self.now.state.place send.now ≡ None }
         requires packed { IsPacked send.now prepared.now }
         ensures exact { addressed result ≡ frame_of self.now.state send.now }
         ensures fits { IfSome result (λ a. FrameFits (frame_text a.frame)) }
-        ensures there { IfSome result (λ a. a.rank < self.now.state.place.size) }
+        ensures there { IfSome result (λ a. a.target < self.now.state.place.size) }
     {
         let elements = elements_of(send, prepared);
         let destination = destination_of(send.target, send.tag, send.context);
@@ -371,12 +372,12 @@ impl Core {
         &self,
         call: &'a CoreCall,
         prepared: &'a PreparedCall,
-    ) -> Option<Addressed<'a>>
+    ) -> Option<Outgoing<'a>>
         requires allowed { call_fault self.now.state call.now ≡ None }
         requires ready { CanAnswer self.now call.now prepared.now }
         ensures exact { addressed result ≡ call_frame self.now.state call.now }
         ensures fits { IfSome result (λ a. FrameFits (frame_text a.frame)) }
-        ensures there { IfSome result (λ a. a.rank < self.now.state.place.size) }
+        ensures there { IfSome result (λ a. a.target < self.now.state.place.size) }
     {
         match call {
             CoreCall::Isend(send) => self.frame_of_send(send, prepared),

@@ -17,7 +17,7 @@ mod transfer_numbers;
 
 pub use faults::faults_are_cut;
 pub use point_to_point_calls::{
-    Addressed, CoreCall, CoreProbe, CoreReceive, CoreReply, CoreSend, HandedBack, News,
-    PreparedCall, PreparedNews, Refusal,
+    CoreCall, CoreProbe, CoreReceive, CoreReply, CoreSend, HandedBack, News, PreparedCall,
+    PreparedNews, Refusal,
 };
 pub use rank::Core;

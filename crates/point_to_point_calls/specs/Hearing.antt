@@ -10,6 +10,7 @@ use Rattle.datagram.specs.declared.kinds.Plane.TheVariants.{PointToPoint, Collec
 use Rattle.datagram.specs.declared.frame.Frame.{Frame}
 use Rattle.datagram.specs.declared.frame.Frame.TheVariants as frames
 use Rattle.datagram.specs.Spelling.{EagerText, RequestText, FrameText, EagerFrame, RequestFrame, ClearFrame, DataFrame}
+use Rattle.datagram.specs.Spelling.{OutgoingText}
 use Rattle.datagram.specs.Spelling.{frame_text, FrameFits}
 use Rattle.match_queues.specs.declared.envelope.Message.{Message}
 use Rattle.match_queues.specs.declared.envelope.Body.{Body}
@@ -25,11 +26,10 @@ use Rattle.rendezvous.specs.State as transfers
 use Rattle.rendezvous.specs.State.{after_drop, is_due, is_next, offered}
 use Rattle.requests.specs.declared.table.TableEntry.{TableEntry}
 use Rattle.requests.specs.Table.{after_answer, after_delivery, slot_at, wants_by}
-use Rattle.point_to_point_calls.specs.Frames.{FrameFor}
 use Rattle.point_to_point_calls.specs.Receiving.{answer_by, collection_on_match}
 use Rattle.point_to_point_calls.specs.declared.news.News.{News}
 use Rattle.point_to_point_calls.specs.declared.news.Match.{Match}
-use Rattle.point_to_point_calls.specs.declared.sends.Addressed.{Addressed}
+use Rattle.datagram.specs.declared.frame.Outgoing.{Outgoing}
 use Rattle.point_to_point_calls.specs.declared.refusal.Refusal.{Refusal}
 use Rattle.point_to_point_calls.specs.declared.refusal.Refusal.TheVariants as refusals
 
@@ -135,7 +135,7 @@ match_by slots (Some r) m =
     Some (record { key = r.request; wanted = wants_by (slot_at slots r.request) (basic_of m.body) (count_of m.body) })
 
 -- the answer to an announced message that found this, if it found one
-abbrev pub answer_by_match : Option Match → Message → Option FrameFor
+abbrev pub answer_by_match : Option Match → Message → Option OutgoingText
 answer_by_match None m = None
 answer_by_match (Some f) m = answer_by f.wanted m m.body
 
@@ -147,30 +147,30 @@ collection_by_match (Some f) m = collection_on_match f.wanted m m.body f.key
 -- WHAT IT GIVES TO OTHERS
 
 -- a frame that keeps the rules of the format, for a rank of the job
-pub record CanGo (size : ℕ) (f : FrameFor) : Type 0 where
+pub record CanGo (size : ℕ) (f : OutgoingText) : Type 0 where
   pub fits : FrameFits f.frame
-  pub there : f.rank < size
+  pub there : f.target < size
 
 -- the frame of a piece of a transfer's data
-abbrev pub data_frame : (rank transfer : ℕ) → ℕ × List ℕ → FrameFor
+abbrev pub data_frame : (rank transfer : ℕ) → ℕ × List ℕ → OutgoingText
 data_frame rank transfer p = record {
-  rank = rank;
+  target = rank;
   frame = DataFrame (record { transfer = transfer; offset = p.0; bytes = p.1 });
 }
 
 -- a piece as it is lent, as such a frame
-abbrev pub framed : (rank transfer : ℕ) → Piece → Addressed
+abbrev pub framed : (rank transfer : ℕ) → Piece → Outgoing
 framed rank transfer p = record {
-  rank = rank;
+  target = rank;
   frame = frames.Data (record { transfer = transfer; offset = p.offset; bytes = p.bytes });
 }
 
 -- the frames of the pieces of a transfer's data
-abbrev pub data_frames : (rank transfer : ℕ) → List (ℕ × List ℕ) → List FrameFor
+abbrev pub data_frames : (rank transfer : ℕ) → List (ℕ × List ℕ) → List OutgoingText
 data_frames rank transfer ps = map (data_frame rank transfer) ps
 
 -- the data of an offer, once its receiver wants them
-abbrev pub wanted_frames : (rank : ℕ) → Clearance → Option Offer → List FrameFor
+abbrev pub wanted_frames : (rank : ℕ) → Clearance → Option Offer → List OutgoingText
 wanted_frames rank Drop offer = []
 wanted_frames rank Send None = []
 wanted_frames rank Send (Some o) =

@@ -15,13 +15,12 @@ use Rattle.rendezvous.specs.State as transfers
 use Rattle.rendezvous.specs.Collecting.{Collecting}
 use Rattle.datagram.specs.declared.kinds.Clearance.{Clearance}
 use Rattle.datagram.specs.declared.kinds.Clearance.TheVariants.{Send, Drop}
-use Rattle.datagram.specs.Spelling.{ClearFrame}
+use Rattle.datagram.specs.Spelling.{ClearFrame, OutgoingText}
 use Rattle.match_queues.specs.Bodies.{basic_of, count_of}
 use Rattle.match_queues.specs.declared.envelope.Announcement.{Announcement}
 use Rattle.match_queues.specs.declared.envelope.Body.{Body}
 use Rattle.match_queues.specs.declared.envelope.Body.TheVariants.{Whole, Own, Announced}
 use Rattle.vocabulary.specs.BasicTypes.{size_of}
-use Rattle.point_to_point_calls.specs.Frames.{FrameFor}
 use Rattle.communicator_members.specs.Statuses.{status_in}
 use Rattle.requests.specs.Table.{slot_at, after_announcement, after_answer, after_finish, has_room, progress_on_match}
 use Rattle.requests.specs.Table.{wants_by}
@@ -108,23 +107,23 @@ clearance_of true = Send
 clearance_of false = Drop
 
 -- the frame that answers a message that was matched, where it was announced
-abbrev pub answer_by : (wanted : Bool) → Message → Body → Option FrameFor
+abbrev pub answer_by : (wanted : Bool) → Message → Body → Option OutgoingText
 answer_by wanted m (Whole elements) = None
 answer_by wanted m (Own own) = None
 answer_by wanted m (Announced a) =
     Some (record {
-      rank = m.sender.rank;
+      target = m.sender.rank;
       frame =
           ClearFrame (record { transfer = a.transfer; clearance = clearance_of wanted });
     })
 
 -- the frame that answers the message that a posted receive found, if it found one that was announced
-abbrev pub answer_on_post : Region → Option Message → Option FrameFor
+abbrev pub answer_on_post : Region → Option Message → Option OutgoingText
 answer_on_post r None = None
 answer_on_post r (Some m) = answer_by (has_room r (basic_of m.body) (count_of m.body)) m m.body
 
 -- the frame that answers a message that came, if it was announced and matched
-abbrev pub answer_on_arrival : List (Option TableEntry) → Arrival → Option FrameFor
+abbrev pub answer_on_arrival : List (Option TableEntry) → Arrival → Option OutgoingText
 answer_on_arrival slots (Matched r m) =
     answer_by (wants_by (slot_at slots r.request) (basic_of m.body) (count_of m.body)) m m.body
 answer_on_arrival slots Kept = None

@@ -6,7 +6,7 @@ use Rattle.vocabulary.specs.declared.envelope.Source.{Source}
 use Rattle.vocabulary.specs.declared.envelope.Source.TheVariants.{Any, Rank, Null}
 use Rattle.datatypes.specs.Contents.{Contents, bytes_of}
 use Rattle.datagram.specs.declared.kinds.Plane.TheVariants.{PointToPoint}
-use Rattle.datagram.specs.Spelling.{FrameText, EagerFrame, RequestFrame}
+use Rattle.datagram.specs.Spelling.{FrameText, EagerFrame, RequestFrame, OutgoingText}
 use Rattle.match_queues.specs.declared.envelope.Message.{Message}
 use Rattle.match_queues.specs.declared.envelope.Body.{Body}
 use Rattle.match_queues.specs.declared.envelope.Body.TheVariants.{Own, Whole}
@@ -21,7 +21,6 @@ use Rattle.requests.specs.declared.outcome.Outcome.TheVariants.{Sent}
 use Rattle.requests.specs.Regions.{byte_count, handed_of, sent_from}
 use Rattle.incarnation.specs.declared.place.Place.{Place}
 use Rattle.point_to_point_calls.specs.declared.call.CoreSend.{CoreSend}
-use Rattle.point_to_point_calls.specs.Frames.{FrameFor}
 use Rattle.point_to_point_calls.specs.declared.sends.Destination.{Destination}
 use Rattle.point_to_point_calls.specs.declared.refusal.Refusal.{Refusal}
 use Rattle.point_to_point_calls.specs.declared.refusal.Refusal.TheVariants as refusals
@@ -110,12 +109,12 @@ frame_with t mode d c =
     eager_frame d.context d.tag c
 
 -- the frame that goes to another rank
-abbrev pub frame_unless : Bool → State → Mode → Destination → Contents → Option FrameFor
+abbrev pub frame_unless : Bool → State → Mode → Destination → Contents → Option OutgoingText
 frame_unless true t mode d c = None
-frame_unless false t mode d c = Some (record { rank = d.rank; frame = frame_with t mode d c })
+frame_unless false t mode d c = Some (record { target = d.rank; frame = frame_with t mode d c })
 
 -- the frame with which these elements go to their destination, where it is another rank
-abbrev pub frame_to : Place → State → Mode → Option Destination → Contents → Option FrameFor
+abbrev pub frame_to : Place → State → Mode → Option Destination → Contents → Option OutgoingText
 frame_to p t mode None c = None
 frame_to p t mode (Some d) c = frame_unless (d.rank == p.endpoint.rank) t mode d c
 

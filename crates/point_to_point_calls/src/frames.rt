@@ -1,24 +1,21 @@
 //! Lists of frames for other ranks.
 
 ghost use Rattle.std.specs.Prelude.{◌≡◌, true, IfOk, IfErr, OnErr, is_some, map};
+ghost use Rattle.datagram.specs.Spelling.{outgoing_text};
 ghost use Rattle.vocabulary.specs.BasicTypes.{size_of};
 ghost use Rattle.datatypes.specs.Contents.{bytes_of};
 ghost use Rattle.rendezvous.specs.Pieces.{pieces_of};
-ghost use Rattle.point_to_point_calls.specs.Frames.{addressed, addressed_text, as_list};
+ghost use Rattle.point_to_point_calls.specs.Frames.{addressed, as_list};
 ghost use Rattle.point_to_point_calls.specs.Hearing.{data_frames, framed};
 
 use crate::refusal::Refusal;
-use crate::sends::Addressed;
-use datagram::{Data, Frame};
+use datagram::{Data, Frame, Outgoing};
 use rendezvous::{Offer, Piece, pieces};
 use std::alloc::Global;
 
 /// The list of this frame, if there is one; or want of memory, where there is one.
-pub fn list_of<'a>(
-    alloc: Global,
-    frame: Option<Addressed<'a>>,
-) -> Result<Vec<Addressed<'a>>, Refusal>
-    ensures ok { IfOk result (λ frames. map addressed_text frames.items ≡ as_list (addressed frame.entry)) }
+pub fn list_of<'a>(alloc: Global, frame: Option<Outgoing<'a>>) -> Result<Vec<Outgoing<'a>>, Refusal>
+    ensures ok { IfOk result (λ frames. map outgoing_text frames.items ≡ as_list (addressed frame.entry)) }
     ensures err { IfErr result (λ e. e ≡ Refusal.OutOfMemory) }
     ensures need { OnErr result (is_some frame.entry ≡ true) }
 {
@@ -32,20 +29,20 @@ pub fn list_of<'a>(
     Ok(frames)
 }
 
-/// The frames with which pieces of a transfer's data go to a rank; or want of memory.
-fn frames_of<'a>(
+/// The frames with which pieces of a transfer's data go to a rank, lent from them; or want of memory.
+pub fn frames_of<'a>(
     alloc: Global,
     rank: u16,
     transfer: u32,
     pieces: &[Piece<'a>],
-) -> Result<Vec<Addressed<'a>>, Refusal>
+) -> Result<Vec<Outgoing<'a>>, Refusal>
     ensures ok { IfOk result (λ frames. frames.items ≡ map (framed rank transfer) pieces.now) }
     ensures err { IfErr result (λ e. e ≡ Refusal.OutOfMemory) }
 {
     match pieces
         .iter()
-        .map(|piece| Addressed {
-            rank,
+        .map(|piece| Outgoing {
+            target: rank,
             frame: Frame::Data(Data {
                 transfer,
                 offset: piece.offset,
@@ -65,8 +62,8 @@ pub fn data_frames<'a>(
     alloc: Global,
     rank: u16,
     offer: &'a Offer,
-) -> Result<Vec<Addressed<'a>>, Refusal>
-    ensures ok { IfOk result (λ frames. map addressed_text frames.items
+) -> Result<Vec<Outgoing<'a>>, Refusal>
+    ensures ok { IfOk result (λ frames. map outgoing_text frames.items
         ≡ data_frames rank offer.now.transfer
         (pieces_of (bytes_of (size_of offer.now.elements.basic) offer.now.elements.values))) }
     ensures err { IfErr result (λ e. e ≡ Refusal.OutOfMemory) }

@@ -14,7 +14,7 @@ mod refusal;
 mod sends;
 
 pub use call::{CoreCall, CoreProbe, CoreReceive, CoreReply, CoreSend, HandedBack};
-pub use frames::{data_frames, list_of};
+pub use frames::{data_frames, frames_of, list_of};
 pub use news::{
     Match, News, PreparedNews, announced_of, answer_to_match, bad_unless, collection_of_match,
     fault_of_plane, first_of, message_from,
@@ -26,6 +26,6 @@ pub use receives::{
 };
 pub use refusal::Refusal;
 pub use sends::{
-    Addressed, Destination, announced_to, destination_of, elements_of, fault_of, frame_to,
-    into_elements, is_own, own_message, rank_to, show_widths,
+    Destination, announced_to, destination_of, elements_of, fault_of, frame_to, into_elements,
+    is_own, own_message, rank_to, show_widths,
 };

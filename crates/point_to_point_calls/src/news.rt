@@ -9,8 +9,7 @@ ghost use Rattle.point_to_point_calls.specs.Hearing.{message_of, plane_fault};
 
 use crate::receives::{answer_to, collection_on_match};
 use crate::refusal::Refusal;
-use crate::sends::Addressed;
-use datagram::{Eager, Frame, Plane, RequestToSend};
+use datagram::{Eager, Frame, Outgoing, Plane, RequestToSend};
 use datatypes::Buffer;
 use match_queues::{Announcement, Body, Message};
 use rendezvous::Collection;
@@ -148,7 +147,7 @@ pub fn collection_of_match(
 }
 
 /// The answer to an announced message that found this receive, if it found one.
-pub fn answer_to_match(found: Option<Match>, message: &Message) -> Option<Addressed<'static>>
+pub fn answer_to_match(found: Option<Match>, message: &Message) -> Option<Outgoing<'static>>
     ensures { addressed result ≡ answer_by_match found message.now }
 {
     match found {

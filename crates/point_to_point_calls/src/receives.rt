@@ -11,9 +11,8 @@ ghost use Rattle.point_to_point_calls.specs.Receiving.{collection_on_post, poste
 
 use crate::call::CoreReceive;
 use crate::refusal::Refusal;
-use crate::sends::Addressed;
 use communicator_members::status_in;
-use datagram::{ClearToSend, Clearance, Frame};
+use datagram::{ClearToSend, Clearance, Frame, Outgoing};
 use match_queues::{Body, Message};
 use rendezvous::Collection;
 use requests::{Posted, Region, RequestProgress, match_body};
@@ -142,7 +141,7 @@ pub(crate) fn collection_on_match(
 
 /// The frame that answers a message that was matched, where it was announced: its data are to come, or it is used up
 /// without them.
-pub(crate) fn answer_to(wanted: bool, message: &Message) -> Option<Addressed<'static>>
+pub(crate) fn answer_to(wanted: bool, message: &Message) -> Option<Outgoing<'static>>
     ensures exact { addressed result ≡ answer_by wanted message.now message.now.body }
     ensures fits { IfSome result (λ a. FrameFits (frame_text a.frame)) }
 {
@@ -154,8 +153,8 @@ pub(crate) fn answer_to(wanted: bool, message: &Message) -> Option<Addressed<'st
     } else {
         Clearance::Drop
     };
-    Some(Addressed {
-        rank: message.sender.rank,
+    Some(Outgoing {
+        target: message.sender.rank,
         frame: Frame::ClearToSend(ClearToSend {
             transfer: announcement.transfer,
             clearance,
@@ -164,7 +163,7 @@ pub(crate) fn answer_to(wanted: bool, message: &Message) -> Option<Addressed<'st
 }
 
 /// The frame that answers the message that a receive finds, if it finds one that was announced.
-pub fn answer_on_post(into: &Region, found: Option<&Message>) -> Option<Addressed<'static>>
+pub fn answer_on_post(into: &Region, found: Option<&Message>) -> Option<Outgoing<'static>>
     ensures exact { addressed result ≡ answer_on_post into.now (option_copied found.entry) }
     ensures fits { IfSome result (λ a. FrameFits (frame_text a.frame)) }
 {

@@ -15,22 +15,13 @@ use crate::call::CoreSend;
 use crate::prepared_call::PreparedCall;
 use crate::receives::is_tag_above;
 use crate::refusal::Refusal;
-use datagram::{Eager, Frame, Plane, RequestToSend};
+use datagram::{Eager, Frame, Outgoing, Plane, RequestToSend};
 use datatypes::Buffer;
 use incarnation::Place;
 use match_queues::{Body, Message, OwnSend};
 use rendezvous::Transfers;
 use requests::Request;
 use vocabulary::{EAGER_LIMIT, Mode, SEND_LIMIT, Source};
-
-/// A frame for a rank.
-#[derive(Clone, Copy)]
-pub struct Addressed<'a> {
-    /// The rank that it goes to.
-    pub rank: u16,
-    /// The frame.
-    pub frame: Frame<'a>,
-}
 
 /// The rank that a message goes to, its tag and its context.
 #[derive(Clone, Copy)]
@@ -223,20 +214,20 @@ pub fn frame_to<'a>(
     mode: Mode,
     destination: Option<Destination>,
     elements: &'a Buffer,
-) -> Option<Addressed<'a>>
+) -> Option<Outgoing<'a>>
     requires sendable { IfSome destination (λ d. IsSendable d.tag elements.now) }
     requires there { IfSome destination (λ d. d.rank < place.size) }
     ensures exact { addressed result ≡ frame_to place transfers.now.state mode destination elements.now }
     ensures fits { IfSome result (λ a. FrameFits (frame_text a.frame)) }
-    ensures there { IfSome result (λ a. a.rank < place.size) }
+    ensures there { IfSome result (λ a. a.target < place.size) }
 {
     match destination {
         Some(destination) => {
             if destination.rank == place.endpoint.rank {
                 return None;
             }
-            Some(Addressed {
-                rank: destination.rank,
+            Some(Outgoing {
+                target: destination.rank,
                 frame: frame_with(transfers, mode, destination, elements),
             })
         }

@@ -5,6 +5,7 @@ use Rattle.std.proofs.Common.{Some, None, slice_index, refl, sym, ap, ap₂, ◌
 use Rattle.std.specs.List.{AllByRecursion}
 use Rattle.std.proofs.lemmas.Bool.{eqb-false, leb-false, ltb-false}
 use Rattle.std.proofs.lemmas.List.{length-map}
+use Rattle.datagram.specs.Spelling.{OutgoingText}
 use Rattle.vocabulary.specs.BasicTypes.{size_of}
 use Rattle.vocabulary.specs.Limits.{highest_tag, send_limit}
 use Rattle.vocabulary.specs.declared.endpoint.Endpoint.{Endpoint}
@@ -21,7 +22,7 @@ use Rattle.point_to_point_calls.specs.declared.call.CoreCall.TheVariants as call
 use Rattle.point_to_point_calls.specs.declared.call.CoreReply.TheVariants as replies
 use Rattle.point_to_point_calls.specs.declared.call.CoreSend.{CoreSend}
 use Rattle.point_to_point_calls.specs.Calls.{IsWithin}
-use Rattle.point_to_point_calls.specs.Frames.{FrameFor, as_list}
+use Rattle.point_to_point_calls.specs.Frames.{as_list}
 use Rattle.point_to_point_calls.specs.Sending.{announced_to, is_announced, send_fault}
 use Rattle.point_to_point.specs.Calls.{free_fault}
 use Rattle.point_to_point.specs.CoreState.{CoreState}
@@ -128,11 +129,12 @@ large_send_shown a old new known core s q to tag shown free target_is tag_is oth
           (subst (λ (x : CoreState). Holding (after_out a after.out) x known after.core rows) (sym sent.rest)
           (large_holds s.mode a old known core q new to s.context tag c shown may sent))
           (ap (λ (x : CoreState). x.blocked) sent.rest ∙ free) core_is;
-      sends = subst (λ (f : Option FrameFor). AreSent (after_out a after.out) (all_gone known (as_list f)) after.out)
+      sends = subst
+          (λ (f : Option OutgoingText). AreSent (after_out a after.out) (all_gone known (as_list f)) after.out)
           (sym frame_is)
           (announcing_sent s.mode a known to (next_to old.transfers.numbers to) s.context tag (length core.jobs) c
           (shown.under_way.numbered.begun to may.there may.apart));
-      leaves = subst (λ (f : Option FrameFor). AllByRecursion (CanLeave old.place) (as_list f)) (sym frame_is) (
+      leaves = subst (λ (f : Option OutgoingText). AllByRecursion (CanLeave old.place) (as_list f)) (sym frame_is) (
         announcing_leaves s.mode old.place to (next_to old.transfers.numbers to) s.context tag c may.wide may.there
             may.apart may.low may.large may.limit (shown.under_way.numbered.most to),
         tt,

@@ -295,7 +295,8 @@ announcements_are_taken match agree links e known core s t frame meets =
             rows = a.left;
             holding = a.holding;
             awaited =
-                blocked_stays rows a.left e.blocked core.blocked after.core.blocked meets.both.awaited a.blocked a.waits;
+                blocked_stays rows a.left e.blocked core.blocked after.core.blocked meets.both.awaited a.blocked
+                a.waits;
           });
       place = refl;
       completion = refl;

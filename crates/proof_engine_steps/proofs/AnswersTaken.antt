@@ -238,7 +238,8 @@ answers_are_taken links e known core s t frame m =
           (sym core_is) (record {
             rows = slice_set m.both.rows answer.serial (row_of o.request (Over machine.Sent));
             holding =
-                over_held links e known core m.both.rows s.rank t.transfer answer.serial d found m.both.holding answer.row;
+                over_held links e known core m.both.rows s.rank t.transfer answer.serial d found m.both.holding
+                answer.row;
             awaited =
                 blocked_stays m.both.rows (slice_set m.both.rows answer.serial (row_of o.request (Over machine.Sent)))
                 e.blocked core.blocked core.blocked m.both.awaited refl

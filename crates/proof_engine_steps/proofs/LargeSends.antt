@@ -25,8 +25,7 @@ use Rattle.requests.specs.declared.table.Request.{Request}
 use Rattle.point_to_point_calls.specs.declared.refusal.Refusal.{Refusal}
 use Rattle.point_to_point_calls.specs.declared.refusal.Refusal.TheVariants as refusals
 use Rattle.point_to_point_calls.specs.declared.call.CoreSend.{CoreSend}
-use Rattle.point_to_point_calls.specs.Frames.{FrameFor}
-use Rattle.datagram.specs.Spelling.{FrameText}
+use Rattle.datagram.specs.Spelling.{FrameText, OutgoingText}
 use Rattle.point_to_point_calls.specs.Sending.{announced_to, destination, eager_frame, frame_to, frame_unless}
 use Rattle.point_to_point_calls.specs.Sending.{is_announced, is_own, is_to_itself, offered_by, or_worn_out}
 use Rattle.point_to_point_calls.specs.Sending.{progress_of_send, rank_to, rank_unless, request_frame}
@@ -172,9 +171,9 @@ large_sending old new s q to tag target_is tag_is other large sent =
 -- ---- ITS FRAME
 
 -- the frame that announces it
-abbrev pub announcing_frame : Mode → CoreState → (to context tag : ℕ) → Contents → FrameFor
+abbrev pub announcing_frame : Mode → CoreState → (to context tag : ℕ) → Contents → OutgoingText
 announcing_frame mode old to context tag c =
-    record { rank = to; frame = request_frame mode (next_to old.transfers.numbers to) context tag c }
+    record { target = to; frame = request_frame mode (next_to old.transfers.numbers to) context tag c }
 
 pub large_frame : (old : CoreState) (s : CoreSend) (to tag : ℕ) → s.target ≡ Rank to → s.tag ≡ Some tag →
     (to == old.place.endpoint.rank) ≡ false → is_announced s.mode (sent_from s.from) ≡ true →
@@ -184,7 +183,7 @@ large_frame old s to tag target_is tag_is other large =
     tag_is
     ∙ (ap (λ (b : Bool). frame_unless b old.transfers s.mode (record { rank = to; tag = tag; context = s.context }) c)
     other
-    ∙ ap (λ (b : Bool). Some (record { rank = to; frame = with_frame b })) large)
+    ∙ ap (λ (b : Bool). Some (record { target = to; frame = with_frame b })) large)
   where
     c : Contents
     c = sent_from s.from
@@ -203,7 +202,7 @@ may_announce Synchronous c large = refl
 pub announcing_leaves : (mode : Mode) (p : Place) (to number context tag : ℕ) (c : Contents) → context < 2 ^ 64 →
     to < p.size → (to ≡ p.endpoint.rank → ⊥) → tag ≤ highest_tag → is_announced mode c ≡ true →
     length c.values * size_of c.basic ≤ send_limit → number ≤ most_transfers →
-    CanLeave p (record { rank = to; frame = request_frame mode number context tag c })
+    CanLeave p (record { target = to; frame = request_frame mode number context tag c })
 announcing_leaves mode p to number context tag c wide there apart low large limit most =
     let size : 0 < size_of c.basic = (sizes c.basic).positive in
     let least : length c.values ≤ length c.values * size_of c.basic = grind arith in
@@ -218,7 +217,7 @@ announcing_leaves mode p to number context tag c wide there apart low large limi
 pub announcing_sent : (mode : Mode) (a : Announcements) (known : List ℕ) (to number context tag serial : ℕ)
     (c : Contents) → number ≡ length (a.to (endpoint_of known to)) →
     AreSent (after_out a ((endpoint_of known to, Rts context tag c.basic serial (length c.values)) ∷ []))
-    (all_gone known (record { rank = to; frame = request_frame mode number context tag c } ∷ []))
+    (all_gone known (record { target = to; frame = request_frame mode number context tag c } ∷ []))
     ((endpoint_of known to, Rts context tag c.basic serial (length c.values)) ∷ [])
 announcing_sent mode a known to number context tag serial c is = (
   refl,

@@ -489,7 +489,8 @@ learned_message from known p rows r i v m (bodies.Own o) apart later kept f =
     record {
       sender = f.sender;
       row =
-          row_stays rows r i o.serial o.key (Unmatched p.endpoint) f.row (ne_eqb p.endpoint.rank r (λ e. apart (sym e)));
+          row_stays rows r i o.serial o.key (Unmatched p.endpoint) f.row
+          (ne_eqb p.endpoint.rank r (λ e. apart (sym e)));
     }
 learned_message from known p rows r i v m (bodies.Announced x) apart later kept f =
     record {

@@ -1,6 +1,7 @@
 -- A call that starts nothing, by the machine's call that it is.
 use Rattle.std.proofs.Common.{◌≡◌, ℕ, List, [], ◌∷◌, Option, Some, None, refl, sym, subst, ◌∙◌}
 use Rattle.std.specs.List.{AllByRecursion}
+use Rattle.datagram.specs.Spelling.{OutgoingText}
 use Rattle.perfect_queues.specs.Calls as machine
 use Rattle.perfect_queues.specs.Completions as completions
 use Rattle.perfect_queues.specs.Events.{Called, Entry, call_and_reply, told}
@@ -14,7 +15,7 @@ use Rattle.point_to_point_calls.specs.declared.call.CoreReply.{CoreReply}
 use Rattle.point_to_point_calls.specs.declared.call.CoreReply.TheVariants as replies
 use Rattle.point_to_point.specs.Calls.{call_frame}
 use Rattle.point_to_point.specs.CoreState.{CoreState}
-use Rattle.point_to_point_calls.specs.Frames.{FrameFor, as_list}
+use Rattle.point_to_point_calls.specs.Frames.{as_list}
 use Rattle.proof_engine_view.specs.Faults.{queue_fault}
 use Rattle.observation.specs.CoreCalls.{answer_seen, call_seen, match_seen, told_call}
 use Rattle.proof_engine_view.specs.Shown.{IsShown}
@@ -73,9 +74,9 @@ meant_called links old new known core call reply frame m =
       sends = subst
           (λ (out : List (Endpoint × Frame)). AreSent (after_out links out)
           (all_gone known (as_list (call_frame old call))) out) (sym m.sends)
-          (subst (λ (f : Option FrameFor). AreSent (after_out links []) (all_gone known (as_list f)) [])
+          (subst (λ (f : Option OutgoingText). AreSent (after_out links []) (all_gone known (as_list f)) [])
           (sym frame) tt);
-      leaves = subst (λ (f : Option FrameFor). AllByRecursion (CanLeave old.place) (as_list f)) (sym frame) tt;
+      leaves = subst (λ (f : Option OutgoingText). AllByRecursion (CanLeave old.place) (as_list f)) (sym frame) tt;
       tells = m.tells ∙ told_same old.place.endpoint call reply;
     }
   where

@@ -3,6 +3,7 @@ use Rattle.std.proofs.Common.{◌≡◌, ℕ, Bool, true, false, ◌&&◌, List,
 use Rattle.std.proofs.Common.{if◌then◌else◌, ◌==◌, slice_get, slice_set, refl, sym, ap, ap₂, ◌∙◌, subst, ◌⊎◌, inl, inr}
 use Rattle.std.proofs.lemmas.Bool.{and_from, eq-eqb, eqb-true}
 use Rattle.std.proofs.lemmas.Option.{same_Some}
+use Rattle.datagram.specs.Spelling.{OutgoingText}
 use Rattle.vocabulary.specs.declared.endpoint.Endpoint.{Endpoint}
 use Rattle.vocabulary.specs.declared.envelope.Source.TheVariants as sources
 use Rattle.incarnation.specs.declared.place.Place.{Place}
@@ -41,7 +42,7 @@ use Rattle.point_to_point_calls.specs.declared.call.CoreReply.{CoreReply}
 use Rattle.point_to_point_calls.specs.declared.call.CoreReply.TheVariants as replies
 use Rattle.point_to_point_calls.specs.declared.refusal.Refusal.{Refusal}
 use Rattle.point_to_point_calls.specs.declared.refusal.Refusal.TheVariants as refusals
-use Rattle.point_to_point_calls.specs.Frames.{FrameFor, as_list}
+use Rattle.point_to_point_calls.specs.Frames.{as_list}
 use Rattle.point_to_point_calls.specs.Hearing.{first_of}
 use Rattle.point_to_point_calls.specs.Receiving.{answer_on_post, collection_on_match, status_of, transfers_on_post}
 use Rattle.point_to_point_calls.specs.Receiving.{transfers_with, waiting_by}
@@ -451,7 +452,7 @@ received_announced agree links old known core q into g m a shown has =
       completion = refl;
       blocked = refl;
       core_blocked = refl;
-      given = subst (λ (f : Option FrameFor). IsGiven links known old.place f (answer p h h.body))
+      given = subst (λ (f : Option OutgoingText). IsGiven links known old.place f (answer p h h.body))
           (sym (frame_is old q into g (Some (announced_as m a)) has.there))
           (record {
             quiet = answer_quiet p h h.body;

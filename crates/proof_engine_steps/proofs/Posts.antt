@@ -2,6 +2,7 @@
 use Rattle.std.proofs.Common.{◌≡◌, ℕ, ◌+◌, Bool, false, List, [], ◌∷◌, ◌++◌, map, length, Option, Some, None}
 use Rattle.std.proofs.Common.{if◌then◌else◌, slice_set, refl, sym, ap, ◌∙◌, subst, append-nil, ◌⊎◌, inl, inr}
 use Rattle.std.specs.List.{AllByRecursion}
+use Rattle.datagram.specs.Spelling.{OutgoingText}
 use Rattle.vocabulary.specs.declared.endpoint.Endpoint.{Endpoint}
 use Rattle.vocabulary.specs.declared.envelope.Source.{Source}
 use Rattle.vocabulary.specs.declared.envelope.Source.TheVariants as sources
@@ -31,7 +32,7 @@ use Rattle.point_to_point_calls.specs.declared.call.CoreReceive.{CoreReceive}
 use Rattle.point_to_point_calls.specs.declared.call.CoreReply.TheVariants as replies
 use Rattle.point_to_point_calls.specs.declared.refusal.Refusal.{Refusal}
 use Rattle.point_to_point_calls.specs.declared.refusal.Refusal.TheVariants as refusals
-use Rattle.point_to_point_calls.specs.Frames.{FrameFor, as_list}
+use Rattle.point_to_point_calls.specs.Frames.{as_list}
 use Rattle.match_queues.specs.declared.envelope.Body.TheVariants.{Announced}
 use Rattle.point_to_point_calls.specs.Receiving.{answer_on_post, collection_on_match, transfers_with, posted_by}
 use Rattle.point_to_point_calls.specs.Receiving.{progress_on_post, status_of, transfers_on_post, waiting_by}
@@ -154,14 +155,14 @@ frame_of : (old new : CoreState) (core : Core) (v : CoreReceive) (q : Request) (
 frame_of old new core v q m real e = real.frame_is ∙ ap (answer_on_post v.into) e
 
 -- what goes out announces nothing, stands for the core's, and can leave
-pub record IsGiven (links : Announcements) (known : List ℕ) (p : Place) (f : Option FrameFor)
+pub record IsGiven (links : Announcements) (known : List ℕ) (p : Place) (f : Option OutgoingText)
     (out : List (Endpoint × Frame)) : Type 0 where
   pub quiet : AreQuiet out
   pub sends : AreSent (after_out links out) (all_gone known (as_list f)) out
   pub leaves : AllByRecursion (CanLeave p) (as_list f)
 
 -- where nothing goes out
-pub given_nothing : (links : Announcements) (known : List ℕ) (p : Place) (f : Option FrameFor) → f ≡ None →
+pub given_nothing : (links : Announcements) (known : List ℕ) (p : Place) (f : Option OutgoingText) → f ≡ None →
     IsGiven links known p f []
 given_nothing links known p f none =
     record { quiet = tt; sends = none_sent (after_out links []) known f none; leaves = none_leave p f none }
@@ -522,7 +523,8 @@ post_matches links old new known core v q m a earlier later agree shown free fin
     finds.core)
     (found_holds links old new known core v q m a earlier later shown h finds part alike) refl
     (post_stays old new v q h)
-    (subst (λ (f : Option FrameFor). IsGiven links known old.place f (found_part links core v m a earlier later).out)
+    (subst (λ (f : Option OutgoingText). IsGiven links known old.place f
+    (found_part links core v m a earlier later).out)
     (sym (frame_of old new core v q (Some (announced_as m a)) real finds.message))
     (found_given links old known core v m a earlier later part alike))
 

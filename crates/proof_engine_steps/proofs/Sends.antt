@@ -1,4 +1,5 @@
 -- A send of a rank to another one, or to the null process, is that of its core in the network.
+use Rattle.datagram.specs.Spelling.{OutgoingText}
 use Rattle.vocabulary.specs.Limits.{eager_limit, highest_tag, send_limit}
 use Rattle.std.proofs.Common.{◌^◌, ◌≡◌, ℕ, ◌+◌, ◌*◌, ◌<◌, ◌≤◌, Bool, true, false, List, [], ◌∷◌, ◌++◌, length, Option}
 use Rattle.std.proofs.Common.{Some, None, if◌then◌else◌, ◌==◌, ◌||◌, ap₂, nat_le, nat_lt, slice_index, refl, sym, ap}
@@ -35,7 +36,7 @@ use Rattle.datatypes.specs.ContentLaws.{length-bytes_of, sizes, values_of-bytes_
 use Rattle.datatypes.specs.Contents.{AreWithin, Contents, bytes_of, values_of}
 use Rattle.point_to_point_calls.specs.Calls.{IsWithin}
 use Rattle.point_to_point.specs.CoreState.{CoreState}
-use Rattle.point_to_point_calls.specs.Frames.{FrameFor, as_list}
+use Rattle.point_to_point_calls.specs.Frames.{as_list}
 use Rattle.point_to_point_calls.specs.Sending.{announced_to, destination, eager_frame, frame_to, frame_unless}
 use Rattle.point_to_point_calls.specs.Sending.{is_announced, is_own, is_to_itself, offered_by, progress_of_send}
 use Rattle.point_to_point_calls.specs.Sending.{rank_to, request_frame, send_fault}
@@ -323,8 +324,8 @@ null_send_shown links old new known core s q shown free is kept is_sent =
 -- THE FRAME OF A SMALL SEND
 
 -- its rank and its frame
-abbrev eager_for : (to context tag : ℕ) → Contents → FrameFor
-eager_for to context tag c = record { rank = to; frame = eager_frame context tag c }
+abbrev eager_for : (to context tag : ℕ) → Contents → OutgoingText
+eager_for to context tag c = record { target = to; frame = eager_frame context tag c }
 
 -- elements that go in one frame go in an eager one
 small_frame : (old : CoreState) (s : CoreSend) (to tag : ℕ) → s.target ≡ Rank to → s.tag ≡ Some tag →
@@ -337,7 +338,7 @@ small_frame old s to tag target_is tag_is other small =
     (sent_from s.from)) other
     ∙ ap (λ (b : Bool). Some
     (record {
-      rank = to;
+      target = to;
       frame =
           if b then request_frame s.mode (next_to old.transfers.numbers to) s.context tag (sent_from s.from) else
           eager_frame s.context tag (sent_from s.from);
@@ -384,11 +385,11 @@ other_send_shown links old new known core s q to tag shown free target_is tag_is
     core_sends s.mode core old.place.endpoint to (slice_index known to) s.context tag c other small
     (shown.known_alike to))
     refl (tt, tt)
-    (subst (λ (f : Option FrameFor). AreSent
+    (subst (λ (f : Option OutgoingText). AreSent
     (after_out links ((endpoint_of known to, Eager s.context tag c.basic c.values) ∷ []))
     (all_gone known (as_list f)) ((endpoint_of known to, Eager s.context tag c.basic c.values) ∷ []))
     (sym frame) (refl, eager_stands s.context tag c within.0, tt))
-    (subst (λ (f : Option FrameFor). AllByRecursion (CanLeave old.place) (as_list f)) (sym frame)
+    (subst (λ (f : Option OutgoingText). AllByRecursion (CanLeave old.place) (as_list f)) (sym frame)
     (eager_leaves old.place to s.context tag c within.1 there (eqb-false to old.place.endpoint.rank other) low few, tt))
   where
     c : Contents

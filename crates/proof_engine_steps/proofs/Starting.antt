@@ -3,6 +3,7 @@ use Rattle.std.proofs.Common.{◌≡◌, ℕ, ◌+◌, Bool, true, false, List, 
 use Rattle.std.proofs.Common.{if◌then◌else◌, slice_get, refl, sym, ap, ◌∙◌, subst, arith, length-append}
 use Rattle.std.specs.List.{AllByRecursion}
 use Rattle.std.proofs.lemmas.List.{length-map}
+use Rattle.datagram.specs.Spelling.{OutgoingText}
 use Rattle.perfect_queues.specs.Calls as machine
 use Rattle.perfect_queues.specs.Completions.{Unanswered}
 use Rattle.perfect_queues.specs.Events.{call_and_reply, told}
@@ -18,7 +19,7 @@ use Rattle.requests.specs.declared.table.Request.{Request}
 use Rattle.point_to_point_calls.specs.declared.call.CoreCall.{CoreCall}
 use Rattle.point_to_point_calls.specs.declared.call.CoreReply.TheVariants as replies
 use Rattle.point_to_point_calls.specs.declared.refusal.Refusal.{Refusal}
-use Rattle.point_to_point_calls.specs.Frames.{FrameFor, as_list}
+use Rattle.point_to_point_calls.specs.Frames.{as_list}
 use Rattle.incarnation.specs.declared.place.Place.{Place}
 use Rattle.point_to_point.specs.Calls.{call_frame}
 use Rattle.point_to_point.specs.CoreState.{CoreState}
@@ -103,13 +104,13 @@ holding_started links links' e e' known core core' rows key g job h fresh set fi
     }
 
 -- a call that gives no frame sends none
-pub none_sent : (links : Announcements) (known : List ℕ) (f : Option FrameFor) → f ≡ None →
+pub none_sent : (links : Announcements) (known : List ℕ) (f : Option OutgoingText) → f ≡ None →
     AreSent links (all_gone known (as_list f)) []
 none_sent links known f none =
-    subst (λ (x : Option FrameFor). AreSent links (all_gone known (as_list x)) []) (sym none) tt
+    subst (λ (x : Option OutgoingText). AreSent links (all_gone known (as_list x)) []) (sym none) tt
 
-pub none_leave : (p : Place) (f : Option FrameFor) → f ≡ None → AllByRecursion (CanLeave p) (as_list f)
-none_leave p f none = subst (λ (x : Option FrameFor). AllByRecursion (CanLeave p) (as_list x)) (sym none) tt
+pub none_leave : (p : Place) (f : Option OutgoingText) → f ≡ None → AllByRecursion (CanLeave p) (as_list f)
+none_leave p f none = subst (λ (x : Option OutgoingText). AllByRecursion (CanLeave p) (as_list x)) (sym none) tt
 
 -- the serial that the machine gives
 pub serial_told : (links : Announcements) (e : CoreState) (known : List ℕ) (core : Core) (q : Request) →

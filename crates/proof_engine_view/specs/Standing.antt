@@ -7,9 +7,9 @@ use Rattle.datagram.specs.declared.kinds.Clearance.{Clearance}
 use Rattle.datagram.specs.declared.kinds.Clearance.TheVariants.{Send, Drop}
 use Rattle.datagram.specs.declared.kinds.Plane.TheVariants.{PointToPoint}
 use Rattle.datagram.specs.Spelling.{ClearText, DataText, FrameFits, FrameIsWithinFields, FrameText, RequestText}
+use Rattle.datagram.specs.Spelling.{OutgoingText}
 use Rattle.datagram.specs.Spelling.{EagerFrame, RequestFrame, ClearFrame, DataFrame}
 use Rattle.incarnation.specs.declared.place.Place.{Place}
-use Rattle.point_to_point_calls.specs.Frames.{FrameFor}
 use Rattle.proof_pure_network.specs.Frames.{Cts, Data, Frame, Rts}
 use Rattle.proof_engine_view.specs.Frames.{endpoint_of, message_seen}
 use Rattle.proof_engine_view.specs.Transfers.{Announcements, Transfer}
@@ -59,17 +59,17 @@ IsMeant a s (Some text) None = ⊥
 IsMeant a s (Some text) (Some frame) = StandsFor (a.from s) (a.to s) text frame
 
 -- a frame for a rank, which goes to the incarnation at which the rank is known
-abbrev pub gone_to : (known : List ℕ) → FrameFor → Endpoint × FrameText
-gone_to known f = (endpoint_of known f.rank, f.frame)
+abbrev pub gone_to : (known : List ℕ) → OutgoingText → Endpoint × FrameText
+gone_to known f = (endpoint_of known f.target, f.frame)
 
 -- several
-abbrev pub all_gone : (known : List ℕ) → List FrameFor → List (Endpoint × FrameText)
+abbrev pub all_gone : (known : List ℕ) → List OutgoingText → List (Endpoint × FrameText)
 all_gone known fs = map (gone_to known) fs
 
 -- a frame of a rank can leave it: it goes to another rank of the job, and can be spelled
-pub record CanLeave (p : Place) (f : FrameFor) : Type 0 where
-  pub there : f.rank < p.size
-  pub apart : f.rank ≡ p.endpoint.rank → ⊥
+pub record CanLeave (p : Place) (f : OutgoingText) : Type 0 where
+  pub there : f.target < p.size
+  pub apart : f.target ≡ p.endpoint.rank → ⊥
   pub fits : FrameFits f.frame
   pub width : FrameIsWithinFields f.frame
 

@@ -8,12 +8,12 @@ use Rattle.std.proofs.lemmas.Option.{same_Some, slice_get_within}
 use Rattle.vocabulary.specs.declared.endpoint.Endpoint.{Endpoint}
 use Rattle.perfect_queues.proofs.ListLemmas.{get_last, get_set}
 use Rattle.datagram.specs.Reading.{datagram_of}
-use Rattle.datagram.specs.Spelling.{DatagramText, FrameText}
+use Rattle.datagram.specs.Spelling.{DatagramText, FrameText, OutgoingText}
 use Rattle.incarnation.specs.declared.place.Place.{Place}
 use Rattle.reliable_link.specs.ReceiverState.{ReceiverState, advanced, discarded, held_bits}
 use Rattle.sessions.specs.declared.peers.Peer.{Peer}
 use Rattle.sessions.specs.declared.refusal.SessionRefusal.TheVariants as refusals
-use Rattle.sessions.specs.Events.{Sending, after_event, after_heard, after_send, after_sends, answer_in, heeded_by}
+use Rattle.sessions.specs.Events.{after_event, after_heard, after_send, after_sends, answer_in, heeded_by}
 use Rattle.sessions.specs.Events.{is_worn_out, next_bytes, out_on_accept, sends_limit, taught_peers}
 use Rattle.sessions.specs.Following.{acknowledged_at, ready_from, turn_of, turn_of_body, turn_read, without_ready}
 use Rattle.sessions.specs.Heard.{Follows, Hands, HeardText, WordText, session_met}
@@ -50,7 +50,8 @@ abbrev IsAcknowledgedAt : (place : ℕ) → Endpoint → SessionsState → Type 
 IsAcknowledgedAt place s e = slice_get e.out place ≡ Some (s.rank, ack_of e.place s (peer_at e.peers s.rank).receiver)
 
 -- frames that are sent change neither
-acknowledged_sent : (e : SessionsState) (fs : List Sending) (place : ℕ) (s : Endpoint) → IsAcknowledgedAt place s e →
+acknowledged_sent : (e : SessionsState) (fs : List OutgoingText) (place : ℕ) (s : Endpoint) →
+    IsAcknowledgedAt place s e →
     IsAcknowledgedAt place s (after_sends e fs)
 acknowledged_sent e fs place s there =
     sends_keep_out e fs place (s.rank, ack_of e.place s (peer_at e.peers s.rank).receiver) there
@@ -123,12 +124,13 @@ unfolding turn_of
 turn_is source bytes d is = ap (turn_read source) is
 
 -- no limit is met by what was emitted
-limit_beside : (s : SessionsState) (out : List (ℕ × List ℕ)) (fs : List Sending) → sends_limit (emitting s out) fs ≡
+limit_beside : (s : SessionsState) (out : List (ℕ × List ℕ)) (fs : List OutgoingText) →
+    sends_limit (emitting s out) fs ≡
     sends_limit s fs
 limit_beside s out [] = refl
 limit_beside s out (f ∷ fs) =
-    let more : List (ℕ × List ℕ) = out_on_accept (peer_at s.peers f.rank).sender f.rank (next_bytes s f) in
-    ap (λ o. cond (is_worn_out (peer_at s.peers f.rank).sender) (Some refusals.Limit) o)
+    let more : List (ℕ × List ℕ) = out_on_accept (peer_at s.peers f.target).sender f.target (next_bytes s f) in
+    ap (λ o. cond (is_worn_out (peer_at s.peers f.target).sender) (Some refusals.Limit) o)
     (limit_beside (after_send s f) (out ++ more) fs)
 
 -- what is heard when the turn of a frame comes
@@ -347,7 +349,7 @@ module _ (n r place : ℕ) (sessions : List SessionsState) (datagrams : List (�
             ∙ ap (λ (k : ℕ). datagrams ++ slice_set mid.out k told_further) behind
 
     -- with what is sent for it
-    turned_to : (sendings : List Sending) → MaySendAll n r sendings →
+    turned_to : (sendings : List OutgoingText) → MaySendAll n r sendings →
         sends_limit (after_heard mid (Some (turn source frame))) sendings ≡ None
         → IsMidway n sessions datagrams r place source
         (acknowledged_at place source (after_event mid (Some (turn source frame)) sendings))
@@ -386,7 +388,7 @@ module _ (n r place : ℕ) (sessions : List SessionsState) (datagrams : List (�
         long = slice_get_within (mid.out ++ []) place was before
 
   -- whatever it says
-  turn_leaves : (h : HeardText) (sendings : List Sending) → turn_from mid source ≡ Some (Some h) →
+  turn_leaves : (h : HeardText) (sendings : List OutgoingText) → turn_from mid source ≡ Some (Some h) →
       MaySendAll n r sendings → sends_limit (after_heard mid (Some h)) sendings ≡ None
       → IsMidway n sessions datagrams r place source (acknowledged_at place source (after_event mid (Some h) sendings))
       (accept_all (links_heard links (at r (current r)) (Some h)) (at r (current r))

@@ -8,13 +8,13 @@ use Rattle.std.proofs.lemmas.List.{append_assoc, set-set}
 use Rattle.std.proofs.lemmas.Option.{slice_get_within}
 use Rattle.vocabulary.specs.declared.endpoint.Endpoint.{Endpoint}
 use Rattle.perfect_queues.proofs.ListLemmas.{get_last, get_set}
-use Rattle.datagram.specs.Spelling.{FrameText}
+use Rattle.datagram.specs.Spelling.{FrameText, OutgoingText}
 use Rattle.incarnation.specs.declared.place.Place.{Place}
 use Rattle.reliable_link.specs.SenderState.{SenderState, after_accept, next_number}
 use Rattle.sessions.specs.declared.peers.Peer.{Peer}
 use Rattle.sessions.specs.declared.refusal.SessionRefusal.{SessionRefusal}
 use Rattle.sessions.specs.declared.refusal.SessionRefusal.TheVariants as refusals
-use Rattle.sessions.specs.Events.{Sending, after_heard, after_send, after_sends, is_worn_out, next_bytes, out_on_accept}
+use Rattle.sessions.specs.Events.{after_heard, after_send, after_sends, is_worn_out, next_bytes, out_on_accept}
 use Rattle.sessions.specs.Events.{sends_limit}
 use Rattle.sessions.specs.Heard.{HeardText}
 use Rattle.sessions.specs.Peers.{peer_at}
@@ -122,33 +122,33 @@ is_accepted n current own target k links f bytes p tells reach bytes_are = recor
 
 -- what is sent is accepted by the link to the known endpoint of its rank
 send_leaves : (n r : ℕ) (sessions : List SessionsState) (datagrams : List (ℕ × List ℕ)) (links : Links) (current : ℕ →
-    ℕ) (old : SessionsState) (s : Sending)
+    ℕ) (old : SessionsState) (s : OutgoingText)
     → AreTrue n sessions datagrams links current → IsAt sessions r old → MaySend n r s →
-    is_worn_out (peer_at old.peers s.rank).sender ≡ false
+    is_worn_out (peer_at old.peers s.target).sender ≡ false
     → LeavesTrue n sessions datagrams r (after_send old s) (accept links (at r (current r)) (addressed old.known s))
     current
 send_leaves n r sessions datagrams links current old s true_now stands c room =
     world_leaves n r sessions datagrams links after current (after_send old s) true_now (accept_grows links own d f)
-    (sessions_with n r s.rank current links after old (after_send old s)
-    (record { sender = after_accept sender bytes; receiver = (peer_at old.peers s.rank).receiver }) tells c.there
+    (sessions_with n r s.target current links after old (after_send old s)
+    (record { sender = after_accept sender bytes; receiver = (peer_at old.peers s.target).receiver }) tells c.there
     c.apart
     accepted.here accepted.beside refl refl refl)
     (accept_fits n links current own d f (links_fit n sessions datagrams links current true_now) c.carried numbered
     (are_pair n own d r_is c.there apart) (omega arith))
     (subst (AllByRecursion (IsTold n after current)) (sym out_is)
-    (sent_is_told n s.rank after current bytes (nat_lt (length sender.frames) 64) told))
+    (sent_is_told n s.target after current bytes (nat_lt (length sender.frames) 64) told))
     (all_witnessed n r sessions datagrams (after_send old s).out links after current true_now
     (accept_grows links own d f) (λ a b. accepted_handed links own d f a b))
-    (held_with n r s.rank datagrams old (after_send old s)
-    (record { sender = after_accept sender bytes; receiver = (peer_at old.peers s.rank).receiver })
-    held (omega (arith, c.there, tells.each)) (λ place held_bytes at. held s.rank place held_bytes c.there c.apart at)
+    (held_with n r s.target datagrams old (after_send old s)
+    (record { sender = after_accept sender bytes; receiver = (peer_at old.peers s.target).receiver })
+    held (omega (arith, c.there, tells.each)) (λ place held_bytes at. held s.target place held_bytes c.there c.apart at)
     refl)
   where
     own : Endpoint
     own = at r (current r)
 
     d : Endpoint
-    d = known_endpoint old.known s.rank
+    d = known_endpoint old.known s.target
 
     f : FrameText
     f = s.frame
@@ -160,7 +160,7 @@ send_leaves n r sessions datagrams links current old s true_now stands c room =
     after = accept links own (d, f)
 
     sender : SenderState
-    sender = (peer_at old.peers s.rank).sender
+    sender = (peer_at old.peers s.target).sender
 
     tells : SessionsTell n current r old links
     tells = true_now.tells r old stands.there
@@ -171,11 +171,11 @@ send_leaves n r sessions datagrams links current old s true_now stands c room =
     r_is : r < n
     r_is = omega (arith, slice_get_within sessions r old stands.there, true_now.count)
 
-    apart : (r == s.rank) ≡ false
-    apart = false_sym s.rank r c.apart
+    apart : (r == s.target) ≡ false
+    apart = false_sym s.target r c.apart
 
-    peer : PeerTells n current own s.rank (slice_index old.known s.rank) (peer_at old.peers s.rank) links
-    peer = tells.peers s.rank c.there c.apart
+    peer : PeerTells n current own s.target (slice_index old.known s.target) (peer_at old.peers s.target) links
+    peer = tells.peers s.target c.there c.apart
 
     reach : link.handed ≤ length link.accepted
     reach = (true_now.sound own d).reach
@@ -194,15 +194,17 @@ send_leaves n r sessions datagrams links current old s true_now stands c room =
     numbered : length link.accepted + 1 < 2 ^ 64
     numbered = omega (arith, next_is_length, leb-false 18446744073709551615 (next_number sender) room)
 
-    accepted : IsAccepted n current own s.rank (slice_index old.known s.rank) links f bytes (peer_at old.peers s.rank)
+    accepted : IsAccepted n current own s.target (slice_index old.known s.target) links f bytes
+        (peer_at old.peers s.target)
     accepted =
-        is_accepted n current own s.rank (slice_index old.known s.rank) links f bytes (peer_at old.peers s.rank) peer
+        is_accepted n current own s.target (slice_index old.known s.target) links f bytes (peer_at old.peers s.target)
+        peer
         reach bytes_are
 
-    out_is : (after_send old s).out ≡ out_on_accept sender s.rank bytes
-    out_is = ap (λ (out : List (ℕ × List ℕ)). out ++ out_on_accept sender s.rank bytes) stands.out
+    out_is : (after_send old s).out ≡ out_on_accept sender s.target bytes
+    out_is = ap (λ (out : List (ℕ × List ℕ)). out ++ out_on_accept sender s.target bytes) stands.out
 
-    told : IsTold n after current (s.rank, bytes)
+    told : IsTold n after current (s.target, bytes)
     told = is_told n own d after current bytes
         (record {
           source = r_is;
@@ -221,13 +223,13 @@ send_leaves n r sessions datagrams links current old s true_now stands c room =
 
 -- what is sent in the middle of an event is sent by sessions out of which everything was taken
 goes_on : (n r : ℕ) (sessions : List SessionsState) (datagrams : List (ℕ × List ℕ)) (after : Links) (current : ℕ →
-    ℕ) (mid : SessionsState) (s : Sending)
+    ℕ) (mid : SessionsState) (s : OutgoingText)
     → LeavesTrue n (slice_set sessions r (emptied mid)) (datagrams ++ mid.out) r (after_send (emptied mid) s) after
     current
     → LeavesTrue n sessions datagrams r (after_send mid s) after current
 goes_on n r sessions datagrams after current mid s gives =
     let new : SessionsState = after_send mid s in
-    let out : List (ℕ × List ℕ) = out_on_accept (peer_at mid.peers s.rank).sender s.rank (next_bytes mid s) in
+    let out : List (ℕ × List ℕ) = out_on_accept (peer_at mid.peers s.target).sender s.target (next_bytes mid s) in
     subst (λ (ss : List SessionsState). AreTrue n ss (datagrams ++ new.out) after current)
     (set-set sessions r (emptied mid) (emptied new))
     (subst (λ (ds : List (ℕ × List ℕ)). AreTrue n (slice_set (slice_set sessions r (emptied mid)) r (emptied new)) ds
@@ -241,14 +243,14 @@ passed true o h = absurd cc
 
 -- each frame is accepted by its link
 pub sends_leave : (n r : ℕ) (sessions : List SessionsState) (datagrams : List (ℕ × List ℕ)) (links : Links)
-    (current : ℕ → ℕ) (mid : SessionsState) (sendings : List Sending)
+    (current : ℕ → ℕ) (mid : SessionsState) (sendings : List OutgoingText)
     → LeavesTrue n sessions datagrams r mid links current → r < length sessions → MaySendAll n r sendings
     → sends_limit mid sendings ≡ None →
     LeavesTrue n sessions datagrams r (after_sends mid sendings)
     (accept_all links (at r (current r)) (all_addressed mid.known sendings)) current
 sends_leave n r sessions datagrams links current mid [] leaves within may limit = leaves
 sends_leave n r sessions datagrams links current mid (s ∷ ss) leaves within may limit =
-    let room = passed (is_worn_out (peer_at mid.peers s.rank).sender) (sends_limit (after_send mid s) ss) limit in
+    let room = passed (is_worn_out (peer_at mid.peers s.target).sender) (sends_limit (after_send mid s) ss) limit in
     let longer : Links = accept links (at r (current r)) (addressed mid.known s) in
     sends_leave n r sessions datagrams longer current (after_send mid s) ss
     (goes_on n r sessions datagrams longer current mid s

@@ -3,9 +3,9 @@
 use Rattle.std.specs.Prelude.{◌≡◌, ℕ, ◌<◌, false, List, Option, Some, None, length, slice_get, slice_index, ◌==◌}
 use Rattle.std.specs.Option.{option_map}
 use Rattle.vocabulary.specs.declared.endpoint.Endpoint.{Endpoint}
-use Rattle.datagram.specs.Spelling.{FrameText}
+use Rattle.datagram.specs.Spelling.{FrameText, OutgoingText}
 use Rattle.sessions.specs.Arranging.{IsArranged}
-use Rattle.sessions.specs.Events.{Sending, after_event, after_heard, sends_limit}
+use Rattle.sessions.specs.Events.{after_event, after_heard, sends_limit}
 use Rattle.sessions.specs.Following.{acknowledged_at, ready_from, turn_of, without_ready}
 use Rattle.sessions.specs.Heard.{Follows, Hands, HeardText}
 use Rattle.sessions.specs.Peers.{peer_at}
@@ -37,7 +37,7 @@ pub record IsMidway (n : ℕ) (sessions : List SessionsState) (datagrams : List 
 abbrev pub DeliveriesBegin : Type 0
 DeliveriesBegin =
     (n r : ℕ) (sessions : List SessionsState) (datagrams : List (ℕ × List ℕ)) (links : Links) (current : ℕ → ℕ)
-    (old : SessionsState) (h : HeardText) (frame : FrameText) (sendings : List Sending) →
+    (old : SessionsState) (h : HeardText) (frame : FrameText) (sendings : List OutgoingText) →
     AreTrue n sessions datagrams links current → IsAt sessions r old → IsFromDatagram datagrams r old h →
     h.word ≡ Hands frame →
     MaySendAll n r sendings → sends_limit (after_heard old (Some h)) sendings ≡ None →
@@ -72,7 +72,7 @@ TurnsTellTheTruth =
 abbrev pub TurnsAreTrue : Type 0
 TurnsAreTrue =
     (n r place : ℕ) (sessions : List SessionsState) (datagrams : List (ℕ × List ℕ)) (links : Links) (current : ℕ → ℕ)
-    (source : Endpoint) (mid : SessionsState) (h : HeardText) (sendings : List Sending) →
+    (source : Endpoint) (mid : SessionsState) (h : HeardText) (sendings : List OutgoingText) →
     IsMidway n sessions datagrams r place source mid links current → turn_from mid source ≡ Some (Some h) →
     MaySendAll n r sendings → sends_limit (after_heard mid (Some h)) sendings ≡ None →
     IsMidway n sessions datagrams r place source (acknowledged_at place source (after_event mid (Some h) sendings))

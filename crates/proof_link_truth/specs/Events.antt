@@ -5,10 +5,10 @@ use Rattle.std.specs.List.{AllByRecursion}
 use Rattle.vocabulary.specs.declared.endpoint.Endpoint.{Endpoint}
 use Rattle.vocabulary.specs.Endpoints.{last_incarnation}
 use Rattle.perfect_queues.specs.State.{with_number}
-use Rattle.datagram.specs.Spelling.{FrameText}
+use Rattle.datagram.specs.Spelling.{FrameText, OutgoingText}
 use Rattle.sessions.specs.declared.refusal.SessionRefusal.{SessionRefusal}
 use Rattle.sessions.specs.declared.heard.Unheard.{Unheard}
-use Rattle.sessions.specs.Events.{Sending, TurnedAway, after_event, after_heard, sends_limit}
+use Rattle.sessions.specs.Events.{TurnedAway, after_event, after_heard, sends_limit}
 use Rattle.reliable_link.specs.ReceiverState.{held_at}
 use Rattle.sessions.specs.Peers.{peer_at}
 use Rattle.sessions.specs.Heard.{Acknowledges, EarlyText, Follows, Hands, HeardText, Holds, Nothing, Repeats, WordText}
@@ -109,21 +109,21 @@ HearingIsTrue =
 -- ---- what is sent
 
 -- what the sessions at r send goes to another rank of n, and can be spelled
-pub record MaySend (n r : ℕ) (sending : Sending) : Type 0 where
-  pub there : sending.rank < n
-  pub apart : (sending.rank == r) ≡ false
+pub record MaySend (n r : ℕ) (sending : OutgoingText) : Type 0 where
+  pub there : sending.target < n
+  pub apart : (sending.target == r) ≡ false
   pub carried : CanBeSent sending.frame
 
 -- each is
-abbrev pub MaySendAll : (n r : ℕ) → List Sending → Type 0
+abbrev pub MaySendAll : (n r : ℕ) → List OutgoingText → Type 0
 MaySendAll n r sendings = AllByRecursion (MaySend n r) sendings
 
 -- a frame with the endpoint that it goes to: its rank at the incarnation at which it is known
-abbrev pub addressed : (known : List ℕ) → Sending → Endpoint × FrameText
-addressed known sending = (known_endpoint known sending.rank, sending.frame)
+abbrev pub addressed : (known : List ℕ) → OutgoingText → Endpoint × FrameText
+addressed known sending = (known_endpoint known sending.target, sending.frame)
 
 -- the same of each, in their order
-abbrev pub all_addressed : (known : List ℕ) → List Sending → List (Endpoint × FrameText)
+abbrev pub all_addressed : (known : List ℕ) → List OutgoingText → List (Endpoint × FrameText)
 all_addressed known sendings = map (addressed known) sendings
 
 -- ---- an event: a word may be heard, and frames may be sent
@@ -152,7 +152,7 @@ links_heard links own (Some h) = links_heeded links h.source own h.word
 abbrev pub EventsAreTrue : Type 0
 EventsAreTrue =
     (n r : ℕ) (sessions : List SessionsState) (datagrams : List (ℕ × List ℕ)) (links : Links) (current : ℕ → ℕ)
-    (old : SessionsState) (heard : Option HeardText) (sendings : List Sending) →
+    (old : SessionsState) (heard : Option HeardText) (sendings : List OutgoingText) →
     AreTrue n sessions datagrams links current → IsAt sessions r old → Comes datagrams r old heard →
     MaySendAll n r sendings → sends_limit (after_heard old heard) sendings ≡ None →
     LeavesTrue n sessions datagrams r (after_event old heard sendings)

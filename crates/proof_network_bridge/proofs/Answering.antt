@@ -9,11 +9,10 @@ use Rattle.collective_messages.specs.declared.message.CollectiveMessage.{Collect
 use Rattle.collective_transfers.specs.Payloads.{Announced, is_to}
 use Rattle.collective_transfers.specs.State as payloads
 use Rattle.collective_transfers.specs.State.{after_answer, announced_at, announced_to, place_to, without}
-use Rattle.datagram.specs.Spelling.{ClearFrame, ClearText, DataFrame, FrameText}
+use Rattle.datagram.specs.Spelling.{ClearFrame, ClearText, DataFrame, FrameText, OutgoingText}
 use Rattle.engine.specs.Datagrams.{AnswerGives, after_answered, answer_fault, data_for, data_of, data_sent, ended_by}
 use Rattle.engine.specs.Datagrams.{frame_in, groups_met, is_to_collective, payloads_met, unwanted}
 use Rattle.engine_calls.specs.EngineState.{EngineState, or_before}
-use Rattle.engine_calls.specs.Frames.{sending_of}
 use Rattle.engine_calls.specs.Refusals.{fault_of_sessions}
 use Rattle.incarnation.specs.declared.place.Place.{Place}
 use Rattle.proof_engine_steps.proofs.ListsApart.{Passes, position_passes}
@@ -46,7 +45,7 @@ use Rattle.point_to_point.proofs.Replies.{data_go}
 use Rattle.point_to_point.specs.CoreState.{CoreState}
 use Rattle.point_to_point.specs.Arrivals as core
 use Rattle.rendezvous.specs.Pieces.{piece_bytes, piece_count, pieces_of}
-use Rattle.sessions.specs.Events.{Sending, after_event, event_limit}
+use Rattle.sessions.specs.Events.{after_event, event_limit}
 use Rattle.sessions.specs.Heard.{HeardText}
 use Rattle.sessions.specs.SessionsState.{SessionsState, known_endpoint}
 use Rattle.vocabulary.specs.Limits.{send_limit}
@@ -188,12 +187,12 @@ is_of_answer w said texts sessions own s t i j next named = go next_is.carried n
 -- the data go to the endpoint at which the rank is known
 pieces_addressed : (known : List ℕ) (rank transfer : ℕ) (d : Endpoint) → known_endpoint known rank ≡ d →
     (ps : List (ℕ × List ℕ)) →
-    all_addressed known (map sending_of (data_frames rank transfer ps)) ≡
+    all_addressed known (data_frames rank transfer ps) ≡
     map (λ (p : ℕ × List ℕ). (d, DataFrame (record { transfer = transfer; offset = p.0; bytes = p.1 }))) ps
 pieces_addressed known rank transfer d is [] = refl
 pieces_addressed known rank transfer d is (p ∷ ps) =
     ap (λ (e : Endpoint). (e, DataFrame (record { transfer = transfer; offset = p.0; bytes = p.1 })) ∷
-    all_addressed known (map sending_of (data_frames rank transfer ps))) is
+    all_addressed known (data_frames rank transfer ps)) is
     ∙ ap (λ (ts : List (Endpoint × FrameText)).
     (d, DataFrame (record { transfer = transfer; offset = p.0; bytes = p.1 })) ∷ ts)
     (pieces_addressed known rank transfer d is ps)
@@ -236,7 +235,7 @@ left sessions said own known p rank transfer all =
     go (Some i) = removed (IsAnnouncedPayload sessions said own known) p.announced i all.announced
 
 -- beside its payloads the engine is as the word alone leaves it
-stays : (old : EngineState) (h : HeardText) (t : ClearText) (sendings : List Sending) → h.lesson ≡ false →
+stays : (old : EngineState) (h : HeardText) (t : ClearText) (sendings : List OutgoingText) → h.lesson ≡ false →
     data_for old.payloads h t ≡ sendings → IsAlone old (after_answered old h t) h sendings
 stays old h t sendings plain are = record {
   queues = λ a known core shown. subst (λ (c : CoreState). IsShown a c known core) core_is shown;
@@ -301,14 +300,15 @@ taken_step n r engines u T old h t x is ours fine =
     more : ℕ
     more = piece_count piece_bytes bytes - 1
 
-    sendings : List Sending
+    sendings : List OutgoingText
     sendings = data_sent s.rank t.transfer bytes
 
     sendings_are : data_for old.payloads h t ≡ sendings
     sendings_are = ap (data_of s.rank t.transfer) asked.kept.found ∙ ap (data_sent s.rank t.transfer) p.bytes_are
 
     free : fault_of_sessions (event_limit old.sessions (Some h) sendings) ≡ None
-    free = subst (λ (fs : List Sending). fault_of_sessions (event_limit old.sessions (Some h) fs) ≡ None) sendings_are
+    free = subst (λ (fs : List OutgoingText). fault_of_sessions (event_limit old.sessions (Some h) fs) ≡ None)
+        sendings_are
         (neither_fault (unwanted t.clearance)
         (fault_of_sessions (event_limit old.sessions (Some h) (data_for old.payloads h t))) fine).1
 

@@ -5,13 +5,12 @@ use Rattle.std.specs.Prelude.{filter}
 use Rattle.std.specs.List.{AllByRecursion}
 use Rattle.std.proofs.lemmas.Bool.{cases_lt, eqb-false, eqb-true}
 use mathlib.Core.Path.{fun_ext}
-use Rattle.datagram.specs.Spelling.{FrameText}
+use Rattle.datagram.specs.Spelling.{FrameText, OutgoingText}
 use Rattle.engine_calls.specs.Frames.{by_rank}
 use Rattle.perfect_queues.proofs.EndpointLemmas.{same_eq}
 use Rattle.proof_link_truth.proofs.Lists.{All_append}
 use Rattle.proof_link_truth.specs.Events.{all_addressed}
 use Rattle.endpoint_links.specs.Links.{LinkOf, LinksOf, accept, accept_all}
-use Rattle.sessions.specs.Events.{Sending}
 use Rattle.sessions.specs.SessionsState.{known_endpoint}
 use Rattle.vocabulary.specs.Endpoints.{is_same}
 use Rattle.vocabulary.specs.declared.endpoint.Endpoint.{Endpoint}
@@ -86,13 +85,13 @@ links_same {F} links e xs ys same = fun_ext (λ s. fun_ext (λ d.
 -- ---- by rank
 
 -- what of frames for ranks goes to an endpoint
-abbrev sent_to : (known : List ℕ) → Endpoint → List Sending → List FrameText
+abbrev sent_to : (known : List ℕ) → Endpoint → List OutgoingText → List FrameText
 sent_to known d fs = goes_to d (all_addressed known fs)
 
-sent_append : (known : List ℕ) (d : Endpoint) (fs gs : List Sending) →
+sent_append : (known : List ℕ) (d : Endpoint) (fs gs : List OutgoingText) →
     sent_to known d (fs ++ gs) ≡ sent_to known d fs ++ sent_to known d gs
 sent_append known d [] gs = refl
-sent_append known d (f ∷ fs) gs = go (is_same d (known_endpoint known f.rank)) (sent_append known d fs gs)
+sent_append known d (f ∷ fs) gs = go (is_same d (known_endpoint known f.target)) (sent_append known d fs gs)
   where
     go : (t : Bool) → sent_to known d (fs ++ gs) ≡ sent_to known d fs ++ sent_to known d gs →
         (if t then f.frame ∷ sent_to known d (fs ++ gs) else sent_to known d (fs ++ gs)) ≡
@@ -109,18 +108,18 @@ other_rank known d r apart = go (is_same d (known_endpoint known r)) refl
     go true h = absurd (apart (ap (λ (e : Endpoint). e.rank) (same_eq d (known_endpoint known r) h)))
 
 -- the frames for one rank
-abbrev for_rank : ℕ → List Sending → List Sending
-for_rank k fs = filter (λ (f : Sending). f.rank == k) fs
+abbrev for_rank : ℕ → List OutgoingText → List OutgoingText
+for_rank k fs = filter (λ (f : OutgoingText). f.target == k) fs
 
 -- of those for its rank all go to an endpoint that went there
-for_own : (known : List ℕ) (d : Endpoint) (fs : List Sending) → sent_to known d (for_rank d.rank fs) ≡
+for_own : (known : List ℕ) (d : Endpoint) (fs : List OutgoingText) → sent_to known d (for_rank d.rank fs) ≡
     sent_to known d fs
 for_own known d [] = refl
-for_own known d (f ∷ fs) = go (f.rank == d.rank) refl (for_own known d fs)
+for_own known d (f ∷ fs) = go (f.target == d.rank) refl (for_own known d fs)
   where
-    go : (t : Bool) → (f.rank == d.rank) ≡ t → sent_to known d (for_rank d.rank fs) ≡ sent_to known d fs →
+    go : (t : Bool) → (f.target == d.rank) ≡ t → sent_to known d (for_rank d.rank fs) ≡ sent_to known d fs →
         sent_to known d (cond t (f ∷ for_rank d.rank fs) (for_rank d.rank fs)) ≡ sent_to known d (f ∷ fs)
-    go true h rest = kept (is_same d (known_endpoint known f.rank))
+    go true h rest = kept (is_same d (known_endpoint known f.target))
       where
         kept : (t : Bool) →
             (if t then f.frame ∷ sent_to known d (for_rank d.rank fs) else sent_to known d (for_rank d.rank fs)) ≡
@@ -129,24 +128,25 @@ for_own known d (f ∷ fs) = go (f.rank == d.rank) refl (for_own known d fs)
         kept false = rest
     go false h rest =
         rest ∙ ap (λ (t : Bool). if t then f.frame ∷ sent_to known d fs else sent_to known d fs)
-        (sym (other_rank known d f.rank (λ is. eqb-false f.rank d.rank h (sym is))))
+        (sym (other_rank known d f.target (λ is. eqb-false f.target d.rank h (sym is))))
 
 -- of those for another rank none
-for_other : (known : List ℕ) (d : Endpoint) (k : ℕ) (fs : List Sending) →
+for_other : (known : List ℕ) (d : Endpoint) (k : ℕ) (fs : List OutgoingText) →
     (d.rank ≡ k → ⊥) → sent_to known d (for_rank k fs) ≡ []
 for_other known d k [] apart = refl
-for_other known d k (f ∷ fs) apart = go (f.rank == k) refl (for_other known d k fs apart)
+for_other known d k (f ∷ fs) apart = go (f.target == k) refl (for_other known d k fs apart)
   where
-    go : (t : Bool) → (f.rank == k) ≡ t → sent_to known d (for_rank k fs) ≡ [] →
+    go : (t : Bool) → (f.target == k) ≡ t → sent_to known d (for_rank k fs) ≡ [] →
         sent_to known d (cond t (f ∷ for_rank k fs) (for_rank k fs)) ≡ []
     go false h rest = rest
     go true h rest =
         ap (λ (t : Bool). if t then f.frame ∷ sent_to known d (for_rank k fs) else sent_to known d (for_rank k fs))
-        (other_rank known d f.rank (λ is. apart (is ∙ eqb-true f.rank k h)))
+        (other_rank known d f.target (λ is. apart (is ∙ eqb-true f.target k h)))
         ∙ rest
 
 -- of those for ranks up to its own, none
-none_below : (known : List ℕ) (d : Endpoint) (k : ℕ) (fs : List Sending) → k ≤ d.rank → sent_to known d (by_rank k fs) ≡
+none_below : (known : List ℕ) (d : Endpoint) (k : ℕ) (fs : List OutgoingText) → k ≤ d.rank →
+    sent_to known d (by_rank k fs) ≡
     []
 none_below known d zero fs le = refl
 none_below known d (suc k) fs le =
@@ -155,7 +155,8 @@ none_below known d (suc k) fs le =
     ∙ for_other known d k fs (λ is. omega (arith, le, is)))
 
 -- of those for ranks beyond its own, all
-all_below : (known : List ℕ) (d : Endpoint) (k : ℕ) (fs : List Sending) → d.rank < k → sent_to known d (by_rank k fs) ≡
+all_below : (known : List ℕ) (d : Endpoint) (k : ℕ) (fs : List OutgoingText) → d.rank < k →
+    sent_to known d (by_rank k fs) ≡
     sent_to known d fs
 all_below known d zero fs lt = absurd (omega (arith, lt))
 all_below known d (suc k) fs lt =
@@ -175,17 +176,17 @@ all_below known d (suc k) fs lt =
     is k lt le = omega (arith, lt, le)
 
 -- frames for ranks below n, so for none from n on
-none_beyond : (n : ℕ) (known : List ℕ) (d : Endpoint) (fs : List Sending) → n ≤ d.rank →
-    AllByRecursion (λ (f : Sending). f.rank < n) fs → sent_to known d fs ≡ []
+none_beyond : (n : ℕ) (known : List ℕ) (d : Endpoint) (fs : List OutgoingText) → n ≤ d.rank →
+    AllByRecursion (λ (f : OutgoingText). f.target < n) fs → sent_to known d fs ≡ []
 none_beyond n known d [] le all = refl
 none_beyond n known d (f ∷ fs) le all =
     ap (λ (t : Bool). if t then f.frame ∷ sent_to known d fs else sent_to known d fs)
-    (other_rank known d f.rank (λ is. let there : f.rank < n = all.0 in omega (arith, there, le, is)))
+    (other_rank known d f.target (λ is. let there : f.target < n = all.0 in omega (arith, there, le, is)))
     ∙ none_beyond n known d fs le all.1
 
 -- to each endpoint the same goes by rank
-by_rank_goes : (n : ℕ) (known : List ℕ) (fs : List Sending) (d : Endpoint) →
-    AllByRecursion (λ (f : Sending). f.rank < n) fs →
+by_rank_goes : (n : ℕ) (known : List ℕ) (fs : List OutgoingText) (d : Endpoint) →
+    AllByRecursion (λ (f : OutgoingText). f.target < n) fs →
     sent_to known d (by_rank n fs) ≡ sent_to known d fs
 by_rank_goes n known fs d all =
     elim (cases_lt d.rank n) [
@@ -194,8 +195,8 @@ by_rank_goes n known fs d all =
     ]
 
 -- Frames for ranks below n that go out by rising rank leave the links as if they went out in their own order
-pub by_rank_same : (n : ℕ) (links : LinksOf FrameText) (e : Endpoint) (known : List ℕ) (fs : List Sending) →
-    AllByRecursion (λ (f : Sending). f.rank < n) fs →
+pub by_rank_same : (n : ℕ) (links : LinksOf FrameText) (e : Endpoint) (known : List ℕ) (fs : List OutgoingText) →
+    AllByRecursion (λ (f : OutgoingText). f.target < n) fs →
     accept_all links e (all_addressed known (by_rank n fs)) ≡ accept_all links e (all_addressed known fs)
 by_rank_same n links e known fs all =
     links_same links e (all_addressed known (by_rank n fs)) (all_addressed known fs)
@@ -203,16 +204,17 @@ by_rank_same n links e known fs all =
 
 -- ---- what holds of each
 
-all_for : (P : Sending → Type 0) (k : ℕ) (fs : List Sending) → AllByRecursion P fs → AllByRecursion P (for_rank k fs)
+all_for : (P : OutgoingText → Type 0) (k : ℕ) (fs : List OutgoingText) → AllByRecursion P fs →
+    AllByRecursion P (for_rank k fs)
 all_for P k [] all = tt
-all_for P k (f ∷ fs) all = go (f.rank == k) (all_for P k fs all.1)
+all_for P k (f ∷ fs) all = go (f.target == k) (all_for P k fs all.1)
   where
     go : (t : Bool) → AllByRecursion P (for_rank k fs) → AllByRecursion P (cond t (f ∷ for_rank k fs) (for_rank k fs))
     go true rest = (all.0, rest)
     go false rest = rest
 
 -- what holds of each frame holds of each by rank
-pub all_by_rank : (P : Sending → Type 0) (n : ℕ) (fs : List Sending) → AllByRecursion P fs →
+pub all_by_rank : (P : OutgoingText → Type 0) (n : ℕ) (fs : List OutgoingText) → AllByRecursion P fs →
     AllByRecursion P (by_rank n fs)
 all_by_rank P zero fs all = tt
 all_by_rank P (suc k) fs all = All_append P (by_rank k fs) (for_rank k fs) (all_by_rank P k fs all) (all_for P k fs all)

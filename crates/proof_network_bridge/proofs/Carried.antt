@@ -5,7 +5,7 @@ use Rattle.std.proofs.Common.{refl, sym, ap, subst, ◌∙◌, append-nil}
 use Rattle.std.specs.List.{AllByRecursion}
 use Rattle.std.proofs.lemmas.Bool.{and_parts}
 use Rattle.collective_steps.specs.declared.step.Ending.{Ending}
-use Rattle.datagram.specs.Spelling.{FrameText}
+use Rattle.datagram.specs.Spelling.{FrameText, OutgoingText}
 use Rattle.engine.specs.Datagrams.{frame_in, numbers_met}
 use Rattle.engine_calls.specs.EngineState.{EngineState, GroupsState}
 use Rattle.engine_calls.specs.Refusals.{fault_of_sessions}
@@ -33,7 +33,7 @@ use Rattle.point_to_point.specs.CoreState.{CoreState}
 use Rattle.point_to_point.specs.Arrivals as core
 use Rattle.rendezvous.specs.State as transfers
 use Rattle.sessions.specs.Events as below_events
-use Rattle.sessions.specs.Events.{Sending, after_event, event_limit, heard_limit, sends_limit}
+use Rattle.sessions.specs.Events.{after_event, event_limit, heard_limit, sends_limit}
 use Rattle.sessions.specs.Heard.{HeardText}
 use Rattle.sessions.specs.SessionsState.{SessionsState}
 use Rattle.vocabulary.specs.Endpoints.{is_same}
@@ -102,7 +102,7 @@ shown_still serial old new own c known core same h =
 
 -- Beside its payloads the engine is as a word alone leaves it, but that its core may have counted a transfer; these
 -- frames are sent
-pub record IsAlone (old mid : EngineState) (h : HeardText) (sendings : List Sending) : Type 0 where
+pub record IsAlone (old mid : EngineState) (h : HeardText) (sendings : List OutgoingText) : Type 0 where
   pub queues : (a : Announcements) (known : List ℕ) (core : Core) → IsShown a (opened old h).core known core →
       IsShown a mid.core known core
   pub place : mid.core.place ≡ (opened old h).core.place
@@ -114,7 +114,7 @@ pub record IsAlone (old mid : EngineState) (h : HeardText) (sendings : List Send
 -- A word of a collective that brings no notice is followed, where what is sent for it stands for what goes out, and the
 -- payloads are then notices of the sessions
 pub alone_step : (n r : ℕ) (engines : List EngineState) (u : GroupNetwork) (T : SessionsState → LinksOf FrameText →
-    Type 0) (old mid : EngineState) (h : HeardText) (b : FrameText) (sendings : List Sending)
+    Type 0) (old mid : EngineState) (h : HeardText) (b : FrameText) (sendings : List OutgoingText)
     (out : List (Endpoint × Carried)) →
     (x : IsHearing n r engines u T old h) → frame_in h.word ≡ Some b → IsAlone old mid h sendings →
     MaySendAll n r sendings → fault_of_sessions (event_limit old.sessions (Some h) sendings) ≡ None →

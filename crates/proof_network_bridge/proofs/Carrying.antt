@@ -1,23 +1,21 @@
 -- What a rank's core gives is what its sessions are to send.
-use Rattle.std.proofs.Common.{◌≡◌, ℕ, List, [], ◌∷◌, map, refl, ap}
+use Rattle.std.proofs.Common.{◌≡◌, ℕ, List, [], ◌∷◌, refl, ap}
 use Rattle.std.specs.List.{AllByRecursion}
 use Rattle.std.proofs.lemmas.Bool.{ne_eqb}
 use Rattle.vocabulary.specs.declared.endpoint.Endpoint.{Endpoint}
-use Rattle.datagram.specs.Spelling.{FrameText}
-use Rattle.point_to_point_calls.specs.Frames.{FrameFor}
-use Rattle.engine_calls.specs.Frames.{sending_of}
+use Rattle.datagram.specs.Spelling.{FrameText, OutgoingText}
 use Rattle.proof_engine_view.specs.Standing.{CanLeave, all_gone, gone_to}
 use Rattle.proof_link_truth.specs.Events.{MaySendAll, all_addressed}
 use Rattle.link_truth.specs.Wire.{place_of}
 
 -- what can leave a rank may be sent
-pub may_send : (n : ℕ) (own : Endpoint) (fs : List FrameFor) → AllByRecursion (CanLeave (place_of n own)) fs →
-    MaySendAll n own.rank (map sending_of fs)
+pub may_send : (n : ℕ) (own : Endpoint) (fs : List OutgoingText) → AllByRecursion (CanLeave (place_of n own)) fs →
+    MaySendAll n own.rank fs
 may_send n own [] all = tt
 may_send n own (f ∷ fs) all = (
   record {
     there = all.0.there;
-    apart = ne_eqb f.rank own.rank all.0.apart;
+    apart = ne_eqb f.target own.rank all.0.apart;
     carried =
         record { fits = all.0.fits; width = all.0.width };
   },
@@ -25,6 +23,6 @@ may_send n own (f ∷ fs) all = (
 )
 
 -- it goes to the known endpoints
-pub all_same : (known : List ℕ) (fs : List FrameFor) → all_addressed known (map sending_of fs) ≡ all_gone known fs
+pub all_same : (known : List ℕ) (fs : List OutgoingText) → all_addressed known fs ≡ all_gone known fs
 all_same known [] = refl
 all_same known (f ∷ fs) = ap (λ (ts : List (Endpoint × FrameText)). gone_to known f ∷ ts) (all_same known fs)

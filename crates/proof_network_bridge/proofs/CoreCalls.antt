@@ -6,11 +6,11 @@ use Rattle.std.proofs.lemmas.Option.{same_Some}
 use Rattle.collective_steps.specs.declared.step.Ending.{Ending}
 use Rattle.collective_transfers.specs.State as payloads
 use Rattle.communicators.specs.Routes.{RouteText, route_on}
-use Rattle.datagram.specs.Spelling.{FrameText}
+use Rattle.datagram.specs.Spelling.{FrameText, OutgoingText}
 use Rattle.engine_calls.specs.EngineState.{EngineState, GroupsState, completion_by, completion_of, member_of}
 use Rattle.engine_calls.specs.Faults.{broken, fault_of, free_fault, group_limit, is_busy, is_replaced, look_rules}
 use Rattle.engine_calls.specs.Faults.{message_rules, on_route, probe_rules, receive_rules, routed_limit, send_rules}
-use Rattle.engine_calls.specs.Frames.{after_frame, frame_limit, sending_of, sendings_of}
+use Rattle.engine_calls.specs.Frames.{after_frame, frame_limit}
 use Rattle.engine_calls.specs.Refusals.{first_fault}
 use Rattle.engine_calls.specs.Routing.{core_call, core_reply, probe_by, receive_by, route_at, send_by}
 use Rattle.engine_calls.specs.declared.call.Call.{Call}
@@ -59,7 +59,7 @@ use Rattle.proof_pure_network.specs.Network.{here}
 use Rattle.proof_session_carrying.specs.EventLaws.{AreJoined}
 use Rattle.proof_session_carrying.specs.Announced.{announcements_in}
 use Rattle.proof_session_carrying.specs.MessageLaws.{FramesAreSent, QueueCallsAreCarried}
-use Rattle.point_to_point_calls.specs.Frames.{FrameFor, as_list}
+use Rattle.point_to_point_calls.specs.Frames.{as_list}
 use Rattle.point_to_point_calls.specs.Hearing.{first_of}
 use Rattle.point_to_point_calls.specs.declared.call.CoreCall as core_asks
 use Rattle.point_to_point_calls.specs.declared.call.CoreCall.TheVariants as core_calls
@@ -70,7 +70,7 @@ use Rattle.point_to_point_calls.specs.declared.refusal.Refusal.TheVariants as re
 use Rattle.point_to_point.specs.Calls.{argument_fault, call_fault, call_frame, free_request_fault, limit_fault}
 use Rattle.point_to_point.specs.CoreState.{CoreState}
 use Rattle.requests.specs.Regions.{handed_of}
-use Rattle.sessions.specs.Events.{Sending, after_event, sends_limit}
+use Rattle.sessions.specs.Events.{after_event, sends_limit}
 use Rattle.sessions.specs.SessionsState.{SessionsState}
 use Rattle.vocabulary.specs.declared.endpoint.Endpoint.{Endpoint}
 use Rattle.proof_network_bridge.specs.Joined.{IsClean, IsHeldBy, network_after}
@@ -91,23 +91,18 @@ use Rattle.proof_network_bridge.proofs.Worlds.{after_grows, is_at, only_out, pla
 
 -- ---- THE FRAME OF A CALL
 
--- as a list
-listed : (f : Option FrameFor) → sendings_of f ≡ map sending_of (as_list f)
-listed None = refl
-listed (Some f) = refl
-
 -- it meets no limit of the sessions
-frame_free : (s : SessionsState) (f : Option FrameFor) → frame_limit s f ≡ None → sends_limit s (sendings_of f) ≡ None
+frame_free : (s : SessionsState) (f : Option OutgoingText) → frame_limit s f ≡ None → sends_limit s (as_list f) ≡ None
 frame_free s None h = refl
-frame_free s (Some f) h = no_limit (sends_limit s (sendings_of (Some f))) h
+frame_free s (Some f) h = no_limit (sends_limit s (f ∷ [])) h
 
 -- to send it is an event in which nothing was heard
-frame_event : (s : SessionsState) (f : Option FrameFor) → after_frame s f ≡ after_event s None (sendings_of f)
+frame_event : (s : SessionsState) (f : Option OutgoingText) → after_frame s f ≡ after_event s None (as_list f)
 frame_event s None = refl
 frame_event s (Some f) = refl
 
 -- what sessions know, and where they stand, stays
-frame_keeps : (s : SessionsState) (f : Option FrameFor) → Keeps s (after_frame s f)
+frame_keeps : (s : SessionsState) (f : Option OutgoingText) → Keeps s (after_frame s f)
 frame_keeps s None = record { place = refl; known = refl }
 frame_keeps s (Some f) = record { place = refl; known = refl }
 
@@ -393,7 +388,7 @@ core_calls_follow shows truth happen carried taken n r engines datagrams history
     q : queues.Call
     q = in_queues.call_seen answer.asked
 
-    frame : Option FrameFor
+    frame : Option OutgoingText
     frame = call_frame old.core answer.asked
 
     out : List (Endpoint × Frame)
@@ -406,7 +401,7 @@ core_calls_follow shows truth happen carried taken n r engines datagrams history
     sessions = carriers.accept_all f.joined.sessions own (frames_carried out)
 
     texts : List (Endpoint × FrameText)
-    texts = all_addressed known (sendings_of frame)
+    texts = all_addressed known (as_list frame)
 
     at_own : IsHeldBy w f.joined.sessions r old
     at_own = f.joined.held r old there
@@ -444,12 +439,11 @@ core_calls_follow shows truth happen carried taken n r engines datagrams history
         (taken n r engines datagrams history old mid call reply f there is gives).none queued
 
     -- the sessions do just what is done where a frame is sent and nothing is heard
-    sent : LeavesTrue n (sessions_in engines) datagrams r (after_event old.sessions None (sendings_of frame))
+    sent : LeavesTrue n (sessions_in engines) datagrams r (after_event old.sessions None (as_list frame))
         (carriers.accept_all f.joined.texts own texts) w.net.current
     sent = truth n r (sessions_in engines) datagrams f.joined.texts w.net.current old.sessions None
-        (sendings_of frame) f.joined.links (is_at n r engines datagrams w old f.joined there) tt
-        (subst (λ (ss : List Sending). MaySendAll n own.rank ss) (sym (listed frame))
-        (may_send n own (as_list frame) (c 0).leaves)) (frame_free old.sessions frame free.frame)
+        (as_list frame) f.joined.links (is_at n r engines datagrams w old f.joined there) tt
+        (may_send n own (as_list frame) (c 0).leaves) (frame_free old.sessions frame free.frame)
 
     leaves : LeavesTrue n (sessions_in engines) datagrams r mid.sessions (carriers.accept_all f.joined.texts own texts)
         w.net.current
@@ -469,7 +463,7 @@ core_calls_follow shows truth happen carried taken n r engines datagrams history
             sent_more (after_out (a serial) out) (announcements_in serial sessions own) texts out
             (after_grows serial f.joined.sessions own out)
             (subst (λ (ts : List (Endpoint × FrameText)). AreSent (after_out (a serial) out) ts out)
-            (sym (ap (all_addressed known) (listed frame) ∙ all_same known (as_list frame))) (c serial).sends)
+            (sym (all_same known (as_list frame))) (c serial).sends)
 
     known_is : mid.sessions.known ≡ known
     known_is = ap (λ (s : SessionsState). s.known) answer.sessions ∙ (frame_keeps old.sessions frame).known

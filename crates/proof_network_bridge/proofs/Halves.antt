@@ -4,9 +4,10 @@ use Rattle.std.proofs.Common.{arith, inl, inr}
 use Rattle.std.specs.Prelude.{option_map, slice_get, slice_set}
 use Rattle.std.proofs.lemmas.List.{map-set}
 use Rattle.std.proofs.lemmas.Option.{same_Some, slice_get-map}
+use Rattle.datagram.specs.Spelling.{OutgoingText}
 use Rattle.point_to_point_calls.specs.declared.refusal.Refusal.{Refusal}
 use Rattle.sessions.specs.declared.refusal.SessionRefusal as lower
-use Rattle.sessions.specs.Events.{Sending, TurnedAway, after_send, after_sends}
+use Rattle.sessions.specs.Events.{TurnedAway, after_send, after_sends}
 use Rattle.sessions.specs.SessionsState.{SessionsState}
 use Rattle.engine_calls.specs.EngineState.{EngineState, emptied}
 use Rattle.engine_calls.specs.Refusals.{fault_of_sessions, first_fault}
@@ -74,7 +75,7 @@ pub record Keeps (old new : SessionsState) : Type 0 where
   pub known : new.known ≡ old.known
 
 -- stays where they send several
-pub sends_keep : (s : SessionsState) (fs : List Sending) → Keeps s (after_sends s fs)
+pub sends_keep : (s : SessionsState) (fs : List OutgoingText) → Keeps s (after_sends s fs)
 sends_keep s [] = record { place = refl; known = refl }
 sends_keep s (f ∷ fs) =
     let rest : Keeps (after_send s f) (after_sends s (f ∷ fs)) = sends_keep (after_send s f) fs in

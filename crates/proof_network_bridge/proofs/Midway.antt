@@ -2,7 +2,7 @@
 -- answered yet.
 use Rattle.std.proofs.Common.{◌≡◌, ℕ, zero, suc, ◌<◌, ◌≤◌, false, List, [], ◌∷◌, Some, None, refl, sym, subst, ◌∙◌}
 use Rattle.std.specs.Prelude.{◌==◌, slice_get, slice_index, slice_set}
-use Rattle.datagram.specs.Spelling.{FrameText}
+use Rattle.datagram.specs.Spelling.{FrameText, OutgoingText}
 use Rattle.engine.specs.Datagrams.{ended_by, groups_met, lesson_in, payloads_met}
 use Rattle.engine_calls.specs.EngineState.{EngineState, or_before}
 use Rattle.perfect_groups.specs.Events.{Entry}
@@ -23,7 +23,7 @@ use Rattle.proof_session_carrying.specs.Announced.{announcements_in}
 use Rattle.proof_session_carrying.specs.Carrying.{Saying}
 use Rattle.proof_session_carrying.specs.EventLaws.{AreJoined}
 use Rattle.point_to_point.specs.Arrivals.{after_lesson}
-use Rattle.sessions.specs.Events.{Sending, after_event, after_heard, sends_limit, taught_known}
+use Rattle.sessions.specs.Events.{after_event, after_heard, sends_limit, taught_known}
 use Rattle.sessions.specs.Heard.{HeardText}
 use Rattle.sessions.specs.SessionsState.{SessionsState}
 use Rattle.vocabulary.specs.declared.endpoint.Endpoint.{Endpoint}
@@ -85,7 +85,8 @@ others_after r engines current u after core messages m notices entries sessions 
           (u.member (at x (current x))) only (places_apart current x r apart) (o.held x e apart is)));
       clean = o.clean;
       payloads =
-          λ x e apart is. payloads_grow sessions later said more (at x (current x)) e.sessions.known e.payloads only.grow
+          λ x e apart is. payloads_grow sessions later said more (at x (current x)) e.sessions.known e.payloads
+          only.grow
           grows (o.payloads x e apart is);
       unborn = λ d late. a.cores d (to_come_apart current d r late) ∙ o.unborn d late;
     }
@@ -150,7 +151,7 @@ opened e h = record {
 abbrev pub LeavesLinks : (n r : ℕ) → (T : SessionsState → LinksOf FrameText → Type 0) → SessionsState → HeardText →
     LinksOf FrameText → (current : ℕ → ℕ) → Type 0
 LeavesLinks n r T old h texts current =
-    (sendings : List Sending) → MaySendAll n r sendings → sends_limit (after_heard old (Some h)) sendings ≡ None →
+    (sendings : List OutgoingText) → MaySendAll n r sendings → sends_limit (after_heard old (Some h)) sendings ≡ None →
     T (after_event old (Some h) sendings)
     (accept_all (links_heeded texts h.source (at r (current r)) h.word) (at r (current r))
     (all_addressed (after_heard old (Some h)).known sendings))

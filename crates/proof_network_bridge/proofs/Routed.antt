@@ -1,6 +1,7 @@
 -- The fault of a call with a route: the first of the queues' rules, and then of the communicator's.
 use Rattle.std.proofs.Common.{◌≡◌, ℕ, Bool, true, false, ◌||◌, arith, if◌then◌else◌, List, [], ◌∷◌, Option, Some, None}
 use Rattle.std.proofs.Common.{refl, sym, ap, subst, ◌∙◌, inl, inr}
+use Rattle.datagram.specs.Spelling.{OutgoingText}
 use Rattle.engine_calls.specs.EngineState.{EngineState, member_of}
 use Rattle.engine_calls.specs.Faults.{group_limit, routed_limit}
 use Rattle.engine_calls.specs.Frames.{frame_limit}
@@ -30,7 +31,6 @@ use Rattle.proof_pure_network.specs.Core.{Core, view}
 use Rattle.proof_pure_network.specs.Held.{blank}
 use Rattle.proof_queue_calls.proofs.Judged.{of_both_halves}
 use Rattle.proof_queue_calls.specs.Halves.{AreInWorld}
-use Rattle.point_to_point_calls.specs.Frames.{FrameFor}
 use Rattle.point_to_point_calls.specs.Hearing.{first_of}
 use Rattle.point_to_point_calls.specs.Refusals.{number_of_refusal}
 use Rattle.point_to_point_calls.specs.Sending.{announced_to, or_worn_out, send_fault}
@@ -173,9 +173,9 @@ worn_out true x h = sym (same_refusal refusals.Limit x h)
 worn_out false x h = absurd cc
 
 -- so is that of a frame
-frame_full : (s : SessionsState) (f : Option FrameFor) (x : Refusal) → frame_limit s f ≡ Some x → x ≡ refusals.Limit
+frame_full : (s : SessionsState) (f : Option OutgoingText) (x : Refusal) → frame_limit s f ≡ Some x → x ≡ refusals.Limit
 frame_full s None x h = absurd cc
-frame_full s (Some f) x h = worn_out (is_worn_out (peer_at s.peers f.rank).sender) x h
+frame_full s (Some f) x h = worn_out (is_worn_out (peer_at s.peers f.target).sender) x h
 
 -- and the first of two
 either_is : (o p : Option Refusal) (x : Refusal) → ((y : Refusal) → o ≡ Some y → y ≡ refusals.Limit) →

@@ -8,6 +8,7 @@ use Rattle.std.proofs.lemmas.Bool.{and_from, and_parts, cases_eq, eq-eqb, leb-tr
 use Rattle.std.proofs.lemmas.List.{length-set}
 use Rattle.collective_messages.specs.Messages.{says}
 use Rattle.collective_messages.specs.declared.message.CollectiveMessage.{CollectiveMessage}
+use Rattle.datagram.specs.Spelling.{OutgoingText}
 use Rattle.engine_calls.specs.Frames.{AreWhole, IsWhole, all_can_go, can_go, is_large, is_sendable, messages_sent}
 use Rattle.engine_calls.specs.Frames.{numbers_after, payload_frame, sending_of_message, step_limit, step_sendings}
 use Rattle.engine_calls.specs.Refusals.{fault_of_sessions}
@@ -26,7 +27,7 @@ use Rattle.proof_session_carrying.specs.EventLaws.{Bring, Tells}
 use Rattle.point_to_point_calls.specs.declared.refusal.Refusal.TheVariants as refusals
 use Rattle.rendezvous.specs.State.{fresh, is_full_to, most_transfers, next_to, with_begun}
 use Rattle.rendezvous.specs.declared.transfers.Numbers.{Numbers}
-use Rattle.sessions.specs.Events.{Sending, after_event, after_heard, event_limit, first_limit, heard_limit, sends_limit}
+use Rattle.sessions.specs.Events.{after_event, after_heard, event_limit, first_limit, heard_limit, sends_limit}
 use Rattle.sessions.specs.Heard.{HeardText}
 use Rattle.sessions.specs.SessionsState.{SessionsState}
 use Rattle.sessions.specs.declared.refusal.SessionRefusal.{SessionRefusal}
@@ -178,7 +179,7 @@ may_be_sent n own ns ms bounded sendable whole goes =
     all_by_rank (MaySend n own.rank) n (messages_sent ns ms) (each_may_be_sent n own ns ms bounded sendable whole goes)
 
 ranks_there : (n : ℕ) (own : Endpoint) (ns : List Numbers) (ms : List CollectiveMessage) →
-    AllByRecursion (IsSendable n own) ms → AllByRecursion (λ (f : Sending). f.rank < n) (messages_sent ns ms)
+    AllByRecursion (IsSendable n own) ms → AllByRecursion (λ (f : OutgoingText). f.target < n) (messages_sent ns ms)
 ranks_there n own ns [] sendable = tt
 ranks_there n own ns (m ∷ ms) sendable = (sendable.0.there, ranks_there n own (numbers_after ns m) ms sendable.1)
 
@@ -258,7 +259,8 @@ meets_none s ns heard ms none = tested (all_can_go s.place ns ms) refl none
 -- it in in the order of the step
 pub step_leaves : (T : SessionsState → Links → Type 0) (n : ℕ) (own : Endpoint) (old : SessionsState)
     (heard : Option HeardText) (links : Links) (known : List ℕ) (ns : List Numbers) (ms : List CollectiveMessage) →
-    ((sendings : List Sending) → MaySendAll n own.rank sendings → sends_limit (after_heard old heard) sendings ≡ None →
+    ((sendings : List OutgoingText) → MaySendAll n own.rank sendings → sends_limit (after_heard old heard) sendings ≡
+    None →
     T (after_event old heard sendings) (accept_all links own (all_addressed known sendings))) →
     old.place ≡ place_of n own → AreBounded n ns → AllByRecursion (IsSendable n own) ms → AreWhole ms →
     step_limit old ns heard ms ≡ None →

@@ -348,7 +348,8 @@ large_sent n own known core sessions said links ns c p m x h goes can known_is l
     new_is = record {
       message = m;
       notice =
-          subst (λ (d : Endpoint). IsLargeNotice after (say said own m) own d (next_to ns rank) m) (sym target_is) notice;
+          subst (λ (d : Endpoint). IsLargeNotice after (say said own m) own d (next_to ns rank) m)
+          (sym target_is) notice;
       bytes = refl;
       short = begins.limit;
     }

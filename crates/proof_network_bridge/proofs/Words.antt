@@ -2,13 +2,11 @@
 use Rattle.std.proofs.Common.{◌≡◌, ℕ, Bool, true, false, List, [], map, Option, Some, None, refl, sym, ap, subst, ◌∙◌}
 use Rattle.std.specs.List.{AllByRecursion}
 use Rattle.std.proofs.lemmas.Option.{same_Some}
-use Rattle.datagram.specs.Spelling.{FrameText}
+use Rattle.datagram.specs.Spelling.{FrameText, OutgoingText}
 use Rattle.engine.specs.Datagrams.{after_heard, frame_in, heard_fault, hold_fault, news_of, replies}
 use Rattle.engine_calls.specs.EngineState.{EngineState}
-use Rattle.engine_calls.specs.Frames.{sending_of}
 use Rattle.engine_calls.specs.Refusals.{fault_of_sessions, first_fault}
 use Rattle.incarnation.specs.declared.place.Place.{Place}
-use Rattle.point_to_point_calls.specs.Frames.{FrameFor}
 use Rattle.point_to_point_calls.specs.Hearing as core_hearing
 use Rattle.point_to_point_calls.specs.Hearing.{transfers_met}
 use Rattle.point_to_point.specs.CoreState.{CoreState}
@@ -17,7 +15,7 @@ use Rattle.point_to_point.specs.Arrivals.{after_any, after_news, called_for, new
 use Rattle.rendezvous.specs.State as rendezvous
 use Rattle.sessions.specs.declared.refusal.SessionRefusal as below_refused
 use Rattle.sessions.specs.Events as below_events
-use Rattle.sessions.specs.Events.{Sending, after_event, event_limit, first_limit, heard_limit, sends_limit}
+use Rattle.sessions.specs.Events.{after_event, event_limit, first_limit, heard_limit, sends_limit}
 use Rattle.sessions.specs.Heard.{Acknowledges, Follows, Hands, HeardText, Holds, Nothing, Repeats, WordText}
 use Rattle.sessions.specs.SessionsState.{SessionsState}
 use Rattle.vocabulary.specs.declared.endpoint.Endpoint.{Endpoint}
@@ -233,7 +231,7 @@ with_frame shows n r engines u T old h b x is free =
     grows : (serial : ℕ) → AnnouncementsGrow (after_out (a serial) effect.out) (announcements_in serial sessions own)
     grows serial = handed_grow_out serial o.sessions s own effect.out
 
-    fs : List FrameFor
+    fs : List OutgoingText
     fs = news_frames e.core (news s false (Some b))
 
     gone : List (Endpoint × FrameText)
@@ -246,8 +244,8 @@ with_frame shows n r engines u T old h b x is free =
     core_is : (after_heard old h).core ≡ after_news e.core (news s false (Some b))
     core_is = ap (after_any e.core s) is
 
-    sendings_are : replies old.core h ≡ map sending_of fs
-    sendings_are = ap (λ (t : Option FrameText). map sending_of (called_for e.core s t)) is
+    sendings_are : replies old.core h ≡ fs
+    sendings_are = ap (λ (t : Option FrameText). called_for e.core s t) is
 
     keeps : Keeps (below_events.after_heard old.sessions (Some h)) (after_heard old h).sessions
     keeps = sends_keep (below_events.after_heard old.sessions (Some h)) (replies old.core h)
@@ -262,7 +260,7 @@ with_frame shows n r engines u T old h b x is free =
         (sym core_is) (heard serial).shown)
 
     may : MaySendAll n r (replies old.core h)
-    may = subst (λ (ts : List Sending). MaySendAll n r ts) (sym sendings_are)
+    may = subst (λ (ts : List OutgoingText). MaySendAll n r ts) (sym sendings_are)
         (may_send n own fs
         (subst (λ (p : Place). AllByRecursion (CanLeave p) fs) (o.held.placed ∙ o.told.place) (heard 0).leaves))
 
@@ -320,7 +318,7 @@ plainly n r engines u T old h x is free =
     core_is = ap (after_any e.core s) is
 
     none : replies old.core h ≡ []
-    none = ap (λ (t : Option FrameText). map sending_of (called_for e.core s t)) is
+    none = ap (λ (t : Option FrameText). called_for e.core s t) is
 
     keeps : Keeps (below_events.after_heard old.sessions (Some h)) mid.sessions
     keeps = sends_keep (below_events.after_heard old.sessions (Some h)) (replies old.core h)
@@ -331,9 +329,10 @@ plainly n r engines u T old h x is free =
     leaves : T mid.sessions x.texts
     leaves =
         subst (λ (ls : LinksOf FrameText). T mid.sessions ls) (hands_none x.texts s own h.word is)
-        (subst (λ (ts : List Sending). T mid.sessions
+        (subst (λ (ts : List OutgoingText). T mid.sessions
         (lower.accept_all (links_heeded x.texts s own h.word) own (all_addressed e.sessions.known ts))) none
-        (x.leaves (replies old.core h) (subst (λ (ts : List Sending). MaySendAll n r ts) (sym none) tt) free.limit))
+        (x.leaves (replies old.core h) (subst (λ (ts : List OutgoingText). MaySendAll n r ts) (sym none) tt)
+        free.limit))
 
 -- ---- any word
 

@@ -6,6 +6,7 @@ use Rattle.std.proofs.lemmas.Bool.{cases_lt, ltb-false, ltb-true}
 use Rattle.std.proofs.lemmas.List.{length-append, length-set}
 use Rattle.std.proofs.lemmas.List.FromFn.{length-range_with_len}
 use Rattle.std.proofs.lemmas.List.Elements.{All-head, All-tail}
+use Rattle.datagram.specs.Spelling.{OutgoingText}
 use Rattle.vocabulary.specs.declared.endpoint.Endpoint.{Endpoint}
 use Rattle.reliable_link.specs.SenderState.{SenderState, after_accept, after_ack, entered_on_ack, new_frame, out_count}
 use Rattle.reliable_link.specs.SenderState.{out_end, passed_to}
@@ -18,7 +19,7 @@ use Rattle.sessions.specs.SessionsState.{SessionsState}
 use Rattle.sessions.specs.Peers.{frames_out, new_session, peer_at, with_receiver}
 use Rattle.sessions.specs.Heard.{WordText, Acknowledges, Repeats, Hands, Holds, Follows, Nothing, HeardText}
 use Rattle.sessions.specs.Heard.{session_met, CanHear, CanHeed}
-use Rattle.sessions.specs.Events.{CanSend, Sending, after_event, after_heard, after_send, after_sends, answer_in}
+use Rattle.sessions.specs.Events.{CanSend, after_event, after_heard, after_send, after_sends, answer_in}
 use Rattle.sessions.specs.Events.{heeded_by, next_bytes, out_on_accept, taught_peers}
 use Rattle.sessions.specs.Windows.{StaysWithin, acknowledgements, acknowledgements_of, empties_window, room, room_in}
 use Rattle.sessions.specs.Windows.{room_met}
@@ -54,30 +55,30 @@ one_place : (kept out : ℕ) (t : Bool) (x : ℕ × List ℕ) → nat_lt kept 64
 one_place kept out true x is = omega (arith, ltb-true kept 64 is)
 one_place kept out false x is = omega (arith, ltb-false kept 64 is)
 
-room_send : (s : SessionsState) (f : Sending) → f.rank < length s.peers →
+room_send : (s : SessionsState) (f : OutgoingText) → f.target < length s.peers →
     length (after_send s f).out + room (after_send s f).peers ≡ length s.out + room s.peers
 room_send s f there =
-    let old : SenderState = (peer_at s.peers f.rank).sender in
-    let p : Peer = record { sender = after_accept old (next_bytes s f); receiver = (peer_at s.peers f.rank).receiver } in
-    let one : List (ℕ × List ℕ) = out_on_accept old f.rank (next_bytes s f) in
+    let old : SenderState = (peer_at s.peers f.target).sender in
+    let p : Peer = record { sender = after_accept old (next_bytes s f); receiver = (peer_at s.peers f.target).receiver } in
+    let one : List (ℕ × List ℕ) = out_on_accept old f.target (next_bytes s f) in
     let kept : length p.sender.frames ≡ length old.frames + 1 = length-append old.frames (new_frame (next_bytes s f) old.clock ∷ []) in
     omega (
       arith,
-      room_set s.peers f.rank p there,
+      room_set s.peers f.target p there,
       length-append s.out one,
       kept,
-      one_place (length old.frames) (length s.out) (nat_lt (length old.frames) 64) (f.rank, next_bytes s f) refl,
+      one_place (length old.frames) (length s.out) (nat_lt (length old.frames) 64) (f.target, next_bytes s f) refl,
     )
 
-room_sends : (s : SessionsState) (fs : List Sending) → AreThere (length s.peers) fs →
+room_sends : (s : SessionsState) (fs : List OutgoingText) → AreThere (length s.peers) fs →
     length (after_sends s fs).out + room (after_sends s fs).peers ≡ length s.out + room s.peers
 room_sends s [] there = refl
 room_sends s (f ∷ fs) there =
-    let p : Peer = record { sender = after_accept (peer_at s.peers f.rank).sender (next_bytes s f); receiver = (peer_at s.peers f.rank).receiver } in
+    let p : Peer = record { sender = after_accept (peer_at s.peers f.target).sender (next_bytes s f); receiver = (peer_at s.peers f.target).receiver } in
     room_sends (after_send s f) fs
-    (subst (λ (n : ℕ). AreThere n fs) (sym (length-set s.peers f.rank p))
-    (All-tail (λ (g : Sending). g.rank < length s.peers) f fs there))
-    ∙ room_send s f (All-head (λ (g : Sending). g.rank < length s.peers) f fs there)
+    (subst (λ (n : ℕ). AreThere n fs) (sym (length-set s.peers f.target p))
+    (All-tail (λ (g : OutgoingText). g.target < length s.peers) f fs there))
+    ∙ room_send s f (All-head (λ (g : OutgoingText). g.target < length s.peers) f fs there)
 
 -- ---- what is heard
 
@@ -183,7 +184,8 @@ room_heard s (Some h) can =
 
 -- ---- an event
 
-within : (s : SessionsState) (h : Option HeardText) (fs : List Sending) → CanHear s h → AreThere (length s.peers) fs →
+within : (s : SessionsState) (h : Option HeardText) (fs : List OutgoingText) → CanHear s h →
+    AreThere (length s.peers) fs →
     StaysWithin h s (after_event s h fs)
 within s h fs can there =
     omega (
@@ -194,7 +196,7 @@ within s h fs can there =
 
 -- an event that is carried out stays within
 pub within_carried : (r : Result (Unit {0}) SessionRefusal) (s new : SessionsState) (h : Option HeardText)
-    (fs : List Sending) → CanHear s h → All (CanSend s.place) fs →
+    (fs : List OutgoingText) → CanHear s h → All (CanSend s.place) fs →
     length s.peers ≡ s.place.size → OnOk r (new ≡ after_event s h fs) → OnOk r (StaysWithin h s new)
 within_carried (Ok x) s new h fs can may each ok =
     subst (λ (t : SessionsState). StaysWithin h s t) (sym ok)

@@ -9,31 +9,32 @@
 
 ghost use Rattle.std.specs.Prelude.{ℕ, ◌≡◌, ◌%◌, ◌≤◌, ◌<◌, ◌+◌, ◌++◌, [], ◌∷◌, All, IsTrue, false, IfOk, IfErr, OnOk};
 ghost use Rattle.std.specs.Prelude.{OnErr, length, nat_lt, take, slice_set, vec_len, None, Some};
+ghost use Rattle.datagram.specs.Spelling.{outgoing_text};
 ghost use Rattle.reliable_link.specs.SenderState.{out_end, entered_on_ack};
 ghost use Rattle.reliable_link.specs.Accepting.{HasNumberLeft};
 ghost use Rattle.sessions.specs.SessionsState.{GivesUnless, known_endpoint};
 ghost use Rattle.sessions.specs.Peers.{peer_at, with_new_session, frames_out};
 ghost use Rattle.sessions.specs.Spellings.{ack_bytes};
 ghost use Rattle.sessions.specs.Heard.{word_text, heard_text, heard_option, CanHear};
-ghost use Rattle.sessions.specs.Events.{AreFor, CanSend, taught_known, heeded_by, sending_text, sendings, sends_limit};
+ghost use Rattle.sessions.specs.Events.{AreFor, CanSend, taught_known, heeded_by, sendings, sends_limit};
 ghost use Rattle.sessions.specs.Events.{after_event, event_limit, most_answers, TurnedAway};
 ghost use Rattle.sessions.specs.Windows.{StaysWithin};
 ghost use Rattle.sessions.specs.Carrying.{CanSettleIn, CanSettle, known_after, answered, sender_after, bytes_ahead};
 ghost use Rattle.sessions.specs.Carrying.{send_ahead, sends_ahead, settled, all_taken_back};
 
-use crate::heard::{Heard, LinkEvent, Outgoing, Unheard};
+use crate::heard::{Heard, LinkEvent, Unheard};
 use crate::limits::frame_at;
 use crate::peers::{self, Peer};
 use crate::refusal::SessionRefusal;
 use crate::sessions::Sessions;
 use crate::spelling::{ack_bytes, frame_bytes, reset_bytes};
-use datagram::{Bytes, Drafts};
+use datagram::{Bytes, Drafts, Outgoing};
 use reliable_link::WINDOW;
 use vocabulary::Endpoint;
 
 /// The frames are taken back from the sessions with their ranks, the last one first.
 fn take_back_each(peers: &mut Vec<Peer>, frames: &[Outgoing])
-    requires { All (λ f. f.rank < vec_len peers.old) (sendings frames.now) }
+    requires { All (λ f. f.target < vec_len peers.old) (sendings frames.now) }
     ensures { peers.new.items ≡ all_taken_back peers.old.items (sendings frames.now) }
 {
     for done in 0..frames.len() {
@@ -123,9 +124,9 @@ impl Sessions {
         heard: Option<Heard<'_>>,
         outgoing: Outgoing<'_>,
     ) -> Result<Bytes, SessionRefusal>
-        requires { CanSend self.old.place (sending_text outgoing) }
+        requires { CanSend self.old.place (outgoing_text outgoing) }
         ensures ok { IfOk result
-            (λ bytes. bytes ≡ bytes_ahead (heard_option heard.entry) self.old (sending_text outgoing.entry)) }
+            (λ bytes. bytes ≡ bytes_ahead (heard_option heard.entry) self.old (outgoing_text outgoing.entry)) }
         ensures kept { self.new ≡ self.old }
         ensures err { IfErr result (λ e. e ≡ SessionRefusal.OutOfMemory) }
     {
@@ -143,9 +144,9 @@ impl Sessions {
         outgoing: Outgoing<'_>,
     ) -> Result<(), SessionRefusal>
         requires can { CanSettle self.old.peers (heard_option heard) }
-        requires frame { CanSend self.old.place (sending_text outgoing) }
+        requires frame { CanSend self.old.place (outgoing_text outgoing) }
         requires left { HasNumberLeft (peer_at self.old.peers outgoing.target).sender }
-        ensures ok { OnOk result (self.new ≡ send_ahead (heard_option heard.entry) self.old (sending_text outgoing.entry)) }
+        ensures ok { OnOk result (self.new ≡ send_ahead (heard_option heard.entry) self.old (outgoing_text outgoing.entry)) }
         ensures unchanged { OnErr result (self.new ≡ self.old) }
         ensures err { IfErr result (λ e. e ≡ SessionRefusal.OutOfMemory) }
     {
@@ -285,7 +286,7 @@ impl Sessions {
 
     /// The frames are taken back that were taken over, and what went out behind the first so many datagrams.
     fn take_all_back(&mut self, frames: &[Outgoing<'_>], emitted: usize)
-        requires { All (λ f. f.rank < length self.old.peers) (sendings frames.now) }
+        requires { All (λ f. f.target < length self.old.peers) (sendings frames.now) }
         ensures { self.new ≡ record self.old {
           peers = all_taken_back self.old.peers (sendings frames.now);
           out = take emitted self.old.out;

@@ -1,11 +1,11 @@
 -- The sessions send what the core calls for.
-use Rattle.std.proofs.Common.{List, Some, map, ap, subst, ◌∙◌}
+use Rattle.std.proofs.Common.{List, Some, ap, subst, ◌∙◌}
 use Rattle.std.specs.List.{AllByRecursion}
+use Rattle.datagram.specs.Spelling.{OutgoingText}
 use Rattle.point_to_point_calls.specs.Hearing.{CanGo, NewsText}
 use Rattle.point_to_point.specs.Arrivals.{news_frames}
-use Rattle.sessions.specs.Events.{Sending, after_event, event_limit, sendings}
+use Rattle.sessions.specs.Events.{after_event, event_limit, sendings}
 use Rattle.sessions.specs.Heard.{heard_text}
-use Rattle.engine_calls.specs.Frames.{outgoing_of}
 use Rattle.engine_calls.specs.Refusals.{of_sessions}
 use Rattle.engine.proofs.Replies.{only_memory, outgoing_can_go, outgoing_says}
 use Rattle.engine.proofs.datagrams.carry_out.Goals as goal
@@ -14,9 +14,9 @@ pub carry_out-requires-clause-frames : goal.carry_out-requires-clause-frames
 carry_out-requires-clause-frames c =
     let core = c.args.core.now.state in
     let h = heard_text c.args.heard in
-    outgoing_can_go core c.args.sessions.now.place h c.deref-2.result.now
-    (outgoing_says core h c.deref-2.result.now c.in_ok-frames.frames.items
-    (c.deref-2.ensures.value ∙ c.in_ok-outgoing.ensures.ok ∙ ap (map outgoing_of) c.deref.ensures.value)
+    outgoing_can_go core c.args.sessions.now.place h c.deref.result.now
+    (outgoing_says core h c.deref.result.now c.in_ok-frames.frames.items
+    c.deref.ensures.value
     (c.in_ok-frames.ensures.exact ∙ ap (news_frames core) c.news_of.ensures))
     c.requires.place
     (subst (λ (n : NewsText). AllByRecursion (CanGo core.place.size) (news_frames core n)) c.news_of.ensures
@@ -27,20 +27,20 @@ returns-in-Ok-clause-ok c =
     let core = c.args.core.now.state in
     let h = heard_text c.args.heard in
     c.in-Ok.ensures.exact.1
-    ∙ ap (λ (fs : List Sending). after_event c.args.sessions.now (Some h) fs)
-    (outgoing_says core h c.deref-2.result.now c.in_ok-frames.frames.items
-    (c.deref-2.ensures.value ∙ c.in_ok-outgoing.ensures.ok ∙ ap (map outgoing_of) c.deref.ensures.value)
+    ∙ ap (λ (fs : List OutgoingText). after_event c.args.sessions.now (Some h) fs)
+    (outgoing_says core h c.deref.result.now c.in_ok-frames.frames.items
+    c.deref.ensures.value
     (c.in_ok-frames.ensures.exact ∙ ap (news_frames core) c.news_of.ensures))
 
 pub returns-clause-err : goal.returns-clause-err
 returns-clause-err c =
     let core = c.args.core.now.state in
     let h = heard_text c.args.heard in
-    let says = outgoing_says core h c.deref-2.result.now c.in_ok-frames.frames.items
-    (c.deref-2.ensures.value ∙ c.in_ok-outgoing.ensures.ok ∙ ap (map outgoing_of) c.deref.ensures.value)
+    let says = outgoing_says core h c.deref.result.now c.in_ok-frames.frames.items
+    c.deref.ensures.value
     (c.in_ok-frames.ensures.exact ∙ ap (news_frames core) c.news_of.ensures) in
     c.of_sessions.ensures
     ∙ ap of_sessions
-    (only_memory (event_limit c.args.sessions.now (Some h) (sendings c.deref-2.result.now)) c.in-Err.refused
-    (ap (λ (fs : List Sending). event_limit c.args.sessions.now (Some h) fs) says ∙ c.requires.limit)
+    (only_memory (event_limit c.args.sessions.now (Some h) (sendings c.deref.result.now)) c.in-Err.refused
+    (ap (λ (fs : List OutgoingText). event_limit c.args.sessions.now (Some h) fs) says ∙ c.requires.limit)
     c.in-Err.ensures.exact.1)

@@ -1,7 +1,8 @@
 -- The data go out on the answer, or the limit or want of memory stops them.
 use Rattle.std.proofs.Common.{All, List, Some, sym, ap, subst, ◌∙◌}
 use Rattle.std.proofs.lemmas.Result.{err_from_is_err_and}
-use Rattle.sessions.specs.Events.{CanSend, Sending, event_limit, sendings}
+use Rattle.datagram.specs.Spelling.{OutgoingText}
+use Rattle.sessions.specs.Events.{CanSend, event_limit, sendings}
 use Rattle.sessions.specs.Heard.{heard_text}
 use Rattle.engine.proofs.Announced.{data_can_go, data_go_to, limit_met, memory_wanting, on_ok}
 use Rattle.engine.specs.Datagrams.{data_sent}
@@ -26,7 +27,7 @@ returns-in_err-frames-clause-err c =
 pub carry_out-requires-clause-go : goal.carry_out-requires-clause-go
 carry_out-requires-clause-go c =
     let says = ap sendings c.deref.ensures.value ∙ c.in_ok-frames.ensures.ok in
-    subst (λ (fs : List Sending). All (CanSend c.args.sessions.now.place) fs) (sym says)
+    subst (λ (fs : List OutgoingText). All (CanSend c.args.sessions.now.place) fs) (sym says)
     (data_can_go c.args.sessions.now.place c.args.heard.source.rank c.args.transfer c.args.bytes.now c.requires.there
     c.requires.limit)
 
@@ -34,7 +35,8 @@ pub carry_out-requires-clause-limit : goal.carry_out-requires-clause-limit
 carry_out-requires-clause-limit c =
     let r = c.args.heard.source.rank in
     let says = ap sendings c.deref.ensures.value ∙ c.in_ok-frames.ensures.ok in
-    ap (λ (fs : List Sending). fault_of_sessions (event_limit c.args.sessions.now (Some (heard_text c.args.heard)) fs))
+    ap (λ (fs : List OutgoingText). fault_of_sessions
+    (event_limit c.args.sessions.now (Some (heard_text c.args.heard)) fs))
     says
     ∙ sym (c.limit_of.ensures (data_sent r c.args.transfer c.args.bytes.now)
     (data_go_to r c.args.transfer c.count_of.result c.args.bytes.now c.count_of.ensures))

@@ -1,5 +1,6 @@
 use Rattle.std.proofs.Common.{◌≡◌, ◌∷◌, [], ◌++◌, ◌==◌, filter, subst}
-use Rattle.sessions.specs.Events.{Sending, sendings}
+use Rattle.datagram.specs.Spelling.{OutgoingText}
+use Rattle.sessions.specs.Events.{sendings}
 use Rattle.engine_calls.proofs.Stepping.{one_chosen}
 use Rattle.engine_calls.specs.Steps.{written}
 use Rattle.engine_calls.specs.declared.frames.Written.{Written}
@@ -13,5 +14,5 @@ loop-message-preserved c =
     c.loop-message-test.true before.invariant
     (subst
     (λ (w : Written). sendings c.add_if_for.new.frames.items ≡ sendings before.frames.items ++
-    filter (λ (f : Sending). f.rank == c.args.rank) (written w ∷ []))
+    filter (λ (f : OutgoingText). f.target == c.args.rank) (written w ∷ []))
     c.message-item.is c.in_ok-add_if_for.ensures.ok)

@@ -1,7 +1,7 @@
 -- None is in order, and each next one stays in it.
 use Rattle.std.proofs.Common.{List, [], subst, sym, arith}
 use Rattle.sessions.specs.Events.{sendings}
-use Rattle.sessions.specs.declared.heard.Outgoing.{Outgoing}
+use Rattle.datagram.specs.declared.frame.Outgoing.{Outgoing}
 use Rattle.engine_calls.proofs.Ordered.{AreOrdered, none_in_order, one_in_order_as}
 use Rattle.engine_calls.proofs.frames.frames_in_order.Goals as goal
 

@@ -1,6 +1,7 @@
 -- Messages that were written out are sent in the order of the ranks.
 use Rattle.std.proofs.Common.{All, List, map, sym, ap, subst, ◌∙◌}
-use Rattle.sessions.specs.Events.{CanSend, Sending, after_event, event_limit, sendings}
+use Rattle.datagram.specs.Spelling.{OutgoingText}
+use Rattle.sessions.specs.Events.{CanSend, after_event, event_limit, sendings}
 use Rattle.sessions.specs.Heard.{heard_option}
 use Rattle.engine_calls.specs.Steps.{written}
 use Rattle.engine_calls.proofs.Stepping.{all_by_rank, frames_are, sessions_stop}
@@ -10,7 +11,7 @@ pub carry_out-requires-clause-frames : goal.carry_out-requires-clause-frames
 carry_out-requires-clause-frames c =
     let are = frames_are c.args.sessions.now.place c.place-place.result (map written c.args.messages.now) c.in_ok-frames.frames.items c.deref.result.now
     c.place-place.ensures.place c.in_ok-frames.ensures.ok c.deref.ensures.value in
-    subst (λ (fs : List Sending). All (CanSend c.args.sessions.now.place) fs) (sym are)
+    subst (λ (fs : List OutgoingText). All (CanSend c.args.sessions.now.place) fs) (sym are)
     (all_by_rank c.args.sessions.now.place c.args.sessions.now.place.size (map written c.args.messages.now)
     c.requires.go)
 
@@ -18,14 +19,15 @@ pub returns-in-Ok-clause-limit : goal.returns-in-Ok-clause-limit
 returns-in-Ok-clause-limit c =
     let are = frames_are c.args.sessions.now.place c.place-place.result (map written c.args.messages.now) c.in_ok-frames.frames.items c.deref.result.now
     c.place-place.ensures.place c.in_ok-frames.ensures.ok c.deref.ensures.value in
-    ap (λ (fs : List Sending). event_limit c.args.sessions.now (heard_option c.args.heard) fs) (sym are) ∙
+    ap (λ (fs : List OutgoingText). event_limit c.args.sessions.now (heard_option c.args.heard) fs) (sym are) ∙
     c.in-Ok.ensures.exact.0
 
 pub returns-in-Ok-clause-sent : goal.returns-in-Ok-clause-sent
 returns-in-Ok-clause-sent c =
     let are = frames_are c.args.sessions.now.place c.place-place.result (map written c.args.messages.now) c.in_ok-frames.frames.items c.deref.result.now
     c.place-place.ensures.place c.in_ok-frames.ensures.ok c.deref.ensures.value in
-    c.in-Ok.ensures.exact.1 ∙ ap (λ (fs : List Sending). after_event c.args.sessions.now (heard_option c.args.heard) fs)
+    c.in-Ok.ensures.exact.1 ∙
+    ap (λ (fs : List OutgoingText). after_event c.args.sessions.now (heard_option c.args.heard) fs)
     are
 
 pub returns-clause-why : goal.returns-clause-why

@@ -1,6 +1,6 @@
 use Rattle.std.proofs.Common.{◌≡◌, ◌-◌, ◌+◌, ◌∙◌, ◌<◌, sym, ap, arith, length, drop, vec_len}
 use Rattle.std.proofs.lemmas.List.{drop_all}
-use Rattle.sessions.specs.declared.heard.Outgoing.{Outgoing}
+use Rattle.datagram.specs.declared.frame.Outgoing.{Outgoing}
 use Rattle.sessions.specs.Events.{sendings}
 use Rattle.std.proofs.Common.{List}
 use Rattle.sessions.specs.Carrying.{all_taken_back, taken_back}

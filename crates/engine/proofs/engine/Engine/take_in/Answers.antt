@@ -42,7 +42,8 @@ returns-clause-taken c =
     let follows : FollowedBy h.word (length old.sessions.out) h.source first c.match-heard.self = elim c.match-heard.branch [
       | in-Hands w ↦ subst (λ (e : EngineState). FollowedBy h.word (length old.sessions.out) h.source first e)
           (sym w.self-is)
-          (follows_handed h.word (frame_text w.in-Hands.field-0) c.emitted_count-at.result (length old.sessions.out) h.source
+          (follows_handed h.word (frame_text w.in-Hands.field-0) c.emitted_count-at.result (length old.sessions.out)
+          h.source
           first w.take_following.new.self
           (ap word_text w.in-Hands.is) at w.take_following.ensures.exact)
       | in_default w ↦ subst (λ (e : EngineState). FollowedBy h.word (length old.sessions.out) h.source first e)
