@@ -21,7 +21,6 @@ use Rattle.incarnation.specs.declared.refusal.IncarnationRefusal.TheVariants as 
 use Rattle.incarnation.specs.Judging.{judgement}
 use Rattle.point_to_point_calls.specs.declared.refusal.Refusal.{Refusal}
 use Rattle.point_to_point_calls.specs.declared.refusal.Refusal.TheVariants as refusals
-use Rattle.point_to_point.specs.CoreState.{CoreState}
 use Rattle.sessions.specs.declared.refusal.SessionRefusal as lower
 use Rattle.sessions.specs.declared.refusal.SessionRefusal.TheVariants as lowers
 use Rattle.sessions.specs.declared.heard.Unheard.{Unheard}
@@ -30,15 +29,17 @@ use Rattle.sessions.specs.SessionsState.{SessionsState, knowledge}
 use Rattle.sessions.specs.Heard.{WordText, HeardText, heard_by, heard_in, heard_of, said, session_met, stale, word_of}
 use Rattle.sessions.specs.Events as links
 use Rattle.sessions.specs.Events.{TurnedAway, after_send, after_sends, taught_known}
-use Rattle.engine_calls.specs.EngineState.{EngineState, GroupsState}
+use Rattle.engine_calls.specs.EngineState.{EngineState, GroupsState, or_before}
 use Rattle.engine_calls.specs.Refusals.{of_sessions}
 use Rattle.engine.specs.Datagrams.{
   DatagramGives,
   HeardGives,
   HeardGivesBy,
   HearingGives,
+  IsNoticed,
   IsTakenIn,
   IsTakenInUnless,
+  NoticeGives,
   NoticeText,
   OfAnnouncement,
   OfAnswer,
@@ -47,17 +48,19 @@ use Rattle.engine.specs.Datagrams.{
   PieceGivesBy,
   RefusedDatagramLeaves,
   SourceIsKnown,
-  WhyNoPiece,
-  WhyNoPieceBy,
   WhyUnnoticed,
   answer_to,
   data_for,
+  lesson_in,
   notice_in,
   numbers_met,
+  payloads_met,
   replies,
   says_nothing,
   whole_in,
 }
+use Rattle.engine.specs.Parts.{MessageGives, PartsGive, PartsState, engine_in, engine_with, state_of}
+use Rattle.engine.specs.declared.parts.Parts.{Parts}
 use Rattle.engine_calls.specs.Frames.{step_sendings}
 
 -- ---- at which incarnation the source is known then
@@ -335,99 +338,65 @@ pub turned_away : (e : EngineState) (t : SessionsState) (u : Unheard) (why : low
     HearingGives (Err u) e (Err (of_sessions why)) (record e { sessions = t })
 turned_away e t u why away = (why, refl, refl, away)
 
--- ---- refusals, whatever is kept until it is handed out
+-- ---- what the parts take in, or refuse
 
--- the engine of these parts
-abbrev pub parts_of : CoreState → GroupsState → Option Ending → payloads.State → SessionsState → EngineState
-parts_of c g ended p s = record { core = c; groups = g; ended = ended; payloads = p; sessions = s }
+-- why a message isn't taken says nothing of the payloads that stand there
+pub for_any : (e : EngineState) (q : payloads.State) (h : HeardText) (w : Whole) (why : Refusal) →
+    WhyUnnoticed (record e { payloads = q }) h w why → WhyUnnoticed e h w why
+for_any e q h w refusals.BadFrame is = is
+for_any e q h w refusals.Limit is = is
+for_any e q h w refusals.OutOfMemory is = is
+for_any e q h w refusals.Count is = absurd is
+for_any e q h w refusals.WrongType is = absurd is
+for_any e q h w refusals.Tag is = absurd is
+for_any e q h w refusals.Communicator is = absurd is
+for_any e q h w refusals.Rank is = absurd is
+for_any e q h w refusals.Request is = absurd is
+for_any e q h w refusals.Root is = absurd is
+for_any e q h w refusals.Operation is = absurd is
+for_any e q h w refusals.Replaced is = absurd is
+for_any e q h w refusals.Short is = absurd is
+for_any e q h w refusals.Magic is = absurd is
+for_any e q h w refusals.Version is = absurd is
+for_any e q h w refusals.Kind is = absurd is
+for_any e q h w refusals.Length is = absurd is
+for_any e q h w refusals.ForeignJob is = absurd is
+for_any e q h w refusals.NotForMe is = absurd is
+for_any e q h w refusals.StaleSource is = absurd is
+for_any e q h w refusals.StaleTarget is = absurd is
+for_any e q h w refusals.OutOfWindow is = absurd is
+for_any e q h w refusals.ClockBack is = absurd is
 
--- why a message isn't taken says nothing of what is kept, nor of the payloads
-pub for_any : (c : CoreState) (g : GroupsState) (a b : Option Ending) (p q : payloads.State) (s : SessionsState)
-    (h : HeardText) (w : Whole) (e : Refusal) →
-    WhyUnnoticed (parts_of c g a p s) h w e → WhyUnnoticed (parts_of c g b q s) h w e
-for_any c g a b p q s h w refusals.BadFrame why = why
-for_any c g a b p q s h w refusals.Limit why = why
-for_any c g a b p q s h w refusals.OutOfMemory why = why
-for_any c g a b p q s h w refusals.Count why = absurd why
-for_any c g a b p q s h w refusals.WrongType why = absurd why
-for_any c g a b p q s h w refusals.Tag why = absurd why
-for_any c g a b p q s h w refusals.Communicator why = absurd why
-for_any c g a b p q s h w refusals.Rank why = absurd why
-for_any c g a b p q s h w refusals.Request why = absurd why
-for_any c g a b p q s h w refusals.Root why = absurd why
-for_any c g a b p q s h w refusals.Operation why = absurd why
-for_any c g a b p q s h w refusals.Replaced why = absurd why
-for_any c g a b p q s h w refusals.Short why = absurd why
-for_any c g a b p q s h w refusals.Magic why = absurd why
-for_any c g a b p q s h w refusals.Version why = absurd why
-for_any c g a b p q s h w refusals.Kind why = absurd why
-for_any c g a b p q s h w refusals.Length why = absurd why
-for_any c g a b p q s h w refusals.ForeignJob why = absurd why
-for_any c g a b p q s h w refusals.NotForMe why = absurd why
-for_any c g a b p q s h w refusals.StaleSource why = absurd why
-for_any c g a b p q s h w refusals.StaleTarget why = absurd why
-for_any c g a b p q s h w refusals.OutOfWindow why = absurd why
-for_any c g a b p q s h w refusals.ClockBack why = absurd why
+-- parts that hold the same are of the same engine
+pub same_engine : (old new : Parts) → state_of new ≡ state_of old → (ended : Option Ending) →
+    engine_with new ended ≡ engine_with old ended
+same_engine old new same ended = ap (λ (s : PartsState). engine_in s ended) same
 
--- parts that are the same make the same engine
-same_parts : (c d : CoreState) (g k : GroupsState) (o : Option Ending) (p q : payloads.State) (s x : SessionsState) →
-    d ≡ c →
-    k.collective ≡ g.collective → k.contexts ≡ g.contexts → q ≡ p → x ≡ s → parts_of d k o q x ≡ parts_of c g o p s
-same_parts c d g k o p q s x core collective contexts kept links = λ i. record {
-  core = core i;
+-- and they do hold the same where their groups are those of before
+pub same_groups : (s : PartsState) (g : GroupsState) → g.collective ≡ s.groups.collective →
+    g.contexts ≡ s.groups.contexts → record s { groups = g } ≡ s
+same_groups s g collective contexts = λ i. record s {
   groups = record { collective = collective i; contexts = contexts i };
-  ended = o;
-  payloads = kept i;
-  sessions = links i;
 }
 
--- a message of a collective that is refused
-pub message_refused : {A : Type 0} (r : Result A Refusal) (n : Option NoticeText) (h : HeardText) (t : EagerText)
-    (w : Whole) (c d : CoreState)
-    (g k : GroupsState) (p q : payloads.State) (s x : SessionsState) → n ≡ Some (OfMessage t) → w ≡ whole_in t →
-    IfErr r (WhyUnnoticed (parts_of c g None p s) h w) → OnErr r (d ≡ c) → OnErr r (k.collective ≡ g.collective) →
-    OnErr r (k.contexts ≡ g.contexts) →
-    OnErr r (q ≡ p) → OnErr r (x ≡ s) →
-    IfErr r (λ e. (before : Option Ending) →
-    HeardGivesBy n (parts_of c g before p s) h (Err e) (parts_of d k before q x))
-message_refused (Ok y) n h t w c d g k p q s x is says why core collective contexts kept links = tt
-message_refused (Err e) n h t w c d g k p q s x is says why core collective contexts kept links = λ before.
-    subst (λ (m : Option NoticeText). HeardGivesBy m (parts_of c g before p s) h (Err e) (parts_of d k before q x))
-    (sym is) (
-      for_any c g None before p p s h (whole_in t) e
-          (subst (λ (v : Whole). WhyUnnoticed (parts_of c g None p s) h v e) says why),
-      same_parts c d g k before p q s x core collective contexts kept links,
-    )
+-- what is heard is what its notice says
+pub as_heard : (n : Option NoticeText) (old new : Parts) (r : Result (Option Ending) Refusal) (h : HeardText) →
+    n ≡ notice_in h.lesson old.payloads.state h.source.rank h.word →
+    PartsGive (λ e x f. HeardGivesBy n e h x f) old r new → PartsGive (λ e x f. HeardGives e h x f) old r new
+as_heard n old new (Ok ending) h is gives = λ before.
+    subst (λ (m : Option NoticeText). HeardGivesBy m (engine_with old before) h (Ok tt)
+    (engine_with new (or_before ending before))) is (gives before)
+as_heard n old new (Err e) h is gives = λ before.
+    subst (λ (m : Option NoticeText). HeardGivesBy m (engine_with old before) h (Err e) (engine_with new before)) is
+    (gives before)
 
--- why data aren't taken says nothing of what is kept
-data_for_any : (due : Bool) (v : Option Whole) (c : CoreState) (g : GroupsState) (a b : Option Ending)
-    (p : payloads.State) (s : SessionsState) (h : HeardText)
-    (e : Refusal) → WhyNoPieceBy due v (parts_of c g a p s) h e → WhyNoPieceBy due v (parts_of c g b p s) h e
-data_for_any false v c g a b p s h e why = why
-data_for_any true None c g a b p s h e why = why
-data_for_any true (Some w) c g a b p s h e why = for_any c g a b p p s h w e why
-
--- data that are refused
-not_taken : (due : Bool) (v : Option Whole) (old new : EngineState) (h : HeardText) (t : DataText) (e : Refusal) →
-    WhyNoPieceBy due v old h e → new ≡ old →
-    PieceGivesBy due v old h t (Err e) new
-not_taken true v old new h t e why same = (why, same)
-not_taken false v old new h t e why same = (why, same)
-
--- the same of a payload that comes
-pub piece_refused : {A : Type 0} (r : Result A Refusal) (n : Option NoticeText) (h : HeardText) (t : DataText)
-    (c d : CoreState) (g k : GroupsState)
-    (p q : payloads.State) (s x : SessionsState) → n ≡ Some (OfPiece t) →
-    IfErr r (WhyNoPiece (parts_of c g None p s) h t) → OnErr r (d ≡ c) →
-    OnErr r (k.collective ≡ g.collective) → OnErr r (k.contexts ≡ g.contexts) → OnErr r (q ≡ p) → OnErr r (x ≡ s) →
-    IfErr r (λ e. (before : Option Ending) →
-    HeardGivesBy n (parts_of c g before p s) h (Err e) (parts_of d k before q x))
-piece_refused (Ok y) n h t c d g k p q s x is why core collective contexts kept links = tt
-piece_refused (Err e) n h t c d g k p q s x is why core collective contexts kept links = λ before.
-    let due = is_due p h.source.rank t.transfer t.offset t.bytes in
-    let whole = whole_with p h.source.rank t.transfer t.bytes in
-    subst (λ (m : Option NoticeText). HeardGivesBy m (parts_of c g before p s) h (Err e) (parts_of d k before q x))
-    (sym is)
-    (not_taken due whole (parts_of c g before p s) (parts_of d k before q x) h t e
-    (data_for_any due whole c g None before p s h e why)
-    (same_parts c d g k before p q s x core collective contexts kept links))
+-- a message of a collective that stands in a frame
+pub as_message : (h : HeardText) (t : EagerText) (w : Whole) (old new : Parts) (r : Result (Option Ending) Refusal) →
+    w ≡ whole_in t → PartsGive (MessageGives h w) old r new → PartsGive (λ e x f. NoticeGives e h t x f) old r new
+as_message h t w old new (Ok ending) is gives = λ before.
+    subst (λ (v : Whole). IsNoticed (engine_with old before) (payloads_met old.payloads.state (lesson_in h)) h v
+    (engine_with new (or_before ending before))) is (gives before)
+as_message h t w old new (Err e) is gives = λ before. (
+  subst (λ (v : Whole). WhyUnnoticed (engine_with old before) h v e) is (gives before).0,
+  (gives before).1,
+)

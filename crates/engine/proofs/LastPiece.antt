@@ -1,20 +1,20 @@
 -- The last piece of a payload: its message is taken in beside the others, or it is put back.
 use Rattle.std.proofs.Common.{◌≡◌, Bool, true, false, Result, Ok, Err, Option, Some, None, sym, ap, subst, ◌∙◌}
-use Rattle.std.specs.Prelude.{IfErr, IfOk, OnErr, if◌then◌else◌}
+use Rattle.std.specs.Prelude.{if◌then◌else◌}
 use Rattle.collective_steps.specs.declared.step.Ending.{Ending}
-use Rattle.collective_transfers.specs.Payloads.{Whole}
+use Rattle.collective_transfers.specs.Payloads.{Taken, Whole}
 use Rattle.collective_transfers.specs.State as payloads
-use Rattle.collective_transfers.specs.State.{after_announcing, is_due, whole_with}
+use Rattle.collective_transfers.specs.State.{after_announcing, after_data, after_return, is_due, whole_with}
 use Rattle.datagram.specs.Spelling.{DataText}
 use Rattle.point_to_point_calls.specs.declared.refusal.Refusal.{Refusal}
-use Rattle.point_to_point.specs.CoreState.{CoreState}
 use Rattle.sessions.specs.Heard.{HeardText}
-use Rattle.sessions.specs.SessionsState.{SessionsState}
 use Rattle.vocabulary.specs.declared.endpoint.Endpoint.{Endpoint}
-use Rattle.engine.proofs.Hearing.{for_any, parts_of}
-use Rattle.engine.specs.Datagrams.{IsNoticed, PieceGives, PieceGivesBy, WhyNoPiece, WhyNoPieceBy, WhyUnnoticed}
-use Rattle.engine.specs.Datagrams.{lesson_in, numbers_met, payloads_grown, payloads_met}
-use Rattle.engine_calls.specs.EngineState.{EngineState, GroupsState, or_before}
+use Rattle.engine.proofs.Hearing.{for_any}
+use Rattle.engine.specs.Datagrams.{IsNoticed, PieceGives, PieceGivesBy, WhyNotTaken, WhyUnnoticed, lesson_in}
+use Rattle.engine.specs.Datagrams.{numbers_met, payloads_met}
+use Rattle.engine.specs.Parts.{LastPieceGives, MessageGives, PartsGive, engine_with}
+use Rattle.engine.specs.declared.parts.Parts.{Parts}
+use Rattle.engine_calls.specs.EngineState.{EngineState, or_before}
 use Rattle.engine_calls.specs.Frames.{step_payloads}
 
 -- with no lesson there is nobody who teaches
@@ -22,11 +22,10 @@ no_lesson : (h : HeardText) → h.lesson ≡ false → lesson_in h ≡ None
 no_lesson h on = ap (λ (b : Bool). if b then Some h.source else None) on
 
 -- what a message gives says nothing of the payloads that stood there before; without a lesson the others all stay
-noticed_beside : (c : CoreState) (g : GroupsState) (o : Option Ending) (p q : payloads.State) (s : SessionsState)
-    (h : HeardText) (w : Whole) (new : EngineState) →
-    h.lesson ≡ false → IsNoticed (parts_of c g o p s) (payloads_met p (lesson_in h)) h w new →
-    IsNoticed (parts_of c g o q s) p h w new
-noticed_beside c g o p q s h w new on is = record {
+noticed_beside : (e : EngineState) (q : payloads.State) (h : HeardText) (w : Whole) (new : EngineState) →
+    h.lesson ≡ false → IsNoticed (record e { payloads = q }) (payloads_met q (lesson_in h)) h w new →
+    IsNoticed e q h w new
+noticed_beside e q h w new on is = record {
   payload = is.payload;
   read = is.read;
   ready = is.ready;
@@ -38,43 +37,72 @@ noticed_beside c g o p q s h w new on is = record {
   contexts = is.contexts;
   ended = is.ended;
   payloads = is.payloads
-      ∙ ap (λ (l : Option Endpoint). after_announcing (payloads_met p l)
-      (step_payloads (numbers_met c h) is.ready.step.messages)) (no_lesson h on);
+      ∙ ap (λ (l : Option Endpoint). after_announcing (payloads_met q l)
+      (step_payloads (numbers_met e.core h) is.ready.step.messages)) (no_lesson h on);
   sessions = is.sessions;
 }
 
--- the message is taken in, and its payload comes no more
-pub last_taken : (r : Result (Option Ending) Refusal) (c d : CoreState) (g k : GroupsState) (p q x : payloads.State)
-    (s y : SessionsState) (h : HeardText) (t : DataText)
-    (w : Whole) → is_due p h.source.rank t.transfer t.offset t.bytes ≡ true →
-    Some w ≡ whole_with p h.source.rank t.transfer t.bytes →
-    q ≡ payloads_grown (parts_of c g None p s) h t → h.lesson ≡ false →
-    IfOk r (λ ending. (before : Option Ending) →
-    IsNoticed (parts_of c g before q s) (payloads_met q (lesson_in h)) h w
-    (parts_of d k (or_before ending before) x y)) →
-    IfOk r (λ ending. (before : Option Ending) →
-    PieceGives (parts_of c g before p s) h t (Ok tt) (parts_of d k (or_before ending before) x y))
-last_taken (Err e) c d g k p q x s y h t w due whole grown on gives = tt
-last_taken (Ok ending) c d g k p q x s y h t w due whole grown on gives = λ before.
-    let old = parts_of c g before p s in
-    let new = parts_of d k (or_before ending before) x y in
-    subst (λ (b : Bool). PieceGivesBy b (whole_with p h.source.rank t.transfer t.bytes) old h t (Ok tt) new) (sym due)
-    (subst (λ (o : Option Whole). PieceGivesBy true o old h t (Ok tt) new) whole
-    (subst (λ (z : payloads.State). IsNoticed old z h w new) grown
-    (noticed_beside c g before q p s h w new on (gives before))))
+-- ---- its message
 
--- or it is refused, as the message is
-pub last_refused : {A : Type 0} (r : Result A Refusal) (c : CoreState) (g : GroupsState) (p q : payloads.State)
-    (s : SessionsState) (h : HeardText) (t : DataText) (w : Whole) →
-    is_due p h.source.rank t.transfer t.offset t.bytes ≡ true → Some w ≡ whole_with p h.source.rank t.transfer t.bytes →
-    IfErr r (WhyUnnoticed (parts_of c g None q s) h w) → IfErr r (WhyNoPiece (parts_of c g None p s) h t)
-last_refused (Ok a) c g p q s h t w due whole why = tt
-last_refused (Err e) c g p q s h t w due whole why =
-    let old = parts_of c g None p s in
-    subst (λ (b : Bool). WhyNoPieceBy b (whole_with p h.source.rank t.transfer t.bytes) old h e) (sym due)
-    (subst (λ (o : Option Whole). WhyNoPieceBy true o old h e) whole (for_any c g None None q p s h w e why))
+-- it is taken in
+pub message_taken : (h : HeardText) (t : Taken) (w : Whole) (old new : Parts) (ending : Option Ending) →
+    w ≡ t.whole → PartsGive (MessageGives h w) old (Ok ending) new →
+    PartsGive (LastPieceGives h t) old (Ok ending) new
+message_taken h t w old new ending is gives = λ before.
+    subst (λ (v : Whole). IsNoticed (engine_with old before) (payloads_met old.payloads.state (lesson_in h)) h v
+    (engine_with new (or_before ending before))) is (gives before)
 
--- then all payloads are as they were
-pub put_back : {A : Type 0} (r : Result A Refusal) (p q x : payloads.State) → q ≡ p → OnErr r (x ≡ q) → OnErr r (x ≡ p)
-put_back (Ok a) p q x back stays = tt
-put_back (Err e) p q x back stays = stays ∙ back
+-- or it is refused, and the payload is put back
+pub message_back : (h : HeardText) (t : Taken) (w : Whole) (old new : Parts) (e : Refusal) (p : payloads.Held) →
+    w ≡ t.whole → PartsGive (MessageGives h w) old (Err e) new → p.state ≡ after_return new.payloads.state t →
+    PartsGive (LastPieceGives h t) old (Err e) (record new { payloads = p })
+message_back h t w old new e p is gives back = λ before. (
+  subst (λ (v : Whole). WhyUnnoticed (engine_with old before) h v e) is (gives before).0,
+  ap (λ (q : payloads.State). record (engine_with new before) { payloads = q }) back
+      ∙ ap (λ (x : EngineState). record x { payloads = after_return x.payloads t }) (gives before).1,
+)
+
+-- ---- the piece
+
+-- with the last piece the message is taken in, and its payload comes no more; or it is refused, as the message is
+pub last_given : (h : HeardText) (d : DataText) (t : Taken) (old : Parts) (p : payloads.Held) (new : Parts)
+    (r : Result (Option Ending) Refusal) → is_due old.payloads.state h.source.rank d.transfer d.offset d.bytes ≡ true →
+    Some t.whole ≡ whole_with old.payloads.state h.source.rank d.transfer d.bytes →
+    p.state ≡ after_data old.payloads.state h.source.rank d.transfer d.bytes →
+    after_return p.state t ≡ old.payloads.state → h.lesson ≡ false →
+    PartsGive (LastPieceGives h t) (record old { payloads = p }) r new →
+    PartsGive (λ e x f. PieceGives e h d x f) old r new
+last_given h d t old p new (Ok ending) due whole grown back on gives = λ before.
+    let e : EngineState = engine_with old before in
+    let f : EngineState = engine_with new (or_before ending before) in
+    subst
+    (λ (b : Bool). PieceGivesBy b (whole_with old.payloads.state h.source.rank d.transfer d.bytes) e h d (Ok tt) f)
+    (sym due)
+    (subst (λ (o : Option Whole). PieceGivesBy true o e h d (Ok tt) f) whole
+    (subst (λ (z : payloads.State). IsNoticed e z h t.whole f) grown
+    (noticed_beside e p.state h t.whole f on (gives before))))
+last_given h d t old p new (Err why) due whole grown back on gives = λ before.
+    let e : EngineState = engine_with old before in
+    let f : EngineState = engine_with new before in
+    subst
+    (λ (b : Bool). PieceGivesBy b (whole_with old.payloads.state h.source.rank d.transfer d.bytes) e h d (Err why) f)
+    (sym due) (
+      subst (λ (o : Option Whole). WhyNotTaken o e h why) whole (for_any e p.state h t.whole why (gives before).0),
+      (gives before).1 ∙ ap (λ (q : payloads.State). record e { payloads = q }) back,
+    )
+
+-- another piece stands behind those that came before
+pub next_given : (h : HeardText) (d : DataText) (old : Parts) (p : payloads.Held) (new : Parts)
+    (r : Result (Unit {0}) Refusal) → is_due old.payloads.state h.source.rank d.transfer d.offset d.bytes ≡ true →
+    None ≡ whole_with old.payloads.state h.source.rank d.transfer d.bytes → p ≡ old.payloads →
+    ((before : Option Ending) →
+    PieceGivesBy true None (engine_with (record old { payloads = p }) before) h d r (engine_with new before)) →
+    (before : Option Ending) → PieceGives (engine_with old before) h d r (engine_with new before)
+next_given h d old p new r due none same gives before =
+    let e : EngineState = engine_with old before in
+    let f : EngineState = engine_with new before in
+    subst (λ (b : Bool). PieceGivesBy b (whole_with old.payloads.state h.source.rank d.transfer d.bytes) e h d r f)
+    (sym due)
+    (subst (λ (o : Option Whole). PieceGivesBy true o e h d r f) none
+    (subst (λ (q : payloads.Held). PieceGivesBy true None (engine_with (record old { payloads = q }) before) h d r f)
+    same (gives before)))

@@ -1,7 +1,8 @@
 pub mod Answering
 pub mod Places
-pub mod Entering
 pub mod Datagrams
+pub mod Parts
+pub mod Entering
 pub mod Following
 pub mod Ticks
 pub use Rattle.datagram.specs.Spelling

@@ -22,21 +22,36 @@ impl Engine {
     fn asked_by_send(&self, send: Send) -> Result<RoutedCall, HandedBack<Call>>
         ensures { AskGives self.now (calls.Isend send) result }
     {
-        ask_to_send(&self.core, &self.communicators, &self.sessions, send)
+        ask_to_send(
+            &self.parts.core,
+            &self.parts.communicators,
+            &self.parts.sessions,
+            send,
+        )
     }
 
     /// What the core is to be asked by a receive, unless it is refused by now.
     fn asked_by_receive(&self, receive: Receive) -> Result<RoutedCall, HandedBack<Call>>
         ensures { AskGives self.now (calls.Irecv receive) result }
     {
-        ask_to_receive(&self.core, &self.communicators, &self.sessions, receive)
+        ask_to_receive(
+            &self.parts.core,
+            &self.parts.communicators,
+            &self.parts.sessions,
+            receive,
+        )
     }
 
     /// What the core is to be asked by a matching probe, unless it is refused by now.
     fn asked_by_probe(&self, probe: Probe) -> Result<RoutedCall, HandedBack<Call>>
         ensures { AskGives self.now (calls.Improbe probe) result }
     {
-        ask_to_probe(&self.core, &self.communicators, &self.sessions, probe)
+        ask_to_probe(
+            &self.parts.core,
+            &self.parts.communicators,
+            &self.parts.sessions,
+            probe,
+        )
     }
 
     /// What the core is to be asked by the receive of a message, unless it is refused by now.
@@ -48,9 +63,9 @@ impl Engine {
         ensures { AskGives self.now (calls.Mrecv message into) result }
     {
         ask_for_message(
-            &self.core,
-            &self.communicators,
-            &self.sessions,
+            &self.parts.core,
+            &self.parts.communicators,
+            &self.parts.sessions,
             message,
             into,
         )
@@ -64,7 +79,7 @@ impl Engine {
         requires { IsOnRequests call }
         ensures { AskGives self.now (call_of_core None Null call) result }
     {
-        ask_on_requests(&self.core, &self.communicators, call)
+        ask_on_requests(&self.parts.core, &self.parts.communicators, call)
     }
 
     /// Answers a call by which the core is asked this, unless it was refused.
@@ -79,9 +94,9 @@ impl Engine {
     {
         answer_unless_refused(
             self.alloc,
-            &mut self.core,
-            &self.communicators,
-            &mut self.sessions,
+            &mut self.parts.core,
+            &self.parts.communicators,
+            &mut self.parts.sessions,
             asked,
         )
     }
@@ -205,7 +220,7 @@ impl Engine {
         ensures core_placed { self.new.core.place ≡ self.old.core.place }
     {
         // The place shows that the job has a rank at least.
-        let _place = self.sessions.place();
+        let _place = self.parts.sessions.place();
         match call {
             Call::Test(request) => self.call_on_requests(point_to_point::CoreCall::Test(request)),
             Call::Waitany(list) => self.call_on_requests(point_to_point::CoreCall::Waitany(list)),
@@ -256,7 +271,7 @@ impl Engine {
         ensures core_placed { self.new.core.place ≡ self.old.core.place }
     {
         // The place shows that the job has a rank at least.
-        let _place = self.sessions.place();
+        let _place = self.parts.sessions.place();
         match call {
             Call::Isend(send) => self.isend(send),
             Call::Irecv(receive) => self.irecv(receive),

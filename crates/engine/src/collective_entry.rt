@@ -1,90 +1,80 @@
 //! How a rank enters a collective.
 
-ghost use Rattle.std.specs.Prelude.{◌≡◌, ◌≤◌, ◌+◌, ◌*◌, None, OnErr, IfErr, IfOk, length, false};
+ghost use Rattle.std.specs.Prelude.{◌≡◌, ◌≤◌, ◌+◌, ◌*◌, None, OnErr, IfErr, length, false};
 ghost use Rattle.collectives.specs.Calls.{entry_rule, limit_at};
 ghost use Rattle.engine_calls.specs.Calls.{EnteringGives, RefusedLeaves, reply_on_entry};
-ghost use Rattle.engine.specs.Entering.{Goes, WhyNot};
+ghost use Rattle.engine.specs.Entering.{GoingGives};
+ghost use Rattle.engine.specs.Parts.{StayInPlace, state_of};
 ghost use Rattle.engine_calls.specs.Faults.{fault_of};
 ghost use Rattle.engine_calls.specs.declared.call.Call.TheVariants as calls;
 
 use crate::engine::Engine;
+use crate::parts::Parts;
 use collective_messages::Entry;
-use collective_transfers::CollectiveTransfers;
 use collectives::Ending;
-use communicators::{Communicators, RefusedEntry, entries_are_allowed};
+use communicators::{RefusedEntry, entries_are_allowed};
 use engine_calls::{Call, Reply, of_collectives, of_rule, send_step};
-use point_to_point::{Core, HandedBack, Refusal};
-use sessions::Sessions;
+use point_to_point::{HandedBack, Refusal};
 use std::alloc::Global;
 
-/// Enters a collective of the communicator at a place, which breaks no rule and meets no limit: what the rank then does
-/// of itself is made ready and its frames are sent, and only then it has entered. Refused is 13 and 14; then nothing
-/// changes, and what was handed in comes back.
-fn go_in(
-    alloc: Global,
-    core: &mut Core,
-    communicators: &mut Communicators,
-    payloads: &mut CollectiveTransfers,
-    sessions: &mut Sessions,
-    place: usize,
-    entry: Entry,
-) -> Result<Option<Ending>, HandedBack<Entry>>
-    requires rule { entry_rule communicators.old.collective.state communicators.old.contexts.state place ≡ None }
-    requires limit { limit_at communicators.old.collective.state communicators.old.contexts.state place entry ≡ false }
-    ensures ok { IfOk result
-        (λ ending. Goes communicators.old.collective.state communicators.old.contexts.state core.old.state
-        payloads.old.state sessions.old place entry ending communicators.new.collective.state
-        communicators.new.contexts.state core.new.state payloads.new.state sessions.new) }
-    ensures err { IfErr result
-        (λ back. WhyNot communicators.old.collective.state communicators.old.contexts.state
-        core.old.state.transfers.numbers sessions.old place entry back.refused) }
-    ensures handed { IfErr result (λ back. back.value ≡ entry) }
-    ensures collective { OnErr result (communicators.new.collective.state ≡ communicators.old.collective.state) }
-    ensures contexts { OnErr result (communicators.new.contexts.state ≡ communicators.old.contexts.state) }
-    ensures core { OnErr result (core.new.state ≡ core.old.state) }
-    ensures payloads { OnErr result (payloads.new.state ≡ payloads.old.state) }
-    ensures sessions { OnErr result (sessions.new ≡ sessions.old) }
-    ensures few { length sessions.new.out ≤ length sessions.old.out + 64 * sessions.old.place.size }
-    ensures placed { sessions.new.place ≡ sessions.old.place }
-    ensures core_placed { core.new.state.place ≡ core.old.state.place }
-{
-    // The place shows that there is a session for each rank.
-    let _place = sessions.place();
-    let mut numbers = match core.numbers() {
-        Ok(numbers) => numbers,
-        Err(refused) => {
-            return Err(HandedBack {
+impl Parts {
+    /// Enters a collective of the communicator at a place, which breaks no rule and meets no limit: what the rank then
+    /// does of itself is made ready and its frames are sent, and only then it has entered. Refused is 13 and 14; then
+    /// nothing changes, and what was handed in comes back.
+    fn go_in(
+        &mut self,
+        alloc: Global,
+        place: usize,
+        entry: Entry,
+    ) -> Result<Option<Ending>, HandedBack<Entry>>
+        requires rule { entry_rule self.old.communicators.collective.state self.old.communicators.contexts.state place
+            ≡ None }
+        requires limit { limit_at self.old.communicators.collective.state self.old.communicators.contexts.state place
+            entry ≡ false }
+        ensures exact { GoingGives (state_of self.old) place entry result (state_of self.new) }
+        ensures handed { IfErr result (λ back. back.value ≡ entry) }
+        ensures unchanged { OnErr result (state_of self.new ≡ state_of self.old) }
+        ensures few { length self.new.sessions.out ≤ length self.old.sessions.out + 64 * self.old.sessions.place.size }
+        ensures placed { StayInPlace self.old self.new }
+    {
+        // The place shows that there is a session for each rank.
+        let _place = self.sessions.place();
+        let mut numbers = match self.core.numbers() {
+            Ok(numbers) => numbers,
+            Err(refused) => {
+                return Err(HandedBack {
+                    refused,
+                    value: entry,
+                });
+            }
+        };
+        let ready = match self.communicators.prepare_entry(place, entry) {
+            Ok(ready) => ready,
+            Err(RefusedEntry { entry, refused }) => {
+                return Err(HandedBack {
+                    refused: of_collectives(refused),
+                    value: entry,
+                });
+            }
+        };
+        match send_step(
+            alloc,
+            &mut self.payloads,
+            &mut self.sessions,
+            None,
+            ready.messages(),
+            &mut numbers,
+        ) {
+            Ok(announced) => {
+                self.core.set_numbers(numbers);
+                self.payloads.announce(announced);
+                Ok(self.communicators.enter(ready))
+            }
+            Err(refused) => Err(HandedBack {
                 refused,
-                value: entry,
-            });
+                value: ready.into_entry(),
+            }),
         }
-    };
-    let ready = match communicators.prepare_entry(place, entry) {
-        Ok(ready) => ready,
-        Err(RefusedEntry { entry, refused }) => {
-            return Err(HandedBack {
-                refused: of_collectives(refused),
-                value: entry,
-            });
-        }
-    };
-    match send_step(
-        alloc,
-        payloads,
-        sessions,
-        None,
-        ready.messages(),
-        &mut numbers,
-    ) {
-        Ok(announced) => {
-            core.set_numbers(numbers);
-            payloads.announce(announced);
-            Ok(communicators.enter(ready))
-        }
-        Err(refused) => Err(HandedBack {
-            refused,
-            value: ready.into_entry(),
-        }),
     }
 }
 
@@ -103,10 +93,11 @@ impl Engine {
     pub(crate) fn fault_of_entry(&self, comm: Option<usize>, entry: &Entry) -> Option<Refusal>
         ensures { result ≡ fault_of self.now (calls.Enter comm entry.now) }
     {
-        let known = self.sessions.incarnations();
+        let known = self.parts.sessions.incarnations();
         match self
+            .parts
             .communicators
-            .fault_of_entry(self.core.is_blocked(), known, comm, entry)
+            .fault_of_entry(self.parts.core.is_blocked(), known, comm, entry)
         {
             Some(fault) => Some(of_rule(fault)),
             None => None,
@@ -130,15 +121,7 @@ impl Engine {
         let Some(place) = comm else {
             return Reply::Refused(Refusal::Communicator, Call::Enter(comm, entry));
         };
-        match go_in(
-            self.alloc,
-            &mut self.core,
-            &mut self.communicators,
-            &mut self.payloads,
-            &mut self.sessions,
-            place,
-            entry,
-        ) {
+        match self.parts.go_in(self.alloc, place, entry) {
             Ok(ending) => reply_on_entry(ending),
             Err(back) => Reply::Refused(back.refused, Call::Enter(comm, back.value)),
         }

@@ -1,29 +1,23 @@
 //! How an engine takes datagrams in.
 
-ghost use Rattle.std.specs.Prelude.{◌≡◌, ◌≤◌, ◌<◌, ◌+◌, ◌*◌, length, map, IfErr, IfOk, None, Ok, Err, OnErr, OnOk};
-ghost use Rattle.std.specs.Prelude.{Option, Some};
-ghost use Rattle.collective_steps.specs.declared.step.Ending.{Ending};
+ghost use Rattle.std.specs.Prelude.{◌≡◌, ◌≤◌, ◌<◌, ◌+◌, ◌*◌, length, IfErr, IfOk, None, OnErr, OnOk, Some};
 ghost use Rattle.datagram.specs.Spelling.{eager_text};
 ghost use Rattle.point_to_point_calls.specs.Hearing.{frame_option, news_text};
 ghost use Rattle.point_to_point.specs.Arrivals.{CanTake, news_fault};
 ghost use Rattle.sessions.specs.Windows.{StaysWithin};
 ghost use Rattle.sessions.specs.Heard.{heard_text, word_text, CanHear, WordFits};
 ghost use Rattle.sessions.specs.Events.{after_event, event_limit};
-ghost use Rattle.engine_calls.specs.EngineState.{or_before};
 ghost use Rattle.engine_calls.specs.Refusals.{fault_of_sessions};
-ghost use Rattle.engine_calls.specs.Steps.{engine_held};
 ghost use Rattle.engine.specs.Datagrams.{DatagramGives, HeardGives, NewsGives, SourceIsKnown, RefusedDatagramLeaves};
 ghost use Rattle.engine.specs.Datagrams.{form_fault, frame_in, hold_fault, news_of, received, replies, says_nothing};
 ghost use Rattle.engine.specs.Datagrams.{whole_in};
+ghost use Rattle.engine.specs.Parts.{PartsGive, StayInPlace};
 
 use crate::engine::Engine;
-use crate::incoming_payloads::take_piece;
 use crate::notice_kinds::{Notice, notice_in};
-use crate::notices::{ReceivedPayload, ending_or, forget, learn, lesson_in, take_message};
-use crate::outgoing_payloads::{take_announcement, take_answer};
-use collective_transfers::CollectiveTransfers;
+use crate::notices::{ReceivedPayload, ending_or, forget, learn, lesson_in};
+use crate::parts::Parts;
 use collectives::Ending;
-use communicators::Communicators;
 use datagram::{Eager, Frame, Plane};
 use engine_calls::of_sessions;
 use payload::read_payload;
@@ -106,6 +100,17 @@ fn news_of<'a>(heard: Heard<'a>) -> News<'a>
     }
 }
 
+/// The payload of a collective that stands in a frame.
+fn received_in(message: Eager<'_>) -> ReceivedPayload<'_>
+    ensures { received result ≡ whole_in (eager_text message.entry) }
+{
+    ReceivedPayload {
+        context: message.context,
+        number: message.tag,
+        bytes: message.elements,
+    }
+}
+
 /// The sessions take in what is heard, which breaks no rule and meets no limit, and send the frames that the core calls
 /// for; or there is no memory (14), and nothing changes.
 fn carry_out(
@@ -135,135 +140,73 @@ fn carry_out(
     }
 }
 
-/// The limit that what is heard meets: of its own number, or of the frames that the core calls for. It takes no memory.
-fn limit_of_heard(core: &Core, sessions: &Sessions, heard: Heard<'_>) -> Option<Refusal>
-    requires { CanHear sessions.now (Some (heard_text heard)) }
-    ensures { result ≡ fault_of_sessions
-        (event_limit sessions.now (Some (heard_text heard.entry)) (replies core.now.state (heard_text heard.entry))) }
-{
-    let count = core.frame_count(news_of(heard));
-    match sessions.limit_of_replies(heard, count) {
-        Some(limit) => Some(of_sessions(limit)),
-        None => None,
+impl Parts {
+    /// The limit that what is heard meets: of its own number, or of the frames that the core calls for. It takes no
+    /// memory.
+    fn limit_of_heard(&self, heard: Heard<'_>) -> Option<Refusal>
+        requires { CanHear self.now.sessions (Some (heard_text heard)) }
+        ensures { result ≡ fault_of_sessions
+            (event_limit self.now.sessions (Some (heard_text heard.entry))
+            (replies self.now.core.state (heard_text heard.entry))) }
+    {
+        let count = self.core.frame_count(news_of(heard));
+        match self.sessions.limit_of_replies(heard, count) {
+            Some(limit) => Some(of_sessions(limit)),
+            None => None,
+        }
     }
-}
 
-/// All parts take in what is heard and concerns no collective, or refuse it. Answered is with what a collective ends by
-/// it, by a lesson.
-fn take_news(
-    core: &mut Core,
-    communicators: &mut Communicators,
-    payloads: &mut CollectiveTransfers,
-    sessions: &mut Sessions,
-    heard: Heard<'_>,
-) -> Result<Option<Ending>, Refusal>
-    requires can { CanHear sessions.old (Some (heard_text heard)) }
-    requires fits { WordFits (word_text heard.word) }
-    requires place { core.old.state.place ≡ sessions.old.place }
-    ensures ok { IfOk result (λ ending. (before : Option Ending) →
-        NewsGives (engine_held core.old communicators.old before payloads.old.state sessions.old)
-        (heard_text heard.entry) (Ok tt)
-        (engine_held core.new communicators.new (or_before ending before) payloads.new.state sessions.new)) }
-    ensures err { IfErr result (λ e. (before : Option Ending) →
-        NewsGives (engine_held core.old communicators.old before payloads.old.state sessions.old)
-        (heard_text heard.entry) (Err e)
-        (engine_held core.new communicators.new before payloads.new.state sessions.new)) }
-    ensures within { OnOk result (StaysWithin (Some (heard_text heard.entry)) sessions.old sessions.new) }
-    ensures placed { sessions.new.place ≡ sessions.old.place }
-    ensures core_placed { core.new.state.place ≡ core.old.state.place }
-{
-    if says_nothing(heard) {
-        return Ok(None);
+    /// Takes in what is heard and concerns no collective, or refuses it. Answered is with what a collective ends by it,
+    /// by a lesson.
+    fn take_news(&mut self, heard: Heard<'_>) -> Result<Option<Ending>, Refusal>
+        requires can { CanHear self.old.sessions (Some (heard_text heard)) }
+        requires fits { WordFits (word_text heard.word) }
+        requires place { self.old.core.state.place ≡ self.old.sessions.place }
+        ensures exact { PartsGive (λ e r f. NewsGives e (heard_text heard.entry) r f) self.old result self.new }
+        ensures within { OnOk result (StaysWithin (Some (heard_text heard.entry)) self.old.sessions self.new.sessions) }
+        ensures placed { StayInPlace self.old self.new }
+    {
+        if says_nothing(heard) {
+            return Ok(None);
+        }
+        if let Some(fault) = hold_fault(heard.word) {
+            return Err(fault);
+        }
+        let news = news_of(heard);
+        if let Some(fault) = self.core.fault_of_news(news) {
+            return Err(fault);
+        }
+        if let Some(limit) = self.limit_of_heard(heard) {
+            return Err(limit);
+        }
+        let ready = self.core.prepare_news(news)?;
+        carry_out(&self.core, &mut self.sessions, heard, &ready)?;
+        self.core.take_news(news, ready);
+        let lesson = lesson_in(heard);
+        forget(&mut self.payloads, lesson);
+        Ok(learn(&mut self.communicators, lesson))
     }
-    if let Some(fault) = hold_fault(heard.word) {
-        return Err(fault);
-    }
-    let news = news_of(heard);
-    if let Some(fault) = core.fault_of_news(news) {
-        return Err(fault);
-    }
-    if let Some(limit) = limit_of_heard(core, sessions, heard) {
-        return Err(limit);
-    }
-    let ready = core.prepare_news(news)?;
-    carry_out(core, sessions, heard, &ready)?;
-    core.take_news(news, ready);
-    let lesson = lesson_in(heard);
-    forget(payloads, lesson);
-    Ok(learn(communicators, lesson))
-}
 
-/// The payload of a collective that stands in a frame.
-fn received_in(message: Eager<'_>) -> ReceivedPayload<'_>
-    ensures { received result ≡ whole_in (eager_text message.entry) }
-{
-    ReceivedPayload {
-        context: message.context,
-        number: message.tag,
-        bytes: message.elements,
-    }
-}
-
-/// All parts take in what is heard, or refuse it. Answered is with what a collective ends by it.
-fn hear(
-    alloc: Global,
-    core: &mut Core,
-    communicators: &mut Communicators,
-    payloads: &mut CollectiveTransfers,
-    sessions: &mut Sessions,
-    heard: Heard<'_>,
-) -> Result<Option<Ending>, Refusal>
-    requires can { CanHear sessions.old (Some (heard_text heard)) }
-    requires fits { WordFits (word_text heard.word) }
-    requires there { heard.source.rank < sessions.old.place.size }
-    requires place { core.old.state.place ≡ sessions.old.place }
-    ensures ok { IfOk result (λ ending. (before : Option Ending) →
-        HeardGives (engine_held core.old communicators.old before payloads.old.state sessions.old)
-        (heard_text heard.entry) (Ok tt)
-        (engine_held core.new communicators.new (or_before ending before) payloads.new.state sessions.new)) }
-    ensures err { IfErr result (λ e. (before : Option Ending) →
-        HeardGives (engine_held core.old communicators.old before payloads.old.state sessions.old)
-        (heard_text heard.entry) (Err e)
-        (engine_held core.new communicators.new before payloads.new.state sessions.new)) }
-    ensures within { OnOk result (StaysWithin (Some (heard_text heard.entry)) sessions.old sessions.new) }
-    ensures placed { sessions.new.place ≡ sessions.old.place }
-    ensures core_placed { core.new.state.place ≡ core.old.state.place }
-{
-    match notice_in(payloads, heard) {
-        Some(Notice::Message(message)) => take_message(
-            alloc,
-            core,
-            communicators,
-            payloads,
-            sessions,
-            heard,
-            received_in(message),
-        ),
-        Some(Notice::Announcement(request)) => take_announcement(
-            alloc,
-            core,
-            communicators,
-            payloads,
-            sessions,
-            heard,
-            request,
-        ),
-        Some(Notice::Answer(answer)) => {
-            match take_answer(alloc, payloads, sessions, heard, answer) {
+    /// Takes in what is heard, or refuses it. Answered is with what a collective ends by it.
+    fn hear(&mut self, alloc: Global, heard: Heard<'_>) -> Result<Option<Ending>, Refusal>
+        requires can { CanHear self.old.sessions (Some (heard_text heard)) }
+        requires fits { WordFits (word_text heard.word) }
+        requires there { heard.source.rank < self.old.sessions.place.size }
+        requires place { self.old.core.state.place ≡ self.old.sessions.place }
+        ensures exact { PartsGive (λ e r f. HeardGives e (heard_text heard.entry) r f) self.old result self.new }
+        ensures within { OnOk result (StaysWithin (Some (heard_text heard.entry)) self.old.sessions self.new.sessions) }
+        ensures placed { StayInPlace self.old self.new }
+    {
+        match notice_in(&self.payloads, heard) {
+            Some(Notice::Message(message)) => self.take_message(alloc, heard, received_in(message)),
+            Some(Notice::Announcement(request)) => self.take_announcement(alloc, heard, request),
+            Some(Notice::Answer(answer)) => match self.take_answer(alloc, heard, answer) {
                 Ok(()) => Ok(None),
                 Err(refused) => Err(refused),
-            }
+            },
+            Some(Notice::Piece(piece)) => self.take_piece(alloc, heard, piece),
+            None => self.take_news(heard),
         }
-        Some(Notice::Piece(piece)) => take_piece(
-            alloc,
-            core,
-            communicators,
-            payloads,
-            sessions,
-            heard,
-            piece,
-        ),
-        None => take_news(core, communicators, payloads, sessions, heard),
     }
 }
 
@@ -279,14 +222,7 @@ impl Engine {
         ensures placed { self.new.sessions.place ≡ self.old.sessions.place }
         ensures core_placed { self.new.core.place ≡ self.old.core.place }
     {
-        let ending = hear(
-            self.alloc,
-            &mut self.core,
-            &mut self.communicators,
-            &mut self.payloads,
-            &mut self.sessions,
-            heard,
-        )?;
+        let ending = self.parts.hear(self.alloc, heard)?;
         let before = self.ended.take();
         self.ended = ending_or(ending, before);
         Ok(())
@@ -341,10 +277,10 @@ impl Engine {
         ensures core_placed { self.new.core.place ≡ self.old.core.place }
     {
         // The place shows that there is a known incarnation for each rank.
-        let _place = self.sessions.place();
-        match self.sessions.judge(bytes) {
+        let _place = self.parts.sessions.place();
+        match self.parts.sessions.judge(bytes) {
             Ok(heard) => self.take_in(heard),
-            Err(unheard) => Err(of_sessions(self.sessions.refuse(unheard))),
+            Err(unheard) => Err(of_sessions(self.parts.sessions.refuse(unheard))),
         }
     }
 }

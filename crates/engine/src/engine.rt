@@ -9,6 +9,7 @@ ghost use Rattle.engine_calls.specs.EngineState.{completion_by, completion_of, o
 ghost use Rattle.engine_calls.specs.EngineState.{without_out};
 ghost use Rattle.engine.specs.Ticks.{TickGives};
 
+use crate::parts::Parts;
 use collective_transfers::CollectiveTransfers;
 use collectives::Ending;
 use communicators::Communicators;
@@ -26,33 +27,22 @@ use std::marker::Model;
 pub struct Engine {
     /// Where the memory of its own comes from.
     pub(crate) alloc: Global,
-    /// Its calls, requests and messages.
-    pub(crate) core: Core,
-    /// The communicators that it holds, and its collectives.
-    pub(crate) communicators: Communicators,
+    /// What it knows.
+    pub(crate) parts: Parts,
     /// With what the collective ended that it was blocked in, until that is handed out.
     pub(crate) ended: Option<Ending>,
-    /// The payloads of collectives that it announced, and those that come to it in pieces.
-    pub(crate) payloads: CollectiveTransfers,
-    /// Its sessions with the other ranks.
-    pub(crate) sessions: Sessions,
 }
 
 impl Model for Engine {
     ghost use Rattle.std.specs.Prelude.{◌≡◌};
     ghost use Rattle.engine_calls.specs.EngineState.{EngineState};
+    ghost use Rattle.engine.specs.Parts.{engine_with};
 
     ghost Value = { EngineState };
 
-    ghost view = { λ e. record {
-      core = e.core.state;
-      groups = record { collective = e.communicators.collective.state; contexts = e.communicators.contexts.state };
-      ended = e.ended;
-      payloads = e.payloads.state;
-      sessions = e.sessions;
-    } };
+    ghost view = { λ e. engine_with e.parts e.ended };
 
-    ghost invariant = { λ e. e.core.state.place ≡ e.sessions.place };
+    ghost invariant = { λ e. e.parts.core.state.place ≡ e.parts.sessions.place };
 }
 
 /// The answer of a blocked call: that of its collective, or that of its requests.
@@ -84,11 +74,13 @@ impl Engine {
         match Communicators::new(alloc, place.endpoint, place.size) {
             Ok(communicators) => Ok(Engine {
                 alloc,
-                core,
-                communicators,
+                parts: Parts {
+                    core,
+                    communicators,
+                    payloads: CollectiveTransfers::new(alloc),
+                    sessions,
+                },
                 ended: None,
-                payloads: CollectiveTransfers::new(alloc),
-                sessions,
             }),
             Err(refused) => Err(of_collectives(refused)),
         }
@@ -99,7 +91,7 @@ impl Engine {
         ensures sessions { result ≡ self.now.sessions.place }
         ensures core { result ≡ self.now.core.place }
     {
-        self.sessions.place()
+        self.parts.sessions.place()
     }
 
     /// The clock says `now`, in milliseconds: what was last sent 20 ms or more before is sent again.
@@ -112,7 +104,7 @@ impl Engine {
         ensures placed { self.new.sessions.place ≡ self.old.sessions.place }
         ensures core { self.new.core ≡ self.old.core }
     {
-        match self.sessions.tick(now) {
+        match self.parts.sessions.tick(now) {
             Ok(()) => Ok(()),
             Err(refused) => Err(of_sessions(refused)),
         }
@@ -124,7 +116,7 @@ impl Engine {
         ensures all { result.items ≡ self.old.sessions.out }
         ensures rest { self.new ≡ without_out self.old }
     {
-        self.sessions.take_out()
+        self.parts.sessions.take_out()
     }
 
     /// Gives the list back that `take_out` handed out, so that what is emitted next has its room. What it holds is
@@ -132,7 +124,7 @@ impl Engine {
     pub fn give_back(&mut self, taken: Vec<(u16, Bytes)>)
         ensures { self.new ≡ self.old }
     {
-        self.sessions.give_back(taken);
+        self.parts.sessions.give_back(taken);
     }
 
     /// The answer of a blocked call, where that of its requests isn't there.
@@ -154,7 +146,7 @@ impl Engine {
         ensures completion { result ≡ completion_of self.old }
         ensures rest { self.new ≡ without_completion self.old }
     {
-        let Some(answer) = self.core.take_completion() else {
+        let Some(answer) = self.parts.core.take_completion() else {
             return self.take_ending();
         };
         completion_by(self.ended.take(), Some(answer))
@@ -164,7 +156,7 @@ impl Engine {
     pub fn is_idle(&self) -> bool
         ensures { IsTrue result ↔ All IsIdlePeer self.now.sessions.peers }
     {
-        self.sessions.is_idle()
+        self.parts.sessions.is_idle()
     }
 
     /// How the session with another rank of the job stands; none with the rank itself, or with one that is not there.
@@ -172,6 +164,6 @@ impl Engine {
     pub fn session(&self, rank: u16) -> Option<Session>
         ensures { SessionGives self.now.sessions rank result }
     {
-        self.sessions.session(rank)
+        self.parts.sessions.session(rank)
     }
 }

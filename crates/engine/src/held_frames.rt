@@ -34,8 +34,8 @@ impl Engine {
         ensures peers { length self.now.sessions.peers ≡ self.now.sessions.place.size }
     {
         // The place shows that there is a session for each rank.
-        let _place = self.sessions.place();
-        match self.sessions.ready(rank) {
+        let _place = self.parts.sessions.place();
+        match self.parts.sessions.ready(rank) {
             Ok(bytes) => Ok(bytes),
             Err(_) => Err(Refusal::OutOfMemory),
         }
@@ -58,11 +58,11 @@ impl Engine {
         ensures kept { self.new ≡ self.old }
     {
         // The place shows that there is a session for each rank.
-        let _place = self.sessions.place();
-        if self.sessions.limit_of(Some(heard), &[]).is_some() {
+        let _place = self.parts.sessions.place();
+        if self.parts.sessions.limit_of(Some(heard), &[]).is_some() {
             return Err(Refusal::Limit);
         }
-        match self.sessions.spell_behind(source) {
+        match self.parts.sessions.spell_behind(source) {
             Ok(ack) => Ok(ack),
             Err(_) => Err(Refusal::OutOfMemory),
         }
@@ -77,7 +77,7 @@ impl Engine {
                   record self.old.sessions { out = slice_set self.old.sessions.out at (rank, bytes) };
             } }
     {
-        self.sessions.replace(at, rank, bytes);
+        self.parts.sessions.replace(at, rank, bytes);
     }
 
     /// The next frame of an endpoint isn't held any more.
@@ -85,7 +85,7 @@ impl Engine {
         requires { source.rank < self.old.sessions.place.size }
         ensures { self.new ≡ without_next self.old source }
     {
-        self.sessions.discard(source.rank);
+        self.parts.sessions.discard(source.rank);
     }
 
     /// Takes in the frames of an endpoint that were held behind the one that was handed up, so many at most, and the
@@ -142,8 +142,8 @@ impl Engine {
         ensures arranged { IsArranged (suc at) self.old.sessions self.new.sessions }
     {
         // What is counted shows that there is a place behind.
-        let _emitted = self.sessions.emitted_count();
-        self.sessions.arrange(at + 1);
+        let _emitted = self.parts.sessions.emitted_count();
+        self.parts.sessions.arrange(at + 1);
     }
 
     /// Takes in what was held behind a frame of an endpoint that was handed up, whose acknowledgement stands at this
@@ -168,7 +168,7 @@ impl Engine {
         ensures exact { self.new ≡ woken_engine self.old }
         ensures core_placed { self.new.core.place ≡ self.old.core.place }
     {
-        self.core.wake();
+        self.parts.core.wake();
     }
 
     /// Takes in what is heard, and what follows it, or refuses it; at the end a blocked call is answered. What says
@@ -188,11 +188,11 @@ impl Engine {
         ensures core_placed { self.new.core.place ≡ self.old.core.place }
     {
         // The place shows that there is a session for each rank.
-        let _place = self.sessions.place();
+        let _place = self.parts.sessions.place();
         if says_nothing(heard) {
             return Ok(());
         }
-        let at = self.sessions.emitted_count();
+        let at = self.parts.sessions.emitted_count();
         self.take_heard(heard)?;
         if let LinkEvent::Hands(_) = heard.word {
             self.take_following(at, heard.source);

@@ -1,27 +1,24 @@
 //! How payloads of collectives come in pieces.
 
-ghost use Rattle.std.specs.Prelude.{◌≡◌, ◌≤◌, ◌<◌, [], true, false, length, IfErr, IfOk, None, Ok, OnErr, OnOk, Option};
-ghost use Rattle.std.specs.Prelude.{Some};
+ghost use Rattle.std.specs.Prelude.{◌≡◌, ◌≤◌, ◌<◌, [], true, false, length, IfErr, None, OnErr, OnOk, Option, Some};
 ghost use Rattle.collective_steps.specs.declared.step.Ending.{Ending};
-ghost use Rattle.collective_transfers.specs.State.{after_data, after_return, is_due};
+ghost use Rattle.collective_transfers.specs.State.{is_due};
 ghost use Rattle.datagram.specs.Spelling.{data_text};
 ghost use Rattle.point_to_point_calls.specs.Refusals.{IsRefusal};
 ghost use Rattle.sessions.specs.Windows.{StaysWithin};
 ghost use Rattle.sessions.specs.Heard.{heard_text, CanHear};
 ghost use Rattle.sessions.specs.Events.{after_event, event_limit};
-ghost use Rattle.engine_calls.specs.EngineState.{or_before};
 ghost use Rattle.engine_calls.specs.Refusals.{fault_of_sessions};
-ghost use Rattle.engine_calls.specs.Steps.{engine_held};
-ghost use Rattle.engine.specs.Datagrams.{IsNoticed, PieceGives, WhyNoPiece, WhyUnnoticed, lesson_in, payloads_met};
-ghost use Rattle.engine.specs.Datagrams.{received};
+ghost use Rattle.engine.specs.Datagrams.{PieceGives, PieceGivesBy, received};
+ghost use Rattle.engine.specs.Parts.{LastPieceGives, PartsGive, StayInPlace, engine_with};
 
-use crate::notices::{ReceivedPayload, take_message};
+use crate::notices::ReceivedPayload;
 use crate::outgoing_payloads::{carry_out, limit_of};
-use collective_transfers::{CollectiveTransfers, WholePayload};
+use crate::parts::Parts;
+use collective_transfers::WholePayload;
 use collectives::Ending;
-use communicators::Communicators;
 use datagram::Data;
-use point_to_point::{Core, Refusal};
+use point_to_point::Refusal;
 use sessions::{Heard, Sessions};
 use std::alloc::Global;
 
@@ -53,121 +50,80 @@ fn received_whole(whole: &WholePayload) -> ReceivedPayload<'_>
     }
 }
 
-/// Takes in the message of a payload that was taken out with its last piece. Answered is with what a collective ends by
-/// it.
-/// Refused is 30, 13 and 14; then the payload is put back, and nothing else changes.
-fn take_last(
-    alloc: Global,
-    core: &mut Core,
-    communicators: &mut Communicators,
-    payloads: &mut CollectiveTransfers,
-    sessions: &mut Sessions,
-    heard: Heard<'_>,
-    whole: WholePayload,
-) -> Result<Option<Ending>, Refusal>
-    requires can { CanHear sessions.old (Some (heard_text heard)) }
-    requires place { whole.place ≤ length payloads.old.state.coming }
-    requires room { 0 < payloads.old.more_coming }
-    ensures ok { IfOk result (λ ending. (before : Option Ending) →
-        IsNoticed (engine_held core.old communicators.old before payloads.old.state sessions.old)
-        (payloads_met payloads.old.state (lesson_in (heard_text heard.entry)))
-        (heard_text heard.entry) whole.whole
-        (engine_held core.new communicators.new (or_before ending before) payloads.new.state sessions.new)) }
-    ensures err { IfErr result (WhyUnnoticed (engine_held core.old communicators.old None payloads.old.state sessions.old)
-        (heard_text heard.entry) whole.whole) }
-    ensures core { OnErr result (core.new.state ≡ core.old.state) }
-    ensures collective { OnErr result (communicators.new.collective.state ≡ communicators.old.collective.state) }
-    ensures contexts { OnErr result (communicators.new.contexts.state ≡ communicators.old.contexts.state) }
-    ensures back { OnErr result (payloads.new.state ≡ after_return payloads.old.state whole) }
-    ensures sessions { OnErr result (sessions.new ≡ sessions.old) }
-    ensures within { OnOk result (StaysWithin (Some (heard_text heard.entry)) sessions.old sessions.new) }
-    ensures placed { sessions.new.place ≡ sessions.old.place }
-    ensures core_placed { core.new.state.place ≡ core.old.state.place }
-{
-    let message = received_whole(&whole);
-    match take_message(
-        alloc,
-        core,
-        communicators,
-        payloads,
-        sessions,
-        heard,
-        message,
-    ) {
-        Ok(ending) => Ok(ending),
-        Err(refused) => {
-            payloads.put_back(whole);
-            Err(refused)
+impl Parts {
+    /// Takes in the message of a payload that was taken out with its last piece. Answered is with what a collective
+    /// ends by it. Refused is 30, 13 and 14; then the payload is put back, and nothing else changes.
+    fn take_last(
+        &mut self,
+        alloc: Global,
+        heard: Heard<'_>,
+        whole: WholePayload,
+    ) -> Result<Option<Ending>, Refusal>
+        requires can { CanHear self.old.sessions (Some (heard_text heard)) }
+        requires place { whole.place ≤ length self.old.payloads.state.coming }
+        requires room { 0 < self.old.payloads.more_coming }
+        ensures exact { PartsGive (LastPieceGives (heard_text heard.entry) whole) self.old result self.new }
+        ensures within { OnOk result (StaysWithin (Some (heard_text heard.entry)) self.old.sessions self.new.sessions) }
+        ensures placed { StayInPlace self.old self.new }
+    {
+        let message = received_whole(&whole);
+        match self.take_message(alloc, heard, message) {
+            Ok(ending) => Ok(ending),
+            Err(refused) => {
+                self.payloads.put_back(whole);
+                Err(refused)
+            }
         }
     }
-}
 
-/// Takes in a piece that is due and isn't the last one: it stands behind those that came before. Refused is 13 and 14;
-/// then nothing changes.
-fn take_next(
-    payloads: &mut CollectiveTransfers,
-    sessions: &mut Sessions,
-    heard: Heard<'_>,
-    piece: Data<'_>,
-) -> Result<(), Refusal>
-    requires can { CanHear sessions.old (Some (heard_text heard)) }
-    requires due { is_due payloads.old.state heard.source.rank piece.transfer piece.offset piece.bytes.now ≡ true }
-    ensures none { OnOk result (fault_of_sessions (event_limit sessions.old (Some (heard_text heard.entry)) []) ≡ None) }
-    ensures ok { OnOk result (sessions.new ≡ after_event sessions.old (Some (heard_text heard.entry)) []) }
-    ensures grown { OnOk result
-        (payloads.new.state ≡
-        after_data payloads.old.state heard.entry.source.rank piece.entry.transfer piece.entry.bytes.now) }
-    ensures err { IfErr result (IsRefusal (fault_of_sessions (event_limit sessions.old (Some (heard_text heard.entry)) []))) }
-    ensures payloads { OnErr result (payloads.new.state ≡ payloads.old.state) }
-    ensures unchanged { OnErr result (sessions.new ≡ sessions.old) }
-    ensures within { OnOk result (StaysWithin (Some (heard_text heard.entry)) sessions.old sessions.new) }
-    ensures placed { sessions.new.place ≡ sessions.old.place }
-{
-    take_in(sessions, heard)?;
-    payloads.on_data(heard.source.rank, piece.transfer, piece.offset, piece.bytes);
-    Ok(())
-}
-
-/// Takes in data of a payload that comes: they stand behind those that came before, and with the last ones the message
-/// is taken in. Answered is with what a collective ends by it. Refused is 30 where they aren't due or the message isn't
-/// one, 13 and 14; then nothing changes.
-pub(crate) fn take_piece(
-    alloc: Global,
-    core: &mut Core,
-    communicators: &mut Communicators,
-    payloads: &mut CollectiveTransfers,
-    sessions: &mut Sessions,
-    heard: Heard<'_>,
-    piece: Data<'_>,
-) -> Result<Option<Ending>, Refusal>
-    requires can { CanHear sessions.old (Some (heard_text heard)) }
-    requires lesson { heard.lesson ≡ false }
-    ensures ok { IfOk result (λ ending. (before : Option Ending) →
-        PieceGives (engine_held core.old communicators.old before payloads.old.state sessions.old)
-        (heard_text heard.entry) (data_text piece.entry) (Ok tt)
-        (engine_held core.new communicators.new (or_before ending before) payloads.new.state sessions.new)) }
-    ensures err { IfErr result (WhyNoPiece (engine_held core.old communicators.old None payloads.old.state sessions.old)
-        (heard_text heard.entry) (data_text piece.entry)) }
-    ensures core { OnErr result (core.new.state ≡ core.old.state) }
-    ensures collective { OnErr result (communicators.new.collective.state ≡ communicators.old.collective.state) }
-    ensures contexts { OnErr result (communicators.new.contexts.state ≡ communicators.old.contexts.state) }
-    ensures payloads { OnErr result (payloads.new.state ≡ payloads.old.state) }
-    ensures sessions { OnErr result (sessions.new ≡ sessions.old) }
-    ensures within { OnOk result (StaysWithin (Some (heard_text heard.entry)) sessions.old sessions.new) }
-    ensures placed { sessions.new.place ≡ sessions.old.place }
-    ensures core_placed { core.new.state.place ≡ core.old.state.place }
-{
-    // The place shows that the job has a rank at least.
-    let _place = sessions.place();
-    let rank = heard.source.rank;
-    if !payloads.is_due(rank, piece.transfer, piece.offset, piece.bytes) {
-        return Err(Refusal::BadFrame);
+    /// Takes in a piece that is due and isn't the last one: it stands behind those that came before. Refused is 13 and
+    /// 14; then nothing changes.
+    fn take_next(&mut self, heard: Heard<'_>, piece: Data<'_>) -> Result<(), Refusal>
+        requires can { CanHear self.old.sessions (Some (heard_text heard)) }
+        requires due { is_due self.old.payloads.state heard.source.rank piece.transfer piece.offset piece.bytes.now ≡
+            true }
+        ensures exact { (before : Option Ending) →
+            PieceGivesBy true None (engine_with self.old before) (heard_text heard.entry) (data_text piece.entry) result
+            (engine_with self.new before) }
+        ensures within { OnOk result (StaysWithin (Some (heard_text heard.entry)) self.old.sessions self.new.sessions) }
+        ensures placed { StayInPlace self.old self.new }
+    {
+        take_in(&mut self.sessions, heard)?;
+        self.payloads.on_data(heard.source.rank, piece.transfer, piece.offset, piece.bytes);
+        Ok(())
     }
-    match payloads.take_whole(rank, piece.transfer, piece.bytes) {
-        Some(whole) => take_last(alloc, core, communicators, payloads, sessions, heard, whole),
-        None => match take_next(payloads, sessions, heard, piece) {
-            Ok(()) => Ok(None),
-            Err(refused) => Err(refused),
-        },
+
+    /// Takes in data of a payload that comes: they stand behind those that came before, and with the last ones the
+    /// message is taken in. Answered is with what a collective ends by it. Refused is 30 where they aren't due or the
+    /// message isn't one, 13 and 14; then nothing changes.
+    pub(crate) fn take_piece(
+        &mut self,
+        alloc: Global,
+        heard: Heard<'_>,
+        piece: Data<'_>,
+    ) -> Result<Option<Ending>, Refusal>
+        requires can { CanHear self.old.sessions (Some (heard_text heard)) }
+        requires lesson { heard.lesson ≡ false }
+        ensures exact { PartsGive
+            (λ e r f. PieceGives e (heard_text heard.entry) (data_text piece.entry) r f) self.old result self.new }
+        ensures within { OnOk result (StaysWithin (Some (heard_text heard.entry)) self.old.sessions self.new.sessions) }
+        ensures placed { StayInPlace self.old self.new }
+    {
+        // The place shows that the job has a rank at least.
+        let _place = self.sessions.place();
+        let rank = heard.source.rank;
+        if !self
+            .payloads
+            .is_due(rank, piece.transfer, piece.offset, piece.bytes)
+        {
+            return Err(Refusal::BadFrame);
+        }
+        match self.payloads.take_whole(rank, piece.transfer, piece.bytes) {
+            Some(whole) => self.take_last(alloc, heard, whole),
+            None => match self.take_next(heard, piece) {
+                Ok(()) => Ok(None),
+                Err(refused) => Err(refused),
+            },
+        }
     }
 }

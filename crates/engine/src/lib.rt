@@ -24,6 +24,7 @@ mod incoming_payloads;
 mod notice_kinds;
 mod notices;
 mod outgoing_payloads;
+mod parts;
 mod probes;
 mod questions;
 

@@ -1,19 +1,18 @@
 //! How a rank takes in messages of collectives, and lessons that end one.
 
-ghost use Rattle.std.specs.Prelude.{◌≡◌, ◌≤◌, All, length, IfErr, IfOk, None, OnErr, OnOk, Option, Some};
+ghost use Rattle.std.specs.Prelude.{◌≡◌, ◌≤◌, All, length, IfErr, IfOk, None, OnErr, OnOk, Some};
 ghost use Rattle.collective_messages.specs.Messages.{IsFitting};
 ghost use Rattle.collectives.specs.Calls.{after_lesson};
-ghost use Rattle.collective_steps.specs.declared.step.Ending.{Ending};
 ghost use Rattle.payload.specs.Reading.{payload_of};
 ghost use Rattle.payload.specs.Spelling.{payload_text};
 ghost use Rattle.sessions.specs.Windows.{StaysWithin};
 ghost use Rattle.sessions.specs.Heard.{CanHear, heard_text};
-ghost use Rattle.engine.specs.Datagrams.{IsNoticed, IsTold, WhyUnnoticed, lesson_in, numbers_met, payloads_met};
-ghost use Rattle.engine.specs.Datagrams.{received};
+ghost use Rattle.engine.specs.Datagrams.{lesson_in, numbers_met, payloads_met, received};
+ghost use Rattle.engine.specs.Parts.{MessageGives, PartsGive, StayInPlace, TellingGives, state_of};
 ghost use Rattle.engine_calls.specs.EngineState.{or_before};
-ghost use Rattle.engine_calls.specs.Frames.{step_limit};
-ghost use Rattle.engine_calls.specs.Steps.{StepStops, ending_met, engine_held};
+ghost use Rattle.engine_calls.specs.Steps.{ending_met};
 
+use crate::parts::Parts;
 use collective_messages::{Address, CollectiveMessage};
 use collective_transfers::CollectiveTransfers;
 use collectives::Ending;
@@ -22,7 +21,7 @@ use engine_calls::{of_collectives, send_step};
 use payload::{Payload, read_payload};
 use point_to_point::{Core, News, Refusal};
 use rendezvous::{Numbers, start_anew};
-use sessions::{Heard, Sessions};
+use sessions::Heard;
 use std::alloc::Global;
 use vocabulary::Endpoint;
 
@@ -109,105 +108,84 @@ pub struct ReceivedPayload<'a> {
     pub bytes: &'a [u8],
 }
 
-/// The core, the payloads and the sessions take in what is heard, without its frame, and the others are told by these
-/// messages; those that are too long for a frame are announced and kept. Refused is 13 and 14; then nothing changes.
-fn carry_out_notices(
-    alloc: Global,
-    core: &mut Core,
-    payloads: &mut CollectiveTransfers,
-    sessions: &mut Sessions,
-    heard: Heard<'_>,
-    messages: &[CollectiveMessage],
-) -> Result<(), Refusal>
-    requires can { CanHear sessions.old (Some (heard_text heard)) }
-    requires fits { All IsFitting messages.now }
-    ensures ok { OnOk result
-        (IsTold core.old.state payloads.old.state sessions.old (heard_text heard.entry) messages.now core.new.state
-        payloads.new.state sessions.new) }
-    ensures err { IfErr result
-        (StepStops
-        (step_limit sessions.old (numbers_met core.old.state (heard_text heard.entry)) (Some (heard_text heard.entry))
-        messages.now)) }
-    ensures core { OnErr result (core.new.state ≡ core.old.state) }
-    ensures payloads { OnErr result (payloads.new.state ≡ payloads.old.state) }
-    ensures coming { payloads.old.more_coming ≤ payloads.new.more_coming }
-    ensures sessions { OnErr result (sessions.new ≡ sessions.old) }
-    ensures within { OnOk result (StaysWithin (Some (heard_text heard.entry)) sessions.old sessions.new) }
-    ensures placed { sessions.new.place ≡ sessions.old.place }
-    ensures core_placed { core.new.state.place ≡ core.old.state.place }
-{
-    let mut numbers = numbers_met(core, heard)?;
-    let news = News {
-        source: heard.source,
-        lesson: heard.lesson,
-        frame: None,
-    };
-    let prepared = core.prepare_news(news)?;
-    let announced = send_step(
-        alloc,
-        payloads,
-        sessions,
-        Some(heard),
-        messages,
-        &mut numbers,
-    )?;
-    core.take_news(news, prepared);
-    core.set_numbers(numbers);
-    forget(payloads, lesson_in(heard));
-    payloads.announce(announced);
-    Ok(())
-}
+impl Parts {
+    /// What is heard is taken in without its frame, and the others are told by these messages; those that are too long
+    /// for a frame are announced and kept. Refused is 13 and 14; then nothing changes.
+    fn carry_out_notices(
+        &mut self,
+        alloc: Global,
+        heard: Heard<'_>,
+        messages: &[CollectiveMessage],
+    ) -> Result<(), Refusal>
+        requires can { CanHear self.old.sessions (Some (heard_text heard)) }
+        requires fits { All IsFitting messages.now }
+        ensures exact { TellingGives self.old (heard_text heard.entry) messages.now result self.new }
+        ensures unchanged { OnErr result (state_of self.new ≡ state_of self.old) }
+        ensures communicators { self.new.communicators ≡ self.old.communicators }
+        ensures coming { self.old.payloads.more_coming ≤ self.new.payloads.more_coming }
+        ensures within { OnOk result (StaysWithin (Some (heard_text heard.entry)) self.old.sessions self.new.sessions) }
+        ensures placed { StayInPlace self.old self.new }
+    {
+        let mut numbers = numbers_met(&self.core, heard)?;
+        let news = News {
+            source: heard.source,
+            lesson: heard.lesson,
+            frame: None,
+        };
+        let prepared = self.core.prepare_news(news)?;
+        let announced = send_step(
+            alloc,
+            &mut self.payloads,
+            &mut self.sessions,
+            Some(heard),
+            messages,
+            &mut numbers,
+        )?;
+        self.core.take_news(news, prepared);
+        self.core.set_numbers(numbers);
+        forget(&mut self.payloads, lesson_in(heard));
+        self.payloads.announce(announced);
+        Ok(())
+    }
 
-/// Takes in a message of a collective: it is read and made ready with all that follows, the others are told, and only
-/// then the lesson is learnt and the message taken. Answered is with what a collective ends by it. Refused is 30, 13
-/// and 14; then nothing changes.
-pub(crate) fn take_message(
-    alloc: Global,
-    core: &mut Core,
-    communicators: &mut Communicators,
-    payloads: &mut CollectiveTransfers,
-    sessions: &mut Sessions,
-    heard: Heard<'_>,
-    message: ReceivedPayload<'_>,
-) -> Result<Option<Ending>, Refusal>
-    requires can { CanHear sessions.old (Some (heard_text heard)) }
-    ensures ok { IfOk result (λ ending. (before : Option Ending) →
-        IsNoticed (engine_held core.old communicators.old before payloads.old.state sessions.old)
-        (payloads_met payloads.old.state (lesson_in (heard_text heard.entry)))
-        (heard_text heard.entry) (received message.entry)
-        (engine_held core.new communicators.new (or_before ending before) payloads.new.state sessions.new)) }
-    ensures err { IfErr result (WhyUnnoticed (engine_held core.old communicators.old None payloads.old.state sessions.old)
-        (heard_text heard.entry) (received message.entry)) }
-    ensures core { OnErr result (core.new.state ≡ core.old.state) }
-    ensures collective { OnErr result (communicators.new.collective.state ≡ communicators.old.collective.state) }
-    ensures contexts { OnErr result (communicators.new.contexts.state ≡ communicators.old.contexts.state) }
-    ensures payloads { OnErr result (payloads.new.state ≡ payloads.old.state) }
-    ensures coming { payloads.old.more_coming ≤ payloads.new.more_coming }
-    ensures sessions { OnErr result (sessions.new ≡ sessions.old) }
-    ensures within { OnOk result (StaysWithin (Some (heard_text heard.entry)) sessions.old sessions.new) }
-    ensures placed { sessions.new.place ≡ sessions.old.place }
-    ensures core_placed { core.new.state.place ≡ core.old.state.place }
-{
-    let payload = read(message.bytes)?;
-    let address = Address {
-        sender: heard.source,
-        context: message.context,
-        number: message.number,
-    };
-    let lesson = lesson_in(heard);
-    let ready = match communicators.prepare_message(lesson, address, payload) {
-        Ok(ready) => ready,
-        Err(refused) => return Err(of_collectives(refused)),
-    };
-    match carry_out_notices(alloc, core, payloads, sessions, heard, ready.messages()) {
-        Ok(()) => {
-            let replaced = learn(communicators, lesson);
-            let left = communicators.on_message(ready);
-            Ok(ending_or(left, replaced))
-        }
-        Err(refused) => {
-            drop(ready);
-            Err(refused)
+    /// Takes in a message of a collective: it is read and made ready with all that follows, the others are told, and
+    /// only then the lesson is learnt and the message taken. Answered is with what a collective ends by it. Refused is
+    /// 30, 13 and 14; then nothing changes.
+    pub(crate) fn take_message(
+        &mut self,
+        alloc: Global,
+        heard: Heard<'_>,
+        message: ReceivedPayload<'_>,
+    ) -> Result<Option<Ending>, Refusal>
+        requires can { CanHear self.old.sessions (Some (heard_text heard)) }
+        ensures exact { PartsGive (MessageGives (heard_text heard.entry) (received message.entry)) self.old result
+            self.new }
+        ensures unchanged { OnErr result (state_of self.new ≡ state_of self.old) }
+        ensures coming { self.old.payloads.more_coming ≤ self.new.payloads.more_coming }
+        ensures within { OnOk result (StaysWithin (Some (heard_text heard.entry)) self.old.sessions self.new.sessions) }
+        ensures placed { StayInPlace self.old self.new }
+    {
+        let payload = read(message.bytes)?;
+        let address = Address {
+            sender: heard.source,
+            context: message.context,
+            number: message.number,
+        };
+        let lesson = lesson_in(heard);
+        let ready = match self.communicators.prepare_message(lesson, address, payload) {
+            Ok(ready) => ready,
+            Err(refused) => return Err(of_collectives(refused)),
+        };
+        match self.carry_out_notices(alloc, heard, ready.messages()) {
+            Ok(()) => {
+                let replaced = learn(&mut self.communicators, lesson);
+                let left = self.communicators.on_message(ready);
+                Ok(ending_or(left, replaced))
+            }
+            Err(refused) => {
+                drop(ready);
+                Err(refused)
+            }
         }
     }
 }

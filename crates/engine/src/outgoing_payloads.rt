@@ -1,31 +1,27 @@
 //! How payloads of collectives go in pieces: announcements and answers of them.
 
 ghost use Rattle.std.specs.Prelude.{◌≡◌, ◌≤◌, ◌<◌, [], ◌∷◌, All, List, true, length, is_some, IfErr, IfOk, None};
-ghost use Rattle.std.specs.Prelude.{Ok, OnErr, OnOk, Option, Some};
+ghost use Rattle.std.specs.Prelude.{OnErr, OnOk, Option, Some};
 ghost use Rattle.collective_steps.specs.declared.step.Ending.{Ending};
-ghost use Rattle.collective_transfers.specs.State.{after_answer, announced_to};
+ghost use Rattle.collective_transfers.specs.State.{announced_to};
 ghost use Rattle.datagram.specs.Spelling.{clear_text, request_text, OutgoingText};
 ghost use Rattle.point_to_point_calls.specs.Refusals.{IsRefusal};
-ghost use Rattle.point_to_point.specs.CoreState.{with_numbers};
-ghost use Rattle.point_to_point.specs.Arrivals.{after_news};
-ghost use Rattle.rendezvous.specs.State.{with_announced};
 ghost use Rattle.sessions.specs.Windows.{StaysWithin};
 ghost use Rattle.sessions.specs.Heard.{heard_text, CanHear};
 ghost use Rattle.sessions.specs.Events.{AreFor, CanSend, after_event, event_limit, sendings};
 ghost use Rattle.vocabulary.specs.Limits.{send_limit};
-ghost use Rattle.engine_calls.specs.EngineState.{or_before};
 ghost use Rattle.engine_calls.specs.Refusals.{fault_of_sessions};
-ghost use Rattle.engine_calls.specs.Steps.{engine_held};
-ghost use Rattle.engine.specs.Datagrams.{AnnouncementGives, announcement_fault, answer_fault, answer_to, coming_by};
-ghost use Rattle.engine.specs.Datagrams.{data_for, data_sent, lesson_alone, numbers_met};
+ghost use Rattle.engine.specs.Datagrams.{AnnouncementGives, AnswerGives, announcement_fault, answer_to, coming_by};
+ghost use Rattle.engine.specs.Datagrams.{data_sent};
+ghost use Rattle.engine.specs.Parts.{IsCounted, PartsGive, StayInPlace, engine_with, state_of};
 
 use crate::notices::{forget, learn, lesson_in, numbers_met};
+use crate::parts::Parts;
 use collective_transfers::{CollectiveTransfers, ComingPayload};
 use collectives::Ending;
-use communicators::Communicators;
 use datagram::{ClearToSend, Clearance, Frame, Outgoing, RequestToSend};
 use engine_calls::of_sessions;
-use point_to_point::{Core, News, Refusal};
+use point_to_point::{News, Refusal};
 use point_to_point_calls::frames_of;
 use rendezvous::{announce, count_of, pieces_of};
 use sessions::{Heard, Sessions};
@@ -65,26 +61,6 @@ pub(crate) fn carry_out(
         Ok(()) => Ok(()),
         Err(_) => Err(Refusal::OutOfMemory),
     }
-}
-
-/// The first rule or limit that the announcement of a payload meets: it is of a synchronous send, which no payload is
-/// (30), its number isn't the next one of its session (30), or the sessions meet their limit (13). It takes no memory.
-fn fault_of_announcement(
-    core: &Core,
-    sessions: &Sessions,
-    heard: Heard<'_>,
-    request: RequestToSend,
-) -> Option<Refusal>
-    requires { CanHear sessions.now (Some (heard_text heard)) }
-    ensures { result ≡ announcement_fault core.now.state sessions.now (heard_text heard.entry) (request_text request) }
-{
-    if let Mode::Synchronous = request.mode {
-        return Some(Refusal::BadFrame);
-    }
-    if !core.is_next(heard.source.rank, heard.lesson, request.transfer) {
-        return Some(Refusal::BadFrame);
-    }
-    limit_of(sessions, heard, 1)
 }
 
 /// The sessions take in the announcement of a payload, which breaks no rule and meets no limit, and send the answer to
@@ -146,86 +122,6 @@ fn make_place(
     }
 }
 
-/// The core and the sessions take in the announcement of a payload, which breaks no rule and meets no limit: it is
-/// counted, and the answer to it is sent; or there is no memory (14), and nothing changes.
-fn count_and_answer(
-    core: &mut Core,
-    sessions: &mut Sessions,
-    heard: Heard<'_>,
-    request: RequestToSend,
-) -> Result<(), Refusal>
-    requires can { CanHear sessions.old (Some (heard_text heard)) }
-    requires there { heard.source.rank < sessions.old.place.size }
-    requires allowed { announcement_fault core.old.state sessions.old (heard_text heard) (request_text request) ≡ None }
-    ensures core { OnOk result (core.new.state ≡ with_numbers (after_news core.old.state (lesson_alone (heard_text heard.entry)))
-        (with_announced (numbers_met core.old.state (heard_text heard.entry)) heard.entry.source.rank)) }
-    ensures sessions { OnOk result
-        (sessions.new ≡
-        after_event sessions.old (Some (heard_text heard.entry))
-        (answer_to (heard_text heard.entry) (request_text request) ∷ [])) }
-    ensures err { IfErr result (λ e. e ≡ Refusal.OutOfMemory) }
-    ensures kept { OnErr result (core.new.state ≡ core.old.state) }
-    ensures unchanged { OnErr result (sessions.new ≡ sessions.old) }
-    ensures within { OnOk result (StaysWithin (Some (heard_text heard.entry)) sessions.old sessions.new) }
-    ensures placed { sessions.new.place ≡ sessions.old.place }
-    ensures core_placed { core.new.state.place ≡ core.old.state.place }
-{
-    let mut numbers = numbers_met(core, heard)?;
-    let news = News {
-        source: heard.source,
-        lesson: heard.lesson,
-        frame: None,
-    };
-    let prepared = core.prepare_news(news)?;
-    send_answer(sessions, heard, request)?;
-    announce(&mut numbers, heard.source.rank, request.transfer);
-    core.take_news(news, prepared);
-    core.set_numbers(numbers);
-    Ok(())
-}
-
-/// Takes in the announcement of a payload: it is counted, it is answered, and its payload begins to come. Answered is
-/// with what a collective ends by its lesson. Refused is 30, 13 and 14; then nothing changes.
-pub(crate) fn take_announcement(
-    alloc: Global,
-    core: &mut Core,
-    communicators: &mut Communicators,
-    payloads: &mut CollectiveTransfers,
-    sessions: &mut Sessions,
-    heard: Heard<'_>,
-    request: RequestToSend,
-) -> Result<Option<Ending>, Refusal>
-    requires can { CanHear sessions.old (Some (heard_text heard)) }
-    requires there { heard.source.rank < sessions.old.place.size }
-    ensures ok { IfOk result (λ ending. (before : Option Ending) →
-        AnnouncementGives (engine_held core.old communicators.old before payloads.old.state sessions.old)
-        (heard_text heard.entry) (request_text request) (Ok tt)
-        (engine_held core.new communicators.new (or_before ending before) payloads.new.state sessions.new)) }
-    ensures err { IfErr result
-        (IsRefusal (announcement_fault core.old.state sessions.old (heard_text heard.entry) (request_text request))) }
-    ensures core { OnErr result (core.new.state ≡ core.old.state) }
-    ensures communicators { OnErr result (communicators.new ≡ communicators.old) }
-    ensures payloads { OnErr result (payloads.new.state ≡ payloads.old.state) }
-    ensures sessions { OnErr result (sessions.new ≡ sessions.old) }
-    ensures within { OnOk result (StaysWithin (Some (heard_text heard.entry)) sessions.old sessions.new) }
-    ensures placed { sessions.new.place ≡ sessions.old.place }
-    ensures core_placed { core.new.state.place ≡ core.old.state.place }
-{
-    if let Some(fault) = fault_of_announcement(core, sessions, heard, request) {
-        return Err(fault);
-    }
-    let coming = make_place(alloc, payloads, heard, request)?;
-    match count_and_answer(core, sessions, heard, request) {
-        Ok(()) => {
-            let lesson = lesson_in(heard);
-            forget(payloads, lesson);
-            payloads.begin(coming);
-            Ok(learn(communicators, lesson))
-        }
-        Err(refused) => Err(refused),
-    }
-}
-
 /// The frames of all data of a payload for a rank, lent from it; or want of memory (14).
 fn data_frames<'a>(
     alloc: Global,
@@ -278,39 +174,121 @@ fn send_data(
     carry_out(sessions, heard, &frames)
 }
 
-/// Takes in the answer to a payload that this rank announced: all its data go out, and it isn't kept any more. Refused
-/// is 30 where the answer doesn't ask for the data, 13 and 14; then nothing changes.
-pub(crate) fn take_answer(
-    alloc: Global,
-    payloads: &mut CollectiveTransfers,
-    sessions: &mut Sessions,
-    heard: Heard<'_>,
-    answer: ClearToSend,
-) -> Result<(), Refusal>
-    requires can { CanHear sessions.old (Some (heard_text heard)) }
-    requires there { heard.source.rank < sessions.old.place.size }
-    requires announced { is_some (announced_to payloads.old.state heard.source.rank answer.transfer) ≡ true }
-    ensures none { OnOk result (answer_fault payloads.old.state sessions.old (heard_text heard.entry) (clear_text answer) ≡
-        None) }
-    ensures payloads { OnOk result (payloads.new.state ≡ after_answer payloads.old.state heard.entry.source.rank answer.transfer) }
-    ensures sent { OnOk result
-        (sessions.new ≡
-        after_event sessions.old (Some (heard_text heard.entry))
-        (data_for payloads.old.state (heard_text heard.entry) (clear_text answer))) }
-    ensures err { IfErr result
-        (IsRefusal (answer_fault payloads.old.state sessions.old (heard_text heard.entry) (clear_text answer))) }
-    ensures kept { OnErr result (payloads.new.state ≡ payloads.old.state) }
-    ensures unchanged { OnErr result (sessions.new ≡ sessions.old) }
-    ensures within { OnOk result (StaysWithin (Some (heard_text heard.entry)) sessions.old sessions.new) }
-    ensures placed { sessions.new.place ≡ sessions.old.place }
-{
-    if let Clearance::Drop = answer.clearance {
-        return Err(Refusal::BadFrame);
+impl Parts {
+    /// The first rule or limit that the announcement of a payload meets: it is of a synchronous send, which no payload
+    /// is (30), its number isn't the next one of its session (30), or the sessions meet their limit (13). It takes no
+    /// memory.
+    fn fault_of_announcement(&self, heard: Heard<'_>, request: RequestToSend) -> Option<Refusal>
+        requires { CanHear self.now.sessions (Some (heard_text heard)) }
+        ensures { result ≡
+            announcement_fault self.now.core.state self.now.sessions (heard_text heard.entry) (request_text request) }
+    {
+        if let Mode::Synchronous = request.mode {
+            return Some(Refusal::BadFrame);
+        }
+        if !self
+            .core
+            .is_next(heard.source.rank, heard.lesson, request.transfer)
+        {
+            return Some(Refusal::BadFrame);
+        }
+        limit_of(&self.sessions, heard, 1)
     }
-    let Some(payload) = payloads.announced_to(heard.source.rank, answer.transfer) else {
-        return Err(Refusal::BadFrame);
-    };
-    send_data(alloc, sessions, heard, answer.transfer, payload.bytes())?;
-    payloads.on_answer(heard.source.rank, answer.transfer);
-    Ok(())
+
+    /// The announcement of a payload, which breaks no rule and meets no limit, is counted, and the answer to it is
+    /// sent; or there is no memory (14), and nothing changes.
+    fn count_and_answer(&mut self, heard: Heard<'_>, request: RequestToSend) -> Result<(), Refusal>
+        requires can { CanHear self.old.sessions (Some (heard_text heard)) }
+        requires there { heard.source.rank < self.old.sessions.place.size }
+        requires allowed { announcement_fault self.old.core.state self.old.sessions (heard_text heard)
+            (request_text request) ≡ None }
+        ensures exact { OnOk result
+            (IsCounted self.old (heard_text heard.entry) (request_text request) self.new) }
+        ensures err { IfErr result (λ e. e ≡ Refusal.OutOfMemory) }
+        ensures unchanged { OnErr result (state_of self.new ≡ state_of self.old) }
+        ensures others { (self.new.communicators ≡ self.old.communicators) × (self.new.payloads ≡ self.old.payloads) }
+        ensures within { OnOk result (StaysWithin (Some (heard_text heard.entry)) self.old.sessions self.new.sessions) }
+        ensures placed { StayInPlace self.old self.new }
+    {
+        let mut numbers = numbers_met(&self.core, heard)?;
+        let news = News {
+            source: heard.source,
+            lesson: heard.lesson,
+            frame: None,
+        };
+        let prepared = self.core.prepare_news(news)?;
+        send_answer(&mut self.sessions, heard, request)?;
+        announce(&mut numbers, heard.source.rank, request.transfer);
+        self.core.take_news(news, prepared);
+        self.core.set_numbers(numbers);
+        Ok(())
+    }
+
+    /// Takes in the announcement of a payload: it is counted, it is answered, and its payload begins to come. Answered
+    /// is with what a collective ends by its lesson. Refused is 30, 13 and 14; then nothing changes.
+    pub(crate) fn take_announcement(
+        &mut self,
+        alloc: Global,
+        heard: Heard<'_>,
+        request: RequestToSend,
+    ) -> Result<Option<Ending>, Refusal>
+        requires can { CanHear self.old.sessions (Some (heard_text heard)) }
+        requires there { heard.source.rank < self.old.sessions.place.size }
+        ensures exact { PartsGive
+            (λ e r f. AnnouncementGives e (heard_text heard.entry) (request_text request) r f) self.old result
+            self.new }
+        ensures within { OnOk result (StaysWithin (Some (heard_text heard.entry)) self.old.sessions self.new.sessions) }
+        ensures placed { StayInPlace self.old self.new }
+    {
+        if let Some(fault) = self.fault_of_announcement(heard, request) {
+            return Err(fault);
+        }
+        let coming = make_place(alloc, &mut self.payloads, heard, request)?;
+        match self.count_and_answer(heard, request) {
+            Ok(()) => {
+                let lesson = lesson_in(heard);
+                forget(&mut self.payloads, lesson);
+                self.payloads.begin(coming);
+                Ok(learn(&mut self.communicators, lesson))
+            }
+            Err(refused) => Err(refused),
+        }
+    }
+
+    /// Takes in the answer to a payload that this rank announced: all its data go out, and it isn't kept any more.
+    /// Refused is 30 where the answer doesn't ask for the data, 13 and 14; then nothing changes.
+    pub(crate) fn take_answer(
+        &mut self,
+        alloc: Global,
+        heard: Heard<'_>,
+        answer: ClearToSend,
+    ) -> Result<(), Refusal>
+        requires can { CanHear self.old.sessions (Some (heard_text heard)) }
+        requires there { heard.source.rank < self.old.sessions.place.size }
+        requires announced { is_some (announced_to self.old.payloads.state heard.source.rank answer.transfer) ≡ true }
+        ensures exact { (before : Option Ending) →
+            AnswerGives (engine_with self.old before) (heard_text heard.entry) (clear_text answer) result
+            (engine_with self.new before) }
+        ensures within { OnOk result (StaysWithin (Some (heard_text heard.entry)) self.old.sessions self.new.sessions) }
+        ensures placed { StayInPlace self.old self.new }
+    {
+        if let Clearance::Drop = answer.clearance {
+            return Err(Refusal::BadFrame);
+        }
+        let Some(payload) = self
+            .payloads
+            .announced_to(heard.source.rank, answer.transfer)
+        else {
+            return Err(Refusal::BadFrame);
+        };
+        send_data(
+            alloc,
+            &mut self.sessions,
+            heard,
+            answer.transfer,
+            payload.bytes(),
+        )?;
+        self.payloads.on_answer(heard.source.rank, answer.transfer);
+        Ok(())
+    }
 }

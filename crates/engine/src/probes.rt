@@ -14,7 +14,12 @@ impl Engine {
     pub(crate) fn fault_of_probe(&self, probe: Probe) -> Option<Refusal>
         ensures { result ≡ fault_of self.now (calls.Iprobe probe) }
     {
-        fault_of_look(&self.core, &self.communicators, &self.sessions, probe)
+        fault_of_look(
+            &self.parts.core,
+            &self.parts.communicators,
+            &self.parts.sessions,
+            probe,
+        )
     }
 
     /// Tells what message such a receive would take now, and changes nothing (MPI 3.1, 3.8.1). Refused is the first
@@ -22,7 +27,12 @@ impl Engine {
     pub(crate) fn iprobe(&self, probe: Probe) -> Reply
         ensures { LookingGives self.now probe result self.now }
     {
-        match look(&self.core, &self.communicators, &self.sessions, probe) {
+        match look(
+            &self.parts.core,
+            &self.parts.communicators,
+            &self.parts.sessions,
+            probe,
+        ) {
             Ok(found) => Reply::Probed(found),
             Err(refused) => Reply::Refused(refused, Call::Iprobe(probe)),
         }

@@ -49,8 +49,9 @@ impl Engine {
         ensures { result ≡ fault_of self.now (calls.Ask comm question) }
     {
         match self
+            .parts
             .communicators
-            .fault_of_question(self.core.is_blocked(), comm, question)
+            .fault_of_question(self.parts.core.is_blocked(), comm, question)
         {
             Some(fault) => Some(of_rule(fault)),
             None => None,
@@ -65,7 +66,7 @@ impl Engine {
         if let Some(fault) = self.fault_of_question(comm, question) {
             return Reply::Refused(fault, Call::Ask(comm, question));
         }
-        let Some(fact) = self.communicators.fact(comm, question) else {
+        let Some(fact) = self.parts.communicators.fact(comm, question) else {
             return Reply::Refused(Refusal::Communicator, Call::Ask(comm, question));
         };
         match into_owned(self.alloc, fact) {

@@ -2,7 +2,7 @@ use Rattle.std.proofs.Common.{sym, ap, ◌∙◌}
 use Rattle.std.specs.Prelude.{option_map}
 use Rattle.engine.proofs.Ruled.{entry_ruled}
 use Rattle.engine_calls.specs.Refusals.{of_rule}
-use Rattle.engine_calls.specs.Steps.{engine_held}
+use Rattle.engine.specs.Parts.{engine_with}
 use Rattle.engine.proofs.engine.Engine.fault_of_entry.Goals as goal
 
 pub returns-in-Some : goal.returns-in-Some
@@ -10,8 +10,8 @@ returns-in-Some c =
     rw (← c.self.view_is, c.of_rule.ensures)
     (ap (option_map of_rule) (sym c.in-Some.is)
     ∙ entry_ruled
-    (engine_held c.self.inside.core c.self.inside.communicators c.self.inside.ended c.self.inside.payloads.state
-    c.self.inside.sessions) c.is_blocked.result c.incarnations-known.result.now c.args.comm c.args.entry.now
+    (engine_with c.self.inside.parts c.self.inside.ended) c.is_blocked.result c.incarnations-known.result.now
+    c.args.comm c.args.entry.now
     c.fault_of_entry.result
     c.is_blocked.ensures c.incarnations-known.ensures c.fault_of_entry.ensures)
 
@@ -19,7 +19,7 @@ pub returns-in-None : goal.returns-in-None
 returns-in-None c =
     rw (← c.self.view_is) (ap (option_map of_rule) (sym c.in-None.is)
     ∙ entry_ruled
-    (engine_held c.self.inside.core c.self.inside.communicators c.self.inside.ended c.self.inside.payloads.state
-    c.self.inside.sessions) c.is_blocked.result c.incarnations-known.result.now c.args.comm c.args.entry.now
+    (engine_with c.self.inside.parts c.self.inside.ended) c.is_blocked.result c.incarnations-known.result.now
+    c.args.comm c.args.entry.now
     c.fault_of_entry.result
     c.is_blocked.ensures c.incarnations-known.ensures c.fault_of_entry.ensures)

@@ -5,7 +5,7 @@ use Rattle.sessions.specs.Heard.{HeardText, heard_text}
 use Rattle.engine.proofs.Hearing.{heard_is_known, hearing_is, refusal_leaves, turned_away}
 use Rattle.engine.specs.Datagrams.{HearingGives}
 use Rattle.engine_calls.specs.EngineState.{EngineState}
-use Rattle.engine_calls.specs.Steps.{engine_held}
+use Rattle.engine.specs.Parts.{engine_with}
 use Rattle.engine.proofs.engine.Engine.on_datagram.Goals as goal
 
 pub returns-in-Ok-clause-exact : goal.returns-in-Ok-clause-exact
@@ -20,14 +20,14 @@ pub returns-in-Err-clause-exact : goal.returns-in-Err-clause-exact
 returns-in-Err-clause-exact c =
     let i = c.self.inside in
     rw (← c.self.view_is, c.of_sessions.ensures, c.in-Err.ensures.exact)
-    (turned_away (engine_held i.core i.communicators i.ended i.payloads.state i.sessions) c.refuse.new.self
+    (turned_away (engine_with i.parts i.ended) c.refuse.new.self
     c.in-Err.unheard c.refuse.result c.refuse.ensures.exact)
 
 pub returns-in-Ok-clause-known : goal.returns-in-Ok-clause-known
 returns-in-Ok-clause-known c =
     let i = c.self.inside in
     let h : HeardText = heard_text c.in-Ok.heard in
-    heard_is_known (engine_held i.core i.communicators i.ended i.payloads.state i.sessions) c.take_in.new.self
+    heard_is_known (engine_with i.parts i.ended) c.take_in.new.self
     c.args.bytes.now h c.take_in.result
     c.place-place.ensures.known c.in-Ok.ensures.exact
     (subst (λ (e : EngineState). OnOk c.take_in.result (c.take_in.new.self.sessions.known ≡

@@ -8,7 +8,7 @@ use Rattle.engine.proofs.engine.Engine.spell_turn.Goals as goal
 
 pub limit_of-requires-clause-can : goal.limit_of-requires-clause-can
 limit_of-requires-clause-can c =
-    let s = c.self.inside.sessions in
+    let s = c.self.inside.parts.sessions in
     let within : c.args.source.rank < s.place.size = subst (λ (e : EngineState). c.args.source.rank < e.sessions.place.size) (sym c.self.view_is) c.requires.there in
     let there : c.args.source.rank < length s.peers = omega (arith, within, c.place-place.ensures.peers) in
     can_hear s c.args.source (heard_text c.args.heard)
@@ -16,6 +16,6 @@ limit_of-requires-clause-can c =
 
 pub spell_behind-requires-clause-left : goal.spell_behind-requires-clause-left
 spell_behind-requires-clause-left c =
-    left c.self.inside.sessions c.args.source (heard_text c.args.heard)
+    left c.self.inside.parts.sessions c.args.source (heard_text c.args.heard)
     (of_bytes c.args.source c.args.bytes.now (heard_text c.args.heard) c.requires.turn)
     (ap is_some (sym c.limit_of.ensures) ∙ sym c.if-is_some.ensures)

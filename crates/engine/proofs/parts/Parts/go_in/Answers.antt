@@ -1,0 +1,118 @@
+-- An entry that was made ready, and whose frames were sent, has entered.
+use Rattle.std.proofs.Common.{arith, ◌≡◌, ℕ, List, None, Some, ap, subst, ◌∙◌, inr}
+use Rattle.collective_messages.specs.declared.entry.Inside.{Inside}
+use Rattle.collective_messages.specs.declared.message.CollectiveMessage.{CollectiveMessage}
+use Rattle.collective_messages.specs.declared.entry.Entry.{Entry}
+use Rattle.collectives.specs.Calls.{entered, inside_of}
+use Rattle.collectives.specs.State.{State, after_step}
+use Rattle.collective_steps.specs.Steps.{IsPreparedEntry, Prepared, contexts_after, ending_of}
+use Rattle.context_agreement.specs.Communicators.{ContextsState}
+use Rattle.sessions.specs.Events.{after_event}
+use Rattle.collective_transfers.specs.Payloads.{Announced}
+use Rattle.collective_transfers.specs.State as payloads
+use Rattle.collective_transfers.specs.State.{after_announcing}
+use Rattle.point_to_point.specs.CoreState.{with_numbers}
+use Rattle.rendezvous.specs.declared.transfers.Numbers.{Numbers}
+use Rattle.engine.specs.Entering.{WhyNot}
+use Rattle.engine.specs.Parts.{PartsState, state_of}
+use Rattle.engine_calls.specs.Steps.{StepStops}
+use Rattle.point_to_point_calls.specs.declared.refusal.Refusal.{Refusal}
+use Rattle.point_to_point_calls.specs.declared.refusal.Refusal.TheVariants as refusals
+use Rattle.sessions.specs.SessionsState.{SessionsState}
+use Rattle.engine_calls.specs.Frames.{AreWhole, step_limit, step_numbers, step_payloads, step_sendings}
+use Rattle.sessions.proofs.Windows.{most_within}
+use Rattle.engine.proofs.parts.Parts.go_in.Goals as goal
+
+pub returns-in-Ok-send_step-clause-exact : goal.returns-in-Ok-send_step-clause-exact
+returns-in-Ok-send_step-clause-exact c =
+    let step = c.in-Ok-prepare_entry.ready.step in
+    let kept = c.prepare_entry.ensures.kept in
+    let ns = c.in-Ok.numbers.items in
+    let first : ns ≡ c.args.self.now.core.state.transfers.numbers = c.in-Ok.ensures.ok in
+    record {
+      step = step;
+      enters = (
+        c.in-Ok-prepare_entry.ensures.step,
+        c.enter.ensures.ending ∙ ap (λ (k : ContextsState). ending_of k step.outcome) kept.1,
+        c.enter.ensures.collective
+            ∙ ap (λ (s : State). after_step (entered s c.in-Ok-prepare_entry.ready.inside) step.outcome) kept.0
+            ∙ ap (λ (i : Inside). after_step (entered c.args.self.now.communicators.collective.state i) step.outcome)
+            c.in-Ok-prepare_entry.ensures.inside,
+        c.enter.ensures.contexts ∙ ap (λ (k : ContextsState). contexts_after k step.drawn step.outcome) kept.1,
+      );
+      whole = subst AreWhole c.messages.ensures c.in-Ok-send_step.ensures.whole;
+      goes = subst (λ (n : List Numbers). step_limit c.args.self.now.sessions n None step.messages ≡ None) first
+          (subst (λ (ms : List CollectiveMessage). step_limit c.args.self.now.sessions ns None ms ≡ None)
+          c.messages.ensures
+          c.in-Ok-send_step.ensures.goes);
+      counted = c.set_numbers.ensures.exact
+          ∙ ap (λ (n : List Numbers). with_numbers c.args.self.now.core.state n)
+          (subst (λ (ms : List CollectiveMessage). c.send_step.new.numbers.items ≡ step_numbers ns ms)
+          c.messages.ensures c.in-Ok-send_step.ensures.numbers
+          ∙ ap (λ (n : List Numbers). step_numbers n step.messages) first);
+      kept = c.announce.ensures.state
+          ∙ ap (λ (q : payloads.State). after_announcing q c.in-Ok-send_step.announced.items)
+          c.send_step.ensures.payloads
+          ∙ ap (λ (l : List Announced). after_announcing c.args.self.now.payloads.state l)
+          (subst (λ (ms : List CollectiveMessage). c.in-Ok-send_step.announced.items ≡ step_payloads ns ms)
+          c.messages.ensures c.in-Ok-send_step.ensures.announced
+          ∙ ap (λ (n : List Numbers). step_payloads n step.messages) first);
+      sent = subst (λ (n : List Numbers). c.send_step.new.sessions ≡
+          after_event c.args.self.now.sessions None (step_sendings c.args.self.now.sessions.place n step.messages))
+          first
+          (subst
+          (λ (ms : List CollectiveMessage). c.send_step.new.sessions ≡
+          after_event c.args.self.now.sessions None (step_sendings c.args.self.now.sessions.place ns ms))
+          c.messages.ensures c.in-Ok-send_step.ensures.sent);
+    }
+
+-- why what a rank would do of itself can't be sent, as its entry says it
+why_not : (s : PartsState) (ns : List Numbers) (place : ℕ) (x : Entry) (step : Prepared) (ms : List CollectiveMessage)
+    (e : Refusal) →
+    IsPreparedEntry s.groups.collective.own (inside_of s.groups.collective s.groups.contexts place x) s.groups.contexts
+    s.groups.collective.kept step → ns ≡ s.core.transfers.numbers → ms ≡ step.messages →
+    StepStops (step_limit s.sessions ns None ms) e → WhyNot s place x e
+why_not s ns place x step ms refusals.Count is same these stops = absurd stops
+why_not s ns place x step ms refusals.WrongType is same these stops = absurd stops
+why_not s ns place x step ms refusals.Tag is same these stops = absurd stops
+why_not s ns place x step ms refusals.Communicator is same these stops = absurd stops
+why_not s ns place x step ms refusals.Rank is same these stops = absurd stops
+why_not s ns place x step ms refusals.Request is same these stops = absurd stops
+why_not s ns place x step ms refusals.Root is same these stops = absurd stops
+why_not s ns place x step ms refusals.Operation is same these stops = absurd stops
+why_not s ns place x step ms refusals.Replaced is same these stops = absurd stops
+why_not s ns place x step ms refusals.Limit is same these stops =
+    record {
+      step = step;
+      prepared = is;
+      limit = inr (subst (λ (n : List Numbers). step_limit s.sessions n None step.messages ≡ Some refusals.Limit) same
+          (subst (λ (l : List CollectiveMessage). step_limit s.sessions ns None l ≡ Some refusals.Limit) these stops));
+    }
+why_not s ns place x step ms refusals.OutOfMemory is same these stops = tt
+why_not s ns place x step ms refusals.Short is same these stops = absurd stops
+why_not s ns place x step ms refusals.Magic is same these stops = absurd stops
+why_not s ns place x step ms refusals.Version is same these stops = absurd stops
+why_not s ns place x step ms refusals.Kind is same these stops = absurd stops
+why_not s ns place x step ms refusals.Length is same these stops = absurd stops
+why_not s ns place x step ms refusals.ForeignJob is same these stops = absurd stops
+why_not s ns place x step ms refusals.NotForMe is same these stops = absurd stops
+why_not s ns place x step ms refusals.StaleSource is same these stops = absurd stops
+why_not s ns place x step ms refusals.StaleTarget is same these stops = absurd stops
+why_not s ns place x step ms refusals.BadFrame is same these stops = absurd stops
+why_not s ns place x step ms refusals.OutOfWindow is same these stops = absurd stops
+why_not s ns place x step ms refusals.ClockBack is same these stops = absurd stops
+
+pub returns-in-Err-send_step-clause-exact : goal.returns-in-Err-send_step-clause-exact
+returns-in-Err-send_step-clause-exact c =
+    why_not (state_of c.args.self.now) c.in-Ok.numbers.items c.args.place c.args.entry
+    c.in-Ok-prepare_entry.ready.step c.messages.result.now c.in-Err-send_step.refused
+    c.in-Ok-prepare_entry.ensures.step c.in-Ok.ensures.ok c.messages.ensures c.in-Err-send_step.ensures.why
+
+pub returns-in-Ok-send_step-clause-few : goal.returns-in-Ok-send_step-clause-few
+returns-in-Ok-send_step-clause-few c =
+    let s : SessionsState = c.args.self.now.sessions in
+    omega (
+      arith,
+      most_within None s c.send_step.new.sessions s.place.size c.place-place.ensures.peers
+          c.in-Ok-send_step.ensures.within,
+    )

@@ -1,0 +1,13 @@
+-- The message of a whole payload is taken in beside the others, or the payload is put back.
+use Rattle.std.proofs.Common.{sym, ◌∙◌}
+use Rattle.datagram.specs.Spelling.{data_text}
+use Rattle.sessions.specs.Heard.{heard_text}
+use Rattle.engine.proofs.LastPiece.{last_given}
+use Rattle.engine.proofs.parts.Parts.take_piece.Goals as goal
+
+pub returns-in-Some-clause-exact : goal.returns-in-Some-clause-exact
+returns-in-Some-clause-exact c =
+    last_given (heard_text c.args.heard) (data_text c.args.piece) c.in-Some.whole c.args.self.now
+    c.take_whole.new.self c.take_last.new.self c.take_last.result
+    (sym c.is_due.ensures ∙ c.if-not-is_due.false) c.in-Some.ensures.whole c.in-Some.ensures.state
+    c.in-Some.ensures.back c.requires.lesson c.take_last.ensures.exact
