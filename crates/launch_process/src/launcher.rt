@@ -1,6 +1,7 @@
 //! The launcher: it starts a keeper for each rank, and prints what their ranks wrote.
 
-ghost use Rattle.std.specs.Prelude.{◌≡◌, ◌∷◌, IfOk};
+ghost use Rattle.std.specs.Prelude.{◌≡◌, [], ◌∷◌, false, true, IfOk, MatchOption};
+ghost use Rattle.launch_keeper.specs.Reports.{IsReport};
 ghost use Rattle.launch_keeper.specs.Roles.{keeper_words};
 ghost use Rattle.launch_process.specs.Commands.{IsCommandOf};
 
@@ -86,6 +87,19 @@ fn hold_port<R: Net + Eprint>(rt: &R, base_port: u16) -> Option<R::Listener> {
     }
 }
 
+/// The report that these bytes of a keeper are; `None` where there are none, or the keeper failed: then they may be a
+/// part of it. It takes no memory.
+fn whole_report(bytes: Vec<u8>, has_succeeded: bool) -> Option<Report>
+    ensures failed { has_succeeded ≡ false → result ≡ None }
+    ensures whole { has_succeeded ≡ true →
+        MatchOption result (bytes.items ≡ []) (λ report. IsReport bytes.items report) }
+{
+    if !has_succeeded {
+        return None;
+    }
+    Report::from_bytes(bytes)
+}
+
 /// What a keeper reports, once it has ended; `None` where it ended before that.
 fn report_of<P: OpenProcess + Drop>(
     alloc: Global,
@@ -95,8 +109,8 @@ fn report_of<P: OpenProcess + Drop>(
     if let Some(mut pipe) = keeper.stdout.take() {
         pipe.read_to_end(&mut bytes)?;
     }
-    let is_whole = keeper.wait()?.success();
-    Ok(Report::from_bytes(bytes).filter(|_| is_whole))
+    let has_succeeded = keeper.wait()?.success();
+    Ok(whole_report(bytes, has_succeeded))
 }
 
 /// Prints what a rank wrote, once its keeper has ended. Answers the rank's last status.

@@ -1,6 +1,6 @@
 //! Datagrams over UDP on the loopback, and lines on the standard output.
 
-ghost use Rattle.std.specs.Prelude.{◌≡◌, ◌+◌, ◌<◌, ◌^◌, ◌≤◌, length, IfOk};
+ghost use Rattle.std.specs.Prelude.{◌≡◌, [], ◌∷◌, ◌++◌, ◌+◌, ◌-◌, ◌<◌, ◌^◌, ◌≤◌, Some, length, IfOk, OnOk};
 ghost use Rattle.event_loop.specs.Exchanges.{FailsWith};
 
 use delayed_acknowledgements::{
@@ -9,7 +9,7 @@ use delayed_acknowledgements::{
 use event_loop::{RECEIVE_ROOM, Transport, TransportFault};
 use mio::net::UdpSocket;
 use mio::{Events, Interest, Poll, Token};
-use std::alloc::Global;
+use std::alloc::{AllocError, Global};
 use std::io;
 use std::io::{ErrorKind, Write};
 use std::net::{Ipv4Addr, Net, SocketAddr};
@@ -119,11 +119,19 @@ fn send_to_port(socket: &UdpSocket, port: u16, bytes: &[u8]) -> Result<(), Trans
     }
 }
 
-/// Writes a line and its end.
-fn write_line<R: Print>(rt: &R, text: &mut Vec<u8>, line: &[u8]) -> io::Result<()> {
+/// A line with its end, in place of what stood in the text.
+fn put_line(text: &mut Vec<u8>, line: &[u8]) -> Result<(), AllocError>
+    ensures { OnOk result (text.new.items ≡ line.now ++ 10 ∷ []) }
+{
     text.clear();
     text.extend_from_slice(line)?;
     text.push(b'\n')?;
+    Ok(())
+}
+
+/// Writes a line and its end.
+fn write_line<R: Print>(rt: &R, text: &mut Vec<u8>, line: &[u8]) -> io::Result<()> {
+    put_line(text, line)?;
     let mut out = io::writer(rt);
     out.write_all(text.as_slice())
 }
@@ -133,7 +141,8 @@ impl<'a, R: Print + Clock> Udp<'a, R> {
     pub fn new(rt: &'a R, alloc: Global, rank: u16, port: u16) -> io::Result<Udp<'a, R>>
     where
         R: Net,
-        ensures { IfOk result (λ udp. udp.failures ≡ 0) }
+        ensures none { IfOk result (λ udp. udp.failures ≡ 0) }
+        ensures first { IfOk result (λ udp. udp.first_port ≡ port - rank) }
     {
         let mut socket = UdpSocket::bind(rt, address(port))?;
         let poll = Poll::new(rt)?;
@@ -160,7 +169,8 @@ impl<'a, R: Print + Clock> Udp<'a, R> {
 
     fn fault(&mut self) -> TransportFault
         requires { self.old.failures + 1 < 2 ^ 64 }
-        ensures { self.new.failures ≡ self.old.failures + 1 }
+        ensures failures { self.new.failures ≡ self.old.failures + 1 }
+        ensures last { self.new.last ≡ self.old.last }
     {
         self.failures += 1;
         TransportFault
@@ -169,7 +179,8 @@ impl<'a, R: Print + Clock> Udp<'a, R> {
     /// A datagram goes to a rank.
     fn carry(&mut self, target: u16, bytes: &[u8]) -> Result<(), TransportFault>
         requires { self.old.failures + 1 < 2 ^ 64 }
-        ensures { FailsWith result self.old.failures self.new.failures }
+        ensures failures { FailsWith result self.old.failures self.new.failures }
+        ensures last { self.new.last ≡ self.old.last }
     {
         match send_to_port(&self.socket, self.first_port.saturating_add(target), bytes) {
             Ok(_) => Ok(()),
@@ -180,7 +191,8 @@ impl<'a, R: Print + Clock> Udp<'a, R> {
     /// An acknowledgement goes, if there is one.
     fn carry_kept(&mut self, kept: Option<DelayedAcknowledgement>) -> Result<(), TransportFault>
         requires { self.old.failures + 1 < 2 ^ 64 }
-        ensures { FailsWith result self.old.failures self.new.failures }
+        ensures failures { FailsWith result self.old.failures self.new.failures }
+        ensures last { self.new.last ≡ self.old.last }
     {
         match kept {
             Some(kept) => self.carry(kept.target, &kept.bytes),
@@ -191,7 +203,8 @@ impl<'a, R: Print + Clock> Udp<'a, R> {
     /// The acknowledgement that is kept back goes, if there is one.
     fn flush(&mut self) -> Result<(), TransportFault>
         requires { self.old.failures + 1 < 2 ^ 64 }
-        ensures { FailsWith result self.old.failures self.new.failures }
+        ensures failures { FailsWith result self.old.failures self.new.failures }
+        ensures last { self.new.last ≡ self.old.last }
     {
         let kept = self.kept.take();
         self.carry_kept(kept)
@@ -201,7 +214,8 @@ impl<'a, R: Print + Clock> Udp<'a, R> {
     /// may.
     fn flush_if_over(&mut self) -> Result<(), TransportFault>
         requires { self.old.failures + 1 < 2 ^ 64 }
-        ensures { FailsWith result self.old.failures self.new.failures }
+        ensures failures { FailsWith result self.old.failures self.new.failures }
+        ensures last { self.new.last ≡ self.old.last }
     {
         if self.delay.is_over() {
             return self.flush();
@@ -213,7 +227,8 @@ impl<'a, R: Print + Clock> Udp<'a, R> {
     /// that it says.
     fn keep(&mut self, next: DelayedAcknowledgement) -> Result<(), TransportFault>
         requires { self.old.failures + 1 < 2 ^ 64 }
-        ensures { FailsWith result self.old.failures self.new.failures }
+        ensures failures { FailsWith result self.old.failures self.new.failures }
+        ensures last { self.new.last ≡ Some next.said }
     {
         let former = self.kept.take();
         let leaves = sent_before(former, next);

@@ -1,7 +1,8 @@
 //! Which word of the rank program is at fault.
 
-ghost use Rattle.std.specs.Prelude.{◌≡◌, IfSome};
+ghost use Rattle.std.specs.Prelude.{◌≡◌, ◌≤◌, ◌↔◌, ℕ, IfSome};
 ghost use Rattle.rank_settings.specs.Faults.{IsAtFault, range_of};
+ghost use Rattle.rank_settings.specs.Settings.{ArePorts};
 
 use numerals::number_between;
 use std::convert::AsStr;
@@ -163,6 +164,15 @@ fn value_of<'a, S: AsStr>(words: &'a [S], option: &str) -> Option<&'a str> {
     }
 }
 
+/// From which port to which one a rank's own lies, so that the ports of all ranks are 1 to 65,535. It takes no memory.
+fn port_bounds(rank: u64, size: u64) -> (u64, u64)
+    requires rank { rank ≤ 1023 }
+    requires size { size ≤ 1024 }
+    ensures { (port : ℕ) → ArePorts rank size port ↔ ((result.0 ≤ port) × (port ≤ result.1)) }
+{
+    (rank + 1, 65_536 + rank - size)
+}
+
 /// A rank that isn't below the size, or a port by which some rank has none from 1 to 65,535.
 fn bounds_fault<'a, S: AsStr>(words: &'a [S]) -> Option<WordFault<'a>>
     ensures { IfSome result (λ fault. IsAtFault fault.word.now fault.wanted) }
@@ -171,10 +181,11 @@ fn bounds_fault<'a, S: AsStr>(words: &'a [S]) -> Option<WordFault<'a>>
     let port_word = value_of(words, "--port")?;
     let size = number_between(value_of(words, "--size")?.as_bytes(), 1, 1_024)?;
     let rank = number_between(rank_word.as_bytes(), 0, 1_023)?;
-    match value_fault(rank_word, 0, size - 1) {
-        Some(fault) => Some(fault),
-        None => value_fault(port_word, rank + 1, 65_536 + rank - size),
+    if let Some(fault) = value_fault(rank_word, 0, size - 1) {
+        return Some(fault);
     }
+    let (least, greatest) = port_bounds(rank, size);
+    value_fault(port_word, least, greatest)
 }
 
 /// The word that is at fault where `settings_of` refuses these words with 64, and what may stand in its place: from the
