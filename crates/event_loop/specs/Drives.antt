@@ -1,11 +1,10 @@
 -- What it is to drive a rank: turn after turn, until it ends.
-use Rattle.std.specs.Prelude.{◌≡◌, ℕ, ◌-◌, ◌⊎◌, ◌↔◌, ◌==◌, nat_le, List, [], ◌∷◌, ◌++◌, Bool, true, ◌&&◌, All, IsTrue}
-use Rattle.std.specs.Prelude.{Option, Some, None, Result, Ok, Err, if◌then◌else◌}
+use Rattle.std.specs.Prelude.{◌≡◌, ℕ, ◌-◌, ◌⊎◌, ◌↔◌, ◌==◌, nat_le, min, max, List, [], ◌∷◌, ◌++◌, Bool, true, ◌&&◌, All}
+use Rattle.std.specs.Prelude.{IsTrue, Option, Some, None, Result, Ok, Err, IsOk, if◌then◌else◌}
 use Rattle.engine_calls.specs.declared.reply.Reply.{Reply}
 use Rattle.engine_calls.specs.EngineState.{EngineState}
 use Rattle.sessions.specs.Peers.{IsIdlePeer}
 use Rattle.event_loop.specs.declared.exchange.Exchange.{Exchange}
-use Rattle.event_loop.specs.declared.exchange.Exchange.TheVariants.{Failed}
 use Rattle.event_loop.specs.declared.runner.RunnerStep.{RunnerStep}
 use Rattle.event_loop.specs.declared.round.Ended.{Ended}
 use Rattle.event_loop.specs.declared.round.Ended.TheVariants as ends
@@ -14,6 +13,7 @@ use Rattle.event_loop.specs.declared.loop_state.RunnerState.TheVariants.{Ready, 
 use Rattle.event_loop.specs.declared.loop_state.LoopState.{LoopState}
 use Rattle.event_loop.specs.declared.loop_state.TurnResult.{TurnResult}
 use Rattle.event_loop.specs.declared.transport.TransportFault.{TransportFault}
+use Rattle.event_loop.specs.Exchanges.{rested}
 use Rattle.event_loop.specs.Turns.{IsTurn, TurnGives, is_ready}
 
 -- it gives up once nothing moved for so long
@@ -35,6 +35,19 @@ ending_of (Over status line) idle patience quiet still =
     if status == 0 then
     (if idle && nat_le 100 quiet then Some (ends.Runner status line) else patience_ends patience still)
     else Some (ends.Runner status line)
+
+-- how long a rank of which nothing is unacknowledged waits at most, whose patience lasts so long: a script that came to
+-- its end until no datagram came for 100 ms
+abbrev pub wait_at_rest : RunnerState → (over quiet : ℕ) → ℕ
+wait_at_rest (Ready reply) over quiet = over
+wait_at_rest Blocked over quiet = over
+wait_at_rest (Over status line) over quiet = min (max (100 - quiet) 1) over
+
+-- For how many milliseconds a rank that goes on waits at most for a datagram: while something is unacknowledged for 5,
+-- so that it is sent again in time, and never for longer than its patience lasts.
+abbrev pub wait_of : RunnerState → (idle : Bool) → (patience quiet still : ℕ) → ℕ
+wait_of stage idle patience quiet still =
+    if idle then wait_at_rest stage (max (patience - still) 1) quiet else min 5 (max (patience - still) 1)
 
 -- by whether no frame of the engine waits or is unacknowledged
 abbrev pub EndsAs : (patience : ℕ) → EngineState → LoopState → (now : ℕ) → Option Ended → Type 0
@@ -59,14 +72,25 @@ pub record MakesTurn {P T : Type 0} (does : P → Option Reply → RunnerStep �
   pub heard : b.standing.heard ≡ (if turned.came then now else a.standing.heard)
   pub moved : b.standing.moved ≡ (if turned.moved then now else a.standing.moved)
 
--- A turn, after which the rank ends, or goes on: at once where its runner may, and else once it has waited for a
--- datagram. A fault of the transport stops the turn short, or comes in the wait.
+-- A rank goes on behind a turn that left its transport so: at once where its runner may, and else once it has waited for
+-- a datagram.
+pub record Rests {T : Type 0} (passed : T → List Exchange → T → Type 0) (patience : ℕ) (e : EngineState) (s : LoopState)
+    (now : ℕ) (mid : T) (result : Result (Unit {0}) TransportFault) (t : T) : Type 0 where
+  pub idle : Bool
+  pub is_idle : IsTrue idle ↔ All IsIdlePeer e.sessions.peers
+  pub lasts : ending_of s.stage idle patience (now - s.heard) (now - s.moved) ≡ None
+  pub passes : passed mid
+      (rested (is_ready s.stage) (wait_of s.stage idle patience (now - s.heard) (now - s.moved)) result) t
+  pub at_once : is_ready s.stage ≡ true → (t ≡ mid) × IsOk result
+
+-- A turn, after which the rank ends, or goes on. A fault of the transport stops the turn short, or comes in the wait
+-- behind it.
 abbrev pub RoundGives : {P T : Type 0} → (P → Option Reply → RunnerStep → P → Type 0) → (T → List Exchange → T → Type 0)
     → (patience : ℕ) → Course P T → (now : ℕ) → Result (Option Ended) TransportFault → EngineState → P → LoopState → T →
     Type 0
 RoundGives {T = T} does passed patience a now (Ok None) e p s t =
     (mid : T) × MakesTurn does passed a now (record { engine = e; runner = p; standing = s; transport = mid })
-    × EndsAs patience e s now None × passed mid [] t × (is_ready s.stage ≡ true → t ≡ mid)
+    × Rests passed patience e s now mid (Ok tt) t
 RoundGives does passed patience a now (Ok (Some ended)) e p s t =
     MakesTurn does passed a now (record { engine = e; runner = p; standing = s; transport = t }) ×
     EndsAs patience e s now (Some ended)
@@ -74,7 +98,7 @@ RoundGives {T = T} does passed patience a now (Err f) e p s t =
     (TurnGives does passed a.engine a.runner a.standing.stage a.transport now (Err f) e p s.stage t
     × (s.heard ≡ a.standing.heard) × (s.moved ≡ a.standing.moved)) ⊎
     ((mid : T) × MakesTurn does passed a now (record { engine = e; runner = p; standing = s; transport = mid })
-    × EndsAs patience e s now None × passed mid (Failed ∷ []) t)
+    × Rests passed patience e s now mid (Err f) t)
 
 -- a clock told these times, in order
 abbrev pub Tells : {C : Type 0} → (C → ℕ → C → Type 0) → C → List ℕ → C → Type 0

@@ -1,7 +1,7 @@
 -- What a transport in memory shows.
 use Rattle.std.specs.Prelude.{◌≡◌, ℕ, ◌+◌, ◌-◌, ◌<◌, min, List, [], ◌∷◌, ◌++◌, take, length}
 use Rattle.event_loop.specs.declared.exchange.Exchange.{Exchange}
-use Rattle.event_loop.specs.declared.exchange.Exchange.TheVariants.{Received, Nothing, Sent, Printed, Failed}
+use Rattle.event_loop.specs.declared.exchange.Exchange.TheVariants.{Received, Nothing, Sent, Printed, Waited, Failed}
 
 -- what passed, in order, and how often it failed; the datagrams that are still to come, in order; and how many calls it
 -- will answer
@@ -30,6 +30,7 @@ Comes (datagram ∷ waiting) (Received bytes ∷ exchanges) left =
 Comes waiting (Nothing ∷ exchanges) left = (waiting ≡ []) × Comes waiting exchanges left
 Comes waiting (Sent target bytes ∷ exchanges) left = Comes waiting exchanges left
 Comes waiting (Printed line ∷ exchanges) left = Comes waiting exchanges left
+Comes waiting (Waited most ∷ exchanges) left = Comes waiting exchanges left
 Comes waiting (Failed ∷ exchanges) left = Comes waiting exchanges left
 
 -- the next millisecond, up to the last one that 64 bits hold

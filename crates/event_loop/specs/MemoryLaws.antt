@@ -3,7 +3,7 @@ use Rattle.std.proofs.Common.{◌≡◌, ℕ, ◌+◌, List, [], ◌∷◌, ◌+
 use Rattle.std.proofs.lemmas.List.{append-nil, replicate-append-replicate}
 use Rattle.std.specs.Prelude.{replicate}
 use Rattle.event_loop.specs.declared.exchange.Exchange.{Exchange}
-use Rattle.event_loop.specs.declared.exchange.Exchange.TheVariants.{Received, Nothing, Sent, Printed, Failed}
+use Rattle.event_loop.specs.declared.exchange.Exchange.TheVariants.{Received, Nothing, Sent, Printed, Waited, Failed}
 use Rattle.event_loop.specs.Memories.{Comes}
 
 -- where nothing was done, nothing passed
@@ -26,6 +26,7 @@ comes_joined (d ∷ a) b c (Received bytes ∷ xs) ys p q = (p.0, comes_joined a
 comes_joined a b c (Nothing ∷ xs) ys p q = (p.0, comes_joined a b c xs ys p.1 q)
 comes_joined a b c (Sent target bytes ∷ xs) ys p q = comes_joined a b c xs ys p q
 comes_joined a b c (Printed line ∷ xs) ys p q = comes_joined a b c xs ys p q
+comes_joined a b c (Waited most ∷ xs) ys p q = comes_joined a b c xs ys p q
 comes_joined a b c (Failed ∷ xs) ys p q = comes_joined a b c xs ys p q
 
 -- one more behind those that are alike

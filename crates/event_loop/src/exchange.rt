@@ -13,6 +13,8 @@ pub enum Exchange {
     Sent(u16, Bytes),
     /// The transport took this line.
     Printed(Bytes),
+    /// The transport waited for a datagram, for so many milliseconds at most.
+    Waited(u64),
     /// A call of the transport failed.
     Failed,
 }

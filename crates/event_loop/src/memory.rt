@@ -154,12 +154,8 @@ impl Transport for Memory {
         }
     }
 
-    fn wait(&mut self, _most: u64) -> Result<(), TransportFault> {
-        if self.calls_left == 0 {
-            return Err(self.fail());
-        }
-        self.calls_left -= 1;
-        Ok(())
+    fn wait(&mut self, most: u64) -> Result<(), TransportFault> {
+        self.pass(Exchange::Waited(most))
     }
 
     fn failures(&self) -> u64 {

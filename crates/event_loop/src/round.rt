@@ -1,8 +1,8 @@
 //! One turn, and what follows it.
 
-ghost use Rattle.std.specs.Prelude.{◌≡◌, ◌≤◌, ◌+◌, ◌-◌, ◌<◌, ◌^◌, true, false, if◌then◌else◌};
-ghost use Rattle.event_loop.specs.Exchanges.{FailsWith, waited};
-ghost use Rattle.event_loop.specs.Drives.{RoundGives, ending_of, patience_ends, status_of};
+ghost use Rattle.std.specs.Prelude.{◌≡◌, ◌≤◌, ◌+◌, ◌-◌, ◌<◌, ◌^◌, true, false, IsOk, if◌then◌else◌};
+ghost use Rattle.event_loop.specs.Exchanges.{FailsWith, rested};
+ghost use Rattle.event_loop.specs.Drives.{RoundGives, ending_of, patience_ends, status_of, wait_of};
 
 use crate::loop_state::{LoopState, RunnerState};
 use crate::runner::Runner;
@@ -83,6 +83,7 @@ fn time_of(happened: bool, now: u64, before: u64) -> u64
 
 /// For how many milliseconds a rank waits at most for a datagram: until something is due of itself.
 fn wait_of(stage: &RunnerState, idle: bool, patience: u64, quiet: u64, still: u64) -> u64
+    ensures exact { result ≡ wait_of stage.now idle patience quiet still }
     ensures some { 0 < result }
     ensures soon { idle ≡ false → result ≤ 5 }
     ensures within { still < patience → result ≤ patience - still }
@@ -97,11 +98,11 @@ fn wait_of(stage: &RunnerState, idle: bool, patience: u64, quiet: u64, still: u6
     }
 }
 
-/// Waits for a datagram, unless the runner may go on at once.
+/// Waits for a datagram, for so many milliseconds at most, unless the runner may go on at once.
 fn rest<T: Transport>(transport: &mut T, ready: bool, most: u64) -> Result<(), TransportFault>
     requires { T.failed transport.old + 1 < 2 ^ 64 }
-    ensures passed { T.passed transport.old (waited result) transport.new }
-    ensures at_once { ready ≡ true → transport.new ≡ transport.old }
+    ensures passed { T.passed transport.old (rested ready most result) transport.new }
+    ensures at_once { ready ≡ true → (transport.new ≡ transport.old) × IsOk result }
     ensures failures { FailsWith result (T.failed transport.old) (T.failed transport.new) }
 {
     if ready {

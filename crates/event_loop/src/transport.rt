@@ -12,8 +12,8 @@ pub struct TransportFault;
 /// The number of failures rises exactly where a call answers a fault.
 pub trait Transport {
     ghost use Rattle.event_loop.specs.declared.exchange.Exchange.{Exchange};
-    ghost use Rattle.event_loop.specs.declared.exchange.Exchange.TheVariants.{Sent, Printed};
-    ghost use Rattle.event_loop.specs.Exchanges.{receipt, parcel, waited, FailsWith};
+    ghost use Rattle.event_loop.specs.declared.exchange.Exchange.TheVariants.{Sent, Printed, Waited};
+    ghost use Rattle.event_loop.specs.Exchanges.{receipt, parcel, FailsWith};
 
     /// Between these states this passed, in order.
     ghost passed: { Self → List Exchange → Self → Type 0 };
@@ -44,7 +44,7 @@ pub trait Transport {
     /// Waits until a datagram is there, or so many milliseconds are over. It may come back before.
     fn wait(&mut self, most: u64) -> Result<(), TransportFault>
         requires { failed self.old + 1 < 2 ^ 64 }
-        ensures passed { passed self.old (waited result) self.new }
+        ensures passed { passed self.old (parcel result (Waited most) ∷ []) self.new }
         ensures failures { FailsWith result (failed self.old) (failed self.new) };
 
     /// How often it has failed.

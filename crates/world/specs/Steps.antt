@@ -1,6 +1,6 @@
 -- What an event does to a world: the engine of one rank goes on, what it emits is numbered, and what it answers stands
 -- in the history.
-use Rattle.std.specs.Prelude.{◌≡◌, ℕ, ◌⊎◌, false, List, [], ◌∷◌, ◌++◌, length, Option, Some, None, Result, Ok, Err}
+use Rattle.std.specs.Prelude.{◌≡◌, ℕ, ◌<◌, ◌⊎◌, false, List, [], ◌∷◌, ◌++◌, length, Option, Some, None, Result, Ok, Err}
 use Rattle.std.specs.Prelude.{slice_get, slice_set, ◌==◌, if◌then◌else◌}
 use Rattle.vocabulary.specs.declared.endpoint.Endpoint.{Endpoint}
 use Rattle.vocabulary.specs.Endpoints.{last_incarnation}
@@ -312,8 +312,9 @@ RunGives old (event ∷ events) [] new = ⊥
 RunGives old (event ∷ events) (answer ∷ answers) new =
     IsRunOfMachine old × ((mid : WorldState) × StepGives old event answer mid × RunGives mid events answers new)
 
--- room for the answers was wanting: the events are handed back, and nothing happened
+-- room for the answers was wanting, of which there are some: the events are handed back, and nothing happened
 pub record IsNotRun (old : WorldState) (events : List Event) (failed : FailedRun) (new : WorldState) : Type 0 where
+  pub some : 0 < length events
   pub refused : failed.refused ≡ refusals.Engine lowers.OutOfMemory
   pub back : failed.events.items ≡ events
   pub unchanged : new ≡ old

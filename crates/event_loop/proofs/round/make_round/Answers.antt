@@ -1,4 +1,4 @@
-use Rattle.std.proofs.Common.{inl, inr, refl}
+use Rattle.std.proofs.Common.{inl, inr, refl, rules}
 use Rattle.event_loop.proofs.round.make_round.Goals as goal
 
 pub returns-in_default-clause-exact : goal.returns-in_default-clause-exact
@@ -13,6 +13,11 @@ returns-in_default-rest-clause-exact g c = inr (
     heard = c.time_of-standing.ensures;
     moved = c.time_of-standing-2.ensures;
   },
-  (c.is_idle-idle.result, c.is_idle-idle.ensures, cc),
-  c.in_default-rest.ensures.passed,
+  record {
+    idle = c.is_idle-idle.result;
+    is_idle = c.is_idle-idle.ensures;
+    lasts = cc;
+    passes = search rules;
+    at_once = search rules;
+  },
 )
