@@ -399,7 +399,36 @@ impl Sessions {
     /// next number of its session. Out go the acknowledgement, or the frames that come into the window by one, and then
     /// of the frames those that come into the window: at most 64 where all of them are for one rank.
     ///
-    /// Refused with 13 exactly where `limit_of` says so, and else with 14. A refusal changes nothing.
+    /// The caller has judged that no limit is met: see `limit_of` and `limit_of_replies`. So refused is with 14 alone,
+    /// and that changes nothing.
+    pub fn carry_out_judged(
+        &mut self,
+        heard: Option<Heard<'_>>,
+        frames: &[Outgoing<'_>],
+    ) -> Result<(), SessionRefusal>
+        requires can { CanHear self.old (heard_option heard) }
+        requires frames { All (CanSend self.old.place) (sendings frames.now) }
+        requires limit { event_limit self.old (heard_option heard) (sendings frames.now) ≡ None }
+        ensures ok { OnOk result
+            (self.new ≡ after_event self.old (heard_option heard.entry) (sendings frames.now)) }
+        ensures unchanged { OnErr result (self.new ≡ self.old) }
+        ensures err { IfErr result (λ e. e ≡ SessionRefusal.OutOfMemory) }
+        ensures few { length self.new.out ≤ length self.old.out +
+            (most_answers (heard_option heard.entry) + length frames.now) }
+        ensures within { OnOk result (StaysWithin (heard_option heard.entry) self.old self.new) }
+        ensures placed { self.new.place ≡ self.old.place }
+    {
+        // Looking at the sessions shows that there is one for each rank.
+        let _peers = &self.peers;
+        match heard {
+            Some(heard) if heard.lesson => self.carry_out_anew(heard, frames),
+            Some(heard) => self.carry_out_on(heard, frames),
+            None => self.answer_and_send(None, frames),
+        }
+    }
+
+    /// Does what `carry_out_judged` does. Refused is with 13 exactly where `limit_of` says so, and else with 14. A
+    /// refusal changes nothing.
     pub fn carry_out(
         &mut self,
         heard: Option<Heard<'_>>,
@@ -415,16 +444,10 @@ impl Sessions {
         ensures within { OnOk result (StaysWithin (heard_option heard.entry) self.old self.new) }
         ensures placed { self.new.place ≡ self.old.place }
     {
-        // Looking at the sessions shows that there is one for each rank.
-        let _peers = &self.peers;
         if let Some(limit) = self.limit_of(heard, frames) {
             return Err(limit);
         }
-        match heard {
-            Some(heard) if heard.lesson => self.carry_out_anew(heard, frames),
-            Some(heard) => self.carry_out_on(heard, frames),
-            None => self.answer_and_send(None, frames),
-        }
+        self.carry_out_judged(heard, frames)
     }
 
     /// Refuses what was not heard. Where a reset is due, it goes out; without memory for it the refusal is 14.
