@@ -144,4 +144,4 @@ runners_follow old new reply step p t f (inl n) six =
           w.1;
       told = w.2;
     }
-runners_follow old new reply step p t f (inr is) six = absurd (six is)
+runners_follow old new reply step p t f (inr is) six = absurd (six is.0)

@@ -1,5 +1,5 @@
 -- What a script does next.
-use Rattle.std.specs.Prelude.{◌≡◌, ◌⊎◌, ℕ, List, [], ◌∷◌, Option, Some, None}
+use Rattle.std.specs.Prelude.{◌≡◌, ◌≢◌, ◌⊎◌, ℕ, List, [], ◌∷◌, Option, Some, None}
 use Rattle.engine_calls.specs.declared.reply.Reply.{Reply}
 use Rattle.script_files.specs.declared.script.ScriptLine.{ScriptLine}
 use Rattle.script_files.specs.declared.script.RankLine.{RankLine}
@@ -44,6 +44,11 @@ abbrev pub next_of : RunnerState → Option Reply → Does
 next_of s None = along s.lines s.rank
 next_of s (Some reply) = does_after s.lines (heeds reply s.rank)
 
--- What comes next is what the script says; or memory is wanting, and the script ends with status 6
+-- there is a line to follow, or an answer to hear: what else there is to do takes no memory
+abbrev pub IsMore : List RankLine → Option Reply → Type 0
+IsMore lines reply = (lines ≢ []) ⊎ (reply ≢ None)
+
+-- What comes next is what the script says; or memory is wanting for it, and the script ends with status 6
 abbrev pub NextGives : RunnerState → Option Reply → RunnerStep → RunnerState → Type 0
-NextGives old reply step new = (next_of old reply ≡ (step, new)) ⊎ (step ≡ steps.End 6 None)
+NextGives old reply step new =
+    (next_of old reply ≡ (step, new)) ⊎ ((step ≡ steps.End 6 None) × IsMore old.lines reply)

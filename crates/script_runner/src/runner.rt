@@ -1,10 +1,10 @@
 //! Running the script of a rank.
 
-ghost use Rattle.std.specs.Prelude.{◌≡◌, IfOk, is_some, length, ℕ};
+ghost use Rattle.std.specs.Prelude.{◌≡◌, ◌≢◌, [], IfOk, OnErr, is_some, length, ℕ};
 ghost use Rattle.line_diagnostics.specs.Lacks.{lack_of_statement};
 ghost use Rattle.interpreter.specs.NamesState.{holdings};
 ghost use Rattle.script_runner.specs.ScriptRanks.{heeds, states};
-ghost use Rattle.script_runner.specs.Running.{along, does_after, next_of, opening};
+ghost use Rattle.script_runner.specs.Running.{IsMore, along, does_after, next_of, opening};
 ghost use Rattle.script_runner.specs.Standing.{StopsWhere};
 
 use crate::ScriptRank;
@@ -32,7 +32,8 @@ impl Model for ScriptRunner {
 
 /// The next line that asks for more than a change of names is done; behind the last one the script ends with status 0.
 fn go_on(lines: &mut RankLines, rank: &mut ScriptRank) -> Result<RunnerStep, AllocError>
-    ensures { IfOk result (λ step. along lines.old rank.old ≡ (step, record { lines = lines.new; rank = rank.new })) }
+    ensures does { IfOk result (λ step. along lines.old rank.old ≡ (step, record { lines = lines.new; rank = rank.new })) }
+    ensures memory { OnErr result (lines.old ≢ []) }
 {
     while let Some(line) = lines.next() {
         if let Some(step) = rank.act(line)? {
@@ -62,8 +63,9 @@ fn go_on_told(
     rank: &mut ScriptRank,
     reply: Option<Reply>,
 ) -> Result<RunnerStep, AllocError>
-    ensures { IfOk result (λ step. next_of (record { lines = lines.old; rank = rank.old }) reply ≡
+    ensures does { IfOk result (λ step. next_of (record { lines = lines.old; rank = rank.old }) reply ≡
         (step, record { lines = lines.new; rank = rank.new })) }
+    ensures memory { OnErr result (IsMore lines.old reply) }
 {
     match reply {
         Some(reply) => go_on_after(lines, rank, reply),
