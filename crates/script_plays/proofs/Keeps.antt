@@ -144,7 +144,7 @@ go_kept changes old mid r (Some p) is head fresh all g kept = go p.stage refl g
         by (inl n) =
             let k = steps_keep (changes r) p.runner h.1 reply h.0 mine.0 mine.1 n in
             step_kept changes old mid r p h.1 h.0 head fresh all h.3 k.0 k.1 kept
-        by (inr six) = end_kept changes old mid r p h.1 h.0 h.3 six kept
+        by (inr six) = end_kept changes old mid r p h.1 h.0 h.3 six.0 kept
 
 -- ANOTHER EVENT
 
@@ -199,7 +199,7 @@ pub calls_name_own : (scripts : List (List ScriptLine)) (schedule : List Move) (
     PlayGives scripts schedule st → (r : ℕ) (p : PlayerState) (reply : Option Reply) (call : Call) (s : RunnerState) →
     slice_get st.players r ≡ Some p → p.stage ≡ Ready reply → NextGives p.runner reply (steps.Call call) s →
     NamesOwn st.world.history (first_endpoint r) call
-calls_name_own scripts schedule st g r p reply call s is e (inr six) = absurd (no_call call six)
+calls_name_own scripts schedule st g r p reply call s is e (inr six) = absurd (no_call call six.0)
 calls_name_own scripts schedule st g r p reply call s is e (inl n) =
     names_own st.world.history (first_endpoint r) call
     (call_keeps (changes r) call (steps_keep (changes r) p.runner s reply (steps.Call call) mine.0 mine.1 n).0)
