@@ -134,9 +134,9 @@ fn carry_out(
     ensures placed { sessions.new.place ≡ sessions.old.place }
 {
     let frames = core.frames_for(news_of(heard), ready)?;
-    match sessions.carry_out(Some(heard), &frames) {
+    match sessions.carry_out_judged(Some(heard), &frames) {
         Ok(()) => Ok(()),
-        Err(refused) => Err(of_sessions(refused)),
+        Err(_) => Err(Refusal::OutOfMemory),
     }
 }
 

@@ -57,7 +57,7 @@ pub(crate) fn carry_out(
     ensures within { OnOk result (StaysWithin (Some (heard_text heard.entry)) sessions.old sessions.new) }
     ensures placed { sessions.new.place ≡ sessions.old.place }
 {
-    match sessions.carry_out(Some(heard), frames) {
+    match sessions.carry_out_judged(Some(heard), frames) {
         Ok(()) => Ok(()),
         Err(_) => Err(Refusal::OutOfMemory),
     }

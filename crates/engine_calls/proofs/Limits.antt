@@ -30,6 +30,11 @@ use Rattle.engine_calls.specs.Refusals.{fault_of_sessions}
 abbrev pub IsLimitTo : SessionsState → (rank : ℕ) → Option lower.SessionRefusal → Type 0
 IsLimitTo s rank limit = (f : FrameText) → limit ≡ event_limit s None (record { target = rank; frame = f } ∷ [])
 
+-- where no limit is told, none is met
+pub is_unlimited : (limit : Option lower.SessionRefusal) → fault_of_sessions limit ≡ None → limit ≡ None
+is_unlimited None is = refl
+is_unlimited (Some e) is = absurd cc
+
 -- a frame meets the limit of its rank
 met_by : (s : SessionsState) (o : Option OutgoingText) (rank : ℕ) (limit : Option lower.SessionRefusal) →
     option_map (λ f. f.target) o ≡ Some rank →

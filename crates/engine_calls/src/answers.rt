@@ -40,7 +40,7 @@ fn send_frame(
     let Some(outgoing) = core.frame_of(call, prepared) else {
         return Ok(());
     };
-    match sessions.carry_out(None, &[outgoing]) {
+    match sessions.carry_out_judged(None, &[outgoing]) {
         Ok(()) => Ok(()),
         Err(_) => Err(Refusal::OutOfMemory),
     }

@@ -6,12 +6,11 @@ use Rattle.point_to_point_calls.specs.Hearing.{CanGo, NewsText}
 use Rattle.point_to_point.specs.Arrivals.{news_frames}
 use Rattle.sessions.specs.Events.{after_event, event_limit, sendings}
 use Rattle.sessions.specs.Heard.{heard_text}
-use Rattle.engine_calls.specs.Refusals.{of_sessions}
-use Rattle.engine.proofs.Replies.{only_memory, outgoing_can_go, outgoing_says}
+use Rattle.engine.proofs.Replies.{outgoing_can_go, outgoing_says}
 use Rattle.engine.proofs.datagrams.carry_out.Goals as goal
 
-pub carry_out-requires-clause-frames : goal.carry_out-requires-clause-frames
-carry_out-requires-clause-frames c =
+pub carry_out_judged-requires-clause-frames : goal.carry_out_judged-requires-clause-frames
+carry_out_judged-requires-clause-frames c =
     let core = c.args.core.now.state in
     let h = heard_text c.args.heard in
     outgoing_can_go core c.args.sessions.now.place h c.deref.result.now
@@ -26,21 +25,17 @@ pub returns-in-Ok-clause-ok : goal.returns-in-Ok-clause-ok
 returns-in-Ok-clause-ok c =
     let core = c.args.core.now.state in
     let h = heard_text c.args.heard in
-    c.in-Ok.ensures.exact.1
+    c.in-Ok.ensures.ok
     ∙ ap (λ (fs : List OutgoingText). after_event c.args.sessions.now (Some h) fs)
     (outgoing_says core h c.deref.result.now c.in_ok-frames.frames.items
     c.deref.ensures.value
     (c.in_ok-frames.ensures.exact ∙ ap (news_frames core) c.news_of.ensures))
 
-pub returns-clause-err : goal.returns-clause-err
-returns-clause-err c =
+pub carry_out_judged-requires-clause-limit : goal.carry_out_judged-requires-clause-limit
+carry_out_judged-requires-clause-limit c =
     let core = c.args.core.now.state in
     let h = heard_text c.args.heard in
     let says = outgoing_says core h c.deref.result.now c.in_ok-frames.frames.items
     c.deref.ensures.value
     (c.in_ok-frames.ensures.exact ∙ ap (news_frames core) c.news_of.ensures) in
-    c.of_sessions.ensures
-    ∙ ap of_sessions
-    (only_memory (event_limit c.args.sessions.now (Some h) (sendings c.deref.result.now)) c.in-Err.refused
-    (ap (λ (fs : List OutgoingText). event_limit c.args.sessions.now (Some h) fs) says ∙ c.requires.limit)
-    c.in-Err.ensures.exact.1)
+    ap (λ (fs : List OutgoingText). event_limit c.args.sessions.now (Some h) fs) says ∙ c.requires.limit
