@@ -13,11 +13,12 @@ returns-in_err-step-clause-memory c none =
     absurd cc
 
 pub loop-line-preserved : goal.loop-line-preserved
-loop-line-preserved c =
-    (sym (along_first c.loop-line.lines c.loop-line.rank c.in-Some.line c.next.new.self None c.act.new.self
-    c.in-Some.ensures (rw c.in_default-2.is at c.in_ok-step.ensures)) ∙ c.loop-line.invariant.0,
-    λ none. absurd (let clash : c.in-Some.line ∷ c.next.new.self ≡ [] =
-        sym c.in-Some.ensures ∙ c.loop-line.invariant.1 none in cc))
+loop-line-preserved c = (
+  sym (along_first c.loop-line.lines c.loop-line.rank c.in-Some.line c.next.new.self None c.act.new.self
+      c.in-Some.ensures (rw c.in_default-2.is at c.in_ok-step.ensures)) ∙ c.loop-line.invariant.0,
+  λ none. absurd (let clash : c.in-Some.line ∷ c.next.new.self ≡ [] =
+      sym c.in-Some.ensures ∙ c.loop-line.invariant.1 none in cc),
+)
 
 pub returns-clause-does : goal.returns-clause-does
 returns-clause-does c =
