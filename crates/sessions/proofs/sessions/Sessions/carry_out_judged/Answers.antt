@@ -7,26 +7,26 @@ use Rattle.sessions.proofs.Whole.{few_carried, placed_carried, unheard_carried}
 use Rattle.sessions.proofs.Windows.{within_carried}
 use Rattle.sessions.proofs.sessions.Sessions.carry_out_judged.Goals as goal
 
-pub returns-in-Some-heard-clause-few : goal.returns-in-Some-heard-clause-few
-returns-in-Some-heard-clause-few c =
-    rw c.in-Some-heard.is
+pub returns-in-Some-clause-few : goal.returns-in-Some-clause-few
+returns-in-Some-clause-few c =
+    rw c.in-Some.is
     (few_carried c.carry_out_anew.result c.args.self.now c.carry_out_anew.new.self
-    (Some (heard_text c.in-Some-heard.heard)) (sendings c.args.frames.now) (length c.args.frames.now)
-    (rw c.in-Some-heard.is at c.requires.can) (sym (length-map c.args.frames.now outgoing_text))
+    (Some (heard_text c.in-Some.heard)) (sendings c.args.frames.now) (length c.args.frames.now)
+    (rw c.in-Some.is at c.requires.can) (sym (length-map c.args.frames.now outgoing_text))
     c.carry_out_anew.ensures.ok c.carry_out_anew.ensures.unchanged)
 
-pub returns-in-Some-heard-clause-within : goal.returns-in-Some-heard-clause-within
-returns-in-Some-heard-clause-within c =
+pub returns-in-Some-clause-within : goal.returns-in-Some-clause-within
+returns-in-Some-clause-within c =
     let each : length c.args.self.now.peers ≡ c.args.self.now.place.size = rw (← c.self.view_is) c.self.invariant.each in
-    rw c.in-Some-heard.is
+    rw c.in-Some.is
     (within_carried c.carry_out_anew.result c.args.self.now c.carry_out_anew.new.self
-    (Some (heard_text c.in-Some-heard.heard)) (sendings c.args.frames.now)
-    (rw c.in-Some-heard.is at c.requires.can) c.requires.frames each c.carry_out_anew.ensures.ok)
+    (Some (heard_text c.in-Some.heard)) (sendings c.args.frames.now)
+    (rw c.in-Some.is at c.requires.can) c.requires.frames each c.carry_out_anew.ensures.ok)
 
-pub returns-in-Some-heard-clause-placed : goal.returns-in-Some-heard-clause-placed
-returns-in-Some-heard-clause-placed c =
+pub returns-in-Some-clause-placed : goal.returns-in-Some-clause-placed
+returns-in-Some-clause-placed c =
     placed_carried c.carry_out_anew.result c.args.self.now c.carry_out_anew.new.self
-    (Some (heard_text c.in-Some-heard.heard)) (sendings c.args.frames.now) c.carry_out_anew.ensures.ok
+    (Some (heard_text c.in-Some.heard)) (sendings c.args.frames.now) c.carry_out_anew.ensures.ok
     c.carry_out_anew.ensures.unchanged
 
 pub returns-in-Some-2-clause-few : goal.returns-in-Some-2-clause-few
