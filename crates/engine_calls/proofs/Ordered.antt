@@ -104,10 +104,10 @@ none_in_order size = record { frames_are = sym (by_rank_none size); all = tt }
 -- one more stands in it
 pub one_in_order : (size last : ℕ) (ws : List Written) (i : ℕ) (d : Written) (before after : List OutgoingText) →
     i < length ws →
-    (written (get_or ws i d)).rank < size → last ≤ (written (get_or ws i d)).rank →
+    (written (get_or ws i d)).target < size → last ≤ (written (get_or ws i d)).target →
     AreOrdered size last (take i ws) before →
     after ≡ before ++ written (get_or ws i d) ∷ [] →
-    AreOrdered size (written (get_or ws i d)).rank (take (i + 1) ws) after
+    AreOrdered size (written (get_or ws i d)).target (take (i + 1) ws) after
 one_in_order size last ws i d before after within there up was is =
     let f : OutgoingText = written (get_or ws i d) in
     let fs : List OutgoingText = map written (take i ws) in

@@ -99,7 +99,7 @@ fn add_frame(
 ) -> Result<(), Refusal>
     ensures ok { OnOk result (map written frames.new.items ≡ map written frames.old.items
         ++ (record {
-          rank = message.now.target.rank;
+          target = message.now.target.rank;
           frame =
               part_frame message.now.context message.now.number count part;
         }) ∷ []) }
@@ -128,7 +128,7 @@ fn add_whole(
     requires small { length bytes.items ≤ eager_limit }
     ensures ok { OnOk result (map written frames.new.items ≡ map written frames.old.items
         ++ (record {
-          rank = message.now.target.rank;
+          target = message.now.target.rank;
           frame =
               payload_frame None message.now.context message.now.number (spelling (says message.now));
         }) ∷ []) }
@@ -152,7 +152,7 @@ fn add_announced(
     ensures numbers { OnOk result (numbers.new.items ≡ with_begun numbers.old.items message.now.target.rank) }
     ensures frames { OnOk result (map written frames.new.items ≡ map written frames.old.items
         ++ (record {
-          rank = message.now.target.rank;
+          target = message.now.target.rank;
           frame =
               payload_frame (Some (next_to numbers.old.items message.now.target.rank)) message.now.context
               message.now.number (spelling (says message.now));
