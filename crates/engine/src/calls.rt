@@ -1,20 +1,19 @@
 //! How an engine answers calls.
 
 ghost use Rattle.std.specs.Prelude.{◌≡◌, ◌≤◌, ◌+◌, ◌*◌, length, None};
-ghost use Rattle.engine_calls.specs.Asks.{AskGives, CanAskBy, IsOnRequests, call_of_core};
+ghost use Rattle.engine_calls.specs.Asks.{AskGives, CanAskBy, IsOnRequests, call_of};
 ghost use Rattle.engine.specs.Answering.{IsOther};
 ghost use Rattle.engine_calls.specs.Calls.{CallGives, CoreGives, RefusedLeaves};
 ghost use Rattle.engine_calls.specs.Faults.{fault_of};
 ghost use Rattle.engine_calls.specs.declared.call.Call as engine_calls;
 ghost use Rattle.engine_calls.specs.declared.call.Call.TheVariants as calls;
-ghost use Rattle.vocabulary.specs.declared.envelope.Source.TheVariants.{Null};
 
 use crate::engine::Engine;
 use engine_calls::{
-    Call, JudgedCall, Probe, Receive, Reply, RoutedCall, Send, answer_unless_refused,
-    ask_for_message, ask_on_requests, ask_to_probe, ask_to_receive, ask_to_send, judge,
+    Call, JudgedCall, Probe, Receive, Reply, Send, answer_unless_refused, ask_for_message,
+    ask_on_requests, ask_to_probe, ask_to_receive, ask_to_send, judge,
 };
-use point_to_point::HandedBack;
+use point_to_point::{HandedBack, RoutedCall};
 use requests::{Region, Request};
 
 impl Engine {
@@ -72,12 +71,9 @@ impl Engine {
     }
 
     /// What the core is to be asked by a call on requests, unless it is refused by now.
-    fn asked_on_requests(
-        &self,
-        call: point_to_point::CoreCall,
-    ) -> Result<RoutedCall, HandedBack<Call>>
+    fn asked_on_requests(&self, call: RoutedCall) -> Result<RoutedCall, HandedBack<Call>>
         requires { IsOnRequests call }
-        ensures { AskGives self.now (call_of_core None Null call) result }
+        ensures { AskGives self.now (call_of call) result }
     {
         ask_on_requests(&self.parts.core, &self.parts.communicators, call)
     }
@@ -150,9 +146,9 @@ impl Engine {
     }
 
     /// Answers a call on requests.
-    fn call_on_requests(&mut self, call: point_to_point::CoreCall) -> Reply
+    fn call_on_requests(&mut self, call: RoutedCall) -> Reply
         requires { IsOnRequests call }
-        ensures exact { CoreGives self.old (call_of_core None Null call) result self.new }
+        ensures exact { CoreGives self.old (call_of call) result self.new }
         ensures unchanged { RefusedLeaves result self.old self.new }
         ensures few { length self.new.sessions.out ≤ length self.old.sessions.out + 1 }
         ensures placed { self.new.sessions.place ≡ self.old.sessions.place }
@@ -164,10 +160,10 @@ impl Engine {
 
     /// The first rule or limit of a call on requests.
     #[tactic(auto, using(engine_calls::proofs::Asks::judged_fault, engine_calls::proofs::Asks::judged_back))]
-    fn judge_on_requests(&self, call: point_to_point::CoreCall) -> JudgedCall
+    fn judge_on_requests(&self, call: RoutedCall) -> JudgedCall
         requires { IsOnRequests call }
-        ensures fault { result.fault ≡ fault_of self.now (call_of_core None Null call) }
-        ensures back { result.call ≡ call_of_core None Null call }
+        ensures fault { result.fault ≡ fault_of self.now (call_of call) }
+        ensures back { result.call ≡ call_of call }
     {
         judge(self.asked_on_requests(call))
     }
@@ -183,13 +179,11 @@ impl Engine {
         match call {
             Call::Isend(send) => judge(self.asked_by_send(send)),
             Call::Irecv(receive) => judge(self.asked_by_receive(receive)),
-            Call::Wait(request) => self.judge_on_requests(point_to_point::CoreCall::Wait(request)),
-            Call::Test(request) => self.judge_on_requests(point_to_point::CoreCall::Test(request)),
-            Call::Waitany(list) => self.judge_on_requests(point_to_point::CoreCall::Waitany(list)),
-            Call::Waitall(list) => self.judge_on_requests(point_to_point::CoreCall::Waitall(list)),
-            Call::Cancel(request) => self.judge_on_requests(point_to_point::CoreCall::Cancel(
-                request,
-            )),
+            Call::Wait(request) => self.judge_on_requests(RoutedCall::Wait(request)),
+            Call::Test(request) => self.judge_on_requests(RoutedCall::Test(request)),
+            Call::Waitany(list) => self.judge_on_requests(RoutedCall::Waitany(list)),
+            Call::Waitall(list) => self.judge_on_requests(RoutedCall::Waitall(list)),
+            Call::Cancel(request) => self.judge_on_requests(RoutedCall::Cancel(request)),
             Call::Enter(comm, entry) => JudgedCall {
                 fault: self.fault_of_entry(comm, &entry),
                 call: Call::Enter(comm, entry),
@@ -222,12 +216,10 @@ impl Engine {
         // The place shows that the job has a rank at least.
         let _place = self.parts.sessions.place();
         match call {
-            Call::Test(request) => self.call_on_requests(point_to_point::CoreCall::Test(request)),
-            Call::Waitany(list) => self.call_on_requests(point_to_point::CoreCall::Waitany(list)),
-            Call::Waitall(list) => self.call_on_requests(point_to_point::CoreCall::Waitall(list)),
-            Call::Cancel(request) => self.call_on_requests(point_to_point::CoreCall::Cancel(
-                request,
-            )),
+            Call::Test(request) => self.call_on_requests(RoutedCall::Test(request)),
+            Call::Waitany(list) => self.call_on_requests(RoutedCall::Waitany(list)),
+            Call::Waitall(list) => self.call_on_requests(RoutedCall::Waitall(list)),
+            Call::Cancel(request) => self.call_on_requests(RoutedCall::Cancel(request)),
             Call::Enter(comm, entry) => self.enter(comm, entry),
             Call::Ask(comm, question) => self.ask(comm, question),
             Call::Iprobe(probe) => self.iprobe(probe),
@@ -275,7 +267,7 @@ impl Engine {
         match call {
             Call::Isend(send) => self.isend(send),
             Call::Irecv(receive) => self.irecv(receive),
-            Call::Wait(request) => self.call_on_requests(point_to_point::CoreCall::Wait(request)),
+            Call::Wait(request) => self.call_on_requests(RoutedCall::Wait(request)),
             other => self.answer_other(other),
         }
     }

@@ -2,8 +2,8 @@
 use Rattle.std.proofs.Common.{◌≡◌, ◌<◌, ◌≤◌, ◌+◌, ◌*◌, ℕ, List, Option, Some, None, refl, sym, ap, ap₂, subst, ◌∙◌}
 use Rattle.std.proofs.Common.{arith}
 use Rattle.point_to_point_calls.specs.Calls as cores
-use Rattle.point_to_point_calls.specs.declared.call.CoreCall as core_asks
-use Rattle.point_to_point_calls.specs.declared.call.CoreCall.TheVariants as core_calls
+use Rattle.point_to_point_calls.specs.declared.call.RoutedCall.{RoutedCall}
+use Rattle.point_to_point_calls.specs.declared.call.RoutedCall.TheVariants as core_calls
 use Rattle.point_to_point_calls.specs.declared.call.HandedBack.{HandedBack}
 use Rattle.point_to_point_calls.specs.declared.call.CoreReply as core_answers
 use Rattle.point_to_point_calls.specs.declared.call.CoreReply.TheVariants as core_replies
@@ -12,16 +12,14 @@ use Rattle.point_to_point_calls.specs.declared.refusal.Refusal.TheVariants as re
 use Rattle.point_to_point.specs.Calls.{Answers, call_frame}
 use Rattle.point_to_point.specs.CoreState.{CoreState}
 use Rattle.sessions.specs.SessionsState.{SessionsState}
-use Rattle.vocabulary.specs.declared.envelope.Source.{Source}
 use Rattle.engine_calls.proofs.Clear.{within_same}
-use Rattle.engine_calls.specs.Asks.{AnswerGives, IsAsked, NeedsGroup, call_of_core, call_of, engine_of, group_at}
+use Rattle.engine_calls.specs.Asks.{AnswerGives, IsAsked, NeedsGroup, call_of, engine_of, group_of}
 use Rattle.engine_calls.specs.Asks.{reply_of_core, with_group}
 use Rattle.engine_calls.specs.Calls.{CoreGives, IsAnswered, LacksRoom, NeedsMemory, RefusedLeaves, WhyRefused}
 use Rattle.engine_calls.specs.EngineState.{EngineState, GroupsState, Rest}
 use Rattle.engine_calls.specs.Faults.{fault_of}
 use Rattle.engine_calls.specs.Frames.{after_frame}
 use Rattle.engine_calls.specs.Routing.{core_call, core_reply}
-use Rattle.engine_calls.specs.declared.routed_call.RoutedCall.{RoutedCall}
 use Rattle.engine_calls.specs.declared.call.Call.{Call}
 use Rattle.engine_calls.specs.declared.call.Call.TheVariants as calls
 use Rattle.engine_calls.specs.declared.reply.Reply.{Reply}
@@ -30,7 +28,7 @@ use Rattle.engine_calls.specs.declared.reply.Reply.TheVariants as replies
 -- ---- the core
 
 -- the core answers, and its frame is on its way
-pub answer_given : (c mid d : CoreState) (s t : SessionsState) (q : core_asks.CoreCall)
+pub answer_given : (c mid d : CoreState) (s t : SessionsState) (q : RoutedCall)
     (reply : core_answers.CoreReply) → mid ≡ c → cores.IsTaken reply →
     Answers mid q reply d → t ≡ after_frame s (call_frame c q) → AnswerGives c s q reply d t
 answer_given c mid d s t q (core_replies.Refused why back) kept taken answers sent = absurd taken
@@ -65,14 +63,14 @@ lacks_by e (calls.Improbe p) why memory need = (memory, need)
 lacks_by e (calls.Mrecv message into) why memory need = (memory, need)
 
 -- what is asked, and needs memory, is refused for want of it
-reason_is : (e : EngineState) (call : Call) (q : core_asks.CoreCall) (why : Refusal) → fault_of e call ≡ None →
+reason_is : (e : EngineState) (call : Call) (q : RoutedCall) (why : Refusal) → fault_of e call ≡ None →
     core_call e.groups call ≡ Some q →
     why ≡ refusals.OutOfMemory → cores.NeedsMemory q → WhyRefused (fault_of e call) e call why
 reason_is e call q why allowed routed memory need =
     subst (λ (o : Option Refusal). WhyRefused o e call why) (sym allowed)
-    (lacks_by e call why memory (subst (λ (o : Option core_asks.CoreCall). NeedsMemory o) (sym routed) need))
+    (lacks_by e call why memory (subst (λ (o : Option RoutedCall). NeedsMemory o) (sym routed) need))
 
-needs : (group : Option (List ℕ)) (q : core_asks.CoreCall) → NeedsGroup q → cores.NeedsMemory (with_group group q)
+needs : (group : Option (List ℕ)) (q : RoutedCall) → NeedsGroup q → cores.NeedsMemory (with_group group q)
 needs group (core_calls.Irecv v) need = tt
 needs group (core_calls.Isend s) need = absurd need
 needs group (core_calls.Wait q) need = absurd need
@@ -84,15 +82,15 @@ needs group (core_calls.Improbe p) need = tt
 needs group (core_calls.Mrecv message into) need = absurd need
 
 -- so is a receive or a probe whose group can't be made
-pub group_refused : (e : EngineState) (call : Call) (a : RoutedCall) → IsAsked e call a → NeedsGroup a.call →
+pub group_refused : (e : EngineState) (call : Call) (a : RoutedCall) → IsAsked e call a → NeedsGroup a →
     CoreGives e call (replies.Refused refusals.OutOfMemory (call_of a)) e
 group_refused e call a asked need =
     record {
       handed = asked.back;
       unchanged = refl;
-      reason = reason_is e call (with_group (group_at e.groups a.comm a.named) a.call) refusals.OutOfMemory
+      reason = reason_is e call (with_group (group_of e.groups a) a) refusals.OutOfMemory
           asked.allowed asked.routed refl
-          (needs (group_at e.groups a.comm a.named) a.call need);
+          (needs (group_of e.groups a) a need);
     }
 
 -- ---- what a rule or a limit refuses
@@ -110,30 +108,29 @@ fault_refused e call h is =
 
 -- ---- the answer
 
-named_same : (comm : Option ℕ) (named : Source) (group : Option (List ℕ)) (q : core_asks.CoreCall) →
-    call_of_core comm named (with_group group q) ≡ call_of_core comm named q
-named_same comm named group (core_calls.Isend s) = refl
-named_same comm named group (core_calls.Irecv v) = refl
-named_same comm named group (core_calls.Wait q) = refl
-named_same comm named group (core_calls.Test q) = refl
-named_same comm named group (core_calls.Waitany qs) = refl
-named_same comm named group (core_calls.Waitall qs) = refl
-named_same comm named group (core_calls.Cancel q) = refl
-named_same comm named group (core_calls.Improbe p) = refl
-named_same comm named group (core_calls.Mrecv message into) = refl
+back_same : (group : Option (List ℕ)) (q : RoutedCall) → call_of (with_group group q) ≡ call_of q
+back_same group (core_calls.Isend s) = refl
+back_same group (core_calls.Irecv v) = refl
+back_same group (core_calls.Wait q) = refl
+back_same group (core_calls.Test q) = refl
+back_same group (core_calls.Waitany qs) = refl
+back_same group (core_calls.Waitall qs) = refl
+back_same group (core_calls.Cancel q) = refl
+back_same group (core_calls.Improbe p) = refl
+back_same group (core_calls.Mrecv message into) = refl
 
 is_answered : (c d : CoreState) (g : GroupsState) (rest : Rest) (s t : SessionsState) (call : Call) (a : RoutedCall)
     (answer : core_answers.CoreReply)
     (reply : Reply) → IsAsked (engine_of c g rest s) call a → core_reply reply ≡ Some answer →
-    Answers c (with_group (group_at g a.comm a.named) a.call) answer d →
-    t ≡ after_frame s (call_frame c (with_group (group_at g a.comm a.named) a.call)) →
+    Answers c (with_group (group_of g a) a) answer d →
+    t ≡ after_frame s (call_frame c (with_group (group_of g a) a)) →
     IsAnswered (engine_of c g rest s) call reply (engine_of d g rest t)
 is_answered c d g rest s t call a answer reply asked told_so answers sent =
     record {
       allowed = asked.allowed;
-      asked = with_group (group_at g a.comm a.named) a.call;
+      asked = with_group (group_of g a) a;
       routed = asked.routed;
-      within = within_same (group_at g a.comm a.named) a.call asked.within;
+      within = within_same (group_of g a) a asked.within;
       answer = answer;
       told = told_so;
       core = answers;
@@ -146,15 +143,14 @@ is_answered c d g rest s t call a answer reply asked told_so answers sent =
 -- what the core answers is told
 pub told_gives : (c d : CoreState) (g : GroupsState) (rest : Rest) (s t : SessionsState) (call : Call) (a : RoutedCall)
     (reply : core_answers.CoreReply) → IsAsked (engine_of c g rest s) call a →
-    AnswerGives c s (with_group (group_at g a.comm a.named) a.call) reply d t →
-    CoreGives (engine_of c g rest s) call (reply_of_core a.comm a.named reply) (engine_of d g rest t)
+    AnswerGives c s (with_group (group_of g a) a) reply d t →
+    CoreGives (engine_of c g rest s) call (reply_of_core reply) (engine_of d g rest t)
 told_gives c d g rest s t call a (core_replies.Refused why back) asked gives =
     record {
       handed =
-          ap (call_of_core a.comm a.named) gives.0 ∙ named_same a.comm a.named (group_at g a.comm a.named) a.call ∙
-          asked.back;
+          ap call_of gives.0 ∙ back_same (group_of g a) a ∙ asked.back;
       unchanged = ap₂ (λ (x : CoreState) (y : SessionsState). engine_of x g rest y) gives.3 gives.4;
-      reason = reason_is (engine_of c g rest s) call (with_group (group_at g a.comm a.named) a.call) why asked.allowed
+      reason = reason_is (engine_of c g rest s) call (with_group (group_of g a) a) why asked.allowed
           asked.routed gives.1 gives.2;
     }
 told_gives c d g rest s t call a (core_replies.Started r) asked gives =
@@ -173,19 +169,19 @@ told_gives c d g rest s t call a core_replies.Blocked asked gives =
 -- the same of what the program handed on
 pub answer_told : (c d : CoreState) (g : GroupsState) (s t : SessionsState) (a b : RoutedCall)
     (answer : core_answers.CoreReply) (reply : Reply) →
-    b ≡ record a { call = with_group (group_at g a.comm a.named) a.call } → AnswerGives c s b.call answer d t →
-    reply ≡ reply_of_core b.comm b.named answer →
+    b ≡ with_group (group_of g a) a → AnswerGives c s b answer d t →
+    reply ≡ reply_of_core answer →
     (rest : Rest) (call : Call) → IsAsked (engine_of c g rest s) call a →
     CoreGives (engine_of c g rest s) call reply (engine_of d g rest t)
 answer_told c d g s t a b answer reply is gives tells rest call asked =
     subst (λ (r : Reply). CoreGives (engine_of c g rest s) call r (engine_of d g rest t)) (sym tells)
     (subst
-    (λ (x : RoutedCall). AnswerGives c s x.call answer d t →
-    CoreGives (engine_of c g rest s) call (reply_of_core x.comm x.named answer) (engine_of d g rest t))
+    (λ (x : RoutedCall). AnswerGives c s x answer d t →
+    CoreGives (engine_of c g rest s) call (reply_of_core answer) (engine_of d g rest t))
     (sym is) (told_gives c d g rest s t call a answer asked) gives)
 
 pub group_told : (c : CoreState) (g : GroupsState) (s : SessionsState) (a b : RoutedCall) (back : Call) →
-    back ≡ call_of b → b ≡ a → NeedsGroup a.call →
+    back ≡ call_of b → b ≡ a → NeedsGroup a →
     (rest : Rest) (call : Call) → IsAsked (engine_of c g rest s) call a →
     CoreGives (engine_of c g rest s) call (replies.Refused refusals.OutOfMemory back) (engine_of c g rest s)
 group_told c g s a b back is same need rest call asked =

@@ -5,8 +5,8 @@ use Rattle.communicators.specs.Routes.{RouteText}
 use Rattle.communicators.specs.Rules.{known_by}
 use Rattle.perfect_groups.specs.Calls.{held_at}
 use Rattle.perfect_groups.specs.Faults.{is_no_target, is_source_beyond, is_within, names_replaced}
-use Rattle.point_to_point_calls.specs.declared.call.CoreCall as core_asks
-use Rattle.point_to_point_calls.specs.declared.call.CoreCall.TheVariants as core_calls
+use Rattle.point_to_point_calls.specs.declared.call.RoutedCall.{RoutedCall}
+use Rattle.point_to_point_calls.specs.declared.call.RoutedCall.TheVariants as core_calls
 use Rattle.point_to_point_calls.specs.declared.call.HandedBack.{HandedBack}
 use Rattle.point_to_point_calls.specs.declared.refusal.Refusal.{Refusal}
 use Rattle.point_to_point_calls.specs.declared.refusal.Refusal.TheVariants as refusals
@@ -16,10 +16,9 @@ use Rattle.requests.specs.declared.awaited_requests.Awaited.{Awaited}
 use Rattle.requests.specs.declared.region.Region.{Region}
 use Rattle.requests.specs.declared.table.Request.{Request}
 use Rattle.sessions.specs.SessionsState.{SessionsState}
-use Rattle.vocabulary.specs.declared.envelope.Source.TheVariants.{Null}
 use Rattle.engine_calls.proofs.Clear.{allowed_by, arguments_same, frames_same, limits_same}
 use Rattle.engine_calls.specs.Asks.{AskGives, CanAskBy, IsAsked, IsOnRequests, JudgementGives, JudgingGives}
-use Rattle.engine_calls.specs.Asks.{asked_fault, call_of_core, engine_of, group_in, route_probe, route_receive}
+use Rattle.engine_calls.specs.Asks.{asked_fault, call_of, engine_of, group_in, route_probe, route_receive}
 use Rattle.engine_calls.specs.Asks.{route_send, source_rule, target_rule, with_group}
 use Rattle.engine_calls.specs.EngineState.{EngineState, GroupsState, Rest, member_of}
 use Rattle.engine_calls.specs.Faults.{broken, fault_of, free_fault, group_limit, is_busy, on_route, probe_rules}
@@ -27,21 +26,16 @@ use Rattle.engine_calls.specs.Faults.{receive_rules, routed_limit, send_rules}
 use Rattle.engine_calls.specs.Frames.{frame_limit}
 use Rattle.engine_calls.specs.Refusals.{first_fault}
 use Rattle.engine_calls.specs.Routing.{probe_by, receive_by, route_at, send_by}
-use Rattle.engine_calls.specs.declared.routed_call.RoutedCall.{RoutedCall}
 use Rattle.engine_calls.specs.declared.call.Call.{Call}
 use Rattle.engine_calls.specs.declared.call.Call.TheVariants as calls
-use Rattle.engine_calls.specs.declared.call.Probe.{Probe}
-use Rattle.engine_calls.specs.declared.call.Receive.{Receive}
-use Rattle.engine_calls.specs.declared.call.Send.{Send}
+use Rattle.point_to_point_calls.specs.declared.call.Probe.{Probe}
+use Rattle.point_to_point_calls.specs.declared.call.Receive.{Receive}
+use Rattle.point_to_point_calls.specs.declared.call.Send.{Send}
 use Rattle.engine_calls.specs.declared.judgement.JudgedCall.{JudgedCall}
 
 -- the option of a call of the core
-abbrev some : core_asks.CoreCall → Option core_asks.CoreCall
+abbrev some : RoutedCall → Option RoutedCall
 some q = Some q
-
--- a call on requests, as the core is asked it
-abbrev pub on_requests : core_asks.CoreCall → RoutedCall
-on_requests q = record { comm = None; named = Null; call = q }
 
 -- ---- an earlier call is blocked, or none
 
@@ -57,13 +51,13 @@ busy_is e call busy = ap (λ (b : Bool). first_fault (broken b refusals.Request)
 pub free_is : (e : EngineState) (call : Call) → is_busy e ≡ false → fault_of e call ≡ free_fault e call
 free_is e call free = ap (λ (b : Bool). first_fault (broken b refusals.Request) (free_fault e call)) free
 
-requests_at : (a : Option Awaited) (c : CoreState) (q : core_asks.CoreCall) → is_some a ≡ false →
+requests_at : (a : Option Awaited) (c : CoreState) (q : RoutedCall) → is_some a ≡ false →
     request_fault_at a c q ≡ free_request_fault c q
 requests_at None c q free = refl
 requests_at (Some a) c q free = absurd cc
 
 -- while none is blocked, the rules on requests are those of the call alone
-pub requests_free : (c : CoreState) (b : Bool) (q : core_asks.CoreCall) → (is_some c.blocked || b) ≡ false →
+pub requests_free : (c : CoreState) (b : Bool) (q : RoutedCall) → (is_some c.blocked || b) ≡ false →
     request_fault c q ≡ free_request_fault c q
 requests_free c b q free = requests_at c.blocked c q (first_none (is_some c.blocked) b free)
 
@@ -76,7 +70,7 @@ joined (Some e) p l = refl
 send_fault_is : (c : CoreState) (g : GroupsState) (rest : Rest) (s : SessionsState) (v : Send) (r : RouteText) →
     is_busy (engine_of c g rest s) ≡ false → route_at g v.comm v.target ≡ Some r →
     fault_of (engine_of c g rest s) (calls.Isend v) ≡
-    asked_fault c s (target_rule g s.known v.comm v.target) (route_send v r).call
+    asked_fault c s (target_rule g s.known v.comm v.target) (route_send v r)
 send_fault_is c g rest s v r free route =
     free_is (engine_of c g rest s) (calls.Isend v) free
     ∙ ap (λ (o : Option RouteText). on_route o (send_rules (engine_of c g rest s) v)) route
@@ -131,15 +125,15 @@ by_parts a a2 b p g l f f2 arguments frame =
 receive_fault_is : (c : CoreState) (g : GroupsState) (rest : Rest) (s : SessionsState) (v : Receive) (r : RouteText) →
     is_busy (engine_of c g rest s) ≡ false → route_at g v.comm v.source ≡ Some r →
     fault_of (engine_of c g rest s) (calls.Irecv v) ≡
-    asked_fault c s (source_rule g s.known v.comm v.source r) (route_receive v r).call
+    asked_fault c s (source_rule g s.known v.comm v.source r) (route_receive v r)
 receive_fault_is c g rest s v r free route =
     free_is (engine_of c g rest s) (calls.Irecv v) free
     ∙ ap (λ (o : Option RouteText). on_route o (receive_rules (engine_of c g rest s) v)) route
     ∙ by_parts _ _ (broken (is_source_beyond (held_at (member_of g) v.comm) v.source) refusals.Rank)
     (broken (names_replaced (known_by s.known) (held_at (member_of g) v.comm) v.source) refusals.Replaced)
     (group_limit r.group)
-    (limit_fault c (route_receive v r).call) _ _ (arguments_same c.place r.group (route_receive v r).call)
-    (ap (frame_limit s) (frames_same c r.group (route_receive v r).call))
+    (limit_fault c (route_receive v r)) _ _ (arguments_same c.place r.group (route_receive v r))
+    (ap (frame_limit s) (frames_same c r.group (route_receive v r)))
 
 -- without a route it is refused with 4
 pub unrouted_receive : (c : CoreState) (g : GroupsState) (rest : Rest) (s : SessionsState) (v : Receive) →
@@ -173,7 +167,7 @@ receive_gives c g rest s v r (Ok a) free route gives =
       back = refl;
       routed =
           ap (λ (o : Option RouteText). option_map (λ (t : RouteText). core_calls.Irecv (receive_by v t)) o) route
-          ∙ sym (ap (λ (o : Option RouteText). some (with_group (group_in o) (route_receive v r).call)) route);
+          ∙ sym (ap (λ (o : Option RouteText). some (with_group (group_in o) (route_receive v r))) route);
       shareable =
           ap (λ (o : Option RouteText). group_limit (group_in o)) route
           ∙ third_none (broken (is_source_beyond (held_at (member_of g) v.comm) v.source) refusals.Rank)
@@ -201,15 +195,15 @@ probe_parts (Some e) a2 b p g l l2 f f2 arguments limit frame =
 probe_fault_is : (c : CoreState) (g : GroupsState) (rest : Rest) (s : SessionsState) (v : Probe) (r : RouteText) →
     is_busy (engine_of c g rest s) ≡ false → route_at g v.comm v.source ≡ Some r →
     fault_of (engine_of c g rest s) (calls.Improbe v) ≡
-    asked_fault c s (source_rule g s.known v.comm v.source r) (route_probe v r).call
+    asked_fault c s (source_rule g s.known v.comm v.source r) (route_probe v r)
 probe_fault_is c g rest s v r free route =
     free_is (engine_of c g rest s) (calls.Improbe v) free
     ∙ ap (λ (o : Option RouteText). on_route o (probe_rules (engine_of c g rest s) v)) route
     ∙ probe_parts _ _ (broken (is_source_beyond (held_at (member_of g) v.comm) v.source) refusals.Rank)
     (broken (names_replaced (known_by s.known) (held_at (member_of g) v.comm) v.source) refusals.Replaced)
     (group_limit r.group) _ _ _ _
-    (arguments_same c.place r.group (route_probe v r).call) (limits_same c r.group (route_probe v r).call)
-    (ap (frame_limit s) (frames_same c r.group (route_probe v r).call))
+    (arguments_same c.place r.group (route_probe v r)) (limits_same c r.group (route_probe v r))
+    (ap (frame_limit s) (frames_same c r.group (route_probe v r)))
 
 -- without a route it is refused with 4
 pub unrouted_probe : (c : CoreState) (g : GroupsState) (rest : Rest) (s : SessionsState) (v : Probe) →
@@ -233,7 +227,7 @@ probe_gives c g rest s v r (Ok a) free route gives =
       back = refl;
       routed =
           ap (λ (o : Option RouteText). option_map (λ (t : RouteText). core_calls.Improbe (probe_by v t)) o) route
-          ∙ sym (ap (λ (o : Option RouteText). some (with_group (group_in o) (route_probe v r).call)) route);
+          ∙ sym (ap (λ (o : Option RouteText). some (with_group (group_in o) (route_probe v r))) route);
       shareable =
           ap (λ (o : Option RouteText). group_limit (group_in o)) route
           ∙ third_none (broken (is_source_beyond (held_at (member_of g) v.comm) v.source) refusals.Rank)
@@ -248,7 +242,7 @@ probe_gives c g rest s v r (Ok a) free route gives =
 
 -- what it asks
 abbrev pub message_asked : (message : Option Request) → Region → RoutedCall
-message_asked message into = record { comm = None; named = Null; call = core_calls.Mrecv message into }
+message_asked message into = core_calls.Mrecv message into
 
 -- a request that is none is refused with 6
 pub message_fault_is : (c : CoreState) (g : GroupsState) (rest : Rest) (s : SessionsState) (message : Option Request)
@@ -333,7 +327,7 @@ probe_asks c g s v r rule a result free route ruled made gives rest =
 
 -- ---- a call on requests
 
-free_requests : (e : EngineState) (q : core_asks.CoreCall) → IsOnRequests q → free_fault e (call_of_core None Null q) ≡
+free_requests : (e : EngineState) (q : RoutedCall) → IsOnRequests q → free_fault e (call_of q) ≡
     free_request_fault e.core q
 free_requests e (core_calls.Isend s) on = absurd on
 free_requests e (core_calls.Irecv v) on = absurd on
@@ -346,18 +340,18 @@ free_requests e (core_calls.Improbe p) on = absurd on
 free_requests e (core_calls.Mrecv message into) on = absurd on
 
 -- its fault is that of the core's rules on requests
-pub requests_fault_is : (c : CoreState) (g : GroupsState) (rest : Rest) (s : SessionsState) (q : core_asks.CoreCall) →
+pub requests_fault_is : (c : CoreState) (g : GroupsState) (rest : Rest) (s : SessionsState) (q : RoutedCall) →
     IsOnRequests q →
-    is_busy (engine_of c g rest s) ≡ false → fault_of (engine_of c g rest s) (call_of_core None Null q) ≡
+    is_busy (engine_of c g rest s) ≡ false → fault_of (engine_of c g rest s) (call_of q) ≡
     request_fault c q
 requests_fault_is c g rest s q on free =
-    free_is (engine_of c g rest s) (call_of_core None Null q) free
+    free_is (engine_of c g rest s) (call_of q) free
     ∙ free_requests (engine_of c g rest s) q on
     ∙ sym (requests_free c (is_within (member_of g).present) q free)
 
-asked_by : (e : EngineState) (q : core_asks.CoreCall) → IsOnRequests q → fault_of e (call_of_core None Null q) ≡ None →
+asked_by : (e : EngineState) (q : RoutedCall) → IsOnRequests q → fault_of e (call_of q) ≡ None →
     request_fault e.core q ≡ None →
-    IsAsked e (call_of_core None Null q) (on_requests q)
+    IsAsked e (call_of q) q
 asked_by e (core_calls.Isend s) on allowed free = absurd on
 asked_by e (core_calls.Irecv v) on allowed free = absurd on
 asked_by e (core_calls.Wait q) on allowed free =
@@ -414,10 +408,10 @@ asked_by e (core_calls.Improbe p) on allowed free = absurd on
 asked_by e (core_calls.Mrecv message into) on allowed free = absurd on
 
 -- where the core finds none, it is asked
-pub requests_asked : (c : CoreState) (g : GroupsState) (rest : Rest) (s : SessionsState) (q : core_asks.CoreCall) →
+pub requests_asked : (c : CoreState) (g : GroupsState) (rest : Rest) (s : SessionsState) (q : RoutedCall) →
     IsOnRequests q →
     is_busy (engine_of c g rest s) ≡ false → request_fault c q ≡ None →
-    IsAsked (engine_of c g rest s) (call_of_core None Null q) (on_requests q)
+    IsAsked (engine_of c g rest s) (call_of q) q
 requests_asked c g rest s q on free none =
     asked_by (engine_of c g rest s) q on (requests_fault_is c g rest s q on free ∙ none) none
 

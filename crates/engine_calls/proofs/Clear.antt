@@ -6,10 +6,10 @@ use Rattle.incarnation.specs.declared.place.Place.{Place}
 use Rattle.point_to_point_calls.specs.Calls.{IsWithin}
 use Rattle.point_to_point_calls.specs.Hearing.{first_of}
 use Rattle.point_to_point_calls.specs.Sending.{announced_to, or_worn_out}
-use Rattle.point_to_point_calls.specs.declared.call.CoreCall.{CoreCall}
-use Rattle.point_to_point_calls.specs.declared.call.CoreCall.TheVariants as calls
-use Rattle.point_to_point_calls.specs.declared.call.CoreProbe.{CoreProbe}
-use Rattle.point_to_point_calls.specs.declared.call.CoreReceive.{CoreReceive}
+use Rattle.point_to_point_calls.specs.declared.call.RoutedCall.{RoutedCall}
+use Rattle.point_to_point_calls.specs.declared.call.RoutedCall.TheVariants as calls
+use Rattle.point_to_point_calls.specs.declared.call.RoutedProbe.{RoutedProbe}
+use Rattle.point_to_point_calls.specs.declared.call.RoutedReceive.{RoutedReceive}
 use Rattle.point_to_point_calls.specs.declared.refusal.Refusal.{Refusal}
 use Rattle.point_to_point_calls.specs.declared.refusal.Refusal.TheVariants.{WrongType, Count, Tag, Rank, Limit}
 use Rattle.perfect_queues.specs.Buffers.{is_too_short}
@@ -41,19 +41,20 @@ by_tests false false true e f rule limit = absurd cc
 by_tests false false false true f rule limit = absurd cc
 by_tests false false false false f rule limit = limit
 
-receive_allowed : (c : CoreState) (v : CoreReceive) → receive_rule c.place.size v ≡ None → or_full None c ≡ None →
+receive_allowed : (c : CoreState) (v : RoutedReceive) → receive_rule c.place.size v ≡ None → or_full None c ≡ None →
     receive_fault c v ≡ None
 unfolding receive_rule receive_fault
 receive_allowed c v rule limit =
-    by_tests (is_unfit_to_receive (handed_of v.into)) (is_too_short (handed_of v.into)) (is_tag_above v.tag)
-    (is_source_beyond c.place.size v.source)
+    by_tests (is_unfit_to_receive (handed_of v.receive.into)) (is_too_short (handed_of v.receive.into))
+    (is_tag_above v.receive.tag)
+    (is_source_beyond c.place.size v.route.named)
     (is_full c.slots c.serial) rule limit
 
 both_none : (a b : Option Refusal) → a ≡ None → b ≡ None → first_of a b ≡ None
 both_none None b first second = second
 both_none (Some e) b first second = absurd cc
 
-allowed_at : (a : Option Awaited) (c : CoreState) (q : CoreCall) → request_fault_at a c q ≡ None →
+allowed_at : (a : Option Awaited) (c : CoreState) (q : RoutedCall) → request_fault_at a c q ≡ None →
     argument_fault c.place q ≡ None →
     limit_fault c q ≡ None → fault_at a c q ≡ None
 allowed_at (Some a) c q free arguments limit = absurd cc
@@ -66,12 +67,12 @@ allowed_at None c (calls.Waitany qs) free arguments limit = free
 allowed_at None c (calls.Waitall qs) free arguments limit = free
 allowed_at None c (calls.Cancel q) free arguments limit = free
 allowed_at None c (calls.Improbe p) free arguments limit =
-    both_none (probe_rule c.place.size p.source p.tag) (search_limit p.source c p) arguments limit
+    both_none (probe_rule c.place.size p.route.named p.probe.tag) (search_limit p.route.named c p) arguments limit
 allowed_at None c (calls.Mrecv message into) free arguments limit =
     both_none (message_fault c message) (region_rule into) free arguments
 
 -- a call that breaks no rule and meets no limit of the core's is allowed there
-pub allowed_by : (c : CoreState) (q : CoreCall) → request_fault c q ≡ None → argument_fault c.place q ≡ None →
+pub allowed_by : (c : CoreState) (q : RoutedCall) → request_fault c q ≡ None → argument_fault c.place q ≡ None →
     limit_fault c q ≡ None →
     call_fault c q ≡ None
 allowed_by c q free arguments limit = allowed_at c.blocked c q free arguments limit
@@ -88,7 +89,7 @@ are_none None None (Some e) f is = absurd cc
 are_none None (Some e) l f is = absurd cc
 are_none (Some e) r l f is = absurd cc
 
-pub is_clear : (c : CoreState) (s : SessionsState) (rule : Option Refusal) (q : CoreCall) → request_fault c q ≡ None →
+pub is_clear : (c : CoreState) (s : SessionsState) (rule : Option Refusal) (q : RoutedCall) → request_fault c q ≡ None →
     None ≡ asked_fault c s rule q →
     IsClear c s q
 is_clear c s rule q free none =
@@ -98,12 +99,12 @@ is_clear c s rule q free none =
 
 -- ---- the group has no part in it
 
-rule_same : (size : ℕ) (v : CoreReceive) (group : Option (List ℕ)) → receive_rule size (record v { group = group }) ≡
+rule_same : (size : ℕ) (v : RoutedReceive) (group : Option (List ℕ)) → receive_rule size (record v { group = group }) ≡
     receive_rule size v
 unfolding receive_rule
 rule_same size v group = refl
 
-pub arguments_same : (p : Place) (group : Option (List ℕ)) (q : CoreCall) → argument_fault p (with_group group q) ≡
+pub arguments_same : (p : Place) (group : Option (List ℕ)) (q : RoutedCall) → argument_fault p (with_group group q) ≡
     argument_fault p q
 arguments_same p group (calls.Isend s) = refl
 arguments_same p group (calls.Irecv v) = rule_same p.size v group
@@ -115,18 +116,18 @@ arguments_same p group (calls.Cancel q) = refl
 arguments_same p group (calls.Improbe q) = refl
 arguments_same p group (calls.Mrecv message into) = refl
 
-fault_same : (c : CoreState) (v : CoreReceive) (group : Option (List ℕ)) →
+fault_same : (c : CoreState) (v : RoutedReceive) (group : Option (List ℕ)) →
     receive_fault c (record v { group = group }) ≡ receive_fault c v
 unfolding receive_fault
 fault_same c v group = refl
 
-search_by : (source : Source) (c : CoreState) (p : CoreProbe) (group : Option (List ℕ)) →
+search_by : (source : Source) (c : CoreState) (p : RoutedProbe) (group : Option (List ℕ)) →
     search_limit source c (record p { group = group }) ≡ search_limit source c p
 search_by sources.Any c p group = refl
 search_by (sources.Rank r) c p group = refl
 search_by sources.Null c p group = refl
 
-faults_at : (a : Option Awaited) (c : CoreState) (group : Option (List ℕ)) (q : CoreCall) →
+faults_at : (a : Option Awaited) (c : CoreState) (group : Option (List ℕ)) (q : RoutedCall) →
     fault_at a c (with_group group q) ≡ fault_at a c q
 faults_at (Some a) c group q = refl
 faults_at None c group (calls.Isend s) = refl
@@ -137,19 +138,19 @@ faults_at None c group (calls.Waitany qs) = refl
 faults_at None c group (calls.Waitall qs) = refl
 faults_at None c group (calls.Cancel q) = refl
 faults_at None c group (calls.Improbe p) =
-    ap (first_of (probe_rule c.place.size p.source p.tag)) (search_by p.source c p group)
+    ap (first_of (probe_rule c.place.size p.route.named p.probe.tag)) (search_by p.route.named c p group)
 faults_at None c group (calls.Mrecv message into) = refl
 
-frame_by : (source : Source) (c : CoreState) (v : CoreReceive) (group : Option (List ℕ)) →
+frame_by : (source : Source) (c : CoreState) (v : RoutedReceive) (group : Option (List ℕ)) →
     receive_frame source c (record v { group = group }) ≡ receive_frame source c v
 frame_by sources.Any c v group = refl
 frame_by (sources.Rank r) c v group = refl
 frame_by sources.Null c v group = refl
 
-pub frames_same : (c : CoreState) (group : Option (List ℕ)) (q : CoreCall) → call_frame c (with_group group q) ≡
+pub frames_same : (c : CoreState) (group : Option (List ℕ)) (q : RoutedCall) → call_frame c (with_group group q) ≡
     call_frame c q
 frames_same c group (calls.Isend s) = refl
-frames_same c group (calls.Irecv v) = frame_by v.source c v group
+frames_same c group (calls.Irecv v) = frame_by v.route.named c v group
 frames_same c group (calls.Wait q) = refl
 frames_same c group (calls.Test q) = refl
 frames_same c group (calls.Waitany qs) = refl
@@ -158,7 +159,7 @@ frames_same c group (calls.Cancel q) = refl
 frames_same c group (calls.Improbe p) = refl
 frames_same c group (calls.Mrecv message into) = refl
 
-pub limits_same : (c : CoreState) (group : Option (List ℕ)) (q : CoreCall) → limit_fault c (with_group group q) ≡
+pub limits_same : (c : CoreState) (group : Option (List ℕ)) (q : RoutedCall) → limit_fault c (with_group group q) ≡
     limit_fault c q
 limits_same c group (calls.Isend s) = refl
 limits_same c group (calls.Irecv v) = refl
@@ -167,17 +168,17 @@ limits_same c group (calls.Test q) = refl
 limits_same c group (calls.Waitany qs) = refl
 limits_same c group (calls.Waitall qs) = refl
 limits_same c group (calls.Cancel q) = refl
-limits_same c group (calls.Improbe p) = search_by p.source c p group
+limits_same c group (calls.Improbe p) = search_by p.route.named c p group
 limits_same c group (calls.Mrecv message into) = refl
 
 -- what is clear is so with any group
-pub clear_same : (c : CoreState) (s : SessionsState) (group : Option (List ℕ)) (q : CoreCall) → IsClear c s q →
+pub clear_same : (c : CoreState) (s : SessionsState) (group : Option (List ℕ)) (q : RoutedCall) → IsClear c s q →
     IsClear c s (with_group group q)
 clear_same c s group q clear =
     (faults_at c.blocked c group q ∙ clear.0, ap (frame_limit s) (frames_same c group q) ∙ clear.1)
 
 -- and each element has its width
-pub within_same : (group : Option (List ℕ)) (q : CoreCall) → IsWithin q → IsWithin (with_group group q)
+pub within_same : (group : Option (List ℕ)) (q : RoutedCall) → IsWithin q → IsWithin (with_group group q)
 within_same group (calls.Isend s) within = within
 within_same group (calls.Irecv v) within = tt
 within_same group (calls.Wait q) within = tt

@@ -9,9 +9,9 @@ use Rattle.datagram.specs.Spelling.{FrameText, OutgoingText}
 use Rattle.datatypes.specs.Contents.{Contents}
 use Rattle.incarnation.specs.declared.place.Place.{Place}
 use Rattle.requests.specs.Regions.{sent_from}
-use Rattle.point_to_point_calls.specs.declared.call.CoreCall.{CoreCall}
-use Rattle.point_to_point_calls.specs.declared.call.CoreCall.TheVariants.{Isend, Irecv, Wait, Test, Waitany, Waitall}
-use Rattle.point_to_point_calls.specs.declared.call.CoreCall.TheVariants.{Cancel, Improbe, Mrecv}
+use Rattle.point_to_point_calls.specs.declared.call.RoutedCall.{RoutedCall}
+use Rattle.point_to_point_calls.specs.declared.call.RoutedCall.TheVariants.{Isend, Irecv, Wait, Test, Waitany, Waitall}
+use Rattle.point_to_point_calls.specs.declared.call.RoutedCall.TheVariants.{Cancel, Improbe, Mrecv}
 use Rattle.point_to_point_calls.specs.declared.refusal.Refusal.{Refusal}
 use Rattle.point_to_point_calls.specs.Calls.{NeedsMemory}
 use Rattle.point_to_point.specs.Calls.{call_frame, call_rank}
@@ -68,12 +68,13 @@ met_to s p t mode (Rank to) (Some tag) context m rank limit is met =
     met_unless s (to == p.endpoint.rank) t mode to tag context m rank limit is met
 
 -- the limit of a frame is that of its rank
-pub limit_is_met : (s : SessionsState) (c : CoreState) (call : CoreCall) (rank : ℕ)
+pub limit_is_met : (s : SessionsState) (c : CoreState) (call : RoutedCall) (rank : ℕ)
     (limit : Option lower.SessionRefusal) → call_rank c call ≡ Some rank →
     IsLimitTo s rank limit → fault_of_sessions limit ≡ frame_limit s (call_frame c call)
 limit_is_met s c (Isend v) rank limit is met =
-    met_to s c.place c.transfers v.mode v.target v.tag v.context (sent_from v.from) rank limit is met
-limit_is_met s c (Irecv v) rank limit is met = met_by s (receive_frame v.source c v) rank limit is met
+    met_to s c.place c.transfers v.send.mode v.route.named v.send.tag v.route.context (sent_from v.send.from) rank limit
+    is met
+limit_is_met s c (Irecv v) rank limit is met = met_by s (receive_frame v.route.named c v) rank limit is met
 limit_is_met s c (Wait q) rank limit is met = absurd cc
 limit_is_met s c (Test q) rank limit is met = absurd cc
 limit_is_met s c (Waitany qs) rank limit is met = absurd cc
@@ -104,10 +105,11 @@ none_to s p t mode (Rank to) None context m is = refl
 none_to s p t mode (Rank to) (Some tag) context m is = none_unless s (to == p.endpoint.rank) t mode to tag context m is
 
 -- where no frame goes to another rank, no limit is met
-pub no_limit_is_met : (s : SessionsState) (c : CoreState) (call : CoreCall) → call_rank c call ≡ None →
+pub no_limit_is_met : (s : SessionsState) (c : CoreState) (call : RoutedCall) → call_rank c call ≡ None →
     frame_limit s (call_frame c call) ≡ None
-no_limit_is_met s c (Isend v) is = none_to s c.place c.transfers v.mode v.target v.tag v.context (sent_from v.from) is
-no_limit_is_met s c (Irecv v) is = none_by s (receive_frame v.source c v) is
+no_limit_is_met s c (Isend v) is = none_to s c.place c.transfers v.send.mode v.route.named v.send.tag v.route.context
+    (sent_from v.send.from) is
+no_limit_is_met s c (Irecv v) is = none_by s (receive_frame v.route.named c v) is
 no_limit_is_met s c (Wait q) is = refl
 no_limit_is_met s c (Test q) is = refl
 no_limit_is_met s c (Waitany qs) is = refl
@@ -117,7 +119,7 @@ no_limit_is_met s c (Improbe p) is = refl
 no_limit_is_met s c (Mrecv message into) is = none_by s (message_frame c message into) is
 
 -- a call that has a frame needs memory
-pub frame_needs : (c : CoreState) (call : CoreCall) (f : OutgoingText) → call_frame c call ≡ Some f → NeedsMemory call
+pub frame_needs : (c : CoreState) (call : RoutedCall) (f : OutgoingText) → call_frame c call ≡ Some f → NeedsMemory call
 frame_needs c (Isend v) f is = tt
 frame_needs c (Irecv v) f is = tt
 frame_needs c (Wait q) f is = absurd cc
@@ -129,7 +131,7 @@ frame_needs c (Improbe p) f is = tt
 frame_needs c (Mrecv message into) f is = tt
 
 -- and so does one that meets its frame's limit
-pub limit_needs : (s : SessionsState) (c : CoreState) (call : CoreCall) (why : Refusal) →
+pub limit_needs : (s : SessionsState) (c : CoreState) (call : RoutedCall) (why : Refusal) →
     frame_limit s (call_frame c call) ≡ Some why → NeedsMemory call
 limit_needs s c (Isend v) why is = tt
 limit_needs s c (Irecv v) why is = tt

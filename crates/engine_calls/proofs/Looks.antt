@@ -8,7 +8,7 @@ use Rattle.match_queues.specs.declared.envelope.Message.{Message}
 use Rattle.perfect_groups.specs.Calls.{held_at}
 use Rattle.perfect_groups.specs.Faults.{is_source_beyond, is_within}
 use Rattle.point_to_point_calls.specs.Receiving.{status_of}
-use Rattle.point_to_point_calls.specs.declared.call.CoreCall.TheVariants as core_calls
+use Rattle.point_to_point_calls.specs.declared.call.RoutedCall.TheVariants as core_calls
 use Rattle.point_to_point_calls.specs.declared.refusal.Refusal.{Refusal}
 use Rattle.point_to_point_calls.specs.declared.refusal.Refusal.TheVariants as refusals
 use Rattle.point_to_point.specs.Calls.{argument_fault}
@@ -28,7 +28,7 @@ use Rattle.engine_calls.specs.Faults.{on_route}
 use Rattle.engine_calls.specs.Refusals.{first_fault}
 use Rattle.engine_calls.specs.Routing.{probe_by, route_at}
 use Rattle.engine_calls.specs.declared.call.Call.TheVariants as calls
-use Rattle.engine_calls.specs.declared.call.Probe.{Probe}
+use Rattle.point_to_point_calls.specs.declared.call.Probe.{Probe}
 use Rattle.engine_calls.specs.declared.reply.Reply.TheVariants as replies
 
 -- ---- its rule
@@ -52,7 +52,7 @@ unrouted_look c g s p free route rest =
 pub routed_look : (c : CoreState) (g : GroupsState) (s : SessionsState) (p : Probe) (r : RouteText)
     (rule : Option Refusal) →
     (is_some c.blocked || is_within (member_of g).present) ≡ false → route_at g p.comm p.source ≡ Some r →
-    rule ≡ first_fault (argument_fault c.place (route_probe p r).call) (source_rule g s.known p.comm p.source r) →
+    rule ≡ first_fault (argument_fault c.place (route_probe p r)) (source_rule g s.known p.comm p.source r) →
     (rest : Rest) → rule ≡ fault_of (engine_of c g rest s) (calls.Iprobe p)
 routed_look c g s p r rule free route is rest =
     is ∙ sym (free_is (engine_of c g rest s) (calls.Iprobe p) free ∙

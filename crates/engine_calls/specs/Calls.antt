@@ -13,7 +13,7 @@ use Rattle.communicators.specs.declared.question.Question.TheVariants as questio
 use Rattle.perfect_groups.specs.Calls as machine
 use Rattle.perfect_groups.specs.Calls.{fact_of, held_at}
 use Rattle.point_to_point_calls.specs.Calls as cores
-use Rattle.point_to_point_calls.specs.declared.call.CoreCall as core_calls
+use Rattle.point_to_point_calls.specs.declared.call.RoutedCall as core_calls
 use Rattle.point_to_point_calls.specs.declared.call.CoreReply as core_replies
 use Rattle.point_to_point_calls.specs.declared.refusal.Refusal.{Refusal}
 use Rattle.point_to_point_calls.specs.declared.refusal.Refusal.TheVariants as refusals
@@ -28,7 +28,7 @@ use Rattle.engine_calls.specs.Frames.{AreWhole, after_frame, step_limit, step_nu
 use Rattle.engine_calls.specs.Routing.{core_call, core_reply, route_at}
 use Rattle.engine_calls.specs.declared.call.Call.{Call}
 use Rattle.engine_calls.specs.declared.call.Call.TheVariants as calls
-use Rattle.engine_calls.specs.declared.call.Probe.{Probe}
+use Rattle.point_to_point_calls.specs.declared.call.Probe.{Probe}
 use Rattle.engine_calls.specs.declared.reply.Fact.{Fact}
 use Rattle.engine_calls.specs.declared.reply.Fact.TheVariants as facts
 use Rattle.engine_calls.specs.declared.reply.Reply.{Reply}
@@ -37,7 +37,7 @@ use Rattle.engine_calls.specs.declared.reply.Reply.TheVariants as replies
 -- WHY A CALL IS REFUSED
 
 -- what the core is asked takes memory
-abbrev pub NeedsMemory : Option core_calls.CoreCall → Type 0
+abbrev pub NeedsMemory : Option core_calls.RoutedCall → Type 0
 NeedsMemory None = ⊥
 NeedsMemory (Some q) = cores.NeedsMemory q
 
@@ -97,7 +97,7 @@ pub record IsRefused (old : EngineState) (call : Call) (why : Refusal) (back : C
 -- a call of point to point, or on requests, is answered by the core, and its frame, if it has one, is on its way
 pub record IsAnswered (old : EngineState) (call : Call) (reply : Reply) (new : EngineState) : Type 0 where
   pub allowed : fault_of old call ≡ None
-  pub asked : core_calls.CoreCall
+  pub asked : core_calls.RoutedCall
   pub routed : core_call old.groups call ≡ Some asked
   pub within : cores.IsWithin asked
   pub answer : core_replies.CoreReply

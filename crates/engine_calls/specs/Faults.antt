@@ -10,8 +10,8 @@ use Rattle.communicators.specs.declared.question.Question.{Question}
 use Rattle.perfect_groups.specs.Calls.{held_at}
 use Rattle.perfect_groups.specs.Faults.{asks_of_none, has_replaced, is_no_target, is_source_beyond, is_within}
 use Rattle.perfect_groups.specs.Faults.{names_replaced}
-use Rattle.point_to_point_calls.specs.declared.call.CoreCall as cores
-use Rattle.point_to_point_calls.specs.declared.call.CoreCall.TheVariants as core_calls
+use Rattle.point_to_point_calls.specs.declared.call.RoutedCall as cores
+use Rattle.point_to_point_calls.specs.declared.call.RoutedCall.TheVariants as core_calls
 use Rattle.point_to_point_calls.specs.declared.refusal.Refusal.{Refusal}
 use Rattle.point_to_point_calls.specs.declared.refusal.Refusal.TheVariants as refusals
 use Rattle.point_to_point.specs.Calls.{argument_fault, call_frame, free_request_fault, limit_fault}
@@ -22,9 +22,9 @@ use Rattle.engine_calls.specs.Refusals.{first_fault, of_entry_rule}
 use Rattle.engine_calls.specs.Routing.{probe_by, receive_by, route_at, send_by}
 use Rattle.engine_calls.specs.declared.call.Call.{Call}
 use Rattle.engine_calls.specs.declared.call.Call.TheVariants as calls
-use Rattle.engine_calls.specs.declared.call.Probe.{Probe}
-use Rattle.engine_calls.specs.declared.call.Receive.{Receive}
-use Rattle.engine_calls.specs.declared.call.Send.{Send}
+use Rattle.point_to_point_calls.specs.declared.call.Probe.{Probe}
+use Rattle.point_to_point_calls.specs.declared.call.Receive.{Receive}
+use Rattle.point_to_point_calls.specs.declared.call.Send.{Send}
 
 -- ---- point to point
 
@@ -42,7 +42,7 @@ group_limit None = None
 group_limit (Some group) = broken (nat_lt 65535 (length group)) refusals.Limit
 
 -- the limits that a call with a route meets (13): of the core, and of its frame
-abbrev pub routed_limit : EngineState → cores.CoreCall → Option Refusal
+abbrev pub routed_limit : EngineState → cores.RoutedCall → Option Refusal
 routed_limit e q = first_fault (limit_fault e.core q) (frame_limit e.sessions (call_frame e.core q))
 
 -- of a send with a route: 2, 1, 3, 5, 11, 13
@@ -73,7 +73,7 @@ abbrev pub probe_rules : EngineState → Probe → RouteText → Option Refusal
 probe_rules e p r = first_fault (look_rules e p r) (routed_limit e (core_calls.Improbe (probe_by p r)))
 
 -- of the receive of a message: 6, 2, 1, 13
-abbrev pub message_rules : EngineState → cores.CoreCall → Option Refusal
+abbrev pub message_rules : EngineState → cores.RoutedCall → Option Refusal
 message_rules e q =
     first_fault (free_request_fault e.core q) (first_fault (argument_fault e.core.place q) (routed_limit e q))
 

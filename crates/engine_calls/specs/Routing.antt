@@ -2,20 +2,21 @@
 use Rattle.std.specs.Prelude.{ℕ, Option, Some, None, option_map}
 use Rattle.communicators.specs.Routes.{RouteText, route_on}
 use Rattle.perfect_groups.specs.Calls.{held_at}
-use Rattle.point_to_point_calls.specs.declared.call.CoreCall as core_asks
-use Rattle.point_to_point_calls.specs.declared.call.CoreCall.TheVariants as core_calls
-use Rattle.point_to_point_calls.specs.declared.call.CoreProbe as core_probes
-use Rattle.point_to_point_calls.specs.declared.call.CoreReceive as core_receives
+use Rattle.point_to_point_calls.specs.declared.call.CallRoute.{CallRoute}
+use Rattle.point_to_point_calls.specs.declared.call.RoutedCall as core_asks
+use Rattle.point_to_point_calls.specs.declared.call.RoutedCall.TheVariants as core_calls
+use Rattle.point_to_point_calls.specs.declared.call.RoutedProbe as core_probes
+use Rattle.point_to_point_calls.specs.declared.call.RoutedReceive as core_receives
 use Rattle.point_to_point_calls.specs.declared.call.CoreReply as core_answers
 use Rattle.point_to_point_calls.specs.declared.call.CoreReply.TheVariants as core_replies
-use Rattle.point_to_point_calls.specs.declared.call.CoreSend as core_sends
+use Rattle.point_to_point_calls.specs.declared.call.RoutedSend as core_sends
 use Rattle.vocabulary.specs.declared.envelope.Source.{Source}
 use Rattle.engine_calls.specs.EngineState.{GroupsState, member_of}
 use Rattle.engine_calls.specs.declared.call.Call.{Call}
 use Rattle.engine_calls.specs.declared.call.Call.TheVariants as calls
-use Rattle.engine_calls.specs.declared.call.Probe.{Probe}
-use Rattle.engine_calls.specs.declared.call.Receive.{Receive}
-use Rattle.engine_calls.specs.declared.call.Send.{Send}
+use Rattle.point_to_point_calls.specs.declared.call.Probe.{Probe}
+use Rattle.point_to_point_calls.specs.declared.call.Receive.{Receive}
+use Rattle.point_to_point_calls.specs.declared.call.Send.{Send}
 use Rattle.engine_calls.specs.declared.reply.Reply.{Reply}
 use Rattle.engine_calls.specs.declared.reply.Reply.TheVariants as replies
 
@@ -23,21 +24,25 @@ use Rattle.engine_calls.specs.declared.reply.Reply.TheVariants as replies
 abbrev pub route_at : GroupsState → (comm : Option ℕ) → Source → Option RouteText
 route_at g comm named = option_map (route_on named) (held_at (member_of g) comm)
 
+-- what of a route the core looks at
+abbrev pub call_route : RouteText → CallRoute
+call_route r = record { named = r.named; context = r.context }
+
 -- a send with this route
-abbrev pub send_by : Send → RouteText → core_sends.CoreSend
-send_by s r = record { mode = s.mode; target = r.named; tag = s.tag; context = r.context; from = s.from }
+abbrev pub send_by : Send → RouteText → core_sends.RoutedSend
+send_by s r = record { route = call_route r; send = s }
 
 -- a receive with this route
-abbrev pub receive_by : Receive → RouteText → core_receives.CoreReceive
-receive_by v r = record { source = r.named; tag = v.tag; context = r.context; group = r.group; into = v.into }
+abbrev pub receive_by : Receive → RouteText → core_receives.RoutedReceive
+receive_by v r = record { route = call_route r; group = r.group; receive = v }
 
 -- a probe with this route
-abbrev pub probe_by : Probe → RouteText → core_probes.CoreProbe
-probe_by p r = record { source = r.named; tag = p.tag; context = r.context; group = r.group }
+abbrev pub probe_by : Probe → RouteText → core_probes.RoutedProbe
+probe_by p r = record { route = call_route r; group = r.group; probe = p }
 
 -- what the core is asked; of a collective, and of a question, it is asked nothing, and a probe that takes nothing out
 -- only looks
-abbrev pub core_call : GroupsState → Call → Option core_asks.CoreCall
+abbrev pub core_call : GroupsState → Call → Option core_asks.RoutedCall
 core_call g (calls.Isend s) = option_map (λ r. core_calls.Isend (send_by s r)) (route_at g s.comm s.target)
 core_call g (calls.Irecv v) = option_map (λ r. core_calls.Irecv (receive_by v r)) (route_at g v.comm v.source)
 core_call g (calls.Wait q) = Some (core_calls.Wait q)

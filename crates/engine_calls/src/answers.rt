@@ -12,9 +12,9 @@ ghost use Rattle.engine_calls.specs.declared.call.Call as engine_calls;
 
 use crate::call::Call;
 use crate::reply::Reply;
-use crate::routed_call::{RoutedCall, reply_of_core, share_members};
+use crate::routed_call::{call_of, reply_of_core, share_members};
 use communicators::Communicators;
-use point_to_point::{Core, HandedBack, PreparedCall, Refusal};
+use point_to_point::{Core, CoreReply, HandedBack, PreparedCall, Refusal, RoutedCall};
 use sessions::Sessions;
 use std::alloc::Global;
 
@@ -24,7 +24,7 @@ use std::alloc::Global;
 fn send_frame(
     core: &Core,
     sessions: &mut Sessions,
-    call: &point_to_point::CoreCall,
+    call: &RoutedCall,
     prepared: &PreparedCall,
 ) -> Result<(), Refusal>
     requires clear { IsClear core.now.state sessions.old call.now }
@@ -51,7 +51,7 @@ fn send_frame(
 fn make_way(
     core: &mut Core,
     sessions: &mut Sessions,
-    call: &point_to_point::CoreCall,
+    call: &RoutedCall,
 ) -> Result<PreparedCall, Refusal>
     requires clear { IsClear core.old.state sessions.old call.now }
     requires place { core.old.state.place ≡ sessions.old.place }
@@ -73,11 +73,7 @@ fn make_way(
 
 /// The core's answer to what breaks no rule and meets no limit; or it comes back for want of memory.
 #[tactic(auto, using(crate::proofs::Answering::answer_given))]
-fn answer(
-    core: &mut Core,
-    sessions: &mut Sessions,
-    call: point_to_point::CoreCall,
-) -> point_to_point::CoreReply
+fn answer(core: &mut Core, sessions: &mut Sessions, call: RoutedCall) -> CoreReply
     requires clear { IsClear core.old.state sessions.old call }
     requires place { core.old.state.place ≡ sessions.old.place }
     ensures exact { AnswerGives core.old.state sessions.old call result core.new.state sessions.new }
@@ -87,7 +83,7 @@ fn answer(
 {
     match make_way(core, sessions, &call) {
         Ok(prepared) => core.answer(call, prepared),
-        Err(refused) => point_to_point::CoreReply::Refused(refused, call),
+        Err(refused) => CoreReply::Refused(refused, call),
     }
 }
 
@@ -112,11 +108,8 @@ fn answer_asked(
 {
     let mut asked = asked;
     match share_members(alloc, communicators, &mut asked) {
-        Ok(()) => {
-            let RoutedCall { comm, named, call } = asked;
-            reply_of_core(comm, named, answer(core, sessions, call))
-        }
-        Err(_) => Reply::Refused(Refusal::OutOfMemory, asked.into_call()),
+        Ok(()) => reply_of_core(answer(core, sessions, asked)),
+        Err(_) => Reply::Refused(Refusal::OutOfMemory, call_of(asked)),
     }
 }
 

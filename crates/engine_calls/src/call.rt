@@ -4,49 +4,9 @@ ghost use Rattle.std.specs.Prelude.{◌≡◌, IfOk};
 
 use collective_messages::Entry;
 use communicators::Question;
+use point_to_point_calls::{Probe, Receive, Send};
 use requests::{Region, Request, RequestList};
 use std::alloc::{AllocError, Global};
-use vocabulary::{Mode, Source};
-
-/// A send (MPI 3.1, 3.4 and 3.7.2).
-#[derive(Drop)]
-pub struct Send {
-    /// Standard or synchronous: how it ends (3.4).
-    pub mode: Mode,
-    /// The communicator, by its place among those that the rank holds: `world` has place 0, `self` place 1. `None` is
-    /// MPI_COMM_NULL, which is refused (6.4).
-    pub comm: Option<usize>,
-    /// The rank in the communicator that it goes to, or the null process (3.11). Any rank is no target: it is refused.
-    pub target: Source,
-    /// The tag, at most 2,147,483,647. The wildcard, `None`, is no tag of a send: it is refused.
-    pub tag: Option<u32>,
-    /// Where the data are taken from.
-    pub from: Region,
-}
-
-/// A receive (MPI 3.1, 3.2.4 and 3.7.2).
-#[derive(Drop)]
-pub struct Receive {
-    /// The communicator, by its place among those that the rank holds; `None` is MPI_COMM_NULL.
-    pub comm: Option<usize>,
-    /// Whom it names, as a rank in the communicator. Its status names the source so too (3.2.5).
-    pub source: Source,
-    /// The tag that it wants, at most 2,147,483,647; `None` is the wildcard.
-    pub tag: Option<u32>,
-    /// Where the data go. The receive takes the buffer with it, and its outcome hands it back.
-    pub into: Region,
-}
-
-/// What a probe asks for (MPI 3.1, 3.8.1 and 3.8.2).
-#[derive(Clone, Copy)]
-pub struct Probe {
-    /// The communicator, by its place among those that the rank holds; `None` is MPI_COMM_NULL.
-    pub comm: Option<usize>,
-    /// Whom it names, as a rank in the communicator. Its status names the source so too (3.2.5).
-    pub source: Source,
-    /// The tag that it wants, at most 2,147,483,647; `None` is the wildcard.
-    pub tag: Option<u32>,
-}
 
 /// What a program may ask of its rank. Where a request is named, none is the null request; where a communicator is,
 /// none is
@@ -88,19 +48,8 @@ impl Call {
         ensures { IfOk result (λ copy. copy ≡ self.now) }
     {
         match self {
-            Call::Isend(send) => Ok(Call::Isend(Send {
-                mode: send.mode,
-                comm: send.comm,
-                target: send.target,
-                tag: send.tag,
-                from: send.from.try_clone(alloc)?,
-            })),
-            Call::Irecv(receive) => Ok(Call::Irecv(Receive {
-                comm: receive.comm,
-                source: receive.source,
-                tag: receive.tag,
-                into: receive.into.try_clone(alloc)?,
-            })),
+            Call::Isend(send) => Ok(Call::Isend(send.try_clone(alloc)?)),
+            Call::Irecv(receive) => Ok(Call::Irecv(receive.try_clone(alloc)?)),
             Call::Wait(request) => Ok(Call::Wait(*request)),
             Call::Test(request) => Ok(Call::Test(*request)),
             Call::Waitany(list) => Ok(Call::Waitany(list.try_clone(alloc)?)),

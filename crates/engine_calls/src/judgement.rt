@@ -6,20 +6,20 @@ ghost use Rattle.perfect_groups.specs.Faults.{is_within};
 ghost use Rattle.point_to_point_calls.specs.Calls.{IsWithin};
 ghost use Rattle.point_to_point.specs.Calls.{argument_fault, call_fault, call_frame, limit_fault, request_fault};
 ghost use Rattle.sessions.specs.SessionsState.{SessionsState};
-ghost use Rattle.vocabulary.specs.declared.envelope.Source.TheVariants.{Null};
 ghost use Rattle.engine_calls.specs.Asks.{AskGives, IsOnRequests, JudgementGives, JudgingGives, asked_fault};
-ghost use Rattle.engine_calls.specs.Asks.{call_of_core, engine_of, groups_of, source_rule, target_rule};
+ghost use Rattle.engine_calls.specs.Asks.{call_of, engine_of, groups_of, source_rule, target_rule};
 ghost use Rattle.engine_calls.specs.EngineState.{Rest, member_of};
 ghost use Rattle.engine_calls.specs.Faults.{group_limit};
 ghost use Rattle.engine_calls.specs.Frames.{frame_limit};
 ghost use Rattle.engine_calls.specs.Refusals.{first_fault};
 ghost use Rattle.engine_calls.specs.declared.call.Call.TheVariants as calls;
 
-use crate::call::{Call, Probe, Receive, Send};
+use crate::call::Call;
 use crate::refusal::of_sessions;
-use crate::routed_call::{RoutedCall, route_probe, route_receive, route_send};
+use crate::routed_call::{call_of, route_probe, route_receive, route_send};
 use communicators::{Communicators, Route};
-use point_to_point::{Core, HandedBack, Refusal};
+use point_to_point::{Core, HandedBack, Refusal, RoutedCall};
+use point_to_point_calls::{Probe, Receive, Send};
 use requests::{Region, Request};
 use sessions::Sessions;
 use vocabulary::Source;
@@ -90,11 +90,7 @@ pub(crate) fn rule_of_source(
 
 /// The limit that the frame of a call meets, if the call has one.
 #[tactic(auto, using(crate::proofs::Limits::no_limit_is_met))]
-fn limit_of_frame(
-    core: &Core,
-    sessions: &Sessions,
-    call: &point_to_point::CoreCall,
-) -> Option<Refusal>
+fn limit_of_frame(core: &Core, sessions: &Sessions, call: &RoutedCall) -> Option<Refusal>
     requires allowed { call_fault core.now.state call.now ≡ None }
     requires place { core.now.state.place ≡ sessions.now.place }
     ensures { result ≡ frame_limit sessions.now (call_frame core.now.state call.now) }
@@ -110,11 +106,7 @@ fn limit_of_frame(
 
 /// The limit that what the core is asked meets: of the core, or of its frame.
 #[tactic(auto, using(crate::proofs::Clear::allowed_by))]
-fn limit_of_asked(
-    core: &Core,
-    sessions: &Sessions,
-    call: &point_to_point::CoreCall,
-) -> Option<Refusal>
+fn limit_of_asked(core: &Core, sessions: &Sessions, call: &RoutedCall) -> Option<Refusal>
     requires free { request_fault core.now.state call.now ≡ None }
     requires arguments { argument_fault core.now.state.place call.now ≡ None }
     requires place { core.now.state.place ≡ sessions.now.place }
@@ -133,7 +125,7 @@ fn fault_of_asked(
     core: &Core,
     sessions: &Sessions,
     rule: Option<Refusal>,
-    call: &point_to_point::CoreCall,
+    call: &RoutedCall,
 ) -> Option<Refusal>
     requires free { request_fault core.now.state call.now ≡ None }
     requires place { core.now.state.place ≡ sessions.now.place }
@@ -157,15 +149,15 @@ fn asked_unless_refused(
     rule: Option<Refusal>,
     asked: RoutedCall,
 ) -> Result<RoutedCall, HandedBack<Call>>
-    requires free { request_fault core.now.state asked.call ≡ None }
+    requires free { request_fault core.now.state asked ≡ None }
     requires place { core.now.state.place ≡ sessions.now.place }
     ensures { JudgingGives core.now.state sessions.now rule asked result }
 {
-    match fault_of_asked(core, sessions, rule, &asked.call) {
+    match fault_of_asked(core, sessions, rule, &asked) {
         None => Ok(asked),
         Some(refused) => Err(HandedBack {
             refused,
-            value: asked.into_call(),
+            value: call_of(asked),
         }),
     }
 }
@@ -266,22 +258,18 @@ pub fn ask_for_message(
         AskGives (engine_of core.now.state (groups_of communicators.now) rest sessions.now) (calls.Mrecv message into)
         result }
 {
-    let asked = RoutedCall {
-        comm: None,
-        named: Source::Null,
-        call: point_to_point::CoreCall::Mrecv(message, into),
-    };
+    let asked = RoutedCall::Mrecv(message, into);
     if is_busy(core, communicators) {
         return Err(HandedBack {
             refused: Refusal::Request,
-            value: asked.into_call(),
+            value: call_of(asked),
         });
     }
-    match core.fault_of_requests(&asked.call) {
+    match core.fault_of_requests(&asked) {
         None => asked_unless_refused(core, sessions, None, asked),
         Some(refused) => Err(HandedBack {
             refused,
-            value: asked.into_call(),
+            value: call_of(asked),
         }),
     }
 }
@@ -290,28 +278,23 @@ pub fn ask_for_message(
 pub fn ask_on_requests(
     core: &Core,
     communicators: &Communicators,
-    call: point_to_point::CoreCall,
+    asked: RoutedCall,
 ) -> Result<RoutedCall, HandedBack<Call>>
-    requires { IsOnRequests call }
+    requires { IsOnRequests asked }
     ensures { (rest : Rest) (s : SessionsState) →
-        AskGives (engine_of core.now.state (groups_of communicators.now) rest s) (call_of_core None Null call) result }
+        AskGives (engine_of core.now.state (groups_of communicators.now) rest s) (call_of asked) result }
 {
-    let asked = RoutedCall {
-        comm: None,
-        named: Source::Null,
-        call,
-    };
     if is_busy(core, communicators) {
         return Err(HandedBack {
             refused: Refusal::Request,
-            value: asked.into_call(),
+            value: call_of(asked),
         });
     }
-    match core.fault_of_requests(&asked.call) {
+    match core.fault_of_requests(&asked) {
         None => Ok(asked),
         Some(refused) => Err(HandedBack {
             refused,
-            value: asked.into_call(),
+            value: call_of(asked),
         }),
     }
 }
@@ -323,7 +306,7 @@ pub fn judge(asked: Result<RoutedCall, HandedBack<Call>>) -> JudgedCall
     match asked {
         Ok(asked) => JudgedCall {
             fault: None,
-            call: asked.into_call(),
+            call: call_of(asked),
         },
         Err(handed) => JudgedCall {
             fault: Some(handed.refused),

@@ -17,12 +17,12 @@ mod reply;
 mod routed_call;
 
 pub use answers::answer_unless_refused;
-pub use call::{Call, Probe, Receive, Send};
+pub use call::Call;
 pub use frames::send_step;
 pub use judgement::{
     JudgedCall, ask_for_message, ask_on_requests, ask_to_probe, ask_to_receive, ask_to_send, judge,
 };
+pub use point_to_point_calls::{Probe, Receive, Send};
 pub use probes::{fault_of_look, look};
 pub use refusal::{of_collectives, of_rule, of_sessions};
 pub use reply::{Completion, Fact, Reply};
-pub use routed_call::RoutedCall;

@@ -10,12 +10,12 @@ ghost use Rattle.engine_calls.specs.Faults.{fault_of, group_limit};
 ghost use Rattle.engine_calls.specs.Refusals.{first_fault};
 ghost use Rattle.engine_calls.specs.declared.call.Call.TheVariants as calls;
 
-use crate::call::Probe;
 use crate::judgement::{is_busy, rule_of_source};
 use crate::routed_call::route_probe;
 use communicator_members::status_among;
 use communicators::{Communicators, Route};
 use point_to_point::{Core, Refusal};
+use point_to_point_calls::Probe;
 use sessions::Sessions;
 use vocabulary::Status;
 
@@ -28,12 +28,12 @@ fn rule_of_look(
     route: Route<'_>,
 ) -> Option<Refusal>
     ensures { result ≡
-        first_fault (argument_fault core.now.state.place (route_probe probe (route_text route.entry)).call)
+        first_fault (argument_fault core.now.state.place (route_probe probe (route_text route.entry)))
         (source_rule (groups_of communicators.now) sessions.now.known probe.comm probe.source
         (route_text route.entry)) }
 {
     let asked = route_probe(probe, route);
-    if let Some(fault) = core.fault_of_arguments(&asked.call) {
+    if let Some(fault) = core.fault_of_arguments(&asked) {
         return Some(fault);
     }
     rule_of_source(communicators, sessions, probe.comm, probe.source, route)

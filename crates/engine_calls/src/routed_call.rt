@@ -1,135 +1,91 @@
-//! What the core is asked by a call of point to point, or on requests.
+//! What the core is asked by a call of point to point, or on requests, and the call handed back.
 
 ghost use Rattle.std.specs.Prelude.{◌≡◌, IfOk, OnErr, OnOk};
 ghost use Rattle.communicators.specs.Routes.{route_text};
-ghost use Rattle.engine_calls.specs.Asks.{IsShareable, NeedsGroup, call_of_core, call_of, group_at, groups_of};
+ghost use Rattle.engine_calls.specs.Asks.{IsShareable, NeedsGroup, call_of, group_at, group_of, groups_of};
 ghost use Rattle.engine_calls.specs.Asks.{route_probe, route_receive, route_send, reply_of_core, with_group};
 ghost use Rattle.engine_calls.specs.Faults.{group_limit};
 
-use crate::call::{Call, Probe, Receive, Send};
+use crate::call::Call;
 use crate::reply::Reply;
 use communicator_members::Members;
 use communicators::{Communicators, Route};
+use point_to_point_calls::{
+    CallRoute, CoreReply, Probe, Receive, RoutedCall, RoutedProbe, RoutedReceive, RoutedSend, Send,
+};
 use std::alloc::{AllocError, Global};
 use vocabulary::Source;
-
-/// What the core is asked by a call: in the context of its communicator, with ranks of `world`; and of a call of point
-/// to point what it named.
-#[derive(Drop)]
-pub struct RoutedCall {
-    /// The communicator that it named.
-    pub comm: Option<usize>,
-    /// The rank in the communicator that it named.
-    pub named: Source,
-    /// What the core is asked.
-    pub call: point_to_point::CoreCall,
-}
 
 /// What a send asks on this route.
 pub fn route_send(send: Send, route: Route<'_>) -> RoutedCall
     ensures { result ≡ route_send send (route_text route.entry) }
 {
-    RoutedCall {
-        comm: send.comm,
-        named: send.target,
-        call: point_to_point::CoreCall::Isend(point_to_point::CoreSend {
-            mode: send.mode,
-            target: route.named,
-            tag: send.tag,
+    RoutedCall::Isend(RoutedSend {
+        route: CallRoute {
+            named: route.named,
             context: route.context,
-            from: send.from,
-        }),
-    }
+        },
+        send,
+    })
 }
 
 /// What a receive asks on this route, before it has its group.
 pub fn route_receive(receive: Receive, route: Route<'_>) -> RoutedCall
     ensures { result ≡ route_receive receive (route_text route.entry) }
 {
-    RoutedCall {
-        comm: receive.comm,
-        named: receive.source,
-        call: point_to_point::CoreCall::Irecv(point_to_point::CoreReceive {
-            source: route.named,
-            tag: receive.tag,
+    RoutedCall::Irecv(RoutedReceive {
+        route: CallRoute {
+            named: route.named,
             context: route.context,
-            group: None,
-            into: receive.into,
-        }),
-    }
+        },
+        group: None,
+        receive,
+    })
 }
 
 /// What a matching probe asks on this route, before it has its group.
 pub fn route_probe(probe: Probe, route: Route<'_>) -> RoutedCall
     ensures { result ≡ route_probe probe (route_text route.entry) }
 {
-    RoutedCall {
-        comm: probe.comm,
-        named: probe.source,
-        call: point_to_point::CoreCall::Improbe(point_to_point::CoreProbe {
-            source: route.named,
-            tag: probe.tag,
+    RoutedCall::Improbe(RoutedProbe {
+        route: CallRoute {
+            named: route.named,
             context: route.context,
-            group: None,
-        }),
-    }
+        },
+        group: None,
+        probe,
+    })
 }
 
-/// The call by which the core is asked this, with what it named.
-fn call_of_core(comm: Option<usize>, named: Source, call: point_to_point::CoreCall) -> Call
-    ensures { result ≡ call_of_core comm named call }
+/// The call by which the core is asked this: it is handed back as it was handed in.
+pub fn call_of(asked: RoutedCall) -> Call
+    ensures { result ≡ call_of asked }
 {
-    match call {
-        point_to_point::CoreCall::Isend(send) => Call::Isend(Send {
-            mode: send.mode,
-            comm,
-            target: named,
-            tag: send.tag,
-            from: send.from,
-        }),
-        point_to_point::CoreCall::Irecv(receive) => Call::Irecv(Receive {
-            comm,
-            source: named,
-            tag: receive.tag,
-            into: receive.into,
-        }),
-        point_to_point::CoreCall::Wait(request) => Call::Wait(request),
-        point_to_point::CoreCall::Test(request) => Call::Test(request),
-        point_to_point::CoreCall::Waitany(list) => Call::Waitany(list),
-        point_to_point::CoreCall::Waitall(list) => Call::Waitall(list),
-        point_to_point::CoreCall::Cancel(request) => Call::Cancel(request),
-        point_to_point::CoreCall::Improbe(probe) => Call::Improbe(Probe {
-            comm,
-            source: named,
-            tag: probe.tag,
-        }),
-        point_to_point::CoreCall::Mrecv(message, into) => Call::Mrecv(message, into),
+    match asked {
+        RoutedCall::Isend(routed) => Call::Isend(routed.send),
+        RoutedCall::Irecv(routed) => Call::Irecv(routed.receive),
+        RoutedCall::Wait(request) => Call::Wait(request),
+        RoutedCall::Test(request) => Call::Test(request),
+        RoutedCall::Waitany(list) => Call::Waitany(list),
+        RoutedCall::Waitall(list) => Call::Waitall(list),
+        RoutedCall::Cancel(request) => Call::Cancel(request),
+        RoutedCall::Improbe(routed) => Call::Improbe(routed.probe),
+        RoutedCall::Mrecv(message, into) => Call::Mrecv(message, into),
     }
 }
 
-/// The core's answer, as the engine's to a call that named this.
-pub fn reply_of_core(comm: Option<usize>, named: Source, reply: point_to_point::CoreReply) -> Reply
-    ensures { result ≡ reply_of_core comm named reply }
+/// The core's answer, as the engine's.
+pub fn reply_of_core(reply: CoreReply) -> Reply
+    ensures { result ≡ reply_of_core reply }
 {
     match reply {
-        point_to_point::CoreReply::Started(request) => Reply::Started(request),
-        point_to_point::CoreReply::Done(answer) => Reply::Done(answer),
-        point_to_point::CoreReply::Pending => Reply::Pending,
-        point_to_point::CoreReply::Accepted => Reply::Accepted,
-        point_to_point::CoreReply::Matched(found) => Reply::Matched(found),
-        point_to_point::CoreReply::Blocked => Reply::Blocked,
-        point_to_point::CoreReply::Refused(refused, call) => {
-            Reply::Refused(refused, call_of_core(comm, named, call))
-        }
-    }
-}
-
-impl RoutedCall {
-    /// The call that asks it.
-    pub fn into_call(self) -> Call
-        ensures { result ≡ call_of self }
-    {
-        call_of_core(self.comm, self.named, self.call)
+        CoreReply::Started(request) => Reply::Started(request),
+        CoreReply::Done(answer) => Reply::Done(answer),
+        CoreReply::Pending => Reply::Pending,
+        CoreReply::Accepted => Reply::Accepted,
+        CoreReply::Matched(found) => Reply::Matched(found),
+        CoreReply::Blocked => Reply::Blocked,
+        CoreReply::Refused(refused, asked) => Reply::Refused(refused, call_of(asked)),
     }
 }
 
@@ -160,20 +116,20 @@ pub fn share_members(
     communicators: &Communicators,
     asked: &mut RoutedCall,
 ) -> Result<(), AllocError>
-    requires { IsShareable (group_at (groups_of communicators.now) asked.old.comm asked.old.named) asked.old.call }
-    ensures ok { OnOk result (asked.new ≡ record asked.old {
-      call = with_group (group_at (groups_of communicators.now) asked.old.comm asked.old.named) asked.old.call;
-    }) }
+    requires { IsShareable (group_of (groups_of communicators.now) asked.old) asked.old }
+    ensures ok { OnOk result (asked.new ≡ with_group (group_of (groups_of communicators.now) asked.old) asked.old) }
     ensures unchanged { OnErr result (asked.new ≡ asked.old) }
-    ensures need { OnErr result (NeedsGroup asked.old.call) }
+    ensures need { OnErr result (NeedsGroup asked.old) }
 {
-    match &mut asked.call {
-        point_to_point::CoreCall::Irecv(receive) => {
-            receive.group = members_of(alloc, communicators, asked.comm, asked.named)?;
+    match asked {
+        RoutedCall::Irecv(routed) => {
+            let named = routed.receive.source;
+            routed.group = members_of(alloc, communicators, routed.receive.comm, named)?;
             Ok(())
         }
-        point_to_point::CoreCall::Improbe(probe) => {
-            probe.group = members_of(alloc, communicators, asked.comm, asked.named)?;
+        RoutedCall::Improbe(routed) => {
+            let probe = routed.probe;
+            routed.group = members_of(alloc, communicators, probe.comm, probe.source)?;
             Ok(())
         }
         _ => Ok(()),

@@ -16,7 +16,7 @@ use Rattle.collective_messages.specs.declared.entry.Entry.TheVariants as entries
 use Rattle.communicators.specs.declared.question.Question.TheVariants as questions
 use Rattle.engine_calls.specs.declared.call.Call.{Call}
 use Rattle.engine_calls.specs.declared.call.Call.TheVariants as calls
-use Rattle.engine_calls.specs.declared.call.Probe.{Probe}
+use Rattle.point_to_point_calls.specs.declared.call.Probe.{Probe}
 use Rattle.statements.specs.declared.action.Action.{Action}
 use Rattle.statements.specs.declared.action.Action.TheVariants as actions
 use Rattle.statements.specs.declared.action.BufferLine.{BufferLine}

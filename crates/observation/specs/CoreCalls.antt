@@ -15,11 +15,11 @@ use Rattle.requests.specs.Regions.{handed_of}
 use Rattle.requests.specs.Table.{slot_at}
 use Rattle.requests.specs.declared.table.TableEntry as table
 use Rattle.requests.specs.declared.table.Request.{Request}
-use Rattle.point_to_point_calls.specs.declared.call.CoreSend.{CoreSend}
-use Rattle.point_to_point_calls.specs.declared.call.CoreReceive.{CoreReceive}
-use Rattle.point_to_point_calls.specs.declared.call.CoreProbe.{CoreProbe}
-use Rattle.point_to_point_calls.specs.declared.call.CoreCall.{CoreCall}
-use Rattle.point_to_point_calls.specs.declared.call.CoreCall.TheVariants as calls
+use Rattle.point_to_point_calls.specs.declared.call.RoutedSend.{RoutedSend}
+use Rattle.point_to_point_calls.specs.declared.call.RoutedReceive.{RoutedReceive}
+use Rattle.point_to_point_calls.specs.declared.call.RoutedProbe.{RoutedProbe}
+use Rattle.point_to_point_calls.specs.declared.call.RoutedCall.{RoutedCall}
+use Rattle.point_to_point_calls.specs.declared.call.RoutedCall.TheVariants as calls
 use Rattle.point_to_point_calls.specs.declared.call.CoreReply.{CoreReply}
 use Rattle.point_to_point_calls.specs.declared.call.CoreReply.TheVariants as replies
 use Rattle.point_to_point.specs.CoreState.{CoreState}
@@ -46,17 +46,23 @@ answer_seen answers.IndexUndefined = completions.ForAny None
 answer_seen (answers.All os) = completions.ForAll (map outcome_seen os)
 
 -- a receive, in the context of its communicator and with its group
-abbrev pub receive_seen : CoreReceive → machine_receives.Receive
+abbrev pub receive_seen : RoutedReceive → machine_receives.Receive
 receive_seen v =
-    record { source = v.source; tag = v.tag; context = v.context; group = v.group; into = handed_of v.into }
+    record {
+      source = v.route.named;
+      tag = v.receive.tag;
+      context = v.route.context;
+      group = v.group;
+      into = handed_of v.receive.into;
+    }
 
 -- a probe, in the context of its communicator and with its group
-abbrev pub probe_seen : CoreProbe → machine_receives.Probe
-probe_seen p = record { source = p.source; tag = p.tag; context = p.context; group = p.group }
+abbrev pub probe_seen : RoutedProbe → machine_receives.Probe
+probe_seen p = record { source = p.route.named; tag = p.probe.tag; context = p.route.context; group = p.group }
 
 -- a send, in the context of its communicator
-abbrev pub send_seen : CoreSend → machine.Call
-send_seen s = machine.Isend s.mode s.context s.target s.tag (handed_of s.from)
+abbrev pub send_seen : RoutedSend → machine.Call
+send_seen s = machine.Isend s.send.mode s.route.context s.route.named s.send.tag (handed_of s.send.from)
 
 -- a request is named by its serial; what that is may depend on the rank
 abbrev pub request_by : (Request → ℕ) → Option Request → Option ℕ
@@ -75,7 +81,7 @@ awaited_by f (awaiteds.AnyOf qs) = completions.AnyOf (requests_by f qs)
 awaited_by f (awaiteds.AllOf qs) = completions.AllOf (requests_by f qs)
 
 -- a call, where requests are named so
-abbrev pub call_by : (Request → ℕ) → CoreCall → machine.Call
+abbrev pub call_by : (Request → ℕ) → RoutedCall → machine.Call
 call_by f (calls.Isend s) = send_seen s
 call_by f (calls.Irecv v) = machine.Irecv (receive_seen v)
 call_by f (calls.Wait q) = machine.Wait (awaited_by f (awaiteds.One q))
@@ -91,7 +97,7 @@ abbrev pub own_serial : Request → ℕ
 own_serial q = q.serial
 
 -- what is seen of a call: each request is named by its own serial
-abbrev pub call_seen : CoreCall → machine.Call
+abbrev pub call_seen : RoutedCall → machine.Call
 call_seen call = call_by own_serial call
 
 -- what is seen of what a call waits for
@@ -113,7 +119,7 @@ abbrev pub serial_meant : CoreState → Request → ℕ
 serial_meant c q = if is_foreign c.slots q then c.serial else q.serial
 
 -- what a call means at a rank: what is seen of it, but that a request of another engine is one that it never gave
-abbrev pub call_meant : CoreState → CoreCall → machine.Call
+abbrev pub call_meant : CoreState → RoutedCall → machine.Call
 call_meant c call = call_by (serial_meant c) call
 
 -- what a matching probe found: a message is named by its serial
@@ -121,7 +127,7 @@ abbrev pub match_seen : Option (Option Request × Status) → Option (Option ℕ
 match_seen found = option_map (λ t. (request_by own_serial t.0, t.1)) found
 
 -- what is seen of a call at an endpoint that was answered so; of a refused one nothing is
-abbrev pub told_call : Endpoint → CoreCall → Option CoreReply → List Entry
+abbrev pub told_call : Endpoint → RoutedCall → Option CoreReply → List Entry
 told_call e call None = []
 told_call e call (Some (replies.Started q)) = Called e (call_seen call) (machine.Started q.serial) ∷ []
 told_call e call (Some (replies.Done a)) = Called e (call_seen call) (machine.Done (answer_seen a)) ∷ []

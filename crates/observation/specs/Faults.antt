@@ -4,7 +4,7 @@ use Rattle.point_to_point.specs.CoreState.{CoreState}
 use Rattle.engine_calls.specs.Calls.{CallGives}
 use Rattle.engine_calls.specs.EngineState.{EngineState, member_of}
 use Rattle.engine_calls.specs.declared.call.Call.{Call}
-use Rattle.engine_calls.specs.declared.call.Probe.{Probe}
+use Rattle.point_to_point_calls.specs.declared.call.Probe.{Probe}
 use Rattle.perfect_groups.specs.Calls.{queue_call}
 use Rattle.perfect_groups.specs.Faults.{fault}
 use Rattle.perfect_groups.specs.Machine.{Machine}

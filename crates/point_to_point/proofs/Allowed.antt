@@ -9,10 +9,10 @@ use Rattle.vocabulary.specs.Limits.{send_limit}
 use Rattle.datatypes.specs.Contents.{Contents}
 use Rattle.requests.specs.Regions.{CanReceive, handed_of, is_unfit_to_receive, sent_from}
 use Rattle.requests.specs.Table.{is_full}
-use Rattle.point_to_point_calls.specs.declared.call.CoreCall.{CoreCall}
-use Rattle.point_to_point_calls.specs.declared.call.CoreCall.TheVariants.{Isend, Irecv, Mrecv}
-use Rattle.point_to_point_calls.specs.declared.call.CoreReceive.{CoreReceive}
-use Rattle.point_to_point_calls.specs.declared.call.CoreSend.{CoreSend}
+use Rattle.point_to_point_calls.specs.declared.call.RoutedCall.{RoutedCall}
+use Rattle.point_to_point_calls.specs.declared.call.RoutedCall.TheVariants.{Isend, Irecv, Mrecv}
+use Rattle.point_to_point_calls.specs.declared.call.RoutedReceive.{RoutedReceive}
+use Rattle.point_to_point_calls.specs.declared.call.RoutedSend.{RoutedSend}
 use Rattle.point_to_point_calls.specs.declared.refusal.Refusal.{Refusal}
 use Rattle.point_to_point.specs.Calls.{call_fault, fault_at, free_fault}
 use Rattle.point_to_point.specs.CoreState.{CoreState}
@@ -28,7 +28,8 @@ use Rattle.point_to_point.specs.Sending.{or_full}
 use Rattle.point_to_point_calls.proofs.SendLaws.{long_enough, rank_is_there, same_type, within_limit}
 
 -- nothing else was found while no earlier call is blocked
-unblocked : (a : Option Awaited) (c : CoreState) (call : CoreCall) → fault_at a c call ≡ None → free_fault c call ≡ None
+unblocked : (a : Option Awaited) (c : CoreState) (call : RoutedCall) → fault_at a c call ≡ None → free_fault c call ≡
+    None
 unblocked None c call none = none
 unblocked (Some a) c call none = absurd cc
 
@@ -61,17 +62,17 @@ left_of None (Some other) rank t is none =
     same_some a b e = cc
 
 -- a send breaks no rule
-free_send : (c : CoreState) (s : CoreSend) → free_fault c (Isend s) ≡ None → send_fault c.place s ≡ None
+free_send : (c : CoreState) (s : RoutedSend) → free_fault c (Isend s) ≡ None → send_fault c.place s ≡ None
 free_send c s none =
     no_rule (send_fault c.place s) c
     (no_limit (or_full (send_fault c.place s) c) (announced_to c.place s) c.transfers none)
 
 -- the same of a call
-sendable : (c : CoreState) (s : CoreSend) → call_fault c (Isend s) ≡ None → send_fault c.place s ≡ None
+sendable : (c : CoreState) (s : RoutedSend) → call_fault c (Isend s) ≡ None → send_fault c.place s ≡ None
 sendable c s none = free_send c s (unblocked c.blocked c (Isend s) none)
 
 -- a transfer can begin to the rank to which its message is announced
-pub announces : (c : CoreState) (s : CoreSend) (rank : ℕ) → free_fault c (Isend s) ≡ None →
+pub announces : (c : CoreState) (s : RoutedSend) (rank : ℕ) → free_fault c (Isend s) ≡ None →
     announced_to c.place s ≡ Some rank → is_full_to c.transfers.numbers rank ≡ false
 announces c s rank none is =
     left_of (or_full (send_fault c.place s) c) (announced_to c.place s) rank c.transfers is none
@@ -86,55 +87,59 @@ there_if true (Some r) n rank is there = subst (λ (k : ℕ). k < n) (same_some 
 there_if false o n rank is there = absurd cc
 
 -- what it offers goes to a rank of the job
-pub offer_is_there : (c : CoreState) (s : CoreSend) (rank : ℕ) → free_fault c (Isend s) ≡ None →
+pub offer_is_there : (c : CoreState) (s : RoutedSend) (rank : ℕ) → free_fault c (Isend s) ≡ None →
     announced_to c.place s ≡ Some rank → rank < c.place.size
 offer_is_there c s rank none is =
-    there_if (is_announced s.mode (sent_from s.from)) (rank_to c.place (destination s.target s.tag s.context))
+    there_if (is_announced s.send.mode (sent_from s.send.from))
+    (rank_to c.place (destination s.route.named s.send.tag s.route.context))
     c.place.size rank is (rank_is_there c.place s (free_send c s none))
 
 -- and is within the limit of a message
-pub offer_is_within : (c : CoreState) (s : CoreSend) (elements : Contents) → free_fault c (Isend s) ≡ None →
-    elements ≡ sent_from s.from →
+pub offer_is_within : (c : CoreState) (s : RoutedSend) (elements : Contents) → free_fault c (Isend s) ≡ None →
+    elements ≡ sent_from s.send.from →
     length elements.values * size_of elements.basic ≤ send_limit
 offer_is_within c s elements none same =
     subst (λ (e : Contents). length e.values * size_of e.basic ≤ send_limit) (sym same)
     (within_limit c.place s (free_send c s none))
 
 -- it breaks no other rule
-pub allowed_send : (c : CoreState) (s : CoreSend) → call_fault c (Isend s) ≡ None → free_fault c (Isend s) ≡ None
+pub allowed_send : (c : CoreState) (s : RoutedSend) → call_fault c (Isend s) ≡ None → free_fault c (Isend s) ≡ None
 allowed_send c s none = unblocked c.blocked c (Isend s) none
 
 -- a send's buffer and layout are of one basic type
-pub send_types : (c : CoreState) (s : CoreSend) → call_fault c (Isend s) ≡ None → differs_in_type (handed_of s.from) ≡
-    false
+pub send_types : (c : CoreState) (s : RoutedSend) → call_fault c (Isend s) ≡ None →
+    differs_in_type (handed_of s.send.from) ≡ false
 send_types c s none = same_type c.place s (sendable c s none)
 
 -- its buffer is long enough
-pub send_room : (c : CoreState) (s : CoreSend) → call_fault c (Isend s) ≡ None → is_too_short (handed_of s.from) ≡ false
+pub send_room : (c : CoreState) (s : RoutedSend) → call_fault c (Isend s) ≡ None → is_too_short (handed_of s.send.from)
+    ≡ false
 send_room c s none = long_enough c.place s (sendable c s none)
 
 -- its frame goes to a rank of the job
-pub send_there : (c : CoreState) (s : CoreSend) → call_fault c (Isend s) ≡ None →
-    IfSome (rank_to c.place (destination s.target s.tag s.context)) (λ (rank : ℕ). rank < c.place.size)
+pub send_there : (c : CoreState) (s : RoutedSend) → call_fault c (Isend s) ≡ None →
+    IfSome (rank_to c.place (destination s.route.named s.send.tag s.route.context)) (λ (rank : ℕ). rank < c.place.size)
 send_there c s none = rank_is_there c.place s (sendable c s none)
 
 -- a receive's types and places fit
-fit : (c : CoreState) (v : CoreReceive) → receive_fault c v ≡ None → is_unfit_to_receive (handed_of v.into) ≡ false
+fit : (c : CoreState) (v : RoutedReceive) → receive_fault c v ≡ None → is_unfit_to_receive (handed_of v.receive.into) ≡
+    false
 unfolding receive_fault
 fit c v none = grind (arith, common_steps, none)
 
 -- its buffer is long enough
-enough : (c : CoreState) (v : CoreReceive) → receive_fault c v ≡ None → is_too_short (handed_of v.into) ≡ false
+enough : (c : CoreState) (v : RoutedReceive) → receive_fault c v ≡ None → is_too_short (handed_of v.receive.into) ≡
+    false
 unfolding receive_fault
 enough c v none = grind (arith, common_steps, none)
 
 -- a request can be started
-free : (c : CoreState) (v : CoreReceive) → receive_fault c v ≡ None → is_full c.slots c.serial ≡ false
+free : (c : CoreState) (v : RoutedReceive) → receive_fault c v ≡ None → is_full c.slots c.serial ≡ false
 unfolding receive_fault
 free c v none = grind (arith, common_steps, none)
 
 -- data can be received where a receive wants them
-pub receive_fits : (c : CoreState) (v : CoreReceive) → call_fault c (Irecv v) ≡ None → CanReceive v.into
+pub receive_fits : (c : CoreState) (v : RoutedReceive) → call_fault c (Irecv v) ≡ None → CanReceive v.receive.into
 receive_fits c v none =
     let rules = unblocked c.blocked c (Irecv v) none in
     record { types = fit c v rules; room = enough c v rules }
@@ -153,6 +158,6 @@ message_fits c q into none =
     second (Some e) b h = absurd cc
 
 -- its request can be started
-pub receive_starts : (c : CoreState) (v : CoreReceive) → call_fault c (Irecv v) ≡ None →
+pub receive_starts : (c : CoreState) (v : RoutedReceive) → call_fault c (Irecv v) ≡ None →
     is_full c.slots c.serial ≡ false
 receive_starts c v none = free c v (unblocked c.blocked c (Irecv v) none)

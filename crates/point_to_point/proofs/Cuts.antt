@@ -6,9 +6,9 @@ use Rattle.requests.specs.declared.awaited_requests.Awaited.{Awaited}
 use Rattle.requests.specs.Regions.{handed_of, is_unfit_to_receive}
 use Rattle.requests.specs.Table.{is_full}
 use Rattle.rendezvous.specs.State.{State}
-use Rattle.point_to_point_calls.specs.declared.call.CoreCall.{CoreCall}
-use Rattle.point_to_point_calls.specs.declared.call.CoreCall.TheVariants as calls
-use Rattle.point_to_point_calls.specs.declared.call.CoreReceive.{CoreReceive}
+use Rattle.point_to_point_calls.specs.declared.call.RoutedCall.{RoutedCall}
+use Rattle.point_to_point_calls.specs.declared.call.RoutedCall.TheVariants as calls
+use Rattle.point_to_point_calls.specs.declared.call.RoutedReceive.{RoutedReceive}
 use Rattle.point_to_point_calls.specs.declared.refusal.Refusal.{Refusal}
 use Rattle.point_to_point_calls.specs.declared.refusal.Refusal.TheVariants.{WrongType, Count, Tag, Rank, Limit}
 use Rattle.point_to_point_calls.specs.Hearing.{first_of}
@@ -37,12 +37,13 @@ by_tests false false false true f = refl
 by_tests false false false false f = refl
 
 -- so do a receive's
-receive_so : (c : CoreState) (v : CoreReceive) →
+receive_so : (c : CoreState) (v : RoutedReceive) →
     receive_fault c v ≡ first_of (receive_rule c.place.size v) (or_full None c)
 unfolding receive_fault receive_rule
 receive_so c v =
-    by_tests (is_unfit_to_receive (handed_of v.into)) (is_too_short (handed_of v.into)) (is_tag_above v.tag)
-    (is_source_beyond c.place.size v.source)
+    by_tests (is_unfit_to_receive (handed_of v.receive.into)) (is_too_short (handed_of v.receive.into))
+    (is_tag_above v.receive.tag)
+    (is_source_beyond c.place.size v.route.named)
     (is_full c.slots c.serial)
 
 last_none : (o : Option Refusal) → o ≡ first_of o None
@@ -50,7 +51,7 @@ last_none None = refl
 last_none (Some e) = refl
 
 -- while no earlier call is blocked
-free_so : (c : CoreState) (call : CoreCall) →
+free_so : (c : CoreState) (call : RoutedCall) →
     free_fault c call ≡
     first_of (request_fault_at None c call) (first_of (argument_fault c.place call) (limit_fault c call))
 free_so c (calls.Isend s) = send_so (send_fault c.place s) c (announced_to c.place s) c.transfers
@@ -64,28 +65,28 @@ free_so c (calls.Improbe p) = refl
 free_so c (calls.Mrecv q into) =
     ap (λ (o : Option Refusal). first_of (message_fault c q) o) (last_none (region_rule into))
 
-cut_at : (a : Option Awaited) (c : CoreState) (call : CoreCall) →
+cut_at : (a : Option Awaited) (c : CoreState) (call : RoutedCall) →
     fault_at a c call ≡
     first_of (request_fault_at a c call) (first_of (argument_fault c.place call) (limit_fault c call))
 cut_at None c call = free_so c call
 cut_at (Some a) c call = refl
 
 -- a call meets its rules on requests, those on what it hands in, and the limits, in this order
-pub cut : (c : CoreState) (call : CoreCall) → IsCutFault c call
+pub cut : (c : CoreState) (call : RoutedCall) → IsCutFault c call
 cut c call = cut_at c.blocked c call
 
-rest_given : (c : CoreState) (call : CoreCall) (a : Option Refusal) → request_fault c call ≡ a →
+rest_given : (c : CoreState) (call : RoutedCall) (a : Option Refusal) → request_fault c call ≡ a →
     call_fault c call ≡ first_of a (first_of (argument_fault c.place call) (limit_fault c call))
 rest_given c call a is =
     cut c call ∙ ap (λ (o : Option Refusal). first_of o (first_of (argument_fault c.place call) (limit_fault c call)))
     is
 
 -- the rule on requests is the fault, where it is broken
-pub by_request : (c : CoreState) (call : CoreCall) (e : Refusal) → request_fault c call ≡ Some e →
+pub by_request : (c : CoreState) (call : RoutedCall) (e : Refusal) → request_fault c call ≡ Some e →
     Some e ≡ call_fault c call
 by_request c call e is = sym (rest_given c call (Some e) is)
 
 -- and else what is found beyond
-pub by_rest : (c : CoreState) (call : CoreCall) (o : Option Refusal) → request_fault c call ≡ None →
+pub by_rest : (c : CoreState) (call : RoutedCall) (o : Option Refusal) → request_fault c call ≡ None →
     o ≡ first_of (argument_fault c.place call) (limit_fault c call) → o ≡ call_fault c call
 by_rest c call o none is = is ∙ sym (rest_given c call None none)

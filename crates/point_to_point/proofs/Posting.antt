@@ -17,7 +17,7 @@ use Rattle.requests.specs.declared.region.Region.{Region}
 use Rattle.requests.specs.Table.{has_room, message_in, progress_of, slot_at}
 use Rattle.requests.specs.declared.table.TableEntry.{TableEntry}
 use Rattle.requests.specs.declared.table.Request.{Request}
-use Rattle.point_to_point_calls.specs.declared.call.CoreReceive.{CoreReceive}
+use Rattle.point_to_point_calls.specs.declared.call.RoutedReceive.{RoutedReceive}
 use Rattle.datagram.specs.declared.frame.Outgoing.{Outgoing}
 use Rattle.point_to_point.specs.CoreState.{CoreState, IsAnswerable, IsAnswerableAt, IsKept}
 use Rattle.point_to_point_calls.specs.Frames.{addressed}
@@ -63,14 +63,14 @@ there_on_post size r None answerable = tt
 there_on_post size r (Some m) answerable =
     there_by size (has_room r (basic_of m.body) (count_of m.body)) m m.body answerable
 
-there_for : (c : CoreState) (v : CoreReceive) → IsKept c.place c.queues c.transfers c.slots →
-    IfSome (answer_on_post v.into (found_by c v)) (λ (f : OutgoingText). f.target < c.place.size)
+there_for : (c : CoreState) (v : RoutedReceive) → IsKept c.place c.queues c.transfers c.slots →
+    IfSome (answer_on_post v.receive.into (found_by c v)) (λ (f : OutgoingText). f.target < c.place.size)
 there_for c v kept =
-    there_on_post c.place.size v.into (found_by c v)
+    there_on_post c.place.size v.receive.into (found_by c v)
     (found_is_answerable c.place.size c.queues.unexpected (message_for (posted_by 0 v) c.queues.unexpected)
     kept.answerable)
 
-there_from : (s : Source) (c : CoreState) (v : CoreReceive) → IsKept c.place c.queues c.transfers c.slots →
+there_from : (s : Source) (c : CoreState) (v : RoutedReceive) → IsKept c.place c.queues c.transfers c.slots →
     IfSome (receive_frame s c v) (λ (f : OutgoingText). f.target < c.place.size)
 there_from sources.Any c v kept = there_for c v kept
 there_from (sources.Rank rank) c v kept = there_for c v kept
@@ -82,13 +82,13 @@ said size None there = tt
 said size (Some a) there = there
 
 -- the answer goes to a rank of the job
-pub answer_is_there : (c : CoreState) (v : CoreReceive) (a : Option Outgoing) →
+pub answer_is_there : (c : CoreState) (v : RoutedReceive) (a : Option Outgoing) →
     IsKept c.place c.queues c.transfers c.slots →
-    addressed a ≡ receive_frame v.source c v → IfSome a (λ (x : Outgoing). x.target < c.place.size)
+    addressed a ≡ receive_frame v.route.named c v → IfSome a (λ (x : Outgoing). x.target < c.place.size)
 answer_is_there c v a kept is =
     said c.place.size a (subst (λ (o : Option OutgoingText). IfSome o (λ (f : OutgoingText). f.target < c.place.size))
     (sym is)
-    (there_from v.source c v kept))
+    (there_from v.route.named c v kept))
 
 -- THE RECEIVE OF A MESSAGE
 

@@ -5,11 +5,11 @@ use Rattle.vocabulary.specs.declared.envelope.Source.{Source}
 use Rattle.vocabulary.specs.declared.envelope.Source.TheVariants as sources
 use Rattle.requests.specs.declared.awaited_requests.Awaited.{Awaited}
 use Rattle.requests.specs.declared.awaited_requests.Awaited.TheVariants.{One, AnyOf, AllOf}
-use Rattle.point_to_point_calls.specs.declared.call.CoreCall.{CoreCall}
-use Rattle.point_to_point_calls.specs.declared.call.CoreCall.TheVariants as calls
+use Rattle.point_to_point_calls.specs.declared.call.RoutedCall.{RoutedCall}
+use Rattle.point_to_point_calls.specs.declared.call.RoutedCall.TheVariants as calls
 use Rattle.point_to_point_calls.specs.declared.call.CoreReply.{CoreReply}
-use Rattle.point_to_point_calls.specs.declared.call.CoreReceive.{CoreReceive}
-use Rattle.point_to_point_calls.specs.declared.call.CoreProbe.{CoreProbe}
+use Rattle.point_to_point_calls.specs.declared.call.RoutedReceive.{RoutedReceive}
+use Rattle.point_to_point_calls.specs.declared.call.RoutedProbe.{RoutedProbe}
 use Rattle.point_to_point_calls.specs.declared.prepared_call.PreparedCall.{PreparedCall}
 use Rattle.point_to_point_calls.specs.declared.refusal.Refusal.{Refusal}
 use Rattle.point_to_point_calls.specs.declared.refusal.Refusal.TheVariants as refusals
@@ -28,7 +28,7 @@ use Rattle.point_to_point.specs.Waiting.{cancel_fault, wait_fault, Cancels, Test
 use Rattle.point_to_point_calls.specs.Calls.{IsPacked, HasOutcomeRoom, place_in, Starts}
 
 -- the first rule or limit that a call meets while no earlier one is blocked
-abbrev pub free_fault : CoreState → CoreCall → Option Refusal
+abbrev pub free_fault : CoreState → RoutedCall → Option Refusal
 free_fault c (calls.Isend s) = or_worn_out (or_full (send_fault c.place s) c) (announced_to c.place s) c.transfers
 free_fault c (calls.Irecv v) = receive_fault c v
 free_fault c (calls.Wait q) = wait_fault c (One q)
@@ -36,22 +36,23 @@ free_fault c (calls.Test q) = wait_fault c (One q)
 free_fault c (calls.Waitany qs) = wait_fault c (AnyOf qs)
 free_fault c (calls.Waitall qs) = wait_fault c (AllOf qs)
 free_fault c (calls.Cancel q) = cancel_fault c q
-free_fault c (calls.Improbe p) = first_of (probe_rule c.place.size p.source p.tag) (search_limit p.source c p)
+free_fault c (calls.Improbe p) =
+    first_of (probe_rule c.place.size p.route.named p.probe.tag) (search_limit p.route.named c p)
 free_fault c (calls.Mrecv q into) = first_of (message_fault c q) (region_rule into)
 
 -- while an earlier call is blocked, every call is refused
-abbrev pub fault_at : Option Awaited → CoreState → CoreCall → Option Refusal
+abbrev pub fault_at : Option Awaited → CoreState → RoutedCall → Option Refusal
 fault_at (Some a) c call = Some refusals.Request
 fault_at None c call = free_fault c call
 
 -- the first rule or limit of the core's that a call meets
-abbrev pub call_fault : CoreState → CoreCall → Option Refusal
+abbrev pub call_fault : CoreState → RoutedCall → Option Refusal
 call_fault c call = fault_at c.blocked c call
 
 -- ITS RULES APART FROM ITS LIMITS
 
 -- the fault of a call by its requests (6), while no earlier one is blocked
-abbrev pub free_request_fault : CoreState → CoreCall → Option Refusal
+abbrev pub free_request_fault : CoreState → RoutedCall → Option Refusal
 free_request_fault c (calls.Isend s) = None
 free_request_fault c (calls.Irecv v) = None
 free_request_fault c (calls.Wait q) = wait_fault c (One q)
@@ -63,16 +64,16 @@ free_request_fault c (calls.Improbe p) = None
 free_request_fault c (calls.Mrecv q into) = message_fault c q
 
 -- while an earlier call is blocked, it is that (6)
-abbrev pub request_fault_at : Option Awaited → CoreState → CoreCall → Option Refusal
+abbrev pub request_fault_at : Option Awaited → CoreState → RoutedCall → Option Refusal
 request_fault_at (Some a) c call = Some refusals.Request
 request_fault_at None c call = free_request_fault c call
 
 -- the fault of a call by its requests, or by an earlier call that is blocked (6)
-abbrev pub request_fault : CoreState → CoreCall → Option Refusal
+abbrev pub request_fault : CoreState → RoutedCall → Option Refusal
 request_fault c call = request_fault_at c.blocked c call
 
 -- the fault of a call by what it hands in: the first of 2, 1, 3 and 5
-abbrev pub argument_fault : Place → CoreCall → Option Refusal
+abbrev pub argument_fault : Place → RoutedCall → Option Refusal
 argument_fault p (calls.Isend s) = send_fault p s
 argument_fault p (calls.Irecv v) = receive_rule p.size v
 argument_fault p (calls.Wait q) = None
@@ -80,11 +81,11 @@ argument_fault p (calls.Test q) = None
 argument_fault p (calls.Waitany qs) = None
 argument_fault p (calls.Waitall qs) = None
 argument_fault p (calls.Cancel q) = None
-argument_fault p (calls.Improbe q) = probe_rule p.size q.source q.tag
+argument_fault p (calls.Improbe q) = probe_rule p.size q.route.named q.probe.tag
 argument_fault p (calls.Mrecv q into) = region_rule into
 
 -- the limit that a call meets (13): no request can be started, or no transfer to a rank where its message is announced
-abbrev pub limit_fault : CoreState → CoreCall → Option Refusal
+abbrev pub limit_fault : CoreState → RoutedCall → Option Refusal
 limit_fault c (calls.Isend s) = or_worn_out (or_full None c) (announced_to c.place s) c.transfers
 limit_fault c (calls.Irecv v) = or_full None c
 limit_fault c (calls.Wait q) = None
@@ -92,20 +93,20 @@ limit_fault c (calls.Test q) = None
 limit_fault c (calls.Waitany qs) = None
 limit_fault c (calls.Waitall qs) = None
 limit_fault c (calls.Cancel q) = None
-limit_fault c (calls.Improbe p) = search_limit p.source c p
+limit_fault c (calls.Improbe p) = search_limit p.route.named c p
 limit_fault c (calls.Mrecv q into) = None
 
 -- A call meets its rules on requests, then those on what it hands in, and then the limits
-abbrev pub IsCutFault : CoreState → CoreCall → Type 0
+abbrev pub IsCutFault : CoreState → RoutedCall → Type 0
 IsCutFault c call =
     call_fault c call ≡ first_of (request_fault c call) (first_of (argument_fault c.place call) (limit_fault c call))
 
 -- ITS FRAME
 
 -- the frame that a call gives to another rank
-abbrev pub call_frame : CoreState → CoreCall → Option OutgoingText
+abbrev pub call_frame : CoreState → RoutedCall → Option OutgoingText
 call_frame c (calls.Isend s) = frame_of c s
-call_frame c (calls.Irecv v) = receive_frame v.source c v
+call_frame c (calls.Irecv v) = receive_frame v.route.named c v
 call_frame c (calls.Wait q) = None
 call_frame c (calls.Test q) = None
 call_frame c (calls.Waitany qs) = None
@@ -115,9 +116,9 @@ call_frame c (calls.Improbe p) = None
 call_frame c (calls.Mrecv q into) = message_frame c q into
 
 -- to which other rank it goes
-abbrev pub call_rank : CoreState → CoreCall → Option ℕ
-call_rank c (calls.Isend s) = rank_to c.place (destination s.target s.tag s.context)
-call_rank c (calls.Irecv v) = option_map (λ f. f.target) (receive_frame v.source c v)
+abbrev pub call_rank : CoreState → RoutedCall → Option ℕ
+call_rank c (calls.Isend s) = rank_to c.place (destination s.route.named s.send.tag s.route.context)
+call_rank c (calls.Irecv v) = option_map (λ f. f.target) (receive_frame v.route.named c v)
 call_rank c (calls.Wait q) = None
 call_rank c (calls.Test q) = None
 call_rank c (calls.Waitany qs) = None
@@ -135,9 +136,9 @@ CanPost (sources.Rank rank) h = 0 < h.receives
 CanPost sources.Null h = Unit {0}
 
 -- what a receive from this source begins to collect, where the message that it finds is announced and wanted
-abbrev pub collection_on_receive : Source → CoreState → (key : ℕ) → CoreReceive → Option Collecting
-collection_on_receive sources.Any c key v = collection_on_post v.into key (found_by c v)
-collection_on_receive (sources.Rank rank) c key v = collection_on_post v.into key (found_by c v)
+abbrev pub collection_on_receive : Source → CoreState → (key : ℕ) → RoutedReceive → Option Collecting
+collection_on_receive sources.Any c key v = collection_on_post v.receive.into key (found_by c v)
+collection_on_receive (sources.Rank rank) c key v = collection_on_post v.receive.into key (found_by c v)
 collection_on_receive sources.Null c key v = None
 
 -- what a receive begins to collect, if it does: the place for its data is ready, and can be kept
@@ -146,30 +147,31 @@ pub record CanCollect (c : Option Collecting) (h : Held) (p : PreparedCall) : Ty
   pub room : is_some c ≡ true → 0 < h.collections
 
 -- a matching probe has a place for the message that it finds
-abbrev pub CanSearch : Source → Held → CoreProbe → Type 0
+abbrev pub CanSearch : Source → Held → RoutedProbe → Type 0
 CanSearch sources.Null h q = Unit {0}
-CanSearch sources.Any h q = is_some (found_for h.state sources.Any q.tag q.context) ≡ true → CanStart h
-CanSearch (sources.Rank rank) h q = is_some (found_for h.state (sources.Rank rank) q.tag q.context) ≡ true → CanStart h
+CanSearch sources.Any h q = is_some (found_for h.state sources.Any q.probe.tag q.route.context) ≡ true → CanStart h
+CanSearch (sources.Rank rank) h q =
+    is_some (found_for h.state (sources.Rank rank) q.probe.tag q.route.context) ≡ true → CanStart h
 
 -- what a call takes is there without memory
-abbrev pub CanAnswer : Held → CoreCall → PreparedCall → Type 0
+abbrev pub CanAnswer : Held → RoutedCall → PreparedCall → Type 0
 CanAnswer h (calls.Isend s) p =
     CanStart h × IsPacked s p × (is_to_itself h.state.place s ≡ true → 0 < h.messages)
     × (is_some (announced_to h.state.place s) ≡ true → 0 < h.offers)
-CanAnswer h (calls.Irecv v) p = CanStart h × CanPost v.source h ×
-    CanCollect (collection_on_receive v.source h.state h.vacant v) h p
+CanAnswer h (calls.Irecv v) p = CanStart h × CanPost v.route.named h ×
+    CanCollect (collection_on_receive v.route.named h.state h.vacant v) h p
 CanAnswer h (calls.Wait q) p = Unit {0}
 CanAnswer h (calls.Test q) p = Unit {0}
 CanAnswer h (calls.Waitany qs) p = Unit {0}
 CanAnswer h (calls.Waitall qs) p = HasOutcomeRoom (length qs) p
 CanAnswer h (calls.Cancel q) p = Unit {0}
-CanAnswer h (calls.Improbe q) p = CanSearch q.source h q
+CanAnswer h (calls.Improbe q) p = CanSearch q.route.named h q
 CanAnswer h (calls.Mrecv q into) p = CanCollect (collection_on_message h.state q into) h p
 
 -- ---- the answer
 
 -- what a call that breaks no rule answers and leaves
-abbrev pub Answers : CoreState → CoreCall → CoreReply → CoreState → Type 0
+abbrev pub Answers : CoreState → RoutedCall → CoreReply → CoreState → Type 0
 Answers old (calls.Isend s) reply new = Starts (λ r. IsSending old s r new) reply
 Answers old (calls.Irecv v) reply new = Starts (λ r. IsReceiving old v r new) reply
 Answers old (calls.Wait q) reply new = Waits old (One q) reply new

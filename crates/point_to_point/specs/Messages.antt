@@ -22,7 +22,7 @@ use Rattle.requests.specs.declared.table.Request.{Request}
 use Rattle.requests.specs.Regions.{handed_of, is_unfit_to_receive}
 use Rattle.requests.specs.Table.{IsSet, after_answer, after_receive, is_full, is_message, message_in, progress_at}
 use Rattle.requests.specs.Table.{slot_at}
-use Rattle.point_to_point_calls.specs.declared.call.CoreProbe.{CoreProbe}
+use Rattle.point_to_point_calls.specs.declared.call.RoutedProbe.{RoutedProbe}
 use Rattle.point_to_point_calls.specs.declared.call.CoreReply.{CoreReply}
 use Rattle.point_to_point_calls.specs.declared.call.CoreReply.TheVariants as replies
 use Rattle.point_to_point_calls.specs.declared.refusal.Refusal.{Refusal}
@@ -83,13 +83,13 @@ full_if c None = None
 full_if c (Some m) = if is_full c.slots c.serial then Some refusals.Limit else None
 
 -- from the null process none is held
-abbrev pub search_limit : Source → CoreState → CoreProbe → Option Refusal
+abbrev pub search_limit : Source → CoreState → RoutedProbe → Option Refusal
 search_limit sources.Null c p = None
-search_limit sources.Any c p = full_if c (found_for c sources.Any p.tag p.context)
-search_limit (sources.Rank r) c p = full_if c (found_for c (sources.Rank r) p.tag p.context)
+search_limit sources.Any c p = full_if c (found_for c sources.Any p.probe.tag p.route.context)
+search_limit (sources.Rank r) c p = full_if c (found_for c (sources.Rank r) p.probe.tag p.route.context)
 
 -- the message has the next serial and a key that was free; it stands in the queues no more, and nothing else changes
-pub record IsTakingOut (old : CoreState) (p : CoreProbe) (m : Message) (r : Request) (new : CoreState) : Type 0 where
+pub record IsTakingOut (old : CoreState) (p : RoutedProbe) (m : Message) (r : Request) (new : CoreState) : Type 0 where
   pub fresh : slot_at old.slots r.key ≡ None
   pub serial : r.serial ≡ old.serial
   pub entry : IsSet old.slots new.slots r.key (Some (record {
@@ -99,26 +99,27 @@ pub record IsTakingOut (old : CoreState) (p : CoreProbe) (m : Message) (r : Requ
   pub rest : new ≡ record old {
     slots = new.slots;
     serial = old.serial + 1;
-    queues = after_take old.queues (probed_by p.source p.tag p.context);
+    queues = after_take old.queues (probed_by p.route.named p.probe.tag p.route.context);
   }
 
 -- by what it finds
-abbrev pub TakesOut : CoreState → CoreProbe → Option Message → CoreReply → CoreState → Type 0
+abbrev pub TakesOut : CoreState → RoutedProbe → Option Message → CoreReply → CoreState → Type 0
 TakesOut old p None reply new = (reply ≡ replies.Matched None) × (new ≡ old)
 TakesOut old p (Some m) reply new =
     (r : Request) × (reply ≡ replies.Matched (Some (Some r, status_in p.group (status_of m)))) ×
     IsTakingOut old p m r new
 
 -- what a matching probe answers and leaves; from the null process it has the message that there always is
-abbrev pub SearchesFrom : Source → CoreState → CoreProbe → CoreReply → CoreState → Type 0
+abbrev pub SearchesFrom : Source → CoreState → RoutedProbe → CoreReply → CoreState → Type 0
 SearchesFrom sources.Null old p reply new = (reply ≡ replies.Matched (Some (None, null_status))) × (new ≡ old)
-SearchesFrom sources.Any old p reply new = TakesOut old p (found_for old sources.Any p.tag p.context) reply new
+SearchesFrom sources.Any old p reply new =
+    TakesOut old p (found_for old sources.Any p.probe.tag p.route.context) reply new
 SearchesFrom (sources.Rank r) old p reply new =
-    TakesOut old p (found_for old (sources.Rank r) p.tag p.context) reply new
+    TakesOut old p (found_for old (sources.Rank r) p.probe.tag p.route.context) reply new
 
 -- whatever it asks for
-abbrev pub Searches : CoreState → CoreProbe → CoreReply → CoreState → Type 0
-Searches old p reply new = SearchesFrom p.source old p reply new
+abbrev pub Searches : CoreState → RoutedProbe → CoreReply → CoreState → Type 0
+Searches old p reply new = SearchesFrom p.route.named old p reply new
 
 -- ---- the receive of a message
 

@@ -13,7 +13,7 @@ use Rattle.vocabulary.specs.declared.mode.Mode.{Mode}
 use Rattle.vocabulary.specs.declared.mode.Mode.TheVariants.{Standard, Synchronous}
 use Rattle.requests.specs.Regions.{sent_from}
 use Rattle.requests.specs.Table.{slot_at, IsSet, is_full}
-use Rattle.point_to_point_calls.specs.declared.call.CoreSend.{CoreSend}
+use Rattle.point_to_point_calls.specs.declared.call.RoutedSend.{RoutedSend}
 use Rattle.point_to_point_calls.specs.declared.sends.Destination.{Destination}
 use Rattle.point_to_point_calls.specs.declared.refusal.Refusal.{Refusal}
 use Rattle.point_to_point_calls.specs.declared.refusal.Refusal.TheVariants as refusals
@@ -31,8 +31,10 @@ or_full None c = if is_full c.slots c.serial then Some refusals.Limit else None
 -- THE FRAME
 
 -- the frame that a send gives to another rank
-abbrev pub frame_of : CoreState → CoreSend → Option OutgoingText
-frame_of c s = frame_to c.place c.transfers s.mode (destination s.target s.tag s.context) (sent_from s.from)
+abbrev pub frame_of : CoreState → RoutedSend → Option OutgoingText
+frame_of c s =
+    frame_to c.place c.transfers s.send.mode (destination s.route.named s.send.tag s.route.context)
+    (sent_from s.send.from)
 
 -- THE MESSAGE TO THE OWN RANK
 
@@ -77,19 +79,20 @@ pub record IsOffering (old : CoreState) (rank : ℕ) (c : Contents) (r : Request
   }
 
 -- the request of the send is finished (3.4, 3.11), unless its message is announced; a message to the own rank has come
-pub record IsSending (old : CoreState) (s : CoreSend) (r : Request) (new : CoreState) : Type 0 where
+pub record IsSending (old : CoreState) (s : RoutedSend) (r : Request) (new : CoreState) : Type 0 where
   pub fresh : slot_at old.slots r.key ≡ None
   pub serial : r.serial ≡ old.serial
   pub started : List (Option TableEntry)
   pub entry : IsSet old.slots started r.key (Some (record {
     serial = old.serial;
-    progress = begun (waiting_of s.mode (is_to_itself old.place s) r) (announced_to old.place s);
+    progress = begun (waiting_of s.send.mode (is_to_itself old.place s) r) (announced_to old.place s);
   }))
   pub rest : new ≡
       arrived_at_itself
       (record old {
         slots = started;
         serial = old.serial + 1;
-        transfers = offered_by old.transfers (announced_to old.place s) r.key (sent_from s.from);
+        transfers = offered_by old.transfers (announced_to old.place s) r.key (sent_from s.send.from);
       })
-      (destination s.target s.tag s.context) (waiting_of s.mode (is_to_itself old.place s) r) (sent_from s.from)
+      (destination s.route.named s.send.tag s.route.context) (waiting_of s.send.mode (is_to_itself old.place s) r)
+      (sent_from s.send.from)

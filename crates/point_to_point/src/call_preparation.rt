@@ -9,12 +9,12 @@ ghost use Rattle.point_to_point.specs.Calls.{CanAnswer, CanPost, collection_on_r
 ghost use Rattle.point_to_point.specs.CoreState.{CanStart};
 ghost use Rattle.point_to_point.specs.Messages.{search_limit};
 ghost use Rattle.point_to_point_calls.specs.declared.refusal.Refusal.TheVariants as refusals;
-ghost use Rattle.point_to_point_calls.specs.declared.call.CoreCall.TheVariants as calls;
+ghost use Rattle.point_to_point_calls.specs.declared.call.RoutedCall.TheVariants as calls;
 
 use crate::calls::probed_by;
 use crate::rank::Core;
 use point_to_point_calls::{
-    CoreCall, CoreProbe, CoreReceive, CoreSend, PreparedCall, Refusal, announced_to,
+    PreparedCall, Refusal, RoutedCall, RoutedProbe, RoutedReceive, RoutedSend, announced_to,
     collection_on_post, destination_of, is_own, pack, posted_by, room_for_all,
 };
 use rendezvous::Collection;
@@ -49,19 +49,20 @@ impl Core {
         }
     }
 
-    fn prepare_send(&mut self, send: &CoreSend) -> Result<PreparedCall, Refusal>
+    fn prepare_send(&mut self, routed: &RoutedSend) -> Result<PreparedCall, Refusal>
         requires full { is_full self.old.state.slots self.old.state.serial ≡ false }
-        requires types { differs_in_type (handed_of send.now.from) ≡ false }
-        requires room { is_too_short (handed_of send.now.from) ≡ false }
-        ensures room { IfOk result (λ prepared. CanAnswer self.new (calls.Isend send.now) prepared) }
+        requires types { differs_in_type (handed_of routed.now.send.from) ≡ false }
+        requires room { is_too_short (handed_of routed.now.send.from) ≡ false }
+        ensures room { IfOk result (λ prepared. CanAnswer self.new (calls.Isend routed.now) prepared) }
         ensures kept { self.new.state ≡ self.old.state }
         ensures err { IfErr result (λ e. e ≡ refusals.OutOfMemory) }
     {
         self.make_room_to_start()?;
-        let destination = destination_of(send.target, send.tag, send.context);
+        let route = routed.route;
+        let destination = destination_of(route.named, routed.send.tag, route.context);
         self.make_room_if(is_own(self.place, destination))?;
-        self.make_room_to_offer(announced_to(self.place, send).is_some())?;
-        pack(self.alloc, send)
+        self.make_room_to_offer(announced_to(self.place, routed).is_some())?;
+        pack(self.alloc, routed)
     }
 
     /// Makes room for an offer, where a message is announced.
@@ -96,18 +97,18 @@ impl Core {
     }
 
     /// The place for the data of the message that a receive finds, where it is announced and wanted.
-    fn place_for(&self, receive: &CoreReceive) -> Result<Option<Collection>, Refusal>
+    fn place_for(&self, routed: &RoutedReceive) -> Result<Option<Collection>, Refusal>
         ensures ok { IfOk result (λ collection. collection ≡
-            collection_on_receive receive.now.source self.now.state self.now.vacant receive.now) }
+            collection_on_receive routed.now.route.named self.now.state self.now.vacant routed.now) }
         ensures err { IfErr result (λ e. e ≡ refusals.OutOfMemory) }
     {
-        if let Source::Null = receive.source {
+        if let Source::Null = routed.route.named {
             return Ok(None);
         }
-        let posted = posted_by(0, receive);
+        let posted = posted_by(0, routed);
         collection_on_post(
             self.alloc,
-            &receive.into,
+            &routed.receive.into,
             self.requests.next_key(),
             self.queues.message_for(&posted),
         )
@@ -128,15 +129,15 @@ impl Core {
         }
     }
 
-    fn prepare_receive(&mut self, receive: &CoreReceive) -> Result<PreparedCall, Refusal>
+    fn prepare_receive(&mut self, routed: &RoutedReceive) -> Result<PreparedCall, Refusal>
         requires full { is_full self.old.state.slots self.old.state.serial ≡ false }
-        ensures room { IfOk result (λ prepared. CanAnswer self.new (calls.Irecv receive.now) prepared) }
+        ensures room { IfOk result (λ prepared. CanAnswer self.new (calls.Irecv routed.now) prepared) }
         ensures kept { self.new.state ≡ self.old.state }
         ensures err { IfErr result (λ e. e ≡ refusals.OutOfMemory) }
     {
         self.make_room_to_start()?;
-        self.make_room_to_post(receive.source)?;
-        let place = self.place_for(receive)?;
+        self.make_room_to_post(routed.route.named)?;
+        let place = self.place_for(routed)?;
         self.make_room_to_collect(place.is_some())?;
         match place {
             Some(collection) => Ok(PreparedCall::Place(collection)),
@@ -144,16 +145,17 @@ impl Core {
         }
     }
 
-    fn prepare_search(&mut self, probe: &CoreProbe) -> Result<PreparedCall, Refusal>
-        requires { search_limit probe.now.source self.old.state probe.now ≡ None }
-        ensures room { IfOk result (λ prepared. CanAnswer self.new (calls.Improbe probe.now) prepared) }
+    fn prepare_search(&mut self, routed: &RoutedProbe) -> Result<PreparedCall, Refusal>
+        requires { search_limit routed.now.route.named self.old.state routed.now ≡ None }
+        ensures room { IfOk result (λ prepared. CanAnswer self.new (calls.Improbe routed.now) prepared) }
         ensures kept { self.new.state ≡ self.old.state }
         ensures err { IfErr result (λ e. e ≡ refusals.OutOfMemory) }
     {
-        if let Source::Null = probe.source {
+        let route = routed.route;
+        if let Source::Null = route.named {
             return Ok(PreparedCall::Nothing);
         }
-        let posted = probed_by(probe.source, probe.tag, probe.context);
+        let posted = probed_by(route.named, routed.probe.tag, route.context);
         if self.queues.message_for(&posted).is_some() {
             self.make_room_to_start()?;
         }
@@ -188,7 +190,7 @@ impl Core {
     /// Makes ready what the answer to a call that breaks no rule takes, or finds that there is no memory (14), which a
     /// wait for one or any, a test and a cancel do not need. What the core holds stays as it is.
     #[tactic(auto, using(crate::proofs::Allowed::send_types, crate::proofs::Allowed::send_room, crate::proofs::Allowed::receive_starts))]
-    pub fn prepare(&mut self, call: &CoreCall) -> Result<PreparedCall, Refusal>
+    pub fn prepare(&mut self, call: &RoutedCall) -> Result<PreparedCall, Refusal>
         requires { call_fault self.old.state call.now ≡ None }
         ensures room { IfOk result (λ prepared. CanAnswer self.new call.now prepared) }
         ensures kept { self.new.state ≡ self.old.state }
@@ -196,14 +198,15 @@ impl Core {
         ensures need { OnErr result (NeedsMemory call.now) }
     {
         match call {
-            CoreCall::Isend(send) => self.prepare_send(send),
-            CoreCall::Irecv(receive) => self.prepare_receive(receive),
-            CoreCall::Waitall(list) => room_for_all(self.alloc, list),
-            CoreCall::Improbe(probe) => self.prepare_search(probe),
-            CoreCall::Mrecv(message, into) => self.prepare_message(*message, into),
-            CoreCall::Wait(_) | CoreCall::Test(_) | CoreCall::Waitany(_) | CoreCall::Cancel(_) => {
-                Ok(PreparedCall::Nothing)
-            }
+            RoutedCall::Isend(routed) => self.prepare_send(routed),
+            RoutedCall::Irecv(routed) => self.prepare_receive(routed),
+            RoutedCall::Waitall(list) => room_for_all(self.alloc, list),
+            RoutedCall::Improbe(routed) => self.prepare_search(routed),
+            RoutedCall::Mrecv(message, into) => self.prepare_message(*message, into),
+            RoutedCall::Wait(_)
+            | RoutedCall::Test(_)
+            | RoutedCall::Waitany(_)
+            | RoutedCall::Cancel(_) => { Ok(PreparedCall::Nothing) }
         }
     }
 }

@@ -19,16 +19,16 @@ ghost use Rattle.point_to_point.specs.Waiting.{Tests, Waits, cancelled};
 ghost use Rattle.point_to_point.specs.Messages.{Receives, Searches, collection_on_message, own_key_sent, own_send_of};
 ghost use Rattle.point_to_point.specs.Messages.{probed_by};
 ghost use Rattle.std.specs.Option.{option_copied};
-ghost use Rattle.point_to_point_calls.specs.declared.call.CoreCall.TheVariants as calls;
+ghost use Rattle.point_to_point_calls.specs.declared.call.RoutedCall.TheVariants as calls;
 
 use crate::rank::Core;
 use communicator_members::status_in;
 use datatypes::Buffer;
 use match_queues::{Body, Message};
 use point_to_point_calls::{
-    CoreCall, CoreProbe, CoreReceive, CoreReply, CoreSend, Destination, PreparedCall, announced_to,
-    destination_of, into_elements, is_own, null_status, own_message, posted_by, progress_on_post,
-    status_of,
+    CoreReply, Destination, PreparedCall, RoutedCall, RoutedProbe, RoutedReceive, RoutedSend,
+    announced_to, destination_of, into_elements, is_own, null_status, own_message, posted_by,
+    progress_on_post, status_of,
 };
 use rendezvous::Collection;
 use requests::{
@@ -92,19 +92,20 @@ impl Core {
     }
 
     #[tactic(auto, using(crate::proofs::Allowed::announces))]
-    fn send(&mut self, send: CoreSend, prepared: PreparedCall) -> Request
+    fn send(&mut self, routed: RoutedSend, prepared: PreparedCall) -> Request
         requires start { CanStart self.old }
-        requires packed { IsPacked send prepared }
-        requires room { is_to_itself self.old.state.place send ≡ true → 0 < self.old.messages }
-        requires offer { is_some (announced_to self.old.state.place send) ≡ true → 0 < self.old.offers }
-        requires allowed { free_fault self.old.state (calls.Isend send) ≡ None }
-        ensures exact { IsSending self.old.state send result self.new.state }
+        requires packed { IsPacked routed prepared }
+        requires room { is_to_itself self.old.state.place routed ≡ true → 0 < self.old.messages }
+        requires offer { is_some (announced_to self.old.state.place routed) ≡ true → 0 < self.old.offers }
+        requires allowed { free_fault self.old.state (calls.Isend routed) ≡ None }
+        ensures exact { IsSending self.old.state routed result self.new.state }
         ensures placed { self.new.state.place ≡ self.old.state.place }
     {
-        let announced = announced_to(self.place, &send);
-        let destination = destination_of(send.target, send.tag, send.context);
-        let waits = send.mode == Mode::Synchronous && is_own(self.place, destination);
-        let elements = into_elements(send, prepared);
+        let announced = announced_to(self.place, &routed);
+        let route = routed.route;
+        let destination = destination_of(route.named, routed.send.tag, route.context);
+        let waits = routed.send.mode == Mode::Synchronous && is_own(self.place, destination);
+        let elements = into_elements(routed, prepared);
         match announced {
             Some(rank) => self.offer(rank, elements),
             None => {
@@ -138,13 +139,12 @@ impl Core {
     }
 
     /// A receive from the null process is over at once (MPI 3.1, 3.11).
-    fn receive_nothing(&mut self, receive: CoreReceive) -> Request
+    fn receive_nothing(&mut self, routed: RoutedReceive) -> Request
         requires { CanStart self.old }
-        ensures exact { IsReceivingNothing self.old.state receive result self.new.state }
+        ensures exact { IsReceivingNothing self.old.state routed result self.new.state }
         ensures placed { self.new.state.place ≡ self.old.state.place }
     {
-        let CoreReceive { into, .. } = receive;
-        let outcome = Outcome::Received(null_status(), into.buffer);
+        let outcome = Outcome::Received(null_status(), routed.receive.into.buffer);
         self.requests.start(RequestProgress::Finished(outcome))
     }
 
@@ -161,21 +161,22 @@ impl Core {
         }
     }
 
-    fn post(&mut self, receive: CoreReceive, collection: Option<Collection>) -> Request
+    fn post(&mut self, routed: RoutedReceive, collection: Option<Collection>) -> Request
         requires start { CanStart self.old }
         requires post { 0 < self.old.receives }
-        requires fit { CanReceive receive.into }
-        requires collection { collection ≡ collection_on_post receive.into self.old.vacant (found_by self.old.state receive) }
+        requires fit { CanReceive routed.receive.into }
+        requires collection { collection ≡
+            collection_on_post routed.receive.into self.old.vacant (found_by self.old.state routed) }
         requires place { is_some collection ≡ true → 0 < self.old.collections }
-        ensures exact { IsPosting self.old.state receive result self.new.state }
+        ensures exact { IsPosting self.old.state routed result self.new.state }
         ensures placed { self.new.state.place ≡ self.old.state.place }
     {
-        let posted = posted_by(self.requests.next_key(), &receive);
+        let posted = posted_by(self.requests.next_key(), &routed);
         self.collect(collection);
         let found = self.queues.post(posted);
         let own = own_send_of(found.as_ref());
-        let CoreReceive { into, group, .. } = receive;
-        let into = ReceiveRegion::new(into);
+        let group = routed.group;
+        let into = ReceiveRegion::new(routed.receive.into);
         let progress = progress_on_post(Posted { into, group }, found);
         let request = self.requests.start(progress);
         self.finish_own(own);
@@ -193,25 +194,26 @@ impl Core {
     }
 
     /// Takes the message out of matching that such a receive would take, if there is one, for which there is room.
-    fn search(&mut self, probe: CoreProbe) -> CoreReply
-        requires { CanSearch probe.source self.old probe }
-        ensures exact { Searches self.old.state probe result self.new.state }
+    fn search(&mut self, routed: RoutedProbe) -> CoreReply
+        requires { CanSearch routed.route.named self.old routed }
+        ensures exact { Searches self.old.state routed result self.new.state }
         ensures taken { IsTaken result }
         ensures placed { self.new.state.place ≡ self.old.state.place }
     {
-        if let Source::Null = probe.source {
+        let route = routed.route;
+        if let Source::Null = route.named {
             return CoreReply::Matched(Some((None, null_status())));
         }
-        let posted = probed_by(probe.source, probe.tag, probe.context);
+        let posted = probed_by(route.named, routed.probe.tag, route.context);
         if self.queues.message_for(&posted).is_none() {
             return CoreReply::Matched(None);
         }
         let Some(message) = self.queues.take(&posted) else {
             unreachable!()
         };
-        let status = status_in(&probe.group, status_of(&message));
+        let status = status_in(&routed.group, status_of(&message));
         let request = self.requests.start(RequestProgress::TakenOut(TakenOut {
-            group: probe.group,
+            group: routed.group,
             message: Some(message),
         }));
         CoreReply::Matched(Some((Some(request), status)))
@@ -243,18 +245,19 @@ impl Core {
         self.wait(Awaited::One(Some(request)))
     }
 
-    fn receive(&mut self, receive: CoreReceive, collection: Option<Collection>) -> Request
+    fn receive(&mut self, routed: RoutedReceive, collection: Option<Collection>) -> Request
         requires start { CanStart self.old }
-        requires post { CanPost receive.source self.old }
-        requires fit { CanReceive receive.into }
-        requires collection { collection ≡ collection_on_receive receive.source self.old.state self.old.vacant receive }
+        requires post { CanPost routed.route.named self.old }
+        requires fit { CanReceive routed.receive.into }
+        requires collection { collection ≡
+            collection_on_receive routed.route.named self.old.state self.old.vacant routed }
         requires place { is_some collection ≡ true → 0 < self.old.collections }
-        ensures exact { IsReceiving self.old.state receive result self.new.state }
+        ensures exact { IsReceiving self.old.state routed result self.new.state }
         ensures placed { self.new.state.place ≡ self.old.state.place }
     {
-        match receive.source {
-            Source::Null => self.receive_nothing(receive),
-            Source::Any | Source::Rank(_) => self.post(receive, collection),
+        match routed.route.named {
+            Source::Null => self.receive_nothing(routed),
+            Source::Any | Source::Rank(_) => self.post(routed, collection),
         }
     }
 
@@ -312,7 +315,7 @@ impl Core {
 
     /// Answers a call that breaks no rule, in what was made ready for it.
     #[tactic(auto, using(crate::proofs::Allowed::receive_fits, crate::proofs::Allowed::message_fits, crate::proofs::Allowed::allowed_send))]
-    pub fn answer(&mut self, call: CoreCall, prepared: PreparedCall) -> CoreReply
+    pub fn answer(&mut self, call: RoutedCall, prepared: PreparedCall) -> CoreReply
         requires allowed { call_fault self.old.state call ≡ None }
         requires room { CanAnswer self.old call prepared }
         ensures exact { Answers self.old.state call result self.new.state }
@@ -320,34 +323,34 @@ impl Core {
         ensures placed { self.new.state.place ≡ self.old.state.place }
     {
         match call {
-            CoreCall::Isend(send) => CoreReply::Started(self.send(send, prepared)),
-            CoreCall::Irecv(receive) => CoreReply::Started(self.receive(
-                receive,
+            RoutedCall::Isend(routed) => CoreReply::Started(self.send(routed, prepared)),
+            RoutedCall::Irecv(routed) => CoreReply::Started(self.receive(
+                routed,
                 prepared.into_place(),
             )),
-            CoreCall::Waitall(list) => self.wait_all(list, prepared),
-            CoreCall::Mrecv(message, into) => {
+            RoutedCall::Waitall(list) => self.wait_all(list, prepared),
+            RoutedCall::Mrecv(message, into) => {
                 self.receive_message(message, into, prepared.into_place())
             }
-            CoreCall::Improbe(probe) => {
+            RoutedCall::Improbe(routed) => {
                 drop(prepared);
-                self.search(probe)
+                self.search(routed)
             }
             // The others need nothing. It is dropped by name: that is one step of the proof each, and not one for each
             // variant.
-            CoreCall::Wait(request) => {
+            RoutedCall::Wait(request) => {
                 drop(prepared);
                 self.wait(Awaited::One(request))
             }
-            CoreCall::Test(request) => {
+            RoutedCall::Test(request) => {
                 drop(prepared);
                 self.test(request)
             }
-            CoreCall::Waitany(list) => {
+            RoutedCall::Waitany(list) => {
                 drop(prepared);
                 self.wait(Awaited::AnyOf(list))
             }
-            CoreCall::Cancel(request) => {
+            RoutedCall::Cancel(request) => {
                 drop(prepared);
                 self.cancel(request);
                 CoreReply::Accepted

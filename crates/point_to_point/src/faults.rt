@@ -9,7 +9,7 @@ ghost use Rattle.point_to_point_calls.specs.Hearing.{first_of};
 ghost use Rattle.point_to_point.specs.Calls.{CanAnswer, IsCutFault, argument_fault, call_fault, call_frame, call_rank};
 ghost use Rattle.point_to_point.specs.Calls.{limit_fault, request_fault};
 ghost use Rattle.point_to_point_calls.specs.Frames.{addressed};
-ghost use Rattle.point_to_point_calls.specs.declared.call.CoreCall.{CoreCall};
+ghost use Rattle.point_to_point_calls.specs.declared.call.RoutedCall.{RoutedCall};
 ghost use Rattle.point_to_point.specs.CoreState.{CoreState};
 ghost use Rattle.point_to_point.specs.Receiving.{receive_frame, receive_rule};
 ghost use Rattle.point_to_point.specs.Messages.{looked, message_fault, message_frame, probe_rule, region_rule};
@@ -22,7 +22,7 @@ use crate::calls::probed_by;
 use crate::rank::Core;
 use datagram::Outgoing;
 use point_to_point_calls::{
-    CoreCall, CoreProbe, CoreReceive, CoreSend, PreparedCall, Refusal, announced_to,
+    PreparedCall, Refusal, RoutedCall, RoutedProbe, RoutedReceive, RoutedSend, announced_to,
     answer_on_post, destination_of, elements_of, fault_of, frame_to, is_source_beyond,
     is_tag_above, null_status, posted_by, rank_to, show_widths, status_of,
 };
@@ -34,7 +34,7 @@ use vocabulary::{Source, Status};
 /// find none, a call may be made ready.
 #[tactic(auto, using(crate::proofs::Cuts::cut))]
 pub fn faults_are_cut()
-    ensures { (c : CoreState) (call : CoreCall) → IsCutFault c call }
+    ensures { (c : CoreState) (call : RoutedCall) → IsCutFault c call }
 {}
 
 #[tactic(auto, unfolding(crate::specs::Messages::probe_rule))]
@@ -65,9 +65,10 @@ fn rule_of_region(into: &Region) -> Option<Refusal>
 
 impl Core {
     #[tactic(auto, unfolding(crate::specs::Receiving::receive_rule))]
-    fn rule_of_receive(&self, receive: &CoreReceive) -> Option<Refusal>
-        ensures { result ≡ receive_rule self.now.state.place.size receive.now }
+    fn rule_of_receive(&self, routed: &RoutedReceive) -> Option<Refusal>
+        ensures { result ≡ receive_rule self.now.state.place.size routed.now }
     {
+        let receive = &routed.receive;
         if receive.into.is_unfit_to_receive() {
             return Some(Refusal::WrongType);
         }
@@ -77,20 +78,20 @@ impl Core {
         if is_tag_above(receive.tag) {
             return Some(Refusal::Tag);
         }
-        if is_source_beyond(self.place.size, receive.source) {
+        if is_source_beyond(self.place.size, routed.route.named) {
             return Some(Refusal::Rank);
         }
         None
     }
 
-    fn limit_of_send(&self, send: &CoreSend) -> Option<Refusal>
-        ensures { result ≡ or_worn_out (or_full None self.now.state) (announced_to self.now.state.place send.now)
+    fn limit_of_send(&self, routed: &RoutedSend) -> Option<Refusal>
+        ensures { result ≡ or_worn_out (or_full None self.now.state) (announced_to self.now.state.place routed.now)
             self.now.state.transfers }
     {
         if self.requests.is_full() {
             return Some(Refusal::Limit);
         }
-        match announced_to(self.place, send) {
+        match announced_to(self.place, routed) {
             Some(rank) if self.transfers.is_full_to(rank) => Some(Refusal::Limit),
             _ => None,
         }
@@ -107,13 +108,14 @@ impl Core {
     }
 
     /// A matching probe needs a place only for a message that it finds.
-    fn limit_of_search(&self, probe: &CoreProbe) -> Option<Refusal>
-        ensures { result ≡ search_limit probe.now.source self.now.state probe.now }
+    fn limit_of_search(&self, routed: &RoutedProbe) -> Option<Refusal>
+        ensures { result ≡ search_limit routed.now.route.named self.now.state routed.now }
     {
-        if let Source::Null = probe.source {
+        let route = routed.route;
+        if let Source::Null = route.named {
             return None;
         }
-        let posted = probed_by(probe.source, probe.tag, probe.context);
+        let posted = probed_by(route.named, routed.probe.tag, route.context);
         match self.queues.message_for(&posted) {
             Some(_) => self.limit_of_receive(),
             None => None,
@@ -183,19 +185,19 @@ impl Core {
     /// names one twice, what is cancelled is no receive, or what is received is no message that was taken out and isn't
     /// received.
     /// It takes no memory (MPI 3.1, 3.7, 3.8.3 and 3.8.4).
-    pub fn fault_of_requests(&self, call: &CoreCall) -> Option<Refusal>
+    pub fn fault_of_requests(&self, call: &RoutedCall) -> Option<Refusal>
         ensures { result ≡ request_fault self.now.state call.now }
     {
         if self.blocked.is_some() {
             return Some(Refusal::Request);
         }
         match call {
-            CoreCall::Isend(_) | CoreCall::Irecv(_) => None,
-            CoreCall::Wait(request) | CoreCall::Test(request) => self.fault_of_wait(*request),
-            CoreCall::Waitany(list) | CoreCall::Waitall(list) => self.fault_of_list(list),
-            CoreCall::Cancel(request) => self.fault_of_cancel(*request),
-            CoreCall::Improbe(_) => None,
-            CoreCall::Mrecv(message, _) => self.fault_of_message(*message),
+            RoutedCall::Isend(_) | RoutedCall::Irecv(_) => None,
+            RoutedCall::Wait(request) | RoutedCall::Test(request) => self.fault_of_wait(*request),
+            RoutedCall::Waitany(list) | RoutedCall::Waitall(list) => self.fault_of_list(list),
+            RoutedCall::Cancel(request) => self.fault_of_cancel(*request),
+            RoutedCall::Improbe(_) => None,
+            RoutedCall::Mrecv(message, _) => self.fault_of_message(*message),
         }
     }
 
@@ -204,46 +206,48 @@ impl Core {
     /// (the tag is above the greatest, or the wildcard in a send) and 5 (no such rank of world, or any rank in a send).
     /// Of a matching probe these are 3 and 5, and of the receive of a message 2 and 1. It takes no memory (MPI 3.1,
     /// 3.2.2 and 4.1.11).
-    pub fn fault_of_arguments(&self, call: &CoreCall) -> Option<Refusal>
+    pub fn fault_of_arguments(&self, call: &RoutedCall) -> Option<Refusal>
         ensures fault { result ≡ argument_fault self.now.state.place call.now }
         ensures within { IsWithin call.now }
     {
         match call {
-            CoreCall::Isend(send) => {
-                show_widths(send);
-                fault_of(self.place, send)
+            RoutedCall::Isend(routed) => {
+                show_widths(routed);
+                fault_of(self.place, routed)
             }
-            CoreCall::Irecv(receive) => self.rule_of_receive(receive),
-            CoreCall::Improbe(probe) => rule_of_probe(self.place.size, probe.source, probe.tag),
-            CoreCall::Mrecv(_, into) => rule_of_region(into),
-            CoreCall::Wait(_)
-            | CoreCall::Test(_)
-            | CoreCall::Waitany(_)
-            | CoreCall::Waitall(_)
-            | CoreCall::Cancel(_) => { None }
+            RoutedCall::Irecv(routed) => self.rule_of_receive(routed),
+            RoutedCall::Improbe(routed) => {
+                rule_of_probe(self.place.size, routed.route.named, routed.probe.tag)
+            }
+            RoutedCall::Mrecv(_, into) => rule_of_region(into),
+            RoutedCall::Wait(_)
+            | RoutedCall::Test(_)
+            | RoutedCall::Waitany(_)
+            | RoutedCall::Waitall(_)
+            | RoutedCall::Cancel(_) => { None }
         }
     }
 
     /// The limit that a call meets, which is 13: 65,536 requests are there, no serial is left, or no number of a
     /// transfer to the rank. A matching probe meets it only where it finds a message. It takes no memory.
-    pub fn limit_of(&self, call: &CoreCall) -> Option<Refusal>
+    pub fn limit_of(&self, call: &RoutedCall) -> Option<Refusal>
         ensures { result ≡ limit_fault self.now.state call.now }
     {
         match call {
-            CoreCall::Isend(send) => self.limit_of_send(send),
-            CoreCall::Irecv(_) => self.limit_of_receive(),
-            CoreCall::Improbe(probe) => self.limit_of_search(probe),
-            CoreCall::Mrecv(_, _) => None,
-            CoreCall::Wait(_)
-            | CoreCall::Test(_)
-            | CoreCall::Waitany(_)
-            | CoreCall::Waitall(_)
-            | CoreCall::Cancel(_) => { None }
+            RoutedCall::Isend(routed) => self.limit_of_send(routed),
+            RoutedCall::Irecv(_) => self.limit_of_receive(),
+            RoutedCall::Improbe(routed) => self.limit_of_search(routed),
+            RoutedCall::Mrecv(_, _) => None,
+            RoutedCall::Wait(_)
+            | RoutedCall::Test(_)
+            | RoutedCall::Waitany(_)
+            | RoutedCall::Waitall(_)
+            | RoutedCall::Cancel(_) => { None }
         }
     }
 
     /// The first rule or limit that a call meets beyond those on its requests.
-    fn fault_beyond_requests(&self, call: &CoreCall) -> Option<Refusal>
+    fn fault_beyond_requests(&self, call: &RoutedCall) -> Option<Refusal>
         ensures fault { result ≡ first_of (argument_fault self.now.state.place call.now) (limit_fault self.now.state call.now) }
         ensures within { IsWithin call.now }
     {
@@ -256,7 +260,7 @@ impl Core {
     /// The first rule or limit that a call meets: of its requests, then of what it hands in, and then the limits. It
     /// takes no memory.
     #[tactic(auto, using(crate::proofs::Cuts::by_request, crate::proofs::Cuts::by_rest))]
-    pub fn fault_of(&self, call: &CoreCall) -> Option<Refusal>
+    pub fn fault_of(&self, call: &RoutedCall) -> Option<Refusal>
         ensures fault { result ≡ call_fault self.now.state call.now }
         ensures within { result ≡ None → IsWithin call.now }
     {
@@ -283,45 +287,45 @@ impl Core {
 
     /// To which other rank a call gives a frame. It takes no memory.
     #[tactic(auto, using(crate::proofs::Allowed::send_there))]
-    pub fn rank_of(&self, call: &CoreCall) -> Option<u16>
+    pub fn rank_of(&self, call: &RoutedCall) -> Option<u16>
         ensures exact { result ≡ call_rank self.now.state call.now }
         ensures there { call_fault self.now.state call.now ≡ None →
             IfSome result (λ rank. rank < self.now.state.place.size) }
     {
         match call {
-            CoreCall::Isend(send) => rank_to(
+            RoutedCall::Isend(routed) => rank_to(
                 self.place,
-                destination_of(send.target, send.tag, send.context),
+                destination_of(routed.route.named, routed.send.tag, routed.route.context),
             ),
-            CoreCall::Irecv(receive) => match self.answer_of_receive(receive) {
+            RoutedCall::Irecv(routed) => match self.answer_of_receive(routed) {
                 Some(answer) => Some(answer.target),
                 None => None,
             },
-            CoreCall::Mrecv(message, into) => match self.answer_of_message(*message, into) {
+            RoutedCall::Mrecv(message, into) => match self.answer_of_message(*message, into) {
                 Some(answer) => Some(answer.target),
                 None => None,
             },
-            CoreCall::Improbe(_) => None,
-            CoreCall::Wait(_)
-            | CoreCall::Test(_)
-            | CoreCall::Waitany(_)
-            | CoreCall::Waitall(_)
-            | CoreCall::Cancel(_) => None,
+            RoutedCall::Improbe(_) => None,
+            RoutedCall::Wait(_)
+            | RoutedCall::Test(_)
+            | RoutedCall::Waitany(_)
+            | RoutedCall::Waitall(_)
+            | RoutedCall::Cancel(_) => None,
         }
     }
 
     /// The frame that answers the message that a receive finds, if it finds one that was announced. It takes no memory.
     #[tactic(auto, using(crate::proofs::Posting::answer_is_there))]
-    fn answer_of_receive(&self, receive: &CoreReceive) -> Option<Outgoing<'static>>
-        ensures exact { addressed result ≡ receive_frame receive.now.source self.now.state receive.now }
+    fn answer_of_receive(&self, routed: &RoutedReceive) -> Option<Outgoing<'static>>
+        ensures exact { addressed result ≡ receive_frame routed.now.route.named self.now.state routed.now }
         ensures fits { IfSome result (λ a. FrameFits (frame_text a.frame)) }
         ensures there { IfSome result (λ a. a.target < self.now.state.place.size) }
     {
-        match receive.source {
+        match routed.route.named {
             Source::Null => None,
             Source::Any | Source::Rank(_) => {
-                let posted = posted_by(0, receive);
-                answer_on_post(&receive.into, self.queues.message_for(&posted))
+                let posted = posted_by(0, routed);
+                answer_on_post(&routed.receive.into, self.queues.message_for(&posted))
             }
         }
     }
@@ -346,21 +350,22 @@ impl Core {
     #[tactic(auto, using(point_to_point_calls::proofs::SendLaws::is_sendable, point_to_point_calls::proofs::SendLaws::is_there))]
     fn frame_of_send<'a>(
         &self,
-        send: &'a CoreSend,
+        routed: &'a RoutedSend,
         prepared: &'a PreparedCall,
     ) -> Option<Outgoing<'a>>
-        requires allowed { send_fault self.now.state.place send.now ≡ None }
-        requires packed { IsPacked send.now prepared.now }
-        ensures exact { addressed result ≡ frame_of self.now.state send.now }
+        requires allowed { send_fault self.now.state.place routed.now ≡ None }
+        requires packed { IsPacked routed.now prepared.now }
+        ensures exact { addressed result ≡ frame_of self.now.state routed.now }
         ensures fits { IfSome result (λ a. FrameFits (frame_text a.frame)) }
         ensures there { IfSome result (λ a. a.target < self.now.state.place.size) }
     {
-        let elements = elements_of(send, prepared);
-        let destination = destination_of(send.target, send.tag, send.context);
+        let elements = elements_of(routed, prepared);
+        let route = routed.route;
+        let destination = destination_of(route.named, routed.send.tag, route.context);
         frame_to(
             self.place,
             &self.transfers,
-            send.mode,
+            routed.send.mode,
             destination,
             elements,
         )
@@ -370,7 +375,7 @@ impl Core {
     /// for it.
     pub fn frame_of<'a>(
         &self,
-        call: &'a CoreCall,
+        call: &'a RoutedCall,
         prepared: &'a PreparedCall,
     ) -> Option<Outgoing<'a>>
         requires allowed { call_fault self.now.state call.now ≡ None }
@@ -380,15 +385,15 @@ impl Core {
         ensures there { IfSome result (λ a. a.target < self.now.state.place.size) }
     {
         match call {
-            CoreCall::Isend(send) => self.frame_of_send(send, prepared),
-            CoreCall::Irecv(receive) => self.answer_of_receive(receive),
-            CoreCall::Mrecv(message, into) => self.answer_of_message(*message, into),
-            CoreCall::Improbe(_) => None,
-            CoreCall::Wait(_)
-            | CoreCall::Test(_)
-            | CoreCall::Waitany(_)
-            | CoreCall::Waitall(_)
-            | CoreCall::Cancel(_) => None,
+            RoutedCall::Isend(routed) => self.frame_of_send(routed, prepared),
+            RoutedCall::Irecv(routed) => self.answer_of_receive(routed),
+            RoutedCall::Mrecv(message, into) => self.answer_of_message(*message, into),
+            RoutedCall::Improbe(_) => None,
+            RoutedCall::Wait(_)
+            | RoutedCall::Test(_)
+            | RoutedCall::Waitany(_)
+            | RoutedCall::Waitall(_)
+            | RoutedCall::Cancel(_) => None,
         }
     }
 }

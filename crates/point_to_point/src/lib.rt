@@ -17,7 +17,7 @@ mod transfer_numbers;
 
 pub use faults::faults_are_cut;
 pub use point_to_point_calls::{
-    CoreCall, CoreProbe, CoreReceive, CoreReply, CoreSend, HandedBack, News, PreparedCall,
-    PreparedNews, Refusal,
+    CoreReply, HandedBack, News, PreparedCall, PreparedNews, Refusal, RoutedCall, RoutedProbe,
+    RoutedReceive, RoutedSend,
 };
 pub use rank::Core;

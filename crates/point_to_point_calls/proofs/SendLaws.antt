@@ -12,7 +12,7 @@ use Rattle.perfect_queues.specs.Buffers.{differs_in_type, is_too_short}
 use Rattle.perfect_queues.specs.Refusals.{is_no_tag, is_no_target}
 use Rattle.requests.specs.Regions.{byte_count, handed_of, sent_from}
 use Rattle.incarnation.specs.declared.place.Place.{Place}
-use Rattle.point_to_point_calls.specs.declared.call.CoreSend.{CoreSend}
+use Rattle.point_to_point_calls.specs.declared.call.RoutedSend.{RoutedSend}
 use Rattle.point_to_point_calls.specs.declared.sends.Destination.{Destination}
 use Rattle.vocabulary.specs.declared.mode.Mode.{Mode}
 use Rattle.vocabulary.specs.declared.mode.Mode.TheVariants.{Standard, Synchronous}
@@ -22,27 +22,27 @@ use Rattle.point_to_point_calls.specs.Sending.{IsSendable, destination, is_annou
 -- THE RULES
 
 -- buffer and layout are of one basic type
-pub same_type : (p : Place) (s : CoreSend) → send_fault p s ≡ None → differs_in_type (handed_of s.from) ≡ false
+pub same_type : (p : Place) (s : RoutedSend) → send_fault p s ≡ None → differs_in_type (handed_of s.send.from) ≡ false
 unfolding send_fault
 same_type p s none = grind (arith, common_steps, none)
 
 -- the buffer is long enough
-pub long_enough : (p : Place) (s : CoreSend) → send_fault p s ≡ None → is_too_short (handed_of s.from) ≡ false
+pub long_enough : (p : Place) (s : RoutedSend) → send_fault p s ≡ None → is_too_short (handed_of s.send.from) ≡ false
 unfolding send_fault
 long_enough p s none = grind (arith, common_steps, none)
 
 -- it has no more bytes than a message may have
-pub within_limit : (p : Place) (s : CoreSend) → send_fault p s ≡ None → byte_count s.from ≤ send_limit
+pub within_limit : (p : Place) (s : RoutedSend) → send_fault p s ≡ None → byte_count s.send.from ≤ send_limit
 unfolding send_fault
 within_limit p s none = grind (arith, common_steps, none)
 
 -- it has a tag
-has_tag : (p : Place) (s : CoreSend) → send_fault p s ≡ None → is_no_tag s.tag ≡ false
+has_tag : (p : Place) (s : RoutedSend) → send_fault p s ≡ None → is_no_tag s.send.tag ≡ false
 unfolding send_fault
 has_tag p s none = grind (arith, common_steps, none)
 
 -- it has a target
-has_target : (p : Place) (s : CoreSend) → send_fault p s ≡ None → is_no_target p.size s.target ≡ false
+has_target : (p : Place) (s : RoutedSend) → send_fault p s ≡ None → is_no_target p.size s.route.named ≡ false
 unfolding send_fault
 has_target p s none = grind (arith, common_steps, none)
 
@@ -82,15 +82,17 @@ there_at n (Rank to) None x there = tt
 there_at n (Rank to) (Some tag) x there = grind (arith, common_steps, there)
 
 -- what it sends may be sent
-pub is_sendable : (p : Place) (s : CoreSend) → send_fault p s ≡ None →
-    IfSome (destination s.target s.tag s.context) (λ (d : Destination). IsSendable d.tag (sent_from s.from))
+pub is_sendable : (p : Place) (s : RoutedSend) → send_fault p s ≡ None →
+    IfSome (destination s.route.named s.send.tag s.route.context)
+    (λ (d : Destination). IsSendable d.tag (sent_from s.send.from))
 is_sendable p s none =
-    sendable_at s.target s.tag s.context (sent_from s.from) (within_limit p s none) (has_tag p s none)
+    sendable_at s.route.named s.send.tag s.route.context (sent_from s.send.from) (within_limit p s none)
+    (has_tag p s none)
 
 -- it goes to a rank of the job
-pub is_there : (p : Place) (s : CoreSend) → send_fault p s ≡ None →
-    IfSome (destination s.target s.tag s.context) (λ (d : Destination). d.rank < p.size)
-is_there p s none = there_at p.size s.target s.tag s.context (has_target p s none)
+pub is_there : (p : Place) (s : RoutedSend) → send_fault p s ≡ None →
+    IfSome (destination s.route.named s.send.tag s.route.context) (λ (d : Destination). d.rank < p.size)
+is_there p s none = there_at p.size s.route.named s.send.tag s.route.context (has_target p s none)
 
 -- so does its frame
 rank_at : (own : Bool) (n : ℕ) (d : Destination) → d.rank < n → IfSome (rank_unless own d) (λ (rank : ℕ). rank < n)
@@ -104,6 +106,6 @@ rank_within p None there = tt
 rank_within p (Some d) there = rank_at (d.rank == p.endpoint.rank) p.size d there
 
 -- the rank that its frame goes to is one of the job's
-pub rank_is_there : (p : Place) (s : CoreSend) → send_fault p s ≡ None →
-    IfSome (rank_to p (destination s.target s.tag s.context)) (λ (rank : ℕ). rank < p.size)
-rank_is_there p s none = rank_within p (destination s.target s.tag s.context) (is_there p s none)
+pub rank_is_there : (p : Place) (s : RoutedSend) → send_fault p s ≡ None →
+    IfSome (rank_to p (destination s.route.named s.send.tag s.route.context)) (λ (rank : ℕ). rank < p.size)
+rank_is_there p s none = rank_within p (destination s.route.named s.send.tag s.route.context) (is_there p s none)

@@ -5,18 +5,19 @@ use Rattle.datatypes.specs.Contents.{AreWithin}
 use Rattle.requests.specs.declared.region.Places.TheVariants as places
 use Rattle.requests.specs.declared.table.Request.{Request}
 use Rattle.requests.specs.Regions.{sent_from}
-use Rattle.point_to_point_calls.specs.declared.call.CoreCall.{CoreCall}
-use Rattle.point_to_point_calls.specs.declared.call.CoreCall.TheVariants as calls
+use Rattle.point_to_point_calls.specs.declared.call.RoutedCall.{RoutedCall}
+use Rattle.point_to_point_calls.specs.declared.call.RoutedCall.TheVariants as calls
 use Rattle.point_to_point_calls.specs.declared.call.CoreReply.{CoreReply}
 use Rattle.point_to_point_calls.specs.declared.call.CoreReply.TheVariants as replies
-use Rattle.point_to_point_calls.specs.declared.call.CoreSend.{CoreSend}
+use Rattle.point_to_point_calls.specs.declared.call.RoutedSend.{RoutedSend}
 use Rattle.point_to_point_calls.specs.declared.prepared_call.PreparedCall.{PreparedCall}
 use Rattle.point_to_point_calls.specs.declared.prepared_call.PreparedCall.TheVariants as prepareds
 use Rattle.rendezvous.specs.Collecting.{Collecting}
 
 -- each element that a call sends has the width of its type, and its context has 64 bits
-abbrev pub IsWithin : CoreCall → Type 0
-IsWithin (calls.Isend s) = AreWithin (size_of s.from.buffer.basic) ((sent_from s.from).values) × (s.context < 2 ^ 64)
+abbrev pub IsWithin : RoutedCall → Type 0
+IsWithin (calls.Isend s) =
+    AreWithin (size_of s.send.from.buffer.basic) ((sent_from s.send.from).values) × (s.route.context < 2 ^ 64)
 IsWithin (calls.Irecv v) = Unit {0}
 IsWithin (calls.Wait q) = Unit {0}
 IsWithin (calls.Test q) = Unit {0}
@@ -28,7 +29,7 @@ IsWithin (calls.Mrecv q into) = Unit {0}
 
 -- what a call starts, what it takes out or receives, and the outcomes of several requests, take memory; all else is
 -- answered without
-abbrev pub NeedsMemory : CoreCall → Type 0
+abbrev pub NeedsMemory : RoutedCall → Type 0
 NeedsMemory (calls.Isend s) = Unit {0}
 NeedsMemory (calls.Irecv v) = Unit {0}
 NeedsMemory (calls.Wait q) = ⊥
@@ -42,9 +43,9 @@ NeedsMemory (calls.Mrecv q into) = Unit {0}
 -- ---- what is made ready for it
 
 -- the data of a send stand in its buffer, or were packed
-abbrev pub IsPacked : CoreSend → PreparedCall → Type 0
-IsPacked s prepareds.Nothing = s.from.places ≡ places.All
-IsPacked s (prepareds.Packed elements) = elements ≡ sent_from s.from
+abbrev pub IsPacked : RoutedSend → PreparedCall → Type 0
+IsPacked s prepareds.Nothing = s.send.from.places ≡ places.All
+IsPacked s (prepareds.Packed elements) = elements ≡ sent_from s.send.from
 IsPacked s (prepareds.Room count) = ⊥
 IsPacked s (prepareds.Place c) = ⊥
 

@@ -24,15 +24,15 @@ use Rattle.vocabulary.specs.BasicTypes.{size_of}
 use Rattle.communicator_members.specs.Statuses.{status_in}
 use Rattle.requests.specs.Table.{slot_at, after_announcement, after_answer, after_finish, has_room, progress_on_match}
 use Rattle.requests.specs.Table.{wants_by}
-use Rattle.point_to_point_calls.specs.declared.call.CoreReceive.{CoreReceive}
+use Rattle.point_to_point_calls.specs.declared.call.RoutedReceive.{RoutedReceive}
 
 -- the receive as it stands in the queue, under its key in the table
-abbrev pub posted_by : ℕ → CoreReceive → posted.PostedReceive
-posted_by key v = record { request = key; context = v.context; source = v.source; tag = v.tag }
+abbrev pub posted_by : ℕ → RoutedReceive → posted.PostedReceive
+posted_by key v = record { request = key; context = v.route.context; source = v.route.named; tag = v.receive.tag }
 
 -- the receive as it waits under its key in the table
-abbrev pub waiting_by : CoreReceive → Posted
-waiting_by v = record { into = v.into; group = v.group }
+abbrev pub waiting_by : RoutedReceive → Posted
+waiting_by v = record { into = v.receive.into; group = v.group }
 
 -- the status that a message gives (MPI 3.1, 3.2.5), whose source is a rank of world
 abbrev pub status_of : Message → Status

@@ -20,7 +20,7 @@ use Rattle.requests.specs.declared.table.RequestProgress.TheVariants.{Finished, 
 use Rattle.requests.specs.declared.outcome.Outcome.TheVariants.{Sent}
 use Rattle.requests.specs.Regions.{byte_count, handed_of, sent_from}
 use Rattle.incarnation.specs.declared.place.Place.{Place}
-use Rattle.point_to_point_calls.specs.declared.call.CoreSend.{CoreSend}
+use Rattle.point_to_point_calls.specs.declared.call.RoutedSend.{RoutedSend}
 use Rattle.point_to_point_calls.specs.declared.sends.Destination.{Destination}
 use Rattle.point_to_point_calls.specs.declared.refusal.Refusal.{Refusal}
 use Rattle.point_to_point_calls.specs.declared.refusal.Refusal.TheVariants as refusals
@@ -29,13 +29,13 @@ use Rattle.rendezvous.specs.State.{State, after_begin, is_full_to, next_to}
 -- The first rule that a send breaks: buffer and layout differ in basic type; it has more than 1,048,576 bytes, also to
 -- the own rank and to the null process; the buffer is too short; the tag is above the highest, or the wildcard; there
 -- is no such rank, or it is any rank.
-unfoldable pub send_fault : Place → CoreSend → Option Refusal
+unfoldable pub send_fault : Place → RoutedSend → Option Refusal
 send_fault p s =
-    if differs_in_type (handed_of s.from) then Some refusals.WrongType
-    else (if nat_lt send_limit (byte_count s.from) then Some refusals.Count
-    else (if is_too_short (handed_of s.from) then Some refusals.Count
-    else (if is_no_tag s.tag then Some refusals.Tag
-    else (if is_no_target p.size s.target then Some refusals.Rank
+    if differs_in_type (handed_of s.send.from) then Some refusals.WrongType
+    else (if nat_lt send_limit (byte_count s.send.from) then Some refusals.Count
+    else (if is_too_short (handed_of s.send.from) then Some refusals.Count
+    else (if is_no_tag s.send.tag then Some refusals.Tag
+    else (if is_no_target p.size s.route.named then Some refusals.Rank
     else None))))
 
 -- a fault, or else the limit of transfers, where the send needs one
@@ -60,8 +60,8 @@ is_own p None = false
 is_own p (Some d) = d.rank == p.endpoint.rank
 
 -- the same of a send
-abbrev pub is_to_itself : Place → CoreSend → Bool
-is_to_itself p s = is_own p (destination s.target s.tag s.context)
+abbrev pub is_to_itself : Place → RoutedSend → Bool
+is_to_itself p s = is_own p (destination s.route.named s.send.tag s.route.context)
 
 -- THE FRAME
 
@@ -130,9 +130,10 @@ rank_to p (Some d) = rank_unless (d.rank == p.endpoint.rank) d
 
 -- to which other rank the message of a send is announced, if it is: that of a synchronous send, or one that doesn't go
 -- in one frame
-abbrev pub announced_to : Place → CoreSend → Option ℕ
-announced_to p s = if is_announced s.mode (sent_from s.from) then rank_to p (destination s.target s.tag s.context) else
-    None
+abbrev pub announced_to : Place → RoutedSend → Option ℕ
+announced_to p s =
+    if is_announced s.send.mode (sent_from s.send.from)
+    then rank_to p (destination s.route.named s.send.tag s.route.context) else None
 
 -- THE MESSAGE TO THE OWN RANK
 

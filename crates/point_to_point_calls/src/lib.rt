@@ -13,7 +13,10 @@ mod receives;
 mod refusal;
 mod sends;
 
-pub use call::{CoreCall, CoreProbe, CoreReceive, CoreReply, CoreSend, HandedBack};
+pub use call::{
+    CallRoute, CoreReply, HandedBack, Probe, Receive, RoutedCall, RoutedProbe, RoutedReceive,
+    RoutedSend, Send,
+};
 pub use frames::{data_frames, frames_of, list_of};
 pub use news::{
     Match, News, PreparedNews, announced_of, answer_to_match, bad_unless, collection_of_match,

@@ -5,7 +5,7 @@ ghost use Rattle.perfect_queues.specs.Buffers.{differs_in_type, is_too_short};
 ghost use Rattle.requests.specs.Regions.{handed_of};
 ghost use Rattle.point_to_point_calls.specs.Calls.{HasOutcomeRoom, IsPacked, place_in};
 
-use crate::call::CoreSend;
+use crate::call::RoutedSend;
 use crate::refusal::Refusal;
 use datatypes::Buffer;
 use rendezvous::Collection;
@@ -38,13 +38,13 @@ impl PreparedCall {
 }
 
 /// The data of a send, taken out of the places of a layout where they do not stand in its buffer in order.
-pub fn pack(alloc: Global, send: &CoreSend) -> Result<PreparedCall, Refusal>
-    requires types { differs_in_type (handed_of send.now.from) ≡ false }
-    requires room { is_too_short (handed_of send.now.from) ≡ false }
-    ensures packed { IfOk result (λ prepared. IsPacked send.now prepared) }
+pub fn pack(alloc: Global, routed: &RoutedSend) -> Result<PreparedCall, Refusal>
+    requires types { differs_in_type (handed_of routed.now.send.from) ≡ false }
+    requires room { is_too_short (handed_of routed.now.send.from) ≡ false }
+    ensures packed { IfOk result (λ prepared. IsPacked routed.now prepared) }
     ensures err { IfErr result (λ e. e ≡ Refusal.OutOfMemory) }
 {
-    match send.from.pack(alloc) {
+    match routed.send.from.pack(alloc) {
         Ok(Some(elements)) => Ok(PreparedCall::Packed(elements)),
         Ok(None) => Ok(PreparedCall::Nothing),
         Err(_) => Err(Refusal::OutOfMemory),

@@ -9,7 +9,7 @@ ghost use Rattle.point_to_point_calls.specs.Frames.{addressed};
 ghost use Rattle.point_to_point_calls.specs.Receiving.{answer_by, answer_on_post, collection_on_match};
 ghost use Rattle.point_to_point_calls.specs.Receiving.{collection_on_post, posted_by, progress_on_post, status_of};
 
-use crate::call::CoreReceive;
+use crate::call::RoutedReceive;
 use crate::refusal::Refusal;
 use communicator_members::status_in;
 use datagram::{ClearToSend, Clearance, Frame, Outgoing};
@@ -40,14 +40,14 @@ pub fn is_source_beyond(size: u16, source: Source) -> bool
 }
 
 /// What is posted for a receive, under the key of its request.
-pub fn posted_by(key: usize, receive: &CoreReceive) -> match_queues::PostedReceive
-    ensures { result ≡ posted_by key receive.now }
+pub fn posted_by(key: usize, routed: &RoutedReceive) -> match_queues::PostedReceive
+    ensures { result ≡ posted_by key routed.now }
 {
     match_queues::PostedReceive {
         request: key,
-        context: receive.context,
-        source: receive.source,
-        tag: receive.tag,
+        context: routed.route.context,
+        source: routed.route.named,
+        tag: routed.receive.tag,
     }
 }
 

@@ -5,13 +5,13 @@ ghost use Rattle.datagram.specs.Spelling.{frame_text, FrameFits};
 ghost use Rattle.perfect_queues.specs.Refusals.{is_no_tag, is_no_target};
 ghost use Rattle.requests.specs.Regions.{sent_from};
 ghost use Rattle.point_to_point_calls.specs.Calls.{IsPacked, IsWithin};
-ghost use Rattle.point_to_point_calls.specs.declared.call.CoreCall.TheVariants as calls;
+ghost use Rattle.point_to_point_calls.specs.declared.call.RoutedCall.TheVariants as calls;
 ghost use Rattle.point_to_point_calls.specs.Frames.{addressed};
 ghost use Rattle.point_to_point_calls.specs.Sending.{IsSendable, announced_to, destination, eager_frame, frame_to};
 ghost use Rattle.point_to_point_calls.specs.Sending.{frame_with, is_announced, is_large, is_own, own_message, rank_to};
 ghost use Rattle.point_to_point_calls.specs.Sending.{request_frame, send_fault};
 
-use crate::call::CoreSend;
+use crate::call::RoutedSend;
 use crate::prepared_call::PreparedCall;
 use crate::receives::is_tag_above;
 use crate::refusal::Refusal;
@@ -55,9 +55,10 @@ fn is_no_target(size: u16, target: Source) -> bool
 
 /// The first rule that a send breaks.
 #[tactic(auto, unfolding(crate::specs::Sending::send_fault))]
-pub fn fault_of(place: Place, send: &CoreSend) -> Option<Refusal>
-    ensures { result ≡ send_fault place send.now }
+pub fn fault_of(place: Place, routed: &RoutedSend) -> Option<Refusal>
+    ensures { result ≡ send_fault place routed.now }
 {
+    let send = &routed.send;
     if send.from.differs_in_type() {
         return Some(Refusal::WrongType);
     }
@@ -70,7 +71,7 @@ pub fn fault_of(place: Place, send: &CoreSend) -> Option<Refusal>
     if is_no_tag(send.tag) {
         return Some(Refusal::Tag);
     }
-    if is_no_target(place.size, send.target) {
+    if is_no_target(place.size, routed.route.named) {
         return Some(Refusal::Rank);
     }
     None
@@ -121,15 +122,19 @@ fn is_large(elements: &Buffer) -> bool
 
 /// To which other rank the message of a send is announced, if it is: that of a synchronous send, or one that does not
 /// go in one frame.
-pub fn announced_to(place: Place, send: &CoreSend) -> Option<u16>
-    ensures { result ≡ announced_to place send.now }
+pub fn announced_to(place: Place, routed: &RoutedSend) -> Option<u16>
+    ensures { result ≡ announced_to place routed.now }
 {
+    let send = &routed.send;
     if let Mode::Standard = send.mode
         && !send.from.is_above(EAGER_LIMIT)
     {
         return None;
     }
-    rank_to(place, destination_of(send.target, send.tag, send.context))
+    rank_to(
+        place,
+        destination_of(routed.route.named, send.tag, routed.route.context),
+    )
 }
 
 /// Whether the message of these elements is announced.
@@ -237,27 +242,26 @@ pub fn frame_to<'a>(
 
 /// The elements of a send: those that were packed, or all of its buffer.
 #[tactic(auto, using(crate::proofs::Packs::stand_ready))]
-pub fn elements_of<'a>(send: &'a CoreSend, prepared: &'a PreparedCall) -> &'a Buffer
-    requires { IsPacked send.now prepared.now }
-    ensures { result.now ≡ sent_from send.now.from }
+pub fn elements_of<'a>(routed: &'a RoutedSend, prepared: &'a PreparedCall) -> &'a Buffer
+    requires { IsPacked routed.now prepared.now }
+    ensures { result.now ≡ sent_from routed.now.send.from }
 {
     match prepared {
         PreparedCall::Packed(elements) => elements,
-        PreparedCall::Nothing => &send.from.buffer,
+        PreparedCall::Nothing => &routed.send.from.buffer,
         PreparedCall::Room(_) | PreparedCall::Place(_) => unreachable!(),
     }
 }
 
 /// The same, taken out.
 #[tactic(auto, using(crate::proofs::Packs::stand_ready))]
-pub fn into_elements(send: CoreSend, prepared: PreparedCall) -> Buffer
-    requires { IsPacked send prepared }
-    ensures { result ≡ sent_from send.from }
+pub fn into_elements(routed: RoutedSend, prepared: PreparedCall) -> Buffer
+    requires { IsPacked routed prepared }
+    ensures { result ≡ sent_from routed.send.from }
 {
-    let CoreSend { from, .. } = send;
     match prepared {
         PreparedCall::Packed(elements) => elements,
-        PreparedCall::Nothing => from.buffer,
+        PreparedCall::Nothing => routed.send.from.buffer,
         PreparedCall::Room(_) | PreparedCall::Place(_) => unreachable!(),
     }
 }
@@ -291,9 +295,9 @@ pub fn own_message(
 
 /// What a send shows of itself: by the bytes of its buffer each element has the width of its type, and its context has
 /// 64 bits.
-pub fn show_widths(send: &CoreSend)
-    ensures { IsWithin (calls.Isend send.now) }
+pub fn show_widths(routed: &RoutedSend)
+    ensures { IsWithin (calls.Isend routed.now) }
 {
-    let _bytes = send.from.buffer.as_bytes();
-    let _context = send.context;
+    let _bytes = routed.send.from.buffer.as_bytes();
+    let _context = routed.route.context;
 }

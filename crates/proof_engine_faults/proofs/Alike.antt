@@ -8,16 +8,16 @@ use Rattle.engine_calls.specs.Refusals.{first_fault}
 use Rattle.engine_calls.specs.Routing.{probe_by, receive_by, route_at, send_by}
 use Rattle.engine_calls.specs.declared.call.Call.{Call}
 use Rattle.engine_calls.specs.declared.call.Call.TheVariants as calls
-use Rattle.engine_calls.specs.declared.call.Probe.{Probe}
-use Rattle.engine_calls.specs.declared.call.Receive.{Receive}
-use Rattle.engine_calls.specs.declared.call.Send.{Send}
+use Rattle.point_to_point_calls.specs.declared.call.Probe.{Probe}
+use Rattle.point_to_point_calls.specs.declared.call.Receive.{Receive}
+use Rattle.point_to_point_calls.specs.declared.call.Send.{Send}
 use Rattle.perfect_groups.specs.Calls.{held_at}
 use Rattle.perfect_groups.specs.Faults.{is_no_target, is_source_beyond}
 use Rattle.proof_engine_faults.proofs.Calm.{message_alike, one_absent_alike, receive_alike}
 use Rattle.proof_engine_faults.proofs.Rows.{calm_core}
 use Rattle.proof_network_bridge.proofs.Routed.{routed_full}
-use Rattle.point_to_point_calls.specs.declared.call.CoreCall as cores
-use Rattle.point_to_point_calls.specs.declared.call.CoreCall.TheVariants as core_calls
+use Rattle.point_to_point_calls.specs.declared.call.RoutedCall as cores
+use Rattle.point_to_point_calls.specs.declared.call.RoutedCall.TheVariants as core_calls
 use Rattle.point_to_point_calls.specs.declared.refusal.Refusal.{Refusal}
 use Rattle.point_to_point_calls.specs.declared.refusal.Refusal.TheVariants as refusals
 use Rattle.point_to_point.specs.Calls.{argument_fault}
@@ -54,7 +54,7 @@ only_full None h = inl refl
 only_full (Some x) h = inr (ap (λ (y : Refusal). Some y) (h x refl))
 
 -- the limits of a call with a route
-limits_alike : (e : EngineState) (q : cores.CoreCall) → Alike (routed_limit e q) (routed_limit (calm_engine e) q)
+limits_alike : (e : EngineState) (q : cores.RoutedCall) → Alike (routed_limit e q) (routed_limit (calm_engine e) q)
 limits_alike e q =
     Full (only_full (routed_limit e q) (routed_full e q))
     (only_full (routed_limit (calm_engine e) q) (routed_full (calm_engine e) q))
@@ -67,7 +67,7 @@ send_alike e s r =
     (first_alike (broken (is_no_target (held_at (member_of e.groups) s.comm) s.target) refusals.Rank) _ _
     (first_alike (broken (is_replaced e s.comm s.target) refusals.Replaced) _ _ (limits_alike e q)))
   where
-    q : cores.CoreCall
+    q : cores.RoutedCall
     q = core_calls.Isend (send_by s r)
 
 receive_alike_by : (e : EngineState) (v : Receive) (r : RouteText) →
@@ -78,7 +78,7 @@ receive_alike_by e v r =
     (first_alike (broken (is_replaced e v.comm v.source) refusals.Replaced) _ _
     (first_alike (group_limit r.group) _ _ (limits_alike e q))))
   where
-    q : cores.CoreCall
+    q : cores.RoutedCall
     q = core_calls.Irecv (receive_by v r)
 
 probe_alike : (e : EngineState) (p : Probe) (r : RouteText) →
@@ -109,7 +109,7 @@ message_rules_alike e q into =
     (first_alike (message_fault e.core q) _ _
     (first_alike (argument_fault e.core.place call) _ _ (limits_alike e call)))
   where
-    call : cores.CoreCall
+    call : cores.RoutedCall
     call = core_calls.Mrecv q into
 
 -- ---- all calls

@@ -4,7 +4,7 @@ use Rattle.std.proofs.Common.{option_map, Option, Some, None, refl, ap, ◌∙�
 use Rattle.match_queues.specs.Accepts.{accepts}
 use Rattle.match_queues.specs.declared.envelope.Message.{Message}
 use Rattle.match_queues.specs.State.{State, message_at, message_for, posted_at, taken_at}
-use Rattle.point_to_point_calls.specs.declared.call.CoreReceive as engine_receive
+use Rattle.point_to_point_calls.specs.declared.call.RoutedReceive as engine_receive
 use Rattle.point_to_point_calls.specs.Receiving.{posted_by}
 use Rattle.point_to_point.specs.Messages.{probed_by}
 use Rattle.perfect_queues.specs.Receives.{Probe, Receive, such_receive}
@@ -101,7 +101,7 @@ tried from key p [] = inl (record { core = refl; place = refl })
 tried from key p (m ∷ ms) = step from key p m ms (tried from key p ms)
 
 -- the receive is posted, as none is accepted
-finds_none : (from : Endpoint → List Transfer) (old : State) (v : engine_receive.CoreReceive) (key : ℕ) →
+finds_none : (from : Endpoint → List Transfer) (old : State) (v : engine_receive.RoutedReceive) (key : ℕ) →
     Passed from key (receive_seen v) old.unexpected → FindsNone from old v key
 finds_none from old v key n =
     let none : message_for (posted_by key v) old.unexpected ≡ None = n.place in
@@ -112,7 +112,7 @@ finds_none from old v key n =
     }
 
 -- the receive takes the oldest that it accepts
-finds : (from : Endpoint → List Transfer) (old : State) (v : engine_receive.CoreReceive) (key i : ℕ) (m : Message)
+finds : (from : Endpoint → List Transfer) (old : State) (v : engine_receive.RoutedReceive) (key i : ℕ) (m : Message)
     (earlier later : List Held) → Taken from key (receive_seen v) old.unexpected i m earlier later →
     Finds from old v key m earlier later
 finds from old v key i m earlier later s =

@@ -13,7 +13,7 @@ use Rattle.requests.specs.Outcomes.{outcome_of}
 use Rattle.requests.specs.Table.{has_room, matched_progress}
 use Rattle.communicator_members.specs.Statuses.{status_in}
 use Rattle.requests.specs.declared.table.Posted.{Posted}
-use Rattle.point_to_point_calls.specs.declared.call.CoreReceive as engine_receive
+use Rattle.point_to_point_calls.specs.declared.call.RoutedReceive as engine_receive
 use Rattle.point_to_point_calls.specs.Receiving.{posted_by, status_of}
 use Rattle.point_to_point.specs.Messages.{probed_by}
 use Rattle.perfect_queues.specs.Outcomes.{outcome}
@@ -53,14 +53,14 @@ ArrivalsMatch =
     IsKept from rows old m ⊎ ((k : ℕ) × (key : ℕ) × (p : Receive) × IsMatchedTo from rows old m k key p)
 
 -- no message that waits is accepted
-pub record FindsNone (from : Endpoint → List Transfer) (old : State) (v : engine_receive.CoreReceive)
+pub record FindsNone (from : Endpoint → List Transfer) (old : State) (v : engine_receive.RoutedReceive)
     (key : ℕ) : Type 0 where
   pub core : found (receive_seen v) (map (held_of from) old.unexpected) ≡ None
   pub message : message_at old.unexpected (message_for (posted_by key v) old.unexpected) ≡ None
   pub queues : after_post old (posted_by key v) ≡ record old { posted = old.posted ++ posted_by key v ∷ [] }
 
 -- the receive takes the same message out of both, and those before and after it stay
-pub record Finds (from : Endpoint → List Transfer) (old : State) (v : engine_receive.CoreReceive) (key : ℕ)
+pub record Finds (from : Endpoint → List Transfer) (old : State) (v : engine_receive.RoutedReceive) (key : ℕ)
     (m : Message) (earlier later : List Held) : Type 0 where
   pub core : found (receive_seen v) (map (held_of from) old.unexpected) ≡ Some (earlier, held_of from m, later)
   pub message : message_at old.unexpected (message_for (posted_by key v) old.unexpected) ≡ Some m
@@ -71,7 +71,7 @@ pub record Finds (from : Endpoint → List Transfer) (old : State) (v : engine_r
 -- A receive that is posted finds the same message in the engine's queues and in the core, or in neither
 abbrev pub PostsMatch : Type 0
 PostsMatch =
-    (from : Endpoint → List Transfer) (old : State) (v : engine_receive.CoreReceive) (key : ℕ) →
+    (from : Endpoint → List Transfer) (old : State) (v : engine_receive.RoutedReceive) (key : ℕ) →
     FindsNone from old v key ⊎
     ((m : Message) × (earlier : List Held) × (later : List Held) × Finds from old v key m earlier later)
 

@@ -18,9 +18,9 @@ use Rattle.perfect_queues.specs.Refusals as rules
 use Rattle.requests.specs.Regions.{sent_from}
 use Rattle.requests.specs.declared.table.RequestProgress.TheVariants.{Offering}
 use Rattle.requests.specs.declared.table.Request.{Request}
-use Rattle.point_to_point_calls.specs.declared.call.CoreCall.TheVariants as calls
+use Rattle.point_to_point_calls.specs.declared.call.RoutedCall.TheVariants as calls
 use Rattle.point_to_point_calls.specs.declared.call.CoreReply.TheVariants as replies
-use Rattle.point_to_point_calls.specs.declared.call.CoreSend.{CoreSend}
+use Rattle.point_to_point_calls.specs.declared.call.RoutedSend.{RoutedSend}
 use Rattle.point_to_point_calls.specs.Calls.{IsWithin}
 use Rattle.point_to_point_calls.specs.Frames.{as_list}
 use Rattle.point_to_point_calls.specs.Sending.{announced_to, is_announced, send_fault}
@@ -61,10 +61,10 @@ record MayAnnounce (mode : Mode) (old : CoreState) (to context tag : ℕ) (c : C
   pub free : is_full_to old.transfers.numbers to ≡ false
 
 -- one that meets no rule and no limit may
-may_announce : (old : CoreState) (s : CoreSend) (to tag : ℕ) → s.target ≡ Rank to → s.tag ≡ Some tag →
+may_announce : (old : CoreState) (s : RoutedSend) (to tag : ℕ) → s.route.named ≡ Rank to → s.send.tag ≡ Some tag →
     (to == old.place.endpoint.rank) ≡ false → KeepsRules old.place s → IsWithin (calls.Isend s) →
-    is_announced s.mode (sent_from s.from) ≡ true → free_fault old (calls.Isend s) ≡ None →
-    MayAnnounce s.mode old to s.context tag (sent_from s.from)
+    is_announced s.send.mode (sent_from s.send.from) ≡ true → free_fault old (calls.Isend s) ≡ None →
+    MayAnnounce s.send.mode old to s.route.context tag (sent_from s.send.from)
 may_announce old s to tag target_is tag_is other kept within large fine =
     record {
       there = leb-false old.place.size to (sym (ap (rules.is_no_target old.place.size) target_is) ∙ kept.inside);
@@ -109,17 +109,17 @@ large_holds mode a old known core q new to context tag c shown may sent =
     (after_grows a (announcement_of core (endpoint_of known to) context tag c.basic c.values ∷ [])) tt refl refl
 
 -- a large send to another rank
-pub large_send_shown : (a : Announcements) (old new : CoreState) (known : List ℕ) (core : Core) (s : CoreSend)
+pub large_send_shown : (a : Announcements) (old new : CoreState) (known : List ℕ) (core : Core) (s : RoutedSend)
     (q : Request) (to tag : ℕ) → IsShown a old known core → old.blocked ≡ None →
-    s.target ≡ Rank to → s.tag ≡ Some tag → (to == old.place.endpoint.rank) ≡ false → KeepsRules old.place s →
-    IsWithin (calls.Isend s) → is_announced s.mode (sent_from s.from) ≡ true →
+    s.route.named ≡ Rank to → s.send.tag ≡ Some tag → (to == old.place.endpoint.rank) ≡ false → KeepsRules old.place s →
+    IsWithin (calls.Isend s) → is_announced s.send.mode (sent_from s.send.from) ≡ true →
     free_fault old (calls.Isend s) ≡ None → IsSending old s q new →
     IsCalled a old known core (calls.Isend s) (replies.Started q) new
 large_send_shown a old new known core s q to tag shown free target_is tag_is other kept within large fine is_sent =
     started_call a old new known core (calls.Isend s) q after (record {
       is = called_send core own s ∙
-          (ap₂ (λ (t : Source) (g : Option ℕ). core_sent s.mode own core s.context t g c) target_is tag_is
-          ∙ core_announces s.mode core own to (slice_index known to) s.context tag c other may.large
+          (ap₂ (λ (t : Source) (g : Option ℕ). core_sent s.send.mode own core s.route.context t g c) target_is tag_is
+          ∙ core_announces s.send.mode core own to (slice_index known to) s.route.context tag c other may.large
           (shown.known_alike to));
       fit = send_fit old.place core s core_is kept;
       place = ap (λ (x : CoreState). x.place) sent.rest;
@@ -127,15 +127,17 @@ large_send_shown a old new known core s q to tag shown free target_is tag_is oth
       free = core_is;
       shown = shown_free (after_out a after.out) new known after.core rows
           (subst (λ (x : CoreState). Holding (after_out a after.out) x known after.core rows) (sym sent.rest)
-          (large_holds s.mode a old known core q new to s.context tag c shown may sent))
+          (large_holds s.send.mode a old known core q new to s.route.context tag c shown may sent))
           (ap (λ (x : CoreState). x.blocked) sent.rest ∙ free) core_is;
       sends = subst
           (λ (f : Option OutgoingText). AreSent (after_out a after.out) (all_gone known (as_list f)) after.out)
           (sym frame_is)
-          (announcing_sent s.mode a known to (next_to old.transfers.numbers to) s.context tag (length core.jobs) c
+          (announcing_sent s.send.mode a known to (next_to old.transfers.numbers to) s.route.context tag
+          (length core.jobs) c
           (shown.under_way.numbered.begun to may.there may.apart));
       leaves = subst (λ (f : Option OutgoingText). AllByRecursion (CanLeave old.place) (as_list f)) (sym frame_is) (
-        announcing_leaves s.mode old.place to (next_to old.transfers.numbers to) s.context tag c may.wide may.there
+        announcing_leaves s.send.mode old.place to (next_to old.transfers.numbers to) s.route.context tag c may.wide
+            may.there
             may.apart may.low may.large may.limit (shown.under_way.numbered.most to),
         tt,
       );
@@ -147,13 +149,13 @@ large_send_shown a old new known core s q to tag shown free target_is tag_is oth
     own = old.place.endpoint
 
     c : Contents
-    c = sent_from s.from
+    c = sent_from s.send.from
 
     after : Effect
     after = effect (core_offering core (endpoint_of known to) c.basic c.values)
-        (announcement_of core (endpoint_of known to) s.context tag c.basic c.values ∷ [])
+        (announcement_of core (endpoint_of known to) s.route.context tag c.basic c.values ∷ [])
 
-    may : MayAnnounce s.mode old to s.context tag c
+    may : MayAnnounce s.send.mode old to s.route.context tag c
     may = may_announce old s to tag target_is tag_is other kept within large fine
 
     sent : IsOffering old to c q new
@@ -165,5 +167,5 @@ large_send_shown a old new known core s q to tag shown free target_is tag_is oth
     core_is : core.blocked ≡ None
     core_is = core_free a old known core shown free
 
-    frame_is : frame_of old s ≡ Some (announcing_frame s.mode old to s.context tag c)
+    frame_is : frame_of old s ≡ Some (announcing_frame s.send.mode old to s.route.context tag c)
     frame_is = large_frame old s to tag target_is tag_is other large

@@ -2,8 +2,8 @@
 use Rattle.std.proofs.Common.{◌≡◌, ℕ, List, Option, Some, None, refl}
 use Rattle.requests.specs.declared.awaited_requests.Awaited.{Awaited}
 use Rattle.requests.specs.declared.awaited_requests.Awaited.TheVariants as awaiteds
-use Rattle.point_to_point_calls.specs.declared.call.CoreCall.{CoreCall}
-use Rattle.point_to_point_calls.specs.declared.call.CoreCall.TheVariants as calls
+use Rattle.point_to_point_calls.specs.declared.call.RoutedCall.{RoutedCall}
+use Rattle.point_to_point_calls.specs.declared.call.RoutedCall.TheVariants as calls
 use Rattle.point_to_point_calls.specs.declared.call.CoreReply.{CoreReply}
 use Rattle.point_to_point_calls.specs.declared.call.CoreReply.TheVariants as replies
 use Rattle.point_to_point_calls.specs.Calls.{IsWithin}
@@ -35,7 +35,8 @@ record Matching : Type 0 where
 
 -- a call while no other is blocked
 free_call : Matching →
-    (links : Announcements) (old new : CoreState) (known : List ℕ) (core : Core) (call : CoreCall) (reply : CoreReply) →
+    (links : Announcements) (old new : CoreState) (known : List ℕ) (core : Core) (call : RoutedCall) (reply : CoreReply)
+    →
     IsShown links old known core → ClaimsOnce core → old.blocked ≡ None →
     IsWithin call → free_fault old call ≡ None → Answers old call reply new →
     IsCalled links old known core call reply new

@@ -24,7 +24,7 @@ use Rattle.requests.specs.declared.table.RequestProgress.TheVariants.{Offering}
 use Rattle.requests.specs.declared.table.Request.{Request}
 use Rattle.point_to_point_calls.specs.declared.refusal.Refusal.{Refusal}
 use Rattle.point_to_point_calls.specs.declared.refusal.Refusal.TheVariants as refusals
-use Rattle.point_to_point_calls.specs.declared.call.CoreSend.{CoreSend}
+use Rattle.point_to_point_calls.specs.declared.call.RoutedSend.{RoutedSend}
 use Rattle.datagram.specs.Spelling.{FrameText, OutgoingText}
 use Rattle.point_to_point_calls.specs.Sending.{announced_to, destination, eager_frame, frame_to, frame_unless}
 use Rattle.point_to_point_calls.specs.Sending.{is_announced, is_own, is_to_itself, offered_by, or_worn_out}
@@ -83,12 +83,13 @@ core_announces mode core own to i c tag x other large known =
 -- ---- THE RANK'S SEND
 
 -- it is announced to that rank
-pub is_announced_to : (p : Place) (s : CoreSend) (to tag : ℕ) → s.target ≡ Rank to → s.tag ≡ Some tag →
-    (to == p.endpoint.rank) ≡ false → is_announced s.mode (sent_from s.from) ≡ true → announced_to p s ≡ Some to
+pub is_announced_to : (p : Place) (s : RoutedSend) (to tag : ℕ) → s.route.named ≡ Rank to → s.send.tag ≡ Some tag →
+    (to == p.endpoint.rank) ≡ false → is_announced s.send.mode (sent_from s.send.from) ≡ true → announced_to p s ≡ Some
+    to
 is_announced_to p s to tag target_is tag_is other large =
-    ap (λ (b : Bool). if b then rank_to p (destination s.target s.tag s.context) else None) large
-    ∙ (ap₂ (λ (t : Source) (g : Option ℕ). rank_to p (destination t g s.context)) target_is tag_is
-    ∙ ap (λ (b : Bool). rank_unless b (record { rank = to; tag = tag; context = s.context })) other)
+    ap (λ (b : Bool). if b then rank_to p (destination s.route.named s.send.tag s.route.context) else None) large
+    ∙ (ap₂ (λ (t : Source) (g : Option ℕ). rank_to p (destination t g s.route.context)) target_is tag_is
+    ∙ ap (λ (b : Bool). rank_unless b (record { rank = to; tag = tag; context = s.route.context })) other)
 
 -- where no limit refused it, a number is left for it
 free_after : (fault : Option Refusal) (to : ℕ) (t : transfers.State) → or_worn_out fault (Some to) t ≡ None →
@@ -106,10 +107,10 @@ number_left fault rank to t is fine =
     free_after fault to t (subst (λ (o : Option ℕ). or_worn_out fault o t ≡ None) is fine)
 
 -- one that goes to another rank isn't one to itself
-pub not_to_itself : (p : Place) (s : CoreSend) (to tag : ℕ) → s.target ≡ Rank to → s.tag ≡ Some tag →
+pub not_to_itself : (p : Place) (s : RoutedSend) (to tag : ℕ) → s.route.named ≡ Rank to → s.send.tag ≡ Some tag →
     (to == p.endpoint.rank) ≡ false → is_to_itself p s ≡ false
 not_to_itself p s to tag target_is tag_is other =
-    ap₂ (λ (t : Source) (g : Option ℕ). is_own p (destination t g s.context)) target_is tag_is ∙ other
+    ap₂ (λ (t : Source) (g : Option ℕ). is_own p (destination t g s.route.context)) target_is tag_is ∙ other
 
 -- so none of the rank's own sends waits for a match then
 pub none_waits : (mode : Mode) (own : Bool) (q : Request) → own ≡ false → waiting_of mode own q ≡ None
@@ -118,9 +119,10 @@ none_waits Synchronous true q is = absurd cc
 none_waits Synchronous false q is = refl
 
 -- its request waits for the answer
-pub large_sending : (old new : CoreState) (s : CoreSend) (q : Request) (to tag : ℕ) → s.target ≡ Rank to →
-    s.tag ≡ Some tag → (to == old.place.endpoint.rank) ≡ false →
-    is_announced s.mode (sent_from s.from) ≡ true → IsSending old s q new → IsOffering old to (sent_from s.from) q new
+pub large_sending : (old new : CoreState) (s : RoutedSend) (q : Request) (to tag : ℕ) → s.route.named ≡ Rank to →
+    s.send.tag ≡ Some tag → (to == old.place.endpoint.rank) ≡ false →
+    is_announced s.send.mode (sent_from s.send.from) ≡ true → IsSending old s q new → IsOffering old to
+    (sent_from s.send.from) q new
 large_sending old new s q to tag target_is tag_is other large sent =
     record {
       fresh = sent.fresh;
@@ -132,13 +134,14 @@ large_sending old new s q to tag target_is tag_is other large sent =
           (Some (record { serial = old.serial; progress = progress_of_send to }))) announced
           (subst (λ (w : Option Request). IsSet old.slots sent.started q.key
           (Some (record { serial = old.serial; progress = begun w (announced_to old.place s) })))
-          (none_waits s.mode (is_to_itself old.place s) q (not_to_itself old.place s to tag target_is tag_is other))
+          (none_waits s.send.mode (is_to_itself old.place s) q
+          (not_to_itself old.place s to tag target_is tag_is other))
           sent.entry));
       rest = rest ∙ ap left (sym slots_are);
     }
   where
     c : Contents
-    c = sent_from s.from
+    c = sent_from s.send.from
 
     announced : announced_to old.place s ≡ Some to
     announced = is_announced_to old.place s to tag target_is tag_is other large
@@ -149,7 +152,7 @@ large_sending old new s q to tag target_is tag_is other large sent =
 
     -- the own send that waits, if one does
     w : Option Request
-    w = waiting_of s.mode (is_to_itself old.place s) q
+    w = waiting_of s.send.mode (is_to_itself old.place s) q
 
     rest : new ≡ left sent.started
     rest = sent.rest
@@ -159,10 +162,12 @@ large_sending old new s q to tag target_is tag_is other large sent =
           serial = old.serial + 1;
           transfers =
               offered_by old.transfers x q.key c;
-        }) (destination s.target s.tag s.context) w c) announced
-        ∙ (ap₂ (λ (t : Source) (g : Option ℕ). arrived_at_itself (left sent.started) (destination t g s.context) w c)
+        }) (destination s.route.named s.send.tag s.route.context) w c) announced
+        ∙ (ap₂ (λ (t : Source) (g : Option ℕ). arrived_at_itself (left sent.started) (destination t g s.route.context) w
+        c)
         target_is tag_is
-        ∙ ap (λ (b : Bool). arrived_if b (left sent.started) (record { rank = to; tag = tag; context = s.context }) w c)
+        ∙ ap (λ (b : Bool). arrived_if b (left sent.started)
+        (record { rank = to; tag = tag; context = s.route.context }) w c)
         other))
 
     slots_are : new.slots ≡ sent.started
@@ -175,22 +180,24 @@ abbrev pub announcing_frame : Mode → CoreState → (to context tag : ℕ) → 
 announcing_frame mode old to context tag c =
     record { target = to; frame = request_frame mode (next_to old.transfers.numbers to) context tag c }
 
-pub large_frame : (old : CoreState) (s : CoreSend) (to tag : ℕ) → s.target ≡ Rank to → s.tag ≡ Some tag →
-    (to == old.place.endpoint.rank) ≡ false → is_announced s.mode (sent_from s.from) ≡ true →
-    frame_of old s ≡ Some (announcing_frame s.mode old to s.context tag (sent_from s.from))
+pub large_frame : (old : CoreState) (s : RoutedSend) (to tag : ℕ) → s.route.named ≡ Rank to → s.send.tag ≡ Some tag →
+    (to == old.place.endpoint.rank) ≡ false → is_announced s.send.mode (sent_from s.send.from) ≡ true →
+    frame_of old s ≡ Some (announcing_frame s.send.mode old to s.route.context tag (sent_from s.send.from))
 large_frame old s to tag target_is tag_is other large =
-    ap₂ (λ (t : Source) (g : Option ℕ). frame_to old.place old.transfers s.mode (destination t g s.context) c) target_is
+    ap₂ (λ (t : Source) (g : Option ℕ). frame_to old.place old.transfers s.send.mode (destination t g s.route.context)
+    c) target_is
     tag_is
-    ∙ (ap (λ (b : Bool). frame_unless b old.transfers s.mode (record { rank = to; tag = tag; context = s.context }) c)
+    ∙ (ap (λ (b : Bool). frame_unless b old.transfers s.send.mode
+    (record { rank = to; tag = tag; context = s.route.context }) c)
     other
     ∙ ap (λ (b : Bool). Some (record { target = to; frame = with_frame b })) large)
   where
     c : Contents
-    c = sent_from s.from
+    c = sent_from s.send.from
 
     with_frame : Bool → FrameText
-    with_frame b = if b then request_frame s.mode (next_to old.transfers.numbers to) s.context tag c else
-        eager_frame s.context tag c
+    with_frame b = if b then request_frame s.send.mode (next_to old.transfers.numbers to) s.route.context tag c else
+        eager_frame s.route.context tag c
 
 -- it may be announced by its size
 may_announce : (mode : Mode) (c : Contents) → is_announced mode c ≡ true →

@@ -10,7 +10,7 @@ use Rattle.proof_pure_network.specs.Core.{Core, view}
 use Rattle.proof_pure_network.specs.Engine.{called, core_ready, core_settled}
 use Rattle.proof_pure_network.specs.Frames.{Frame}
 use Rattle.proof_pure_network.specs.Held.{blank}
-use Rattle.point_to_point_calls.specs.declared.call.CoreCall.{CoreCall}
+use Rattle.point_to_point_calls.specs.declared.call.RoutedCall.{RoutedCall}
 use Rattle.point_to_point_calls.specs.declared.call.CoreReply.{CoreReply}
 use Rattle.point_to_point_calls.specs.declared.call.CoreReply.TheVariants as replies
 use Rattle.point_to_point.specs.Calls.{call_frame}
@@ -36,7 +36,7 @@ told_by e c replies.Blocked = Called e c machine.Blocked ∷ []
 told_by e c (replies.Refused why back) = []
 
 -- it is what is seen of the rank's call
-told_same : (e : Endpoint) (call : CoreCall) (reply : CoreReply) → told_by e (call_seen call) reply ≡
+told_same : (e : Endpoint) (call : RoutedCall) (reply : CoreReply) → told_by e (call_seen call) reply ≡
     told_call e call (Some reply)
 told_same e call (replies.Started q) = refl
 told_same e call (replies.Done a) = refl
@@ -60,7 +60,7 @@ pub record IsMeant (links : Announcements) (old : CoreState) (known : List ℕ) 
       ≡ told_by old.place.endpoint c reply
 
 -- the rank's call is so
-pub meant_called : (links : Announcements) (old new : CoreState) (known : List ℕ) (core : Core) (call : CoreCall)
+pub meant_called : (links : Announcements) (old new : CoreState) (known : List ℕ) (core : Core) (call : RoutedCall)
     (reply : CoreReply) → call_frame old call ≡ None → IsMeant links old known core (call_seen call) reply new →
     IsCalled links old known core call reply new
 meant_called links old new known core call reply frame m =

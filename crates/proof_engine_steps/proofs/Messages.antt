@@ -36,8 +36,8 @@ use Rattle.requests.specs.declared.table.RequestProgress.TheVariants.{Finished, 
 use Rattle.requests.specs.declared.table.RequestProgress.TheVariants as progresses
 use Rattle.requests.specs.declared.table.Request.{Request}
 use Rattle.communicator_members.specs.Statuses.{status_in}
-use Rattle.point_to_point_calls.specs.declared.call.CoreCall.TheVariants as calls
-use Rattle.point_to_point_calls.specs.declared.call.CoreReceive.{CoreReceive}
+use Rattle.point_to_point_calls.specs.declared.call.RoutedCall.TheVariants as calls
+use Rattle.point_to_point_calls.specs.declared.call.RoutedReceive.{RoutedReceive}
 use Rattle.point_to_point_calls.specs.declared.call.CoreReply.{CoreReply}
 use Rattle.point_to_point_calls.specs.declared.call.CoreReply.TheVariants as replies
 use Rattle.point_to_point_calls.specs.declared.refusal.Refusal.{Refusal}
@@ -325,14 +325,11 @@ row_set : (rows : List Row) (q : Request) (j job : Job) → slice_get rows q.ser
 row_set rows q j job at = get_set_same rows q.serial (row_of q.key j) (row_of q.key job) at
 
 -- the receive of the message, by its own envelope
-abbrev receive_by : Option (List ℕ) → Message → Region → CoreReceive
+abbrev receive_by : Option (List ℕ) → Message → Region → RoutedReceive
 receive_by g m into = record {
-  source = sources.Rank m.sender.rank;
-  tag = Some m.tag;
-  context = m.context;
-  group =
-      g;
-  into = into;
+  route = record { named = sources.Rank m.sender.rank; context = m.context };
+  group = g;
+  receive = record { comm = None; source = sources.Rank m.sender.rank; tag = Some m.tag; into = into };
 }
 
 -- it accepts the message

@@ -24,9 +24,9 @@ use Rattle.requests.specs.Regions.{sent_from}
 use Rattle.requests.specs.Table.{IsSet}
 use Rattle.requests.specs.declared.table.RequestProgress.TheVariants as progresses
 use Rattle.requests.specs.declared.table.Request.{Request}
-use Rattle.point_to_point_calls.specs.declared.call.CoreCall.TheVariants as calls
+use Rattle.point_to_point_calls.specs.declared.call.RoutedCall.TheVariants as calls
 use Rattle.point_to_point_calls.specs.declared.call.CoreReply.TheVariants as replies
-use Rattle.point_to_point_calls.specs.declared.call.CoreSend.{CoreSend}
+use Rattle.point_to_point_calls.specs.declared.call.RoutedSend.{RoutedSend}
 use Rattle.point_to_point.specs.CoreState.{CoreState}
 use Rattle.point_to_point.specs.Sending as rank
 use Rattle.point_to_point_calls.specs.Calls.{IsWithin}
@@ -84,35 +84,36 @@ core_sends_own core own c tag basic values known =
     d = machine.receiver core.known own.rank
 
 -- nothing goes out of such a send
-own_frame : (old : CoreState) (s : CoreSend) (to tag : ℕ) → s.target ≡ Rank to → s.tag ≡ Some tag →
+own_frame : (old : CoreState) (s : RoutedSend) (to tag : ℕ) → s.route.named ≡ Rank to → s.send.tag ≡ Some tag →
     (to == old.place.endpoint.rank) ≡ true → frame_of old s ≡ None
 own_frame old s to tag target_is tag_is own =
-    ap₂ (λ (t : Source) (g : Option ℕ). frame_to old.place old.transfers s.mode (destination t g s.context)
-    (sent_from s.from)) target_is tag_is
-    ∙ ap (λ (b : Bool). frame_unless b old.transfers s.mode (record { rank = to; tag = tag; context = s.context })
-    (sent_from s.from)) own
+    ap₂ (λ (t : Source) (g : Option ℕ). frame_to old.place old.transfers s.send.mode (destination t g s.route.context)
+    (sent_from s.send.from)) target_is tag_is
+    ∙ ap (λ (b : Bool). frame_unless b old.transfers s.send.mode
+    (record { rank = to; tag = tag; context = s.route.context })
+    (sent_from s.send.from)) own
 
 -- and nothing is announced, however many bytes it has
-own_to_nobody : (p : Place) (s : CoreSend) (to tag : ℕ) → s.target ≡ Rank to → s.tag ≡ Some tag →
+own_to_nobody : (p : Place) (s : RoutedSend) (to tag : ℕ) → s.route.named ≡ Rank to → s.send.tag ≡ Some tag →
     (to == p.endpoint.rank) ≡ true → announced_to p s ≡ None
 own_to_nobody p s to tag target_is tag_is own =
     announced_nowhere p s
-    (ap₂ (λ (t : Source) (g : Option ℕ). rank_to p (destination t g s.context)) target_is tag_is ∙
-    ap (λ (b : Bool). rank_unless b (record { rank = to; tag = tag; context = s.context })) own)
+    (ap₂ (λ (t : Source) (g : Option ℕ). rank_to p (destination t g s.route.context)) target_is tag_is ∙
+    ap (λ (b : Bool). rank_unless b (record { rank = to; tag = tag; context = s.route.context })) own)
 
 -- such a standard send is that of its core: the request starts, finished, and then the message comes
 own_send_shown : ArrivalsMatch → OutcomesAgree →
-    (links : Announcements) (old new : CoreState) (known : List ℕ) (core : Core) (s : CoreSend) (q : Request)
+    (links : Announcements) (old new : CoreState) (known : List ℕ) (core : Core) (s : RoutedSend) (q : Request)
     (to tag : ℕ) → IsShown links old known core → old.blocked ≡ None →
-    s.mode ≡ Standard → s.target ≡ Rank to → s.tag ≡ Some tag → (to == old.place.endpoint.rank) ≡ true →
+    s.send.mode ≡ Standard → s.route.named ≡ Rank to → s.send.tag ≡ Some tag → (to == old.place.endpoint.rank) ≡ true →
     KeepsRules old.place s → IsSending old s q new →
     IsCalled links old known core (calls.Isend s) (replies.Started q) new
 own_send_shown match agree links old new known core s q to tag shown free standard target_is tag_is own kept is_sent =
     send_started links old new known core s q came after.left shown free kept sent.serial
-    (ap₂ (λ (t : Source) (g : Option ℕ). core_sent s.mode e core s.context t g c) target_is tag_is ∙
-    (ap₂ (λ (mode : Mode) (r : ℕ). core_sent mode e core s.context (Rank r) (Some tag) c) standard
+    (ap₂ (λ (t : Source) (g : Option ℕ). core_sent s.send.mode e core s.route.context t g c) target_is tag_is ∙
+    (ap₂ (λ (mode : Mode) (r : ℕ). core_sent mode e core s.route.context (Rank r) (Some tag) c) standard
     (eqb-true to e.rank own) ∙
-    core_sends_own core e s.context tag c.basic c.values (shown.known_alike e.rank ∙ shown.itself)))
+    core_sends_own core e s.route.context tag c.basic c.values (shown.known_alike e.rank ∙ shown.itself)))
     (subst (λ (x : CoreState). Holding links x known came.core after.left) (sym rest) after.holding)
     after.blocked
     (record {
@@ -129,10 +130,10 @@ own_send_shown match agree links old new known core s q to tag shown free standa
     e = old.place.endpoint
 
     c : Contents
-    c = sent_from s.from
+    c = sent_from s.send.from
 
     m : Message
-    m = own_message old.place s.context tag None c
+    m = own_message old.place s.route.context tag None c
 
     sent : IsSmallSending old s q new
     sent = small_sending old new s q (own_to_nobody old.place s to tag target_is tag_is own)
@@ -146,9 +147,10 @@ own_send_shown match agree links old new known core s q to tag shown free standa
     keeps = arrived_keeps started m
 
     rest : new ≡ rank.after_message started m
-    rest = sent.rest ∙ ap₂ (λ (t : Source) (g : Option ℕ). arrived_at_itself started (destination t g s.context) None c)
+    rest = sent.rest ∙
+        ap₂ (λ (t : Source) (g : Option ℕ). arrived_at_itself started (destination t g s.route.context) None c)
         target_is tag_is ∙
-        ap (λ (b : Bool). arrived_if b started (record { rank = to; tag = tag; context = s.context }) None c) own
+        ap (λ (b : Bool). arrived_if b started (record { rank = to; tag = tag; context = s.route.context }) None c) own
 
     -- what the core makes of its message
     came : Effect
@@ -176,18 +178,20 @@ core_waits_own core own c tag basic values known =
 
 -- such a synchronous send is that of its core: the request starts, and waits for its match, and then the message comes
 own_waits_shown : ArrivalsMatch → OutcomesAgree →
-    (links : Announcements) (old new : CoreState) (known : List ℕ) (core : Core) (s : CoreSend) (q : Request)
+    (links : Announcements) (old new : CoreState) (known : List ℕ) (core : Core) (s : RoutedSend) (q : Request)
     (to tag : ℕ) → IsShown links old known core → old.blocked ≡ None →
-    s.mode ≡ Synchronous → s.target ≡ Rank to → s.tag ≡ Some tag → (to == old.place.endpoint.rank) ≡ true →
+    s.send.mode ≡ Synchronous → s.route.named ≡ Rank to → s.send.tag ≡ Some tag → (to == old.place.endpoint.rank) ≡ true
+    →
     KeepsRules old.place s → IsSending old s q new →
     IsCalled links old known core (calls.Isend s) (replies.Started q) new
 own_waits_shown match agree links old new known core s q to tag shown free synchronous target_is tag_is own kept sent =
     send_started links old new known core s q came after.left shown free kept sent.serial
-    (ap₂ (λ (t : Source) (g : Option ℕ). core_sent s.mode e core s.context t g c) target_is tag_is ∙
-    (ap₂ (λ (mode : Mode) (r : ℕ). core_sent mode e core s.context (Rank r) (Some tag) c) synchronous
+    (ap₂ (λ (t : Source) (g : Option ℕ). core_sent s.send.mode e core s.route.context t g c) target_is tag_is ∙
+    (ap₂ (λ (mode : Mode) (r : ℕ). core_sent mode e core s.route.context (Rank r) (Some tag) c) synchronous
     (eqb-true to e.rank own) ∙
-    (core_waits_own core e s.context tag c.basic c.values (shown.known_alike e.rank ∙ shown.itself) ∙
-    ap (λ (n : ℕ). arrived (pushed_own core e) (cores.own_waiting e s.context tag c.basic c.values n)) serial_is)))
+    (core_waits_own core e s.route.context tag c.basic c.values (shown.known_alike e.rank ∙ shown.itself) ∙
+    ap (λ (n : ℕ). arrived (pushed_own core e) (cores.own_waiting e s.route.context tag c.basic c.values n))
+    serial_is)))
     (subst (λ (x : CoreState). Holding links x known came.core after.left) (sym rest) after.holding)
     after.blocked
     (record {
@@ -204,21 +208,21 @@ own_waits_shown match agree links old new known core s q to tag shown free synch
     e = old.place.endpoint
 
     c : Contents
-    c = sent_from s.from
+    c = sent_from s.send.from
 
     o : OwnSend
     o = record { key = q.key; serial = q.serial; elements = c }
 
     m : Message
-    m = own_message old.place s.context tag (Some q) c
+    m = own_message old.place s.route.context tag (Some q) c
 
     -- the rank once the request was started
     started : CoreState
     started = started_rank old sent.started
 
-    waits : waiting_of s.mode (is_to_itself old.place s) q ≡ Some q
+    waits : waiting_of s.send.mode (is_to_itself old.place s) q ≡ Some q
     waits = ap₂ (λ (mode : Mode) (b : Bool). waiting_of mode b q) synchronous
-        (ap₂ (λ (t : Source) (g : Option ℕ). is_own old.place (destination t g s.context)) target_is tag_is ∙ own)
+        (ap₂ (λ (t : Source) (g : Option ℕ). is_own old.place (destination t g s.route.context)) target_is tag_is ∙ own)
 
     entry : IsSet old.slots sent.started q.key (Some (record { serial = old.serial; progress = progresses.Offering }))
     entry = subst
@@ -236,11 +240,12 @@ own_waits_shown match agree links old new known core s q to tag shown free synch
           serial = old.serial + 1;
           transfers =
               offered_by old.transfers a q.key c;
-        }) (destination s.target s.tag s.context) w c)
+        }) (destination s.route.named s.send.tag s.route.context) w c)
         (own_to_nobody old.place s to tag target_is tag_is own) waits
-        ∙ (ap₂ (λ (t : Source) (g : Option ℕ). arrived_at_itself started (destination t g s.context) (Some q) c)
+        ∙ (ap₂ (λ (t : Source) (g : Option ℕ). arrived_at_itself started (destination t g s.route.context) (Some q) c)
         target_is tag_is
-        ∙ ap (λ (b : Bool). arrived_if b started (record { rank = to; tag = tag; context = s.context }) (Some q) c)
+        ∙ ap (λ (b : Bool). arrived_if b started (record { rank = to; tag = tag; context = s.route.context }) (Some q)
+        c)
         own))
 
     -- so many requests of the core were started before
@@ -267,15 +272,15 @@ own_waits_shown match agree links old new known core s q to tag shown free synch
     none = own_frame old s to tag target_is tag_is own
 
 -- a send to another rank, by whether it goes in one frame
-away_send_shown : (links : Announcements) (old new : CoreState) (known : List ℕ) (core : Core) (s : CoreSend)
+away_send_shown : (links : Announcements) (old new : CoreState) (known : List ℕ) (core : Core) (s : RoutedSend)
     (q : Request) (to tag : ℕ) → IsShown links old known core → old.blocked ≡ None →
-    s.target ≡ Rank to → s.tag ≡ Some tag → (to == old.place.endpoint.rank) ≡ false → KeepsRules old.place s →
+    s.route.named ≡ Rank to → s.send.tag ≡ Some tag → (to == old.place.endpoint.rank) ≡ false → KeepsRules old.place s →
     IsWithin (calls.Isend s) → free_fault old (calls.Isend s) ≡ None →
     IsSending old s q new → IsCalled links old known core (calls.Isend s) (replies.Started q) new
 away_send_shown links old new known core s q to tag shown free target_is tag_is other kept within fine sent =
-    go (is_announced s.mode (sent_from s.from)) refl
+    go (is_announced s.send.mode (sent_from s.send.from)) refl
   where
-    go : (b : Bool) → is_announced s.mode (sent_from s.from) ≡ b →
+    go : (b : Bool) → is_announced s.send.mode (sent_from s.send.from) ≡ b →
         IsCalled links old known core (calls.Isend s) (replies.Started q) new
     go false small =
         other_send_shown links old new known core s q to tag shown free target_is tag_is other kept within small sent
@@ -285,31 +290,33 @@ away_send_shown links old new known core s q to tag shown free target_is tag_is 
 
 -- a send that meets no rule, by where it goes
 pub send_shown : ArrivalsMatch → OutcomesAgree →
-    (links : Announcements) (old new : CoreState) (known : List ℕ) (core : Core) (s : CoreSend) (q : Request) →
+    (links : Announcements) (old new : CoreState) (known : List ℕ) (core : Core) (s : RoutedSend) (q : Request) →
     IsShown links old known core → old.blocked ≡ None →
     IsWithin (calls.Isend s) → free_fault old (calls.Isend s) ≡ None → IsSending old s q new →
     IsCalled links old known core (calls.Isend s) (replies.Started q) new
 send_shown match agree links old new known core s q shown free within fine sent =
-    go s.target refl s.tag refl kept.inside kept.low
+    go s.route.named refl s.send.tag refl kept.inside kept.low
   where
     kept : KeepsRules old.place s
     kept = send_rules old.place s (no_send_fault old s fine)
 
-    by_rank : (to tag : ℕ) → s.target ≡ Rank to → s.tag ≡ Some tag → (own : Bool) →
+    by_rank : (to tag : ℕ) → s.route.named ≡ Rank to → s.send.tag ≡ Some tag → (own : Bool) →
         (to == old.place.endpoint.rank) ≡ own →
         IsCalled links old known core (calls.Isend s) (replies.Started q) new
     by_rank to tag target_is tag_is false other =
         away_send_shown links old new known core s q to tag shown free target_is tag_is other kept within fine sent
-    by_rank to tag target_is tag_is true own = by_mode s.mode refl
+    by_rank to tag target_is tag_is true own = by_mode s.send.mode refl
       where
-        by_mode : (mode : Mode) → s.mode ≡ mode → IsCalled links old known core (calls.Isend s) (replies.Started q) new
+        by_mode : (mode : Mode) → s.send.mode ≡ mode →
+            IsCalled links old known core (calls.Isend s) (replies.Started q) new
         by_mode Standard is =
             own_send_shown match agree links old new known core s q to tag shown free is target_is tag_is own kept sent
         by_mode Synchronous is =
             own_waits_shown match agree links old new known core s q to tag shown free is target_is tag_is own kept sent
 
-    go : (t : Source) → s.target ≡ t → (g : Option ℕ) → s.tag ≡ g → rules.is_no_target old.place.size s.target ≡ false →
-        rules.is_no_tag s.tag ≡ false →
+    go : (t : Source) → s.route.named ≡ t → (g : Option ℕ) → s.send.tag ≡ g →
+        rules.is_no_target old.place.size s.route.named ≡ false →
+        rules.is_no_tag s.send.tag ≡ false →
         IsCalled links old known core (calls.Isend s) (replies.Started q) new
     go Null target_is g tag_is inside low = null_send_shown links old new known core s q shown free target_is kept sent
     go Any target_is g tag_is inside low =

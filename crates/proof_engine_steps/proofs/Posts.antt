@@ -27,8 +27,8 @@ use Rattle.requests.specs.declared.outcome.Outcome.TheVariants as outcomes
 use Rattle.requests.specs.declared.table.TableEntry.{TableEntry}
 use Rattle.requests.specs.declared.table.RequestProgress.TheVariants.{Finished, Receiving}
 use Rattle.requests.specs.declared.table.Request.{Request}
-use Rattle.point_to_point_calls.specs.declared.call.CoreCall.TheVariants as calls
-use Rattle.point_to_point_calls.specs.declared.call.CoreReceive.{CoreReceive}
+use Rattle.point_to_point_calls.specs.declared.call.RoutedCall.TheVariants as calls
+use Rattle.point_to_point_calls.specs.declared.call.RoutedReceive.{RoutedReceive}
 use Rattle.point_to_point_calls.specs.declared.call.CoreReply.TheVariants as replies
 use Rattle.point_to_point_calls.specs.declared.refusal.Refusal.{Refusal}
 use Rattle.point_to_point_calls.specs.declared.refusal.Refusal.TheVariants as refusals
@@ -76,40 +76,41 @@ use Rattle.proof_engine_steps.proofs.Wholes.{announced_as, by_body, found_at, ow
 -- WHAT A RECEIVE THAT WAS TAKEN MET
 
 -- a region that data can be received into, a tag that is allowed, and a source that is there
-pub record KeepsRules (n : ℕ) (v : CoreReceive) : Type 0 where
-  pub fit : is_unfit_to_receive (handed_of v.into) ≡ false
-  pub long : is_too_short (handed_of v.into) ≡ false
-  pub low : rules.is_tag_above v.tag ≡ false
-  pub inside : rules.is_source_beyond n v.source ≡ false
+pub record KeepsRules (n : ℕ) (v : RoutedReceive) : Type 0 where
+  pub fit : is_unfit_to_receive (handed_of v.receive.into) ≡ false
+  pub long : is_too_short (handed_of v.receive.into) ≡ false
+  pub low : rules.is_tag_above v.receive.tag ≡ false
+  pub inside : rules.is_source_beyond n v.route.named ≡ false
 
-pub receive_rules : (e : CoreState) (v : CoreReceive) → receive_fault e v ≡ None → KeepsRules e.place.size v
+pub receive_rules : (e : CoreState) (v : RoutedReceive) → receive_fault e v ≡ None → KeepsRules e.place.size v
 unfolding receive_fault
 receive_rules e v fine =
     let last : Option Refusal = if is_full e.slots e.serial then Some refusals.Limit else None in
-    let t = two_tests (is_unfit_to_receive (handed_of v.into)) (is_too_short (handed_of v.into)) refusals.WrongType refusals.Count
-    (if rules.is_tag_above v.tag then Some refusals.Tag else
-    (if rules.is_source_beyond e.place.size v.source then Some refusals.Rank else last)) fine in
-    let u = two_tests (rules.is_tag_above v.tag) (rules.is_source_beyond e.place.size v.source) refusals.Tag refusals.Rank last t.2 in
+    let t = two_tests (is_unfit_to_receive (handed_of v.receive.into)) (is_too_short (handed_of v.receive.into)) refusals.WrongType refusals.Count
+    (if rules.is_tag_above v.receive.tag then Some refusals.Tag else
+    (if rules.is_source_beyond e.place.size v.route.named then Some refusals.Rank else last)) fine in
+    let u = two_tests (rules.is_tag_above v.receive.tag) (rules.is_source_beyond e.place.size v.route.named) refusals.Tag refusals.Rank last t.2 in
     record { fit = t.0; long = t.1; low = u.0; inside = u.1 }
 
 -- no rule of the machine is broken
-pub post_fit : (n : ℕ) (core : Core) (v : CoreReceive) → core.blocked ≡ None → KeepsRules n v →
+pub post_fit : (n : ℕ) (core : Core) (v : RoutedReceive) → core.blocked ≡ None → KeepsRules n v →
     queue_fault n (view blank core) (machine.Irecv (receive_seen v)) ≡ None
 post_fit n core v free kept =
     fault_free n core (machine.Irecv (receive_seen v)) free ∙
-    no_fault false false (is_unfit_to_receive (handed_of v.into)) (is_too_short (handed_of v.into))
-    (rules.is_tag_above v.tag) (rules.is_source_beyond n v.source)
+    no_fault false false (is_unfit_to_receive (handed_of v.receive.into)) (is_too_short (handed_of v.receive.into))
+    (rules.is_tag_above v.receive.tag) (rules.is_source_beyond n v.route.named)
     refl refl kept.fit kept.long kept.low kept.inside
 
 -- BOTH
 
 -- It is posted, in both, where it doesn't name the null process; so what it found is answered
-pub record IsPosted (old : CoreState) (core : Core) (v : CoreReceive) : Type 0 where
-  pub core_is : matching.receives core (receive_seen v) v.source ≡ posted core (receive_seen v)
-  pub frame_is : receive_frame v.source old v ≡ answer_on_post v.into (found_by old v)
+pub record IsPosted (old : CoreState) (core : Core) (v : RoutedReceive) : Type 0 where
+  pub core_is : matching.receives core (receive_seen v) v.route.named ≡ posted core (receive_seen v)
+  pub frame_is : receive_frame v.route.named old v ≡ answer_on_post v.receive.into (found_by old v)
 
 -- what both have for the request, before an own send that waited for it is over
-entry_begun : (old new : CoreState) (v : CoreReceive) (q : Request) (m : Option Message) → (h : IsPosting old v q new) →
+entry_begun : (old new : CoreState) (v : RoutedReceive) (q : Request) (m : Option Message) → (h : IsPosting old v q new)
+    →
     message_at old.queues.unexpected (message_for (posted_by q.key v) old.queues.unexpected) ≡ m →
     IsSet old.slots h.started q.key
     (Some (record { serial = old.serial; progress = progress_on_post (waiting_by v) m }))
@@ -118,7 +119,7 @@ entry_begun old new v q m h e =
     (Some (record { serial = old.serial; progress = progress_on_post (waiting_by v) x }))) e h.entry
 
 -- where none waited for it
-entry_of : (old new : CoreState) (v : CoreReceive) (q : Request) (m : Option Message) → IsPosting old v q new →
+entry_of : (old new : CoreState) (v : RoutedReceive) (q : Request) (m : Option Message) → IsPosting old v q new →
     message_at old.queues.unexpected (message_for (posted_by q.key v) old.queues.unexpected) ≡ m →
     own_send_of m ≡ None →
     IsSet old.slots new.slots q.key
@@ -132,27 +133,28 @@ entry_of old new v q m h e none =
     (entry_begun old new v q m h e)
 
 -- one more request was started
-serial_of : (old new : CoreState) (v : CoreReceive) (q : Request) → IsPosting old v q new → new.serial ≡ old.serial + 1
+serial_of : (old new : CoreState) (v : RoutedReceive) (q : Request) → IsPosting old v q new → new.serial ≡ old.serial +
+    1
 serial_of old new v q h = ap (λ (e : CoreState). e.serial) h.rest
 
 -- it was posted
-queues_of : (old new : CoreState) (v : CoreReceive) (q : Request) → IsPosting old v q new →
+queues_of : (old new : CoreState) (v : RoutedReceive) (q : Request) → IsPosting old v q new →
     new.queues ≡ after_post old.queues (posted_by q.key v)
 queues_of old new v q h = ap (λ (e : CoreState). e.queues) h.rest
 
 -- its transfers are as the message that was found leaves them
-transfers_of : (old new : CoreState) (v : CoreReceive) (q : Request) (m : Option Message) → IsPosting old v q new →
+transfers_of : (old new : CoreState) (v : RoutedReceive) (q : Request) (m : Option Message) → IsPosting old v q new →
     message_at old.queues.unexpected (message_for (posted_by q.key v) old.queues.unexpected) ≡ m →
-    new.transfers ≡ transfers_on_post old.transfers v.into q.key m
+    new.transfers ≡ transfers_on_post old.transfers v.receive.into q.key m
 transfers_of old new v q m h e = ap (λ (c : CoreState). c.transfers) h.rest ∙
-    ap (transfers_on_post old.transfers v.into q.key) e
+    ap (transfers_on_post old.transfers v.receive.into q.key) e
 
 -- the frame that it gives, by the message that was found
-frame_of : (old new : CoreState) (core : Core) (v : CoreReceive) (q : Request) (m : Option Message) →
+frame_of : (old new : CoreState) (core : Core) (v : RoutedReceive) (q : Request) (m : Option Message) →
     IsPosted old core v →
     message_at old.queues.unexpected (message_for (posted_by q.key v) old.queues.unexpected) ≡ m →
-    receive_frame v.source old v ≡ answer_on_post v.into m
-frame_of old new core v q m real e = real.frame_is ∙ ap (answer_on_post v.into) e
+    receive_frame v.route.named old v ≡ answer_on_post v.receive.into m
+frame_of old new core v q m real e = real.frame_is ∙ ap (answer_on_post v.receive.into) e
 
 -- what goes out announces nothing, stands for the core's, and can leave
 pub record IsGiven (links : Announcements) (known : List ℕ) (p : Place) (f : Option OutgoingText)
@@ -168,12 +170,12 @@ given_nothing links known p f none =
     record { quiet = tt; sends = none_sent (after_out links []) known f none; leaves = none_leave p f none }
 
 -- a receive is started in both, by what the core makes of it
-receive_started : (links : Announcements) (old new : CoreState) (known : List ℕ) (core : Core) (v : CoreReceive)
+receive_started : (links : Announcements) (old new : CoreState) (known : List ℕ) (core : Core) (v : RoutedReceive)
     (q : Request) (after : Effect) (rows : List Row) → IsShown links old known core →
     old.blocked ≡ None → receive_fault old v ≡ None → q.serial ≡ old.serial →
-    matching.receives core (receive_seen v) v.source ≡ after → Holding links new known after.core rows →
+    matching.receives core (receive_seen v) v.route.named ≡ after → Holding links new known after.core rows →
     after.core.blocked ≡ core.blocked → Stays old new →
-    IsGiven links known old.place (receive_frame v.source old v) after.out →
+    IsGiven links known old.place (receive_frame v.route.named old v) after.out →
     IsCalled links old known core (calls.Irecv v) (replies.Started q) new
 receive_started links old new known core v q after rows shown free fine serial is holding same stays given =
     let core_is : core.blocked ≡ None = core_free links old known core shown free in
@@ -192,7 +194,7 @@ receive_started links old new known core v q after rows shown free fine serial i
     })
 
 -- what a posted receive leaves of the rank
-post_stays : (old new : CoreState) (v : CoreReceive) (q : Request) → IsPosting old v q new → Stays old new
+post_stays : (old new : CoreState) (v : RoutedReceive) (q : Request) → IsPosting old v q new → Stays old new
 post_stays old new v q h =
     record {
       place = ap (λ (e : CoreState). e.place) h.rest;
@@ -201,16 +203,16 @@ post_stays old new v q h =
     }
 
 -- the core's receive, by the message that was found
-core_posts : (links : Announcements) (core : Core) (old : CoreState) (v : CoreReceive)
+core_posts : (links : Announcements) (core : Core) (old : CoreState) (v : RoutedReceive)
     (o : Option (List Held × Held × List Held)) → IsPosted old core v →
     core.held ≡ map (held_of links.from) old.queues.unexpected →
     found (receive_seen v) (map (held_of links.from) old.queues.unexpected) ≡ o →
-    matching.receives core (receive_seen v) v.source ≡ posted_at core (receive_seen v) o
+    matching.receives core (receive_seen v) v.route.named ≡ posted_at core (receive_seen v) o
 core_posts links core old v o real held is =
     real.core_is ∙ ap (posted_at core (receive_seen v)) (ap (found (receive_seen v)) held ∙ is)
 
 -- no message that waits is accepted: the receive waits
-post_waits : (links : Announcements) (old new : CoreState) (known : List ℕ) (core : Core) (v : CoreReceive)
+post_waits : (links : Announcements) (old new : CoreState) (known : List ℕ) (core : Core) (v : RoutedReceive)
     (q : Request) → IsShown links old known core → old.blocked ≡ None → receive_fault old v ≡ None →
     IsPosted old core v → IsPosting old v q new → FindsNone links.from old.queues v q.key →
     IsCalled links old known core (calls.Irecv v) (replies.Started q) new
@@ -232,7 +234,7 @@ post_waits links old new known core v q shown free fine real h finds =
     (transfers_of old new v q None h finds.message) (ap (λ (s : State). s.unexpected) qs))
     (after_grows_not links) tt refl stays.place)
     refl stays
-    (given_nothing links known old.place (receive_frame v.source old v)
+    (given_nothing links known old.place (receive_frame v.route.named old v)
     (frame_of old new core v q None real finds.message))
   where
     stays : Stays old new
@@ -249,7 +251,7 @@ left_from_links links old known core r one shown =
     (keeps_pushed shown.rows one) shown.under_way.messages)
 
 -- what is left of a rank and of its core where the oldest message that it accepts ended the receive
-record IsEnded (links : Announcements) (old : CoreState) (core : Core) (v : CoreReceive) (key : ℕ) (o : Outcome)
+record IsEnded (links : Announcements) (old : CoreState) (core : Core) (v : RoutedReceive) (key : ℕ) (o : Outcome)
     (x : ends.Outcome) (earlier later : List Held) (e : CoreState) (left : Core) : Type 0 where
   entry : IsSet old.slots e.slots key (Some (record { serial = old.serial; progress = Finished o }))
   alike : x ≡ outcome_seen o
@@ -262,7 +264,7 @@ record IsEnded (links : Announcements) (old : CoreState) (core : Core) (v : Core
   place : e.place ≡ old.place
 
 -- both hold it
-ended_holds : (links : Announcements) (old : CoreState) (known : List ℕ) (core : Core) (v : CoreReceive) (key : ℕ)
+ended_holds : (links : Announcements) (old : CoreState) (known : List ℕ) (core : Core) (v : RoutedReceive) (key : ℕ)
     (m : Message) (o : Outcome) (x : ends.Outcome) (earlier later : List Held) (e : CoreState) (left : Core) →
     (shown : IsShown links old known core) →
     slot_at old.slots key ≡ None → Finds links.from old.queues v key m earlier later →
@@ -287,7 +289,8 @@ ended_holds links old known core v key m o x earlier later e left shown fresh fi
     rows' = shown.rows ++ row_of key (Over x) ∷ []
 
 -- the oldest message that it accepts is whole, and ends the receive
-post_ends : (links : Announcements) (old new : CoreState) (known : List ℕ) (core : Core) (v : CoreReceive) (q : Request)
+post_ends : (links : Announcements) (old new : CoreState) (known : List ℕ) (core : Core) (v : RoutedReceive)
+    (q : Request)
     (m : Message) (c : Contents) (earlier later : List Held) → OutcomesAgree →
     IsShown links old known core → old.blocked ≡ None → receive_fault old v ≡ None → IsPosted old core v →
     IsPosting old v q new → Finds links.from old.queues v q.key (whole m c) earlier later →
@@ -308,11 +311,11 @@ post_ends links old new known core v q m c earlier later agree shown free fine r
       place = stays.place;
     }))
     refl stays
-    (given_nothing links known old.place (receive_frame v.source old v)
+    (given_nothing links known old.place (receive_frame v.route.named old v)
     (frame_of old new core v q (Some (whole m c)) real finds.message))
   where
     o : Outcome
-    o = outcome_of (handed_of v.into) (status_in v.group (status_of (whole m c))) c
+    o = outcome_of (handed_of v.receive.into) (status_in v.group (status_of (whole m c))) c
 
     x : ends.Outcome
     x = ends.outcome (receive_seen v) (full (held_of links.from (whole m c)) c.values)
@@ -327,7 +330,7 @@ post_ends links old new known core v q m c earlier later agree shown free fine r
 
 -- the oldest message that it accepts is one of the rank's own whose send waits for its match: the receive has ended,
 -- and so has the send
-post_ends_own : (links : Announcements) (old new : CoreState) (known : List ℕ) (core : Core) (v : CoreReceive)
+post_ends_own : (links : Announcements) (old new : CoreState) (known : List ℕ) (core : Core) (v : RoutedReceive)
     (q : Request) (m : Message) (own : OwnSend) (earlier later : List Held) → OwnOutcomesAgree → ClaimsOnce core →
     IsShown links old known core → old.blocked ≡ None → receive_fault old v ≡ None → IsPosted old core v →
     IsPosting old v q new → Finds links.from old.queues v q.key (own_as m own) earlier later →
@@ -343,11 +346,11 @@ post_ends_own links old new known core v q m own earlier later agree once shown 
     (found_unclaimed core (receive_seen v) earlier (held_of links.from (own_as m own)) later own.serial
     own.elements.values (ap (found (receive_seen v)) shown.held ∙ finds.core) refl once)))
     refl (post_stays old new v q h)
-    (given_nothing links known old.place (receive_frame v.source old v)
+    (given_nothing links known old.place (receive_frame v.route.named old v)
     (frame_of old new core v q (Some (own_as m own)) real finds.message))
   where
     o : Outcome
-    o = outcome_of (handed_of v.into) (status_in v.group (status_of (own_as m own))) own.elements
+    o = outcome_of (handed_of v.receive.into) (status_in v.group (status_of (own_as m own))) own.elements
 
     x : ends.Outcome
     x = ends.outcome (receive_seen v) (full (held_of links.from (own_as m own)) own.elements.values)
@@ -375,7 +378,7 @@ post_ends_own links old new known core v q m own earlier later agree once shown 
       slots = own_key_sent (own_send_of y) h.started;
       serial = old.serial + 1;
       queues = after_post old.queues (posted_by q.key v);
-      transfers = transfers_on_post old.transfers v.into q.key y;
+      transfers = transfers_on_post old.transfers v.receive.into q.key y;
     }) finds.message
 
     mine : IsOwnOf old.place shown.rows (own_as m own) own
@@ -400,22 +403,23 @@ post_ends_own links old new known core v q m own earlier later agree once shown 
 -- AN ANNOUNCED MESSAGE THAT IS FOUND
 
 -- the core, once it found the message
-abbrev found_part : (links : Announcements) → Core → CoreReceive → Message → Announcement →
+abbrev found_part : (links : Announcements) → Core → RoutedReceive → Message → Announcement →
     (earlier later : List Held) → Effect
 found_part links core v m a earlier later =
     posted_at core (receive_seen v) (Some (earlier, held_of links.from (announced_as m a), later))
 
 -- the rows, with the request that it leaves
-abbrev found_rows : (links : Announcements) → List Row → (key : ℕ) → CoreReceive → Message → Announcement → List Row
+abbrev found_rows : (links : Announcements) → List Row → (key : ℕ) → RoutedReceive → Message → Announcement → List Row
 found_rows links rows key v m a = rows ++ row_of key (left_by links.from (receive_seen v) m a) ∷ []
 
 -- the transfers, with what is collected if it is wanted
-abbrev found_transfers : transfers.State → (key : ℕ) → CoreReceive → Message → Announcement → transfers.State
+abbrev found_transfers : transfers.State → (key : ℕ) → RoutedReceive → Message → Announcement → transfers.State
 found_transfers t key v m a =
-    transfers_with t (collection_on_match (has_room v.into a.basic a.count) (announced_as m a) (Announced a) key)
+    transfers_with t (collection_on_match (has_room v.receive.into a.basic a.count) (announced_as m a) (Announced a)
+    key)
 
 -- it is from its link
-found_part_of : (links : Announcements) (old : CoreState) (known : List ℕ) (core : Core) (v : CoreReceive) (key : ℕ)
+found_part_of : (links : Announcements) (old : CoreState) (known : List ℕ) (core : Core) (v : RoutedReceive) (key : ℕ)
     (m : Message) (a : Announcement) (earlier later : List Held) → IsShown links old known core →
     Finds links.from old.queues v key (announced_as m a) earlier later →
     IsPartOf links.from known old.place (announced_as m a) a
@@ -426,7 +430,7 @@ found_part_of links old known core v key m a earlier later shown finds =
 
 -- both want it alike, and are left by it alike
 found_alike : AnnouncementsAgree →
-    (links : Announcements) (old : CoreState) (v : CoreReceive) (key : ℕ) (m : Message) (a : Announcement)
+    (links : Announcements) (old : CoreState) (v : RoutedReceive) (key : ℕ) (m : Message) (a : Announcement)
     (earlier later : List Held) →
     Finds links.from old.queues v key (announced_as m a) earlier later →
     AnnouncedAlike links.from (receive_seen v) (waiting_by v) (announced_as m a) a
@@ -435,7 +439,7 @@ found_alike agree links old v key m a earlier later finds =
     finds.accepts
 
 -- what is under way then
-found_under_way : (links : Announcements) (old : CoreState) (known : List ℕ) (core : Core) (v : CoreReceive) (key : ℕ)
+found_under_way : (links : Announcements) (old : CoreState) (known : List ℕ) (core : Core) (v : RoutedReceive) (key : ℕ)
     (m : Message) (a : Announcement) → (shown : IsShown links old known core) →
     slot_at old.slots key ≡ None → IsPartOf links.from known old.place (announced_as m a) a →
     AnnouncedAlike links.from (receive_seen v) (waiting_by v) (announced_as m a) a →
@@ -456,7 +460,7 @@ found_under_way links old known core v key m a shown fresh part alike =
     shown))
 
 -- what both hold then
-found_holds : (links : Announcements) (old new : CoreState) (known : List ℕ) (core : Core) (v : CoreReceive)
+found_holds : (links : Announcements) (old new : CoreState) (known : List ℕ) (core : Core) (v : RoutedReceive)
     (q : Request) (m : Message) (a : Announcement) (earlier later : List Held) →
     (shown : IsShown links old known core) →
     IsPosting old v q new → Finds links.from old.queues v q.key (announced_as m a) earlier later →
@@ -471,7 +475,7 @@ found_holds links old new known core v q m a earlier later shown h finds part al
     left_waits q.key (receive_seen v) (held_of links.from (announced_as m a)) a.count
     (receives.has_room (receive_seen v) a.basic a.count) in
     holding_started links links old new known core (found_part links core v m a earlier later).core shown.rows q.key
-    (matched_progress v.into (status_in v.group (status_of (announced_as m a))) a.basic)
+    (matched_progress v.receive.into (status_in v.group (status_of (announced_as m a))) a.basic)
     (left_by links.from (receive_seen v) m a) (holding_of links old known core shown) h.fresh
     (entry_of old new v q (Some (announced_as m a)) h finds.message refl) alike.fits refl (serial_of old new v q h)
     (ap (λ (s : State). s.posted) qs ∙
@@ -487,29 +491,30 @@ found_holds links old new known core v q m a earlier later shown h finds part al
     (transfers_of old new v q (Some (announced_as m a)) h finds.message) (ap (λ (s : State). s.unexpected) qs))
     (after_grows_not links)
     (untaken links.from known old.place rows' old.serial
-    (matched_progress v.into (status_in v.group (status_of (announced_as m a))) a.basic)
+    (matched_progress v.receive.into (status_in v.group (status_of (announced_as m a))) a.basic)
     (left_by links.from (receive_seen v) m a) alike.fits
     (left_untaken (receive_seen v) (held_of links.from (announced_as m a)) a.count
     (receives.has_room (receive_seen v) a.basic a.count)))
     refl (post_stays old new v q h).place
 
 -- what is answered to its sender
-found_given : (links : Announcements) (old : CoreState) (known : List ℕ) (core : Core) (v : CoreReceive) (m : Message)
+found_given : (links : Announcements) (old : CoreState) (known : List ℕ) (core : Core) (v : RoutedReceive) (m : Message)
     (a : Announcement) (earlier later : List Held) → IsPartOf links.from known old.place (announced_as m a) a →
     AnnouncedAlike links.from (receive_seen v) (waiting_by v) (announced_as m a) a →
-    IsGiven links known old.place (answer_on_post v.into (Some (announced_as m a)))
+    IsGiven links known old.place (answer_on_post v.receive.into (Some (announced_as m a)))
     (found_part links core v m a earlier later).out
 found_given links old known core v m a earlier later part alike =
     record {
       quiet = answer_quiet (receive_seen v) (held_of links.from (announced_as m a))
           (held_of links.from (announced_as m a)).body;
       sends = answer_sent links (after_out links (found_part links core v m a earlier later).out).to known old.place
-          (receive_seen v) (announced_as m a) a (has_room v.into a.basic a.count) part alike.wanted;
-      leaves = answer_leaves links.from known old.place (announced_as m a) a (has_room v.into a.basic a.count) part;
+          (receive_seen v) (announced_as m a) a (has_room v.receive.into a.basic a.count) part alike.wanted;
+      leaves = answer_leaves links.from known old.place (announced_as m a) a (has_room v.receive.into a.basic a.count)
+          part;
     }
 
 -- the oldest message that it accepts was announced: it is collected from then on, or used up
-post_matches : (links : Announcements) (old new : CoreState) (known : List ℕ) (core : Core) (v : CoreReceive)
+post_matches : (links : Announcements) (old new : CoreState) (known : List ℕ) (core : Core) (v : RoutedReceive)
     (q : Request) (m : Message) (a : Announcement) (earlier later : List Held) → AnnouncementsAgree →
     IsShown links old known core → old.blocked ≡ None → receive_fault old v ≡ None → IsPosted old core v →
     IsPosting old v q new → Finds links.from old.queues v q.key (announced_as m a) earlier later →
@@ -532,7 +537,7 @@ post_matches links old new known core v q m a earlier later agree shown free fin
 
 -- a receive that is posted, by whether a message waits that it accepts
 posting_shown : PostsMatch → OutcomesAgree → OwnOutcomesAgree → AnnouncementsAgree →
-    (links : Announcements) (old new : CoreState) (known : List ℕ) (core : Core) (v : CoreReceive) (q : Request) →
+    (links : Announcements) (old new : CoreState) (known : List ℕ) (core : Core) (v : RoutedReceive) (q : Request) →
     IsShown links old known core → ClaimsOnce core →
     old.blocked ≡ None → receive_fault old v ≡ None → IsPosted old core v → IsPosting old v q new →
     IsCalled links old known core (calls.Irecv v) (replies.Started q) new
@@ -561,18 +566,18 @@ posting_shown match agree own alike links old new known core v q shown once free
     go (inr t) = by_body_of t.0 t.1 t.2 t.3 (by_body t.0)
 
 -- a receive from the null process is over at once, and its buffer is as it was
-nothing_shown : (links : Announcements) (old new : CoreState) (known : List ℕ) (core : Core) (v : CoreReceive)
+nothing_shown : (links : Announcements) (old new : CoreState) (known : List ℕ) (core : Core) (v : RoutedReceive)
     (q : Request) → IsShown links old known core → old.blocked ≡ None →
-    receive_fault old v ≡ None → v.source ≡ sources.Null → IsReceivingNothing old v q new →
+    receive_fault old v ≡ None → v.route.named ≡ sources.Null → IsReceivingNothing old v q new →
     IsCalled links old known core (calls.Irecv v) (replies.Started q) new
 nothing_shown links old new known core v q shown free fine null h =
     receive_started links old new known core v q after (shown.rows ++ row_of q.key (Over x) ∷
     []) shown free fine h.serial
     (ap (λ (s : Source). matching.receives core (receive_seen v) s) null)
     (holding_started links links old new known core after.core shown.rows q.key
-    (Finished (outcomes.Received ends.null_status v.into.buffer)) (Over x)
+    (Finished (outcomes.Received ends.null_status v.receive.into.buffer)) (Over x)
     (holding_of links old known core shown) h.fresh h.entry
-    (ap (λ (b : Contents). ends.Received ends.null_status b) (handed_buffer v.into)) refl
+    (ap (λ (b : Contents). ends.Received ends.null_status b) (handed_buffer v.receive.into)) refl
     (ap (λ (e : CoreState). e.serial) h.rest)
     (ap (λ (e : CoreState). e.queues.posted) h.rest ∙ (shown.posted ∙ sym (append-nil (posted_rows shown.rows))))
     (shown.held ∙ ap (λ (e : CoreState). map (held_of links.from) e.queues.unexpected) (sym h.rest))
@@ -582,11 +587,11 @@ nothing_shown links old new known core v q shown free fine null h =
     (ap (λ (e : CoreState). e.queues.unexpected) h.rest))
     (after_grows_not links) tt refl stays.place)
     refl stays
-    (given_nothing links known old.place (receive_frame v.source old v)
+    (given_nothing links known old.place (receive_frame v.route.named old v)
     (ap (λ (s : Source). receive_frame s old v) null))
   where
     x : ends.Outcome
-    x = ends.Received ends.null_status (handed_of v.into).buffer
+    x = ends.Received ends.null_status (handed_of v.receive.into).buffer
 
     after : Effect
     after = matching.receives core (receive_seen v) sources.Null
@@ -601,13 +606,13 @@ nothing_shown links old new known core v q shown free fine null h =
 
 -- a receive that meets no rule, by whom it names
 pub post_shown : PostsMatch → OutcomesAgree → OwnOutcomesAgree → AnnouncementsAgree →
-    (links : Announcements) (old new : CoreState) (known : List ℕ) (core : Core) (v : CoreReceive) (q : Request) →
+    (links : Announcements) (old new : CoreState) (known : List ℕ) (core : Core) (v : RoutedReceive) (q : Request) →
     IsShown links old known core → ClaimsOnce core →
     old.blocked ≡ None → receive_fault old v ≡ None → IsReceiving old v q new →
     IsCalled links old known core (calls.Irecv v) (replies.Started q) new
-post_shown match agree own alike links old new known core v q shown once free fine h = go v.source refl h
+post_shown match agree own alike links old new known core v q shown once free fine h = go v.route.named refl h
   where
-    go : (s : Source) → v.source ≡ s → ReceivesFrom s old v q new →
+    go : (s : Source) → v.route.named ≡ s → ReceivesFrom s old v q new →
         IsCalled links old known core (calls.Irecv v) (replies.Started q) new
     go sources.Any is g =
         posting_shown match agree own alike links old new known core v q shown once free fine

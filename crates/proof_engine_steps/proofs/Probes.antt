@@ -25,8 +25,8 @@ use Rattle.requests.specs.declared.awaited_requests.Awaited.{Awaited}
 use Rattle.requests.specs.declared.table.RequestProgress.TheVariants.{TakenOut}
 use Rattle.requests.specs.declared.table.Request.{Request}
 use Rattle.communicator_members.specs.Statuses.{status_in}
-use Rattle.point_to_point_calls.specs.declared.call.CoreCall.TheVariants as calls
-use Rattle.point_to_point_calls.specs.declared.call.CoreProbe.{CoreProbe}
+use Rattle.point_to_point_calls.specs.declared.call.RoutedCall.TheVariants as calls
+use Rattle.point_to_point_calls.specs.declared.call.RoutedProbe.{RoutedProbe}
 use Rattle.point_to_point_calls.specs.declared.call.CoreReply.{CoreReply}
 use Rattle.point_to_point_calls.specs.declared.call.CoreReply.TheVariants as replies
 use Rattle.point_to_point_calls.specs.declared.refusal.Refusal.{Refusal}
@@ -73,14 +73,14 @@ count_seen ts (Own o) = refl
 count_seen ts (Announced a) = refl
 
 -- and the status is the same
-status_seen : (from : Endpoint → List Transfer) (p : CoreProbe) (m : Message) →
+status_seen : (from : Endpoint → List Transfer) (p : RoutedProbe) (m : Message) →
     found_status (probe_seen p) (held_of from m) ≡ status_in p.group (status_of m)
 status_seen from p m =
     ap (λ (n : ℕ). status_in p.group (record { source = sources.Rank m.sender.rank; tag = Some m.tag; count = n }))
     (count_seen (from m.sender) m.body)
 
 -- what a message that was found tells
-abbrev told_status : CoreProbe → Option Message → Option Status
+abbrev told_status : RoutedProbe → Option Message → Option Status
 told_status p o = option_map (λ (m : Message). status_in p.group (status_of m)) o
 
 -- ---- THE CORE
@@ -98,8 +98,9 @@ probed_settled core b x free ready = ap (core_settled_by (probing core b)) ready
 -- ---- LOOKS
 
 -- a look by what both make of it
-looked_by : (old : CoreState) (core : Core) (p : CoreProbe) (b : Unanswered) (o : Option Status) → core.blocked ≡ None →
-    looks core (probe_seen p) p.source ≡ probing core b →
+looked_by : (old : CoreState) (core : Core) (p : RoutedProbe) (b : Unanswered) (o : Option Status) → core.blocked ≡ None
+    →
+    looks core (probe_seen p) p.route.named ≡ probing core b →
     answer_to (over_at core.jobs) b ≡ Some (completions.ForProbe o, []) → told_of old p ≡ o →
     (o ≡ None → HoldsNone core p) → IsLookedAt old core p
 looked_by old core p b o free is ready tells none =
@@ -112,13 +113,13 @@ looked_by old core p b o free is ready tells none =
     }
 
 -- a probe from a rank, or from any, asks for messages
-record Asks (old : CoreState) (core : Core) (p : CoreProbe) : Type 0 where
-  look : looks core (probe_seen p) p.source ≡
+record Asks (old : CoreState) (core : Core) (p : RoutedProbe) : Type 0 where
+  look : looks core (probe_seen p) p.route.named ≡
       looked_at core (probe_seen p) (found (receives.such_receive (probe_seen p)) core.held)
-  tells : told_of old p ≡ told_status p (found_for old p.source p.tag p.context)
+  tells : told_of old p ≡ told_status p (found_for old p.route.named p.probe.tag p.route.context)
 
 -- such a look
-asked_shown : TakesMatch → (links : Announcements) (old : CoreState) (known : List ℕ) (core : Core) (p : CoreProbe) →
+asked_shown : TakesMatch → (links : Announcements) (old : CoreState) (known : List ℕ) (core : Core) (p : RoutedProbe) →
     IsShown links old known core → core.blocked ≡ None → Asks old core p → IsLookedAt old core p
 asked_shown match links old known core p shown free asks = go (match links.from old.queues (probe_seen p))
   where
@@ -148,29 +149,30 @@ asked_shown match links old known core p shown free asks = go (match links.from 
 
 -- each look is a probe of the core
 pub looks_are_shown : TakesMatch → LooksAreShown
-looks_are_shown match links old known core p shown free = go p.source refl
+looks_are_shown match links old known core p shown free = go p.route.named refl
   where
     core_is : core.blocked ≡ None
     core_is = core_free links old known core shown free
 
-    go : (s : Source) → p.source ≡ s → IsLookedAt old core p
+    go : (s : Source) → p.route.named ≡ s → IsLookedAt old core p
     go sources.Null is =
         looked_by old core p (completions.Saw null_status) (Some null_status) core_is
-        (ap (looks core (probe_seen p)) is) refl (ap (λ (s : Source). looked old s p.tag p.context p.group) is)
+        (ap (looks core (probe_seen p)) is) refl (ap (λ (s : Source). looked old s p.probe.tag p.route.context p.group)
+        is)
         (λ e. absurd cc)
     go sources.Any is =
         asked_shown match links old known core p shown core_is
         (record {
           look = ap (looks core (probe_seen p)) is;
-          tells = ap (λ (s : Source). looked old s p.tag p.context p.group) is ∙
-              ap (λ (s : Source). told_status p (found_for old s p.tag p.context)) (sym is);
+          tells = ap (λ (s : Source). looked old s p.probe.tag p.route.context p.group) is ∙
+              ap (λ (s : Source). told_status p (found_for old s p.probe.tag p.route.context)) (sym is);
         })
     go (sources.Rank r) is =
         asked_shown match links old known core p shown core_is
         (record {
           look = ap (looks core (probe_seen p)) is;
-          tells = ap (λ (s : Source). looked old s p.tag p.context p.group) is ∙
-              ap (λ (s : Source). told_status p (found_for old s p.tag p.context)) (sym is);
+          tells = ap (λ (s : Source). looked old s p.probe.tag p.route.context p.group) is ∙
+              ap (λ (s : Source). told_status p (found_for old s p.probe.tag p.route.context)) (sym is);
         })
 
 -- ---- THEIR FAULTS
@@ -185,14 +187,14 @@ rules_same false true = refl
 rules_same false false = refl
 
 -- while no call is blocked
-judged_free : (links : Announcements) (old : CoreState) (known : List ℕ) (core : Core) (p : CoreProbe) →
+judged_free : (links : Announcements) (old : CoreState) (known : List ℕ) (core : Core) (p : RoutedProbe) →
     IsShown links old known core → old.blocked ≡ None →
     queue_fault old.place.size (view blank core) (machine.Iprobe (probe_seen p)) ≡
-    option_map number_of_refusal (probe_rule old.place.size p.source p.tag)
+    option_map number_of_refusal (probe_rule old.place.size p.route.named p.probe.tag)
 unfolding probe_rule
 judged_free links old known core p shown free =
     fault_free old.place.size core (machine.Iprobe (probe_seen p)) (core_free links old known core shown free)
-    ∙ rules_same (rules.is_tag_above p.tag) (rules.is_source_beyond old.place.size p.source)
+    ∙ rules_same (rules.is_tag_above p.probe.tag) (rules.is_source_beyond old.place.size p.route.named)
 
 -- the fault of a look is the machine's
 pub looks_are_judged : LooksAreJudged
@@ -209,14 +211,14 @@ looks_are_judged links old known core p shown = go old.blocked refl shown.blocke
 -- ---- MATCHING PROBES
 
 -- the fault of a matching probe, but for its limit, is the machine's
-pub searches_judged : (links : Announcements) (old : CoreState) (known : List ℕ) (core : Core) (p : CoreProbe) →
+pub searches_judged : (links : Announcements) (old : CoreState) (known : List ℕ) (core : Core) (p : RoutedProbe) →
     IsShown links old known core → old.blocked ≡ None →
     queue_fault old.place.size (view blank core) (machine.Improbe (probe_seen p)) ≡
-    option_map number_of_refusal (probe_rule old.place.size p.source p.tag)
+    option_map number_of_refusal (probe_rule old.place.size p.route.named p.probe.tag)
 unfolding probe_rule
 searches_judged links old known core p shown free =
     fault_free old.place.size core (machine.Improbe (probe_seen p)) (core_free links old known core shown free)
-    ∙ rules_same (rules.is_tag_above p.tag) (rules.is_source_beyond old.place.size p.source)
+    ∙ rules_same (rules.is_tag_above p.probe.tag) (rules.is_source_beyond old.place.size p.route.named)
 
 -- where two rules find nothing, the first one doesn't
 first_none : (a b : Option Refusal) → first_of a b ≡ None → a ≡ None
@@ -224,18 +226,19 @@ first_none None b h = refl
 first_none (Some e) b h = absurd cc
 
 -- no rule of the machine is broken by one that meets none
-pub search_fit : (links : Announcements) (old : CoreState) (known : List ℕ) (core : Core) (p : CoreProbe) →
+pub search_fit : (links : Announcements) (old : CoreState) (known : List ℕ) (core : Core) (p : RoutedProbe) →
     IsShown links old known core → old.blocked ≡ None → free_fault old (calls.Improbe p) ≡ None →
     queue_fault old.place.size (view blank core) (machine.Improbe (probe_seen p)) ≡ None
 search_fit links old known core p shown free fine =
     searches_judged links old known core p shown free ∙
     ap (option_map number_of_refusal)
-    (first_none (probe_rule old.place.size p.source p.tag) (search_limit p.source old p) fine)
+    (first_none (probe_rule old.place.size p.route.named p.probe.tag) (search_limit p.route.named old p) fine)
 
 -- it takes nothing out
-search_kept : (links : Announcements) (old : CoreState) (known : List ℕ) (core : Core) (p : CoreProbe) (b : Unanswered)
+search_kept : (links : Announcements) (old : CoreState) (known : List ℕ) (core : Core) (p : RoutedProbe)
+    (b : Unanswered)
     (o : Option (Option Request × Status)) → IsShown links old known core → old.blocked ≡ None →
-    free_fault old (calls.Improbe p) ≡ None → searches core (probe_seen p) p.source ≡ probing core b →
+    free_fault old (calls.Improbe p) ≡ None → searches core (probe_seen p) p.route.named ≡ probing core b →
     answer_to (over_at core.jobs) b ≡ Some (completions.ForMatch (match_seen o), []) →
     IsMeant links old known core (machine.Improbe (probe_seen p)) (replies.Matched o) old
 search_kept links old known core p b o shown free fine is ready =
@@ -265,11 +268,11 @@ taken_serial links old known core r shown serial =
     (length-map shown.rows (λ (x : Row). x.job) ∙ (shown.count ∙ sym serial))
 
 -- a row of the message that was taken out
-abbrev taken_row : (links : Announcements) → CoreProbe → (key : ℕ) → Message → Row
+abbrev taken_row : (links : Announcements) → RoutedProbe → (key : ℕ) → Message → Row
 taken_row links p key m = row_of key (Probed p.group (Some (held_of links.from m)))
 
 -- the core once it was taken out, and the probe answered
-abbrev taken_core : (links : Announcements) → Core → CoreProbe → Message → (earlier later : List Held) → Core
+abbrev taken_core : (links : Announcements) → Core → RoutedProbe → Message → (earlier later : List Held) → Core
 taken_core links core p m earlier later =
     record core {
       jobs = core.jobs ++ Probed p.group (Some (held_of links.from m)) ∷ [];
@@ -279,7 +282,8 @@ taken_core links core p m earlier later =
     }
 
 -- both hold it from then on
-taken_holds : (links : Announcements) (old new : CoreState) (known : List ℕ) (core : Core) (p : CoreProbe) (m : Message)
+taken_holds : (links : Announcements) (old new : CoreState) (known : List ℕ) (core : Core) (p : RoutedProbe)
+    (m : Message)
     (r : Request) (earlier later : List Held) → (shown : IsShown links old known core) →
     Takes links.from old.queues (probe_seen p) m earlier later → IsTakingOut old p m r new →
     Holding links new known (taken_core links core p m earlier later) (shown.rows ++ taken_row links p r.key m ∷ [])
@@ -319,16 +323,16 @@ taken_holds links old new known core p m r earlier later shown takes out =
     left = shown.rows ++ row ∷ []
 
     such : queued.PostedReceive
-    such = probed_by p.source p.tag p.context
+    such = probed_by p.route.named p.probe.tag p.route.context
 
     grows : AnnouncementsGrow links links
     grows = record { to = λ d. ([], append-nil (links.to d)); from = λ s. ([], append-nil (links.from s)) }
 
 -- it takes a message out
-search_takes : (links : Announcements) (old new : CoreState) (known : List ℕ) (core : Core) (p : CoreProbe)
+search_takes : (links : Announcements) (old new : CoreState) (known : List ℕ) (core : Core) (p : RoutedProbe)
     (m : Message) (r : Request) (earlier later : List Held) → (shown : IsShown links old known core) →
     old.blocked ≡ None →
-    free_fault old (calls.Improbe p) ≡ None → searches core (probe_seen p) p.source ≡
+    free_fault old (calls.Improbe p) ≡ None → searches core (probe_seen p) p.route.named ≡
     searched_at core (probe_seen p) (Some (earlier, held_of links.from m, later)) →
     Takes links.from old.queues (probe_seen p) m earlier later → IsTakingOut old p m r new →
     IsMeant links old known core (machine.Improbe (probe_seen p))
@@ -351,14 +355,14 @@ search_takes links old new known core p m r earlier later shown free fine is tak
     }
 
 -- from a rank, or from any, it searches the messages
-record Seeks (old new : CoreState) (core : Core) (p : CoreProbe) (reply : CoreReply) : Type 0 where
-  search : searches core (probe_seen p) p.source ≡
+record Seeks (old new : CoreState) (core : Core) (p : RoutedProbe) (reply : CoreReply) : Type 0 where
+  search : searches core (probe_seen p) p.route.named ≡
       searched_at core (probe_seen p) (found (receives.such_receive (probe_seen p)) core.held)
-  takes : TakesOut old p (found_for old p.source p.tag p.context) reply new
+  takes : TakesOut old p (found_for old p.route.named p.probe.tag p.route.context) reply new
 
 -- such a one
 sought : TakesMatch →
-    (links : Announcements) (old new : CoreState) (known : List ℕ) (core : Core) (p : CoreProbe) (reply : CoreReply) →
+    (links : Announcements) (old new : CoreState) (known : List ℕ) (core : Core) (p : RoutedProbe) (reply : CoreReply) →
     IsShown links old known core → old.blocked ≡ None →
     free_fault old (calls.Improbe p) ≡ None → Seeks old new core p reply →
     IsMeant links old known core (machine.Improbe (probe_seen p)) reply new
@@ -371,7 +375,7 @@ sought match links old new known core p reply shown free fine seeks = go (match 
     c = machine.Improbe (probe_seen p)
 
     by_core : (o : Option (List Held × Held × List Held)) →
-        found such (map (held_of links.from) old.queues.unexpected) ≡ o → searches core (probe_seen p) p.source ≡
+        found such (map (held_of links.from) old.queues.unexpected) ≡ o → searches core (probe_seen p) p.route.named ≡
         searched_at core (probe_seen p) o
     by_core o e = seeks.search ∙ ap (searched_at core (probe_seen p)) (ap (found such) shown.held ∙ e)
 
@@ -400,17 +404,17 @@ sought match links old new known core p reply shown free fine seeks = go (match 
 
 -- a matching probe that meets no rule, from whomever
 pub searches_shown : TakesMatch →
-    (links : Announcements) (old new : CoreState) (known : List ℕ) (core : Core) (p : CoreProbe) (reply : CoreReply) →
+    (links : Announcements) (old new : CoreState) (known : List ℕ) (core : Core) (p : RoutedProbe) (reply : CoreReply) →
     IsShown links old known core → old.blocked ≡ None →
     free_fault old (calls.Improbe p) ≡ None → Searches old p reply new →
     IsCalled links old known core (calls.Improbe p) reply new
 searches_shown match links old new known core p reply shown free fine done =
-    meant_called links old new known core (calls.Improbe p) reply refl (go p.source refl done)
+    meant_called links old new known core (calls.Improbe p) reply refl (go p.route.named refl done)
   where
     c : machine.Call
     c = machine.Improbe (probe_seen p)
 
-    go : (s : Source) → p.source ≡ s → SearchesFrom s old p reply new → IsMeant links old known core c reply new
+    go : (s : Source) → p.route.named ≡ s → SearchesFrom s old p reply new → IsMeant links old known core c reply new
     go sources.Null is d =
         subst (λ (x : CoreReply). IsMeant links old known core c x new) (sym d.0)
         (subst (λ (x : CoreState). IsMeant links old known core c (replies.Matched (Some (None, null_status))) x)
@@ -421,23 +425,26 @@ searches_shown match links old new known core p reply shown free fine done =
         sought match links old new known core p reply shown free fine
         (record {
           search = ap (searches core (probe_seen p)) is;
-          takes = subst (λ (s : Source). TakesOut old p (found_for old s p.tag p.context) reply new) (sym is) d;
+          takes = subst (λ (s : Source). TakesOut old p (found_for old s p.probe.tag p.route.context) reply new)
+              (sym is) d;
         })
     go (sources.Rank r) is d =
         sought match links old new known core p reply shown free fine
         (record {
           search = ap (searches core (probe_seen p)) is;
-          takes = subst (λ (s : Source). TakesOut old p (found_for old s p.tag p.context) reply new) (sym is) d;
+          takes = subst (λ (s : Source). TakesOut old p (found_for old s p.probe.tag p.route.context) reply new)
+              (sym is) d;
         })
 
 -- where a matching probe answers none, the core holds none that it would take
 pub searches_find_all : TakesMatch → SearchesFindAll
-searches_find_all match links old new known core p shown done = go p.source refl done
+searches_find_all match links old new known core p shown done = go p.route.named refl done
   where
     such : receives.Receive
     such = receives.such_receive (probe_seen p)
 
-    by_found : TakesOut old p (found_for old p.source p.tag p.context) (replies.Matched None) new → HoldsNone core p
+    by_found : TakesOut old p (found_for old p.route.named p.probe.tag p.route.context) (replies.Matched None) new →
+        HoldsNone core p
     by_found t = tried (match links.from old.queues (probe_seen p))
       where
         taken : (m : Message) → TakesOut old p (Some m) (replies.Matched None) new → HoldsNone core p
@@ -450,12 +457,14 @@ searches_find_all match links old new known core p shown done = go p.source refl
         tried (inr m) =
             taken m.0 (subst (λ (o : Option Message). TakesOut old p o (replies.Matched None) new) m.3.message t)
 
-    go : (s : Source) → p.source ≡ s → SearchesFrom s old p (replies.Matched None) new → HoldsNone core p
+    go : (s : Source) → p.route.named ≡ s → SearchesFrom s old p (replies.Matched None) new → HoldsNone core p
     go sources.Null is d =
         let wrong : replies.Matched None ≡ replies.Matched (Some (None, null_status)) = d.0 in absurd cc
     go sources.Any is d =
-        by_found (subst (λ (s : Source). TakesOut old p (found_for old s p.tag p.context) (replies.Matched None) new)
+        by_found (subst (λ (s : Source). TakesOut old p (found_for old s p.probe.tag p.route.context)
+        (replies.Matched None) new)
         (sym is) d)
     go (sources.Rank r) is d =
-        by_found (subst (λ (s : Source). TakesOut old p (found_for old s p.tag p.context) (replies.Matched None) new)
+        by_found (subst (λ (s : Source). TakesOut old p (found_for old s p.probe.tag p.route.context)
+        (replies.Matched None) new)
         (sym is) d)

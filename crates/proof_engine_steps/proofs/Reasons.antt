@@ -2,7 +2,7 @@
 use Rattle.std.proofs.Common.{◌≡◌, Bool, true, false, [], ◌∷◌, Some, None, if◌then◌else◌, sym, subst, inl}
 use Rattle.perfect_queues.specs.Refusals.{first_fault}
 use Rattle.proof_pure_network.specs.Core.{Core}
-use Rattle.point_to_point_calls.specs.declared.call.CoreCall.{CoreCall}
+use Rattle.point_to_point_calls.specs.declared.call.RoutedCall.{RoutedCall}
 use Rattle.point_to_point_calls.specs.declared.refusal.Refusal.{Refusal}
 use Rattle.point_to_point_calls.specs.declared.refusal.Refusal.TheVariants as refusals
 use Rattle.point_to_point.specs.CoreState.{CoreState}
@@ -38,7 +38,7 @@ rank_fault a b c d e f ha hb hc hd he hf = rw (ha, hb, hc, hd, he, hf)
 -- BOTH
 
 -- where a rule was broken, the refusal is by it
-pub reason_is : (old : CoreState) (core : Core) (call : CoreCall) (x y : Refusal) → Some x ≡ Some y →
+pub reason_is : (old : CoreState) (core : Core) (call : RoutedCall) (x y : Refusal) → Some x ≡ Some y →
     HasReason old core call x → HasReason old core call y
 reason_is old core call x y h r = let e : x ≡ y = cc in subst (λ (z : Refusal). HasReason old core call z) e r
 

@@ -8,8 +8,8 @@ use Rattle.proof_pure_network.specs.Held.{blank}
 use Rattle.proof_pure_network.specs.Jobs.{request_of}
 use Rattle.requests.specs.declared.awaited_requests.Awaited as rank
 use Rattle.requests.specs.declared.awaited_requests.Awaited.TheVariants as awaiteds
-use Rattle.point_to_point_calls.specs.declared.call.CoreCall.{CoreCall}
-use Rattle.point_to_point_calls.specs.declared.call.CoreCall.TheVariants as calls
+use Rattle.point_to_point_calls.specs.declared.call.RoutedCall.{RoutedCall}
+use Rattle.point_to_point_calls.specs.declared.call.RoutedCall.TheVariants as calls
 use Rattle.point_to_point_calls.specs.declared.refusal.Refusal.{Refusal}
 use Rattle.point_to_point_calls.specs.declared.refusal.Refusal.TheVariants as refusals
 use Rattle.point_to_point.specs.Calls.{fault_at, free_fault}
@@ -31,7 +31,7 @@ use Rattle.proof_engine_steps.proofs.RefusedWaits.{wait_reason, wait_without_fau
 use Rattle.proof_engine_steps.proofs.RefusedWaits.{waitany_without_fault}
 
 -- while an earlier call is blocked, the machine finds the first fault with every call
-blocked_fault : (links : Announcements) (old : CoreState) (known : List ℕ) (core : Core) (call : CoreCall)
+blocked_fault : (links : Announcements) (old : CoreState) (known : List ℕ) (core : Core) (call : RoutedCall)
     (a : rank.Awaited) → IsShown links old known core → old.blocked ≡ Some a → fault_seen old core call ≡ Some 6
 blocked_fault links old known core call a shown h =
     ap
@@ -43,7 +43,7 @@ blocked_fault links old known core call a shown h =
 -- ---- what meets a rule or a limit
 
 -- while no other call is blocked
-free_reason : (links : Announcements) (old : CoreState) (known : List ℕ) (core : Core) (call : CoreCall)
+free_reason : (links : Announcements) (old : CoreState) (known : List ℕ) (core : Core) (call : RoutedCall)
     (why : Refusal) → IsShown links old known core → old.blocked ≡ None →
     free_fault old call ≡ Some why → HasReason old core call why
 free_reason links old known core (calls.Isend s) why shown free fault =
@@ -77,7 +77,7 @@ faults_have_reasons links old known core call why shown fault = go old.blocked r
 -- ---- what meets none
 
 -- while no other call is blocked
-free_faultless : (links : Announcements) (old : CoreState) (known : List ℕ) (core : Core) (call : CoreCall) →
+free_faultless : (links : Announcements) (old : CoreState) (known : List ℕ) (core : Core) (call : RoutedCall) →
     IsShown links old known core → old.blocked ≡ None → free_fault old call ≡ None →
     IsFaultless (queue_fault old.place.size (view blank core) (call_seen call)) old call
 free_faultless links old known core (calls.Isend s) shown free fine =

@@ -16,8 +16,8 @@ use Rattle.requests.specs.Table.{is_full, progress_at}
 use Rattle.requests.specs.declared.region.Region.{Region}
 use Rattle.requests.specs.declared.table.RequestProgress.{RequestProgress}
 use Rattle.requests.specs.declared.table.Request.{Request}
-use Rattle.point_to_point_calls.specs.declared.call.CoreCall.TheVariants as calls
-use Rattle.point_to_point_calls.specs.declared.call.CoreProbe.{CoreProbe}
+use Rattle.point_to_point_calls.specs.declared.call.RoutedCall.TheVariants as calls
+use Rattle.point_to_point_calls.specs.declared.call.RoutedProbe.{RoutedProbe}
 use Rattle.point_to_point_calls.specs.declared.refusal.Refusal.{Refusal}
 use Rattle.point_to_point_calls.specs.declared.refusal.Refusal.TheVariants as refusals
 use Rattle.point_to_point_calls.specs.Hearing.{first_of}
@@ -43,29 +43,30 @@ full_met : (c : CoreState) (o : Option Message) (why : Refusal) → full_if c o 
 full_met c None why h = absurd cc
 full_met c (Some m) why h = limit_met (is_full c.slots c.serial) why h
 
-search_met : (s : Source) (c : CoreState) (p : CoreProbe) (why : Refusal) → search_limit s c p ≡ Some why →
+search_met : (s : Source) (c : CoreState) (p : RoutedProbe) (why : Refusal) → search_limit s c p ≡ Some why →
     IsOutOfRoom why
 search_met sources.Null c p why h = absurd cc
-search_met sources.Any c p why h = full_met c (found_for c sources.Any p.tag p.context) why h
-search_met (sources.Rank r) c p why h = full_met c (found_for c (sources.Rank r) p.tag p.context) why h
+search_met sources.Any c p why h = full_met c (found_for c sources.Any p.probe.tag p.route.context) why h
+search_met (sources.Rank r) c p why h = full_met c (found_for c (sources.Rank r) p.probe.tag p.route.context) why h
 
 -- a matching probe that breaks a rule or meets the limit
-pub search_reason : (links : Announcements) (old : CoreState) (known : List ℕ) (core : Core) (p : CoreProbe)
+pub search_reason : (links : Announcements) (old : CoreState) (known : List ℕ) (core : Core) (p : RoutedProbe)
     (why : Refusal) → IsShown links old known core → old.blocked ≡ None →
     free_fault old (calls.Improbe p) ≡ Some why → HasReason old core (calls.Improbe p) why
-search_reason links old known core p why shown free fault = go (probe_rule old.place.size p.source p.tag) refl fault
+search_reason links old known core p why shown free fault = go (probe_rule old.place.size p.route.named p.probe.tag)
+    refl fault
   where
-    go : (o : Option Refusal) → probe_rule old.place.size p.source p.tag ≡ o →
-        first_of o (search_limit p.source old p) ≡ Some why → HasReason old core (calls.Improbe p) why
+    go : (o : Option Refusal) → probe_rule old.place.size p.route.named p.probe.tag ≡ o →
+        first_of o (search_limit p.route.named old p) ≡ Some why → HasReason old core (calls.Improbe p) why
     go (Some x) e h =
         reason_is old core (calls.Improbe p) x why h
         (MachinesFault (searches_judged links old known core p shown free ∙ ap (option_map number_of_refusal) e))
     go None e h =
-        NoRoom (search_met p.source old p why h) (searches_judged links old known core p shown free ∙
+        NoRoom (search_met p.route.named old p why h) (searches_judged links old known core p shown free ∙
         ap (option_map number_of_refusal) e)
 
 -- one that meets none
-pub search_without_fault : (links : Announcements) (old : CoreState) (known : List ℕ) (core : Core) (p : CoreProbe) →
+pub search_without_fault : (links : Announcements) (old : CoreState) (known : List ℕ) (core : Core) (p : RoutedProbe) →
     IsShown links old known core → old.blocked ≡ None → free_fault old (calls.Improbe p) ≡ None →
     IsFaultless (queue_fault old.place.size (view blank core) (call_seen (calls.Improbe p))) old (calls.Improbe p)
 search_without_fault links old known core p shown free fine =

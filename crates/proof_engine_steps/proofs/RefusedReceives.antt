@@ -6,8 +6,8 @@ use Rattle.proof_pure_network.specs.Core.{Core, view}
 use Rattle.proof_pure_network.specs.Held.{blank}
 use Rattle.requests.specs.Regions.{handed_of, is_unfit_to_receive}
 use Rattle.requests.specs.Table.{is_full}
-use Rattle.point_to_point_calls.specs.declared.call.CoreCall.TheVariants as calls
-use Rattle.point_to_point_calls.specs.declared.call.CoreReceive.{CoreReceive}
+use Rattle.point_to_point_calls.specs.declared.call.RoutedCall.TheVariants as calls
+use Rattle.point_to_point_calls.specs.declared.call.RoutedReceive.{RoutedReceive}
 use Rattle.point_to_point_calls.specs.declared.refusal.Refusal.{Refusal}
 use Rattle.point_to_point_calls.specs.declared.refusal.Refusal.TheVariants as refusals
 use Rattle.point_to_point.specs.CoreState.{CoreState}
@@ -23,14 +23,14 @@ use Rattle.proof_engine_steps.proofs.Reasons.{count_fault, limit_met, rank_fault
 use Rattle.proof_engine_steps.proofs.Starting.{core_free, fault_free}
 
 -- the machine finds no fault with a receive that meets no rule of the rank's
-pub receive_faultless : (links : Announcements) (old : CoreState) (known : List ℕ) (core : Core) (v : CoreReceive) →
+pub receive_faultless : (links : Announcements) (old : CoreState) (known : List ℕ) (core : Core) (v : RoutedReceive) →
     IsShown links old known core → old.blocked ≡ None → receive_fault old v ≡ None →
     queue_fault old.place.size (view blank core) (call_seen (calls.Irecv v)) ≡ None
 receive_faultless links old known core v shown free fine =
     post_fit old.place.size core v (core_free links old known core shown free) (receive_rules old v fine)
 
 -- a receive that breaks a rule or meets the limit
-pub receive_reason : (links : Announcements) (old : CoreState) (known : List ℕ) (core : Core) (v : CoreReceive)
+pub receive_reason : (links : Announcements) (old : CoreState) (known : List ℕ) (core : Core) (v : RoutedReceive)
     (why : Refusal) → IsShown links old known core → old.blocked ≡ None →
     receive_fault old v ≡ Some why → HasReason old core (calls.Irecv v) why
 unfolding receive_fault
@@ -43,16 +43,16 @@ receive_reason links old known core v why shown free fault = by_type unfit refl 
     core_is = core_free links old known core shown free
 
     unfit : Bool
-    unfit = is_unfit_to_receive (handed_of v.into)
+    unfit = is_unfit_to_receive (handed_of v.receive.into)
 
     short : Bool
-    short = is_too_short (handed_of v.into)
+    short = is_too_short (handed_of v.receive.into)
 
     high : Bool
-    high = rules.is_tag_above v.tag
+    high = rules.is_tag_above v.receive.tag
 
     beyond : Bool
-    beyond = rules.is_source_beyond n v.source
+    beyond = rules.is_source_beyond n v.route.named
 
     -- what is left of the rules
     last : Option Refusal

@@ -10,8 +10,8 @@ use Rattle.proof_pure_network.specs.Core.{Core, view}
 use Rattle.proof_pure_network.specs.Held.{blank}
 use Rattle.requests.specs.Regions.{byte_count, handed_of}
 use Rattle.requests.specs.Table.{is_full}
-use Rattle.point_to_point_calls.specs.declared.call.CoreCall.TheVariants as calls
-use Rattle.point_to_point_calls.specs.declared.call.CoreSend.{CoreSend}
+use Rattle.point_to_point_calls.specs.declared.call.RoutedCall.TheVariants as calls
+use Rattle.point_to_point_calls.specs.declared.call.RoutedSend.{RoutedSend}
 use Rattle.point_to_point_calls.specs.declared.refusal.Refusal.{Refusal}
 use Rattle.point_to_point_calls.specs.declared.refusal.Refusal.TheVariants as refusals
 use Rattle.point_to_point.specs.CoreState.{CoreState}
@@ -29,7 +29,7 @@ use Rattle.proof_engine_steps.proofs.Sends.{send_count, send_fit, send_over, sen
 use Rattle.proof_engine_steps.proofs.Starting.{core_free, fault_free}
 
 -- a send that breaks a rule of the engine
-send_fault_reason : (old : CoreState) (core : Core) (s : CoreSend) (x : Refusal) → core.blocked ≡ None →
+send_fault_reason : (old : CoreState) (core : Core) (s : RoutedSend) (x : Refusal) → core.blocked ≡ None →
     send_fault old.place s ≡ Some x →
     HasReason old core (calls.Isend s) x
 unfolding send_fault
@@ -39,27 +39,28 @@ send_fault_reason old core s x free fault = by_type differs refl fault
     n = old.place.size
 
     differs : Bool
-    differs = differs_in_type (handed_of s.from)
+    differs = differs_in_type (handed_of s.send.from)
 
     short : Bool
-    short = is_too_short (handed_of s.from)
+    short = is_too_short (handed_of s.send.from)
 
     -- the machine's rule on counts
     count : Bool
-    count = nat_lt send_limit (length (data_of (handed_of s.from)) * size_of (handed_of s.from).buffer.basic) ||
-        is_too_short (handed_of s.from)
+    count =
+        nat_lt send_limit (length (data_of (handed_of s.send.from)) * size_of (handed_of s.send.from).buffer.basic) ||
+        is_too_short (handed_of s.send.from)
 
     high : Bool
-    high = rules.is_no_tag s.tag
+    high = rules.is_no_tag s.send.tag
 
     beyond : Bool
-    beyond = rules.is_no_target n s.target
+    beyond = rules.is_no_target n s.route.named
 
     -- what is left of the rules
     last : Option Refusal
     last = if beyond then Some refusals.Rank else None
 
-    by_rank : differs ≡ false → byte_count s.from ≤ send_limit → short ≡ false → high ≡ false →
+    by_rank : differs ≡ false → byte_count s.send.from ≤ send_limit → short ≡ false → high ≡ false →
         (b : Bool) → beyond ≡ b →
         (if b then Some refusals.Rank else None) ≡ Some x → HasReason old core (calls.Isend s) x
     by_rank one few long low true e h =
@@ -68,7 +69,7 @@ send_fault_reason old core s x free fault = by_type differs refl fault
         rank_fault false false differs count high beyond refl refl one (send_count s false few long) low e))
     by_rank one few long low false e h = absurd cc
 
-    by_tag : differs ≡ false → byte_count s.from ≤ send_limit → short ≡ false → (b : Bool) → high ≡ b →
+    by_tag : differs ≡ false → byte_count s.send.from ≤ send_limit → short ≡ false → (b : Bool) → high ≡ b →
         (if b then Some refusals.Tag else last) ≡ Some x → HasReason old core (calls.Isend s) x
     by_tag one few long true e h =
         reason_is old core (calls.Isend s) refusals.Tag x h
@@ -76,7 +77,7 @@ send_fault_reason old core s x free fault = by_type differs refl fault
         tag_fault false false differs count high beyond refl refl one (send_count s false few long) e))
     by_tag one few long false e h = by_rank one few long e beyond refl h
 
-    by_length : differs ≡ false → byte_count s.from ≤ send_limit → (b : Bool) → short ≡ b →
+    by_length : differs ≡ false → byte_count s.send.from ≤ send_limit → (b : Bool) → short ≡ b →
         (if b then Some refusals.Count else (if high then Some refusals.Tag else last)) ≡ Some x →
         HasReason old core (calls.Isend s) x
     by_length one few true e h =
@@ -85,7 +86,7 @@ send_fault_reason old core s x free fault = by_type differs refl fault
         count_fault false false differs count high beyond refl refl one (send_count s true few e)))
     by_length one few false e h = by_tag one few e high refl h
 
-    by_count : differs ≡ false → (b : Bool) → nat_lt send_limit (byte_count s.from) ≡ b →
+    by_count : differs ≡ false → (b : Bool) → nat_lt send_limit (byte_count s.send.from) ≡ b →
         (if b then Some refusals.Count else
         (if short then Some refusals.Count else (if high then Some refusals.Tag else last))) ≡ Some x →
         HasReason old core (calls.Isend s) x
@@ -93,28 +94,28 @@ send_fault_reason old core s x free fault = by_type differs refl fault
         reason_is old core (calls.Isend s) refusals.Count x h
         (MachinesFault (fault_free n core (call_seen (calls.Isend s)) free ∙
         count_fault false false differs count high beyond refl refl one (send_over s e)))
-    by_count one false e h = by_length one (ltb-false send_limit (byte_count s.from) e) short refl h
+    by_count one false e h = by_length one (ltb-false send_limit (byte_count s.send.from) e) short refl h
 
     by_type : (b : Bool) → differs ≡ b →
         (if b then Some refusals.WrongType else
-        (if nat_lt send_limit (byte_count s.from) then Some refusals.Count else
+        (if nat_lt send_limit (byte_count s.send.from) then Some refusals.Count else
         (if short then Some refusals.Count else (if high then Some refusals.Tag else last)))) ≡ Some x →
         HasReason old core (calls.Isend s) x
     by_type true e h =
         reason_is old core (calls.Isend s) refusals.WrongType x h
         (MachinesFault (fault_free n core (call_seen (calls.Isend s)) free ∙
         type_fault false false differs count high beyond refl refl e))
-    by_type false e h = by_count e (nat_lt send_limit (byte_count s.from)) refl h
+    by_type false e h = by_count e (nat_lt send_limit (byte_count s.send.from)) refl h
 
 -- the machine finds no fault with a send that breaks no rule of the rank's
-pub send_faultless : (links : Announcements) (old : CoreState) (known : List ℕ) (core : Core) (s : CoreSend) →
+pub send_faultless : (links : Announcements) (old : CoreState) (known : List ℕ) (core : Core) (s : RoutedSend) →
     IsShown links old known core → old.blocked ≡ None → send_fault old.place s ≡ None →
     queue_fault old.place.size (view blank core) (call_seen (calls.Isend s)) ≡ None
 send_faultless links old known core s shown free fine =
     send_fit old.place core s (core_free links old known core shown free) (send_rules old.place s fine)
 
 -- a send that meets no limit breaks no rule
-pub no_send_fault : (old : CoreState) (s : CoreSend) →
+pub no_send_fault : (old : CoreState) (s : RoutedSend) →
     or_worn_out (or_full (send_fault old.place s) old) (announced_to old.place s) old.transfers ≡ None →
     send_fault old.place s ≡ None
 no_send_fault old s h = go (send_fault old.place s) h
@@ -124,7 +125,7 @@ no_send_fault old s h = go (send_fault old.place s) h
     go (Some x) e = absurd cc
 
 -- a send that breaks a rule or meets the limit
-pub send_reason : (links : Announcements) (old : CoreState) (known : List ℕ) (core : Core) (s : CoreSend)
+pub send_reason : (links : Announcements) (old : CoreState) (known : List ℕ) (core : Core) (s : RoutedSend)
     (why : Refusal) → IsShown links old known core → old.blocked ≡ None →
     or_worn_out (or_full (send_fault old.place s) old) (announced_to old.place s) old.transfers ≡ Some why →
     HasReason old core (calls.Isend s) why

@@ -26,9 +26,9 @@ use Rattle.requests.specs.Regions.{byte_count, handed_of, sent_from}
 use Rattle.requests.specs.declared.outcome.Outcome.TheVariants.{Sent}
 use Rattle.requests.specs.declared.table.RequestProgress.TheVariants.{Finished}
 use Rattle.requests.specs.declared.table.Request.{Request}
-use Rattle.point_to_point_calls.specs.declared.call.CoreCall.TheVariants as calls
+use Rattle.point_to_point_calls.specs.declared.call.RoutedCall.TheVariants as calls
 use Rattle.point_to_point_calls.specs.declared.call.CoreReply.TheVariants as replies
-use Rattle.point_to_point_calls.specs.declared.call.CoreSend.{CoreSend}
+use Rattle.point_to_point_calls.specs.declared.call.RoutedSend.{RoutedSend}
 use Rattle.incarnation.specs.declared.place.Place.{Place}
 use Rattle.point_to_point_calls.specs.declared.refusal.Refusal.{Refusal}
 use Rattle.point_to_point_calls.specs.declared.refusal.Refusal.TheVariants as refusals
@@ -69,57 +69,58 @@ one_test false x h = refl
 
 -- buffer and layout have one type, not too many bytes, a buffer that is long enough, a tag that is allowed, and a rank
 -- of the job or the null process
-pub record KeepsRules (p : Place) (s : CoreSend) : Type 0 where
-  pub one_type : differs_in_type (handed_of s.from) ≡ false
-  pub few : byte_count s.from ≤ send_limit
-  pub long : is_too_short (handed_of s.from) ≡ false
-  pub low : rules.is_no_tag s.tag ≡ false
-  pub inside : rules.is_no_target p.size s.target ≡ false
+pub record KeepsRules (p : Place) (s : RoutedSend) : Type 0 where
+  pub one_type : differs_in_type (handed_of s.send.from) ≡ false
+  pub few : byte_count s.send.from ≤ send_limit
+  pub long : is_too_short (handed_of s.send.from) ≡ false
+  pub low : rules.is_no_tag s.send.tag ≡ false
+  pub inside : rules.is_no_target p.size s.route.named ≡ false
 
-pub send_rules : (p : Place) (s : CoreSend) → send_fault p s ≡ None → KeepsRules p s
+pub send_rules : (p : Place) (s : RoutedSend) → send_fault p s ≡ None → KeepsRules p s
 unfolding send_fault
 send_rules p s fine =
-    let last : Option Refusal = if rules.is_no_target p.size s.target then Some refusals.Rank else None in
-    let t = two_tests (differs_in_type (handed_of s.from)) (nat_lt send_limit (byte_count s.from)) refusals.WrongType refusals.Count
-    (if is_too_short (handed_of s.from) then Some refusals.Count else
-    (if rules.is_no_tag s.tag then Some refusals.Tag else last)) fine in
-    let u = two_tests (is_too_short (handed_of s.from)) (rules.is_no_tag s.tag) refusals.Count refusals.Tag last t.2 in
+    let last : Option Refusal = if rules.is_no_target p.size s.route.named then Some refusals.Rank else None in
+    let t = two_tests (differs_in_type (handed_of s.send.from)) (nat_lt send_limit (byte_count s.send.from)) refusals.WrongType refusals.Count
+    (if is_too_short (handed_of s.send.from) then Some refusals.Count else
+    (if rules.is_no_tag s.send.tag then Some refusals.Tag else last)) fine in
+    let u = two_tests (is_too_short (handed_of s.send.from)) (rules.is_no_tag s.send.tag) refusals.Count refusals.Tag last t.2 in
     record {
       one_type = t.0;
-      few = ltb-false send_limit (byte_count s.from) t.1;
+      few = ltb-false send_limit (byte_count s.send.from) t.1;
       long = u.0;
       low = u.1;
-      inside = one_test (rules.is_no_target p.size s.target) refusals.Rank u.2;
+      inside = one_test (rules.is_no_target p.size s.route.named) refusals.Rank u.2;
     }
 
 -- so many bytes, in a buffer that is long enough or isn't, are as many as the machine allows
-pub send_count : (s : CoreSend) (b : Bool) → byte_count s.from ≤ send_limit → is_too_short (handed_of s.from) ≡ b →
-    (nat_lt send_limit (length (data_of (handed_of s.from)) * size_of (handed_of s.from).buffer.basic) ||
-    is_too_short (handed_of s.from)) ≡ b
+pub send_count : (s : RoutedSend) (b : Bool) → byte_count s.send.from ≤ send_limit → is_too_short
+    (handed_of s.send.from) ≡ b →
+    (nat_lt send_limit (length (data_of (handed_of s.send.from)) * size_of (handed_of s.send.from).buffer.basic) ||
+    is_too_short (handed_of s.send.from)) ≡ b
 send_count s b few long =
     ap₂ (λ (x y : Bool). x || y)
-    (ap (λ (c : Contents). nat_lt send_limit (length (data_of (handed_of s.from)) * size_of c.basic))
-    (handed_buffer s.from)
-    ∙ le-ltb send_limit (byte_count s.from) few) long
+    (ap (λ (c : Contents). nat_lt send_limit (length (data_of (handed_of s.send.from)) * size_of c.basic))
+    (handed_buffer s.send.from)
+    ∙ le-ltb send_limit (byte_count s.send.from) few) long
 
 -- too many bytes are more than the machine allows, whatever the buffer
-pub send_over : (s : CoreSend) → nat_lt send_limit (byte_count s.from) ≡ true →
-    (nat_lt send_limit (length (data_of (handed_of s.from)) * size_of (handed_of s.from).buffer.basic) ||
-    is_too_short (handed_of s.from)) ≡ true
+pub send_over : (s : RoutedSend) → nat_lt send_limit (byte_count s.send.from) ≡ true →
+    (nat_lt send_limit (length (data_of (handed_of s.send.from)) * size_of (handed_of s.send.from).buffer.basic) ||
+    is_too_short (handed_of s.send.from)) ≡ true
 send_over s over =
-    ap (λ (x : Bool). x || is_too_short (handed_of s.from))
-    (ap (λ (c : Contents). nat_lt send_limit (length (data_of (handed_of s.from)) * size_of c.basic))
-    (handed_buffer s.from) ∙ over)
+    ap (λ (x : Bool). x || is_too_short (handed_of s.send.from))
+    (ap (λ (c : Contents). nat_lt send_limit (length (data_of (handed_of s.send.from)) * size_of c.basic))
+    (handed_buffer s.send.from) ∙ over)
 
 -- no rule of the machine is broken
-pub send_fit : (p : Place) (core : Core) (s : CoreSend) → core.blocked ≡ None → KeepsRules p s →
+pub send_fit : (p : Place) (core : Core) (s : RoutedSend) → core.blocked ≡ None → KeepsRules p s →
     queue_fault p.size (view blank core) (call_seen (calls.Isend s)) ≡ None
 send_fit p core s free kept =
     fault_free p.size core (call_seen (calls.Isend s)) free ∙
-    no_fault false false (differs_in_type (handed_of s.from))
-    (nat_lt send_limit (length (data_of (handed_of s.from)) * size_of (handed_of s.from).buffer.basic) ||
-    is_too_short (handed_of s.from))
-    (rules.is_no_tag s.tag) (rules.is_no_target p.size s.target)
+    no_fault false false (differs_in_type (handed_of s.send.from))
+    (nat_lt send_limit (length (data_of (handed_of s.send.from)) * size_of (handed_of s.send.from).buffer.basic) ||
+    is_too_short (handed_of s.send.from))
+    (rules.is_no_tag s.send.tag) (rules.is_no_target p.size s.route.named)
     refl refl kept.one_type (send_count s false kept.few kept.long) kept.low kept.inside
 
 -- THE CORE'S SEND
@@ -157,27 +158,29 @@ core_sends mode core own to i context tag c other small known =
     d = machine.receiver core.known to
 
 -- what is sent of a region
-pub called_send : (core : Core) (own : Endpoint) (s : CoreSend) →
-    sends_to s.mode own core s.context s.target s.tag (handed_of s.from).buffer.basic (data_of (handed_of s.from)) ≡
-    core_sent s.mode own core s.context s.target s.tag (sent_from s.from)
+pub called_send : (core : Core) (own : Endpoint) (s : RoutedSend) →
+    sends_to s.send.mode own core s.route.context s.route.named s.send.tag (handed_of s.send.from).buffer.basic
+    (data_of (handed_of s.send.from)) ≡
+    core_sent s.send.mode own core s.route.context s.route.named s.send.tag (sent_from s.send.from)
 called_send core own s =
-    ap (λ (b : Contents). sends_to s.mode own core s.context s.target s.tag b.basic (data_of (handed_of s.from)))
-    (handed_buffer s.from)
+    ap (λ (b : Contents). sends_to s.send.mode own core s.route.context s.route.named s.send.tag b.basic
+    (data_of (handed_of s.send.from)))
+    (handed_buffer s.send.from)
 
 -- THE RANK'S SEND
 
 -- what a send leaves whose message isn't announced: its request is finished
-pub record IsSmallSending (old : CoreState) (s : CoreSend) (q : Request) (new : CoreState) : Type 0 where
+pub record IsSmallSending (old : CoreState) (s : RoutedSend) (q : Request) (new : CoreState) : Type 0 where
   pub fresh : slot_at old.slots q.key ≡ None
   pub serial : q.serial ≡ old.serial
   pub started : List (Option TableEntry)
   pub entry : IsSet old.slots started q.key (Some (record { serial = old.serial; progress = Finished Sent }))
   pub rest : new ≡ arrived_at_itself (record old { slots = started; serial = old.serial + 1 })
-      (destination s.target s.tag s.context) None (sent_from s.from)
+      (destination s.route.named s.send.tag s.route.context) None (sent_from s.send.from)
 
 -- each send whose message isn't announced, and that waits for no match, is such a one
-pub small_sending : (old new : CoreState) (s : CoreSend) (q : Request) → announced_to old.place s ≡ None →
-    waiting_of s.mode (is_to_itself old.place s) q ≡ None → IsSending old s q new → IsSmallSending old s q new
+pub small_sending : (old new : CoreState) (s : RoutedSend) (q : Request) → announced_to old.place s ≡ None →
+    waiting_of s.send.mode (is_to_itself old.place s) q ≡ None → IsSending old s q new → IsSmallSending old s q new
 small_sending old new s q none no_wait sent =
     record {
       fresh = sent.fresh;
@@ -195,37 +198,38 @@ small_sending old new s q none no_wait sent =
             slots = sent.started;
             serial = old.serial + 1;
             transfers =
-                offered_by old.transfers a q.key (sent_from s.from);
+                offered_by old.transfers a q.key (sent_from s.send.from);
           })
-          (destination s.target s.tag s.context) None (sent_from s.from)) none
+          (destination s.route.named s.send.tag s.route.context) None (sent_from s.send.from)) none
           (subst (λ (w : Option Request). new ≡
           arrived_at_itself
           (record old {
             slots = sent.started;
             serial = old.serial + 1;
             transfers =
-                offered_by old.transfers (announced_to old.place s) q.key (sent_from s.from);
+                offered_by old.transfers (announced_to old.place s) q.key (sent_from s.send.from);
           })
-          (destination s.target s.tag s.context) w (sent_from s.from)) no_wait sent.rest);
+          (destination s.route.named s.send.tag s.route.context) w (sent_from s.send.from)) no_wait sent.rest);
     }
 
 -- nothing is announced that goes in one frame
-pub announced_small : (p : Place) (s : CoreSend) → is_announced s.mode (sent_from s.from) ≡ false →
+pub announced_small : (p : Place) (s : RoutedSend) → is_announced s.send.mode (sent_from s.send.from) ≡ false →
     announced_to p s ≡ None
 announced_small p s small =
-    ap (λ (b : Bool). if b then rank_to p (destination s.target s.tag s.context) else None) small
+    ap (λ (b : Bool). if b then rank_to p (destination s.route.named s.send.tag s.route.context) else None) small
 
 -- nor what goes to no other rank
-pub announced_nowhere : (p : Place) (s : CoreSend) → rank_to p (destination s.target s.tag s.context) ≡ None →
+pub announced_nowhere : (p : Place) (s : RoutedSend) → rank_to p (destination s.route.named s.send.tag s.route.context)
+    ≡ None →
     announced_to p s ≡ None
-announced_nowhere p s nowhere = go (is_announced s.mode (sent_from s.from))
+announced_nowhere p s nowhere = go (is_announced s.send.mode (sent_from s.send.from))
   where
-    go : (b : Bool) → (if b then rank_to p (destination s.target s.tag s.context) else None) ≡ None
+    go : (b : Bool) → (if b then rank_to p (destination s.route.named s.send.tag s.route.context) else None) ≡ None
     go true = nowhere
     go false = refl
 
 -- its request is there, and is over
-pub send_holds : (links : Announcements) (old : CoreState) (known : List ℕ) (core : Core) (s : CoreSend) (q : Request)
+pub send_holds : (links : Announcements) (old : CoreState) (known : List ℕ) (core : Core) (s : RoutedSend) (q : Request)
     (new : CoreState) → (shown : IsShown links old known core) → (sent : IsSmallSending old s q new) →
     Holding links (record old { slots = sent.started; serial = old.serial + 1 }) known (pushed_over core)
     (shown.rows ++ record { key = q.key; job = Over ends.Sent } ∷ [])
@@ -247,10 +251,11 @@ pub record Stays (old new : CoreState) : Type 0 where
   pub blocked : new.blocked ≡ old.blocked
 
 -- A send that was started and announces nothing, by what the core makes of it
-pub send_started : (links : Announcements) (old new : CoreState) (known : List ℕ) (core : Core) (s : CoreSend)
+pub send_started : (links : Announcements) (old new : CoreState) (known : List ℕ) (core : Core) (s : RoutedSend)
     (q : Request) (after : Effect) (rows : List Row) → IsShown links old known core → old.blocked ≡ None →
     KeepsRules old.place s → q.serial ≡ old.serial →
-    core_sent s.mode old.place.endpoint core s.context s.target s.tag (sent_from s.from) ≡ after →
+    core_sent s.send.mode old.place.endpoint core s.route.context s.route.named s.send.tag (sent_from s.send.from) ≡
+    after →
     Holding links new known after.core rows →
     after.core.blocked ≡ core.blocked → Stays old new → AreQuiet after.out →
     AreSent (after_out links after.out) (all_gone known (as_list (frame_of old s))) after.out →
@@ -273,11 +278,12 @@ send_started links old new known core s q after rows shown free kept serial is h
     })
 
 -- the same, where nothing comes to the own rank
-away_shown : (links : Announcements) (old new : CoreState) (known : List ℕ) (core : Core) (s : CoreSend) (q : Request)
+away_shown : (links : Announcements) (old new : CoreState) (known : List ℕ) (core : Core) (s : RoutedSend) (q : Request)
     (after : Effect) → (shown : IsShown links old known core) → old.blocked ≡ None →
     KeepsRules old.place s → (sent : IsSmallSending old s q new) →
     new ≡ record old { slots = sent.started; serial = old.serial + 1 } →
-    core_sent s.mode old.place.endpoint core s.context s.target s.tag (sent_from s.from) ≡ after →
+    core_sent s.send.mode old.place.endpoint core s.route.context s.route.named s.send.tag (sent_from s.send.from) ≡
+    after →
     after.core ≡ pushed_over core →
     AreQuiet after.out → AreSent (after_out links after.out) (all_gone known (as_list (frame_of old s))) after.out →
     AllByRecursion (CanLeave old.place) (as_list (frame_of old s)) →
@@ -299,27 +305,30 @@ away_shown links old new known core s q after shown free kept sent rest is left 
     quiet out leave
 
 -- a send to the null process
-pub null_send_shown : (links : Announcements) (old new : CoreState) (known : List ℕ) (core : Core) (s : CoreSend)
+pub null_send_shown : (links : Announcements) (old new : CoreState) (known : List ℕ) (core : Core) (s : RoutedSend)
     (q : Request) → IsShown links old known core → old.blocked ≡ None →
-    s.target ≡ Null → KeepsRules old.place s → IsSending old s q new →
+    s.route.named ≡ Null → KeepsRules old.place s → IsSending old s q new →
     IsCalled links old known core (calls.Isend s) (replies.Started q) new
 null_send_shown links old new known core s q shown free is kept is_sent =
     away_shown links old new known core s q (effect (pushed_over core) []) shown free kept sent
     (sent.rest ∙
     ap (λ (t : Source). arrived_at_itself (record old { slots = sent.started; serial = old.serial + 1 })
-    (destination t s.tag s.context) None (sent_from s.from)) is)
-    (ap (λ (t : Source). core_sent s.mode old.place.endpoint core s.context t s.tag (sent_from s.from)) is) refl tt
+    (destination t s.send.tag s.route.context) None (sent_from s.send.from)) is)
+    (ap (λ (t : Source). core_sent s.send.mode old.place.endpoint core s.route.context t s.send.tag
+    (sent_from s.send.from)) is) refl tt
     (none_sent (after_out links []) known (frame_of old s) none) (none_leave old.place (frame_of old s) none)
   where
     sent : IsSmallSending old s q new
     sent = small_sending old new s q
-        (announced_nowhere old.place s (ap (λ (t : Source). rank_to old.place (destination t s.tag s.context)) is))
-        (none_waits s.mode (is_to_itself old.place s) q
-        (ap (λ (t : Source). is_own old.place (destination t s.tag s.context)) is)) is_sent
+        (announced_nowhere old.place s (ap (λ (t : Source). rank_to old.place
+        (destination t s.send.tag s.route.context)) is))
+        (none_waits s.send.mode (is_to_itself old.place s) q
+        (ap (λ (t : Source). is_own old.place (destination t s.send.tag s.route.context)) is)) is_sent
 
     none : frame_of old s ≡ None
     none = ap
-        (λ (t : Source). frame_to old.place old.transfers s.mode (destination t s.tag s.context) (sent_from s.from)) is
+        (λ (t : Source). frame_to old.place old.transfers s.send.mode (destination t s.send.tag s.route.context)
+        (sent_from s.send.from)) is
 
 -- THE FRAME OF A SMALL SEND
 
@@ -328,20 +337,22 @@ abbrev eager_for : (to context tag : ℕ) → Contents → OutgoingText
 eager_for to context tag c = record { target = to; frame = eager_frame context tag c }
 
 -- elements that go in one frame go in an eager one
-small_frame : (old : CoreState) (s : CoreSend) (to tag : ℕ) → s.target ≡ Rank to → s.tag ≡ Some tag →
-    (to == old.place.endpoint.rank) ≡ false → is_announced s.mode (sent_from s.from) ≡ false →
-    frame_of old s ≡ Some (eager_for to s.context tag (sent_from s.from))
+small_frame : (old : CoreState) (s : RoutedSend) (to tag : ℕ) → s.route.named ≡ Rank to → s.send.tag ≡ Some tag →
+    (to == old.place.endpoint.rank) ≡ false → is_announced s.send.mode (sent_from s.send.from) ≡ false →
+    frame_of old s ≡ Some (eager_for to s.route.context tag (sent_from s.send.from))
 small_frame old s to tag target_is tag_is other small =
-    ap₂ (λ (t : Source) (g : Option ℕ). frame_to old.place old.transfers s.mode (destination t g s.context)
-    (sent_from s.from)) target_is tag_is
-    ∙ (ap (λ (b : Bool). frame_unless b old.transfers s.mode (record { rank = to; tag = tag; context = s.context })
-    (sent_from s.from)) other
+    ap₂ (λ (t : Source) (g : Option ℕ). frame_to old.place old.transfers s.send.mode (destination t g s.route.context)
+    (sent_from s.send.from)) target_is tag_is
+    ∙ (ap (λ (b : Bool). frame_unless b old.transfers s.send.mode
+    (record { rank = to; tag = tag; context = s.route.context })
+    (sent_from s.send.from)) other
     ∙ ap (λ (b : Bool). Some
     (record {
       target = to;
       frame =
-          if b then request_frame s.mode (next_to old.transfers.numbers to) s.context tag (sent_from s.from) else
-          eager_frame s.context tag (sent_from s.from);
+          if b then request_frame s.send.mode (next_to old.transfers.numbers to) s.route.context tag
+          (sent_from s.send.from) else
+          eager_frame s.route.context tag (sent_from s.send.from);
     })) small)
 
 -- it can leave the rank
@@ -369,41 +380,46 @@ eager_stands context tag c within =
     (values_of-bytes_of (size_of c.basic) c.values (sizes c.basic).positive within)
 
 -- a small send to another rank
-pub other_send_shown : (links : Announcements) (old new : CoreState) (known : List ℕ) (core : Core) (s : CoreSend)
+pub other_send_shown : (links : Announcements) (old new : CoreState) (known : List ℕ) (core : Core) (s : RoutedSend)
     (q : Request) (to tag : ℕ) → IsShown links old known core → old.blocked ≡ None →
-    s.target ≡ Rank to → s.tag ≡ Some tag → (to == old.place.endpoint.rank) ≡ false → KeepsRules old.place s →
-    IsWithin (calls.Isend s) → is_announced s.mode (sent_from s.from) ≡ false → IsSending old s q new →
+    s.route.named ≡ Rank to → s.send.tag ≡ Some tag → (to == old.place.endpoint.rank) ≡ false → KeepsRules old.place s →
+    IsWithin (calls.Isend s) → is_announced s.send.mode (sent_from s.send.from) ≡ false → IsSending old s q new →
     IsCalled links old known core (calls.Isend s) (replies.Started q) new
 other_send_shown links old new known core s q to tag shown free target_is tag_is other kept within small is_sent =
     away_shown links old new known core s q
-    (effect (pushed_over core) ((endpoint_of known to, Eager s.context tag c.basic c.values) ∷ [])) shown free kept
+    (effect (pushed_over core) ((endpoint_of known to, Eager s.route.context tag c.basic c.values) ∷ [])) shown free
+    kept
     sent
-    (sent.rest ∙ ap₂ (λ (t : Source) (g : Option ℕ). arrived_at_itself started (destination t g s.context) None c)
+    (sent.rest ∙ ap₂ (λ (t : Source) (g : Option ℕ). arrived_at_itself started (destination t g s.route.context) None c)
     target_is tag_is ∙
-    ap (λ (b : Bool). arrived_if b started (record { rank = to; tag = tag; context = s.context }) None c) other)
-    (ap₂ (λ (t : Source) (g : Option ℕ). core_sent s.mode old.place.endpoint core s.context t g c) target_is tag_is ∙
-    core_sends s.mode core old.place.endpoint to (slice_index known to) s.context tag c other small
+    ap (λ (b : Bool). arrived_if b started (record { rank = to; tag = tag; context = s.route.context }) None c) other)
+    (ap₂ (λ (t : Source) (g : Option ℕ). core_sent s.send.mode old.place.endpoint core s.route.context t g c) target_is
+    tag_is ∙
+    core_sends s.send.mode core old.place.endpoint to (slice_index known to) s.route.context tag c other small
     (shown.known_alike to))
     refl (tt, tt)
     (subst (λ (f : Option OutgoingText). AreSent
-    (after_out links ((endpoint_of known to, Eager s.context tag c.basic c.values) ∷ []))
-    (all_gone known (as_list f)) ((endpoint_of known to, Eager s.context tag c.basic c.values) ∷ []))
-    (sym frame) (refl, eager_stands s.context tag c within.0, tt))
-    (subst (λ (f : Option OutgoingText). AllByRecursion (CanLeave old.place) (as_list f)) (sym frame)
-    (eager_leaves old.place to s.context tag c within.1 there (eqb-false to old.place.endpoint.rank other) low few, tt))
+    (after_out links ((endpoint_of known to, Eager s.route.context tag c.basic c.values) ∷ []))
+    (all_gone known (as_list f)) ((endpoint_of known to, Eager s.route.context tag c.basic c.values) ∷ []))
+    (sym frame) (refl, eager_stands s.route.context tag c within.0, tt))
+    (subst (λ (f : Option OutgoingText). AllByRecursion (CanLeave old.place) (as_list f)) (sym frame) (
+      eager_leaves old.place to s.route.context tag c within.1 there (eqb-false to old.place.endpoint.rank other) low
+          few,
+      tt,
+    ))
   where
     c : Contents
-    c = sent_from s.from
+    c = sent_from s.send.from
 
     sent : IsSmallSending old s q new
     sent = small_sending old new s q (announced_small old.place s small)
-        (none_waits s.mode (is_to_itself old.place s) q (not_to_itself old.place s to tag target_is tag_is other))
+        (none_waits s.send.mode (is_to_itself old.place s) q (not_to_itself old.place s to tag target_is tag_is other))
         is_sent
 
     few : length c.values * size_of c.basic ≤ eager_limit
-    few = few_of s.mode c small
+    few = few_of s.send.mode c small
 
-    frame : frame_of old s ≡ Some (eager_for to s.context tag c)
+    frame : frame_of old s ≡ Some (eager_for to s.route.context tag c)
     frame = small_frame old s to tag target_is tag_is other small
 
     there : to < old.place.size

@@ -16,7 +16,7 @@ use Rattle.requests.specs.Table.{IsSet, slot_at}
 use Rattle.requests.specs.declared.table.RequestProgress.{RequestProgress}
 use Rattle.requests.specs.declared.awaited_requests.Awaited as rank
 use Rattle.requests.specs.declared.table.Request.{Request}
-use Rattle.point_to_point_calls.specs.declared.call.CoreCall.{CoreCall}
+use Rattle.point_to_point_calls.specs.declared.call.RoutedCall.{RoutedCall}
 use Rattle.point_to_point_calls.specs.declared.call.CoreReply.TheVariants as replies
 use Rattle.point_to_point_calls.specs.declared.refusal.Refusal.{Refusal}
 use Rattle.point_to_point_calls.specs.Frames.{as_list}
@@ -120,7 +120,7 @@ serial_told links e known core q s h =
     (ap (λ (js : List Job). length js) s.jobs ∙ (length-map s.rows (λ (r : Row). r.job) ∙ (s.count ∙ sym h)))
 
 -- what a call that starts a request leaves, while no other is blocked
-pub record IsStart (links : Announcements) (old : CoreState) (known : List ℕ) (core : Core) (call : CoreCall)
+pub record IsStart (links : Announcements) (old : CoreState) (known : List ℕ) (core : Core) (call : RoutedCall)
     (q : Request) (new : CoreState) (after : Effect) : Type 0 where
   pub is : called old.place.endpoint core (call_seen call) ≡ after
   pub fit : queue_fault old.place.size (view blank core) (call_seen call) ≡ None
@@ -135,7 +135,7 @@ pub record IsStart (links : Announcements) (old : CoreState) (known : List ℕ) 
       Some (call_seen call, Some (machine.Started q.serial))
 
 -- such a call is answered by its serial
-pub started_call : (links : Announcements) (old new : CoreState) (known : List ℕ) (core : Core) (call : CoreCall)
+pub started_call : (links : Announcements) (old new : CoreState) (known : List ℕ) (core : Core) (call : RoutedCall)
     (q : Request) (after : Effect) → IsStart links old known core call q new after →
     IsCalled links old known core call (replies.Started q) new
 started_call links old new known core call q after s =

@@ -2,8 +2,8 @@
 -- none.
 use Rattle.std.specs.Prelude.{◌≡◌, ℕ, List, [], ◌∷◌, Option, Some, None, option_map}
 use Rattle.requests.specs.declared.awaited_requests.Awaited.{Awaited}
-use Rattle.point_to_point_calls.specs.declared.call.CoreCall.TheVariants as calls
-use Rattle.point_to_point_calls.specs.declared.call.CoreProbe.{CoreProbe}
+use Rattle.point_to_point_calls.specs.declared.call.RoutedCall.TheVariants as calls
+use Rattle.point_to_point_calls.specs.declared.call.RoutedProbe.{RoutedProbe}
 use Rattle.point_to_point_calls.specs.declared.call.CoreReply.TheVariants as replies
 use Rattle.point_to_point_calls.specs.declared.refusal.Refusal.{Refusal}
 use Rattle.point_to_point_calls.specs.declared.refusal.Refusal.TheVariants as refusals
@@ -26,15 +26,15 @@ use Rattle.proof_engine_view.specs.Shown.{IsShown}
 use Rattle.proof_engine_view.specs.Transfers.{Announcements}
 
 -- what the rank tells of a probe, whose source is a rank of the probe's group
-abbrev pub told_of : CoreState → CoreProbe → Option Status
-told_of c p = looked c p.source p.tag p.context p.group
+abbrev pub told_of : CoreState → RoutedProbe → Option Status
+told_of c p = looked c p.route.named p.probe.tag p.route.context p.group
 
 -- the core holds no message that such a receive would take
-abbrev pub HoldsNone : Core → CoreProbe → Type 0
+abbrev pub HoldsNone : Core → RoutedProbe → Type 0
 HoldsNone core p = found (such_receive (probe_seen p)) core.held ≡ None
 
 -- A look at the rank's messages is a probe of its core in the network: it is answered at once, and changes nothing
-pub record IsLookedAt (old : CoreState) (core : Core) (p : CoreProbe) : Type 0 where
+pub record IsLookedAt (old : CoreState) (core : Core) (p : RoutedProbe) : Type 0 where
   pub stays : core_settled (called old.place.endpoint core (Iprobe (probe_seen p))).core ≡ core
   pub tells :
       told old.place.endpoint (call_and_reply (view blank core) (Some (Iprobe (probe_seen p))))
@@ -46,28 +46,28 @@ pub record IsLookedAt (old : CoreState) (core : Core) (p : CoreProbe) : Type 0 w
 -- So it is while no call is blocked
 abbrev pub LooksAreShown : Type 0
 LooksAreShown =
-    (a : Announcements) (old : CoreState) (known : List ℕ) (core : Core) (p : CoreProbe) →
+    (a : Announcements) (old : CoreState) (known : List ℕ) (core : Core) (p : RoutedProbe) →
     IsShown a old known core → old.blocked ≡ None → IsLookedAt old core p
 
 -- the first rule that a look breaks: while a call is blocked every one does (6), and else the probe's (3 and 5)
-abbrev pub look_fault_at : Option Awaited → CoreState → CoreProbe → Option Refusal
+abbrev pub look_fault_at : Option Awaited → CoreState → RoutedProbe → Option Refusal
 look_fault_at (Some a) c p = Some refusals.Request
-look_fault_at None c p = probe_rule c.place.size p.source p.tag
+look_fault_at None c p = probe_rule c.place.size p.route.named p.probe.tag
 
 -- by the call that is blocked
-abbrev pub look_fault : CoreState → CoreProbe → Option Refusal
+abbrev pub look_fault : CoreState → RoutedProbe → Option Refusal
 look_fault c p = look_fault_at c.blocked c p
 
 -- It is the machine's fault, where there is one
 abbrev pub LooksAreJudged : Type 0
 LooksAreJudged =
-    (a : Announcements) (old : CoreState) (known : List ℕ) (core : Core) (p : CoreProbe) → IsShown a old known core →
+    (a : Announcements) (old : CoreState) (known : List ℕ) (core : Core) (p : RoutedProbe) → IsShown a old known core →
     queue_fault old.place.size (view blank core) (Iprobe (probe_seen p)) ≡
     option_map number_of_refusal (look_fault old p)
 
 -- A matching probe answers none only where there is none
 abbrev pub SearchesFindAll : Type 0
 SearchesFindAll =
-    (a : Announcements) (old new : CoreState) (known : List ℕ) (core : Core) (p : CoreProbe) →
+    (a : Announcements) (old new : CoreState) (known : List ℕ) (core : Core) (p : RoutedProbe) →
     IsShown a old known core →
     Answers old (calls.Improbe p) (replies.Matched None) new → HoldsNone core p

@@ -4,7 +4,7 @@ use Rattle.std.specs.List.{AllByRecursion}
 use Rattle.datagram.specs.Spelling.{FrameIsWithinFields, FrameText}
 use Rattle.incarnation.specs.declared.place.Place.{Place}
 use Rattle.incarnation.specs.Knowing as knowing
-use Rattle.point_to_point_calls.specs.declared.call.CoreCall.{CoreCall}
+use Rattle.point_to_point_calls.specs.declared.call.RoutedCall.{RoutedCall}
 use Rattle.point_to_point_calls.specs.declared.call.CoreReply.{CoreReply}
 use Rattle.point_to_point_calls.specs.Calls.{IsWithin}
 use Rattle.point_to_point.specs.Calls.{Answers, call_fault, call_frame}
@@ -42,7 +42,7 @@ OpeningIsSettled = (e : Endpoint) → IsSettled (new_core e)
 -- ---- calls
 
 -- a call of the rank is the call of its core in the network
-pub record IsCalled (a : Announcements) (old : CoreState) (known : List ℕ) (core : Core) (call : CoreCall)
+pub record IsCalled (a : Announcements) (old : CoreState) (known : List ℕ) (core : Core) (call : RoutedCall)
     (reply : CoreReply) (new : CoreState) : Type 0 where
   pub fit : queue_fault old.place.size (view blank core) (call_seen call) ≡ None
   -- it leaves the rank's place, and the answer of an earlier call
@@ -67,7 +67,7 @@ pub record IsCalled (a : Announcements) (old : CoreState) (known : List ℕ) (co
 -- same call of its core in the network; of which the network's laws say that no two messages name one of its own sends
 abbrev pub CallsAreShown : Type 0
 CallsAreShown =
-    (a : Announcements) (old new : CoreState) (known : List ℕ) (core : Core) (call : CoreCall) (reply : CoreReply) →
+    (a : Announcements) (old new : CoreState) (known : List ℕ) (core : Core) (call : RoutedCall) (reply : CoreReply) →
     IsShown a old known core → ClaimsOnce core → IsWithin call → call_fault old call ≡ None →
     Answers old call reply new →
     IsCalled a old known core call reply new

@@ -9,7 +9,7 @@ use Rattle.engine_calls.specs.Calls.{IsTold, LookingGives}
 use Rattle.engine_calls.specs.EngineState.{EngineState, completion_of}
 use Rattle.engine_calls.specs.declared.call.Call.{Call}
 use Rattle.engine_calls.specs.declared.call.Call.TheVariants as calls
-use Rattle.engine_calls.specs.declared.call.Probe.{Probe}
+use Rattle.point_to_point_calls.specs.declared.call.Probe.{Probe}
 use Rattle.engine_calls.specs.declared.reply.Fact.{Fact}
 use Rattle.engine_calls.specs.declared.reply.Reply.{Reply}
 use Rattle.engine_calls.specs.declared.reply.Reply.TheVariants as replies

@@ -9,7 +9,7 @@ use Rattle.engine_calls.specs.EngineState.{EngineState, member_of}
 use Rattle.engine_calls.specs.Faults.{broken, free_fault, is_busy}
 use Rattle.engine_calls.specs.Routing.{probe_by}
 use Rattle.engine_calls.specs.declared.call.Call.TheVariants as calls
-use Rattle.engine_calls.specs.declared.call.Probe.{Probe}
+use Rattle.point_to_point_calls.specs.declared.call.Probe.{Probe}
 use Rattle.engine_calls.specs.declared.reply.Reply.TheVariants as replies
 use Rattle.perfect_groups.specs.Calls.{held_at, probe_on, queue_call}
 use Rattle.perfect_groups.specs.Communicators.{Communicator}
@@ -23,9 +23,9 @@ use Rattle.proof_engine_view.specs.Shown.{IsShown}
 use Rattle.proof_engine_view.specs.Transfers.{Announcements}
 use Rattle.proof_pure_network.specs.Core.{Core}
 use Rattle.proof_pure_network.specs.Matching.{found}
-use Rattle.point_to_point_calls.specs.declared.call.CoreCall as core_asks
-use Rattle.point_to_point_calls.specs.declared.call.CoreCall.TheVariants as core_calls
-use Rattle.point_to_point_calls.specs.declared.call.CoreProbe as core_probes
+use Rattle.point_to_point_calls.specs.declared.call.RoutedCall as core_asks
+use Rattle.point_to_point_calls.specs.declared.call.RoutedCall.TheVariants as core_calls
+use Rattle.point_to_point_calls.specs.declared.call.RoutedProbe as core_probes
 use Rattle.point_to_point_calls.specs.declared.call.CoreReply as core_answers
 use Rattle.point_to_point_calls.specs.declared.call.CoreReply.TheVariants as core_replies
 use Rattle.point_to_point_calls.specs.declared.refusal.Refusal.TheVariants as refusals
@@ -45,7 +45,7 @@ idle_by (Some a) within h = absurd cc
 
 -- what an engine tells of a probe its core told of this one, which the probe is in the machine
 pub record IsLookedFor (e : EngineState) (p : Probe) (found : Option Status) : Type 0 where
-  pub asked : core_probes.CoreProbe
+  pub asked : core_probes.RoutedProbe
   pub told : told_of_probe e.core asked ≡ found
   pub named : queue_call (member_of e.groups) (call_seen (calls.Iprobe p)) ≡ Some (queues.Iprobe (probe_seen asked))
   -- no earlier call is blocked
@@ -107,10 +107,10 @@ pub searches_in_vain : SearchesFindAll →
 searches_in_vain finds a e mid core p q shown seen gives =
     go (held_at (member_of e.groups) p.comm) refl gives.routed seen
   where
-    answers : (asked : core_asks.CoreCall) → asked ≡ gives.asked →
+    answers : (asked : core_asks.RoutedCall) → asked ≡ gives.asked →
         Answers e.core asked (core_replies.Matched None) mid.core
     answers asked is =
-        subst (λ (x : core_asks.CoreCall). Answers e.core x (core_replies.Matched None) mid.core) (sym is)
+        subst (λ (x : core_asks.RoutedCall). Answers e.core x (core_replies.Matched None) mid.core) (sym is)
         (subst (λ (y : core_answers.CoreReply). Answers e.core gives.asked y mid.core)
         (sym (same_Some (core_replies.Matched None) gives.answer gives.told)) gives.core)
 

@@ -5,7 +5,7 @@ use Rattle.std.proofs.Common.{append-nil, refl}
 use Rattle.collective_steps.specs.declared.step.Ending.{Ending}
 use Rattle.engine_calls.specs.EngineState.{EngineState, completion_by, completion_of, member_of}
 use Rattle.engine_calls.specs.declared.call.Call.TheVariants as calls
-use Rattle.engine_calls.specs.declared.call.Probe.{Probe}
+use Rattle.point_to_point_calls.specs.declared.call.Probe.{Probe}
 use Rattle.engine_calls.specs.declared.reply.Completion.{Completion}
 use Rattle.engine_calls.specs.declared.reply.Reply.TheVariants as replies
 use Rattle.incarnation.specs.declared.place.Place.{Place}

@@ -22,9 +22,9 @@ use Rattle.engine_calls.specs.Refusals.{first_fault, of_entry_rule}
 use Rattle.engine_calls.specs.Routing.{probe_by, receive_by, send_by}
 use Rattle.engine_calls.specs.declared.call.Call as engine
 use Rattle.engine_calls.specs.declared.call.Call.TheVariants as calls
-use Rattle.engine_calls.specs.declared.call.Probe.{Probe}
-use Rattle.engine_calls.specs.declared.call.Receive.{Receive}
-use Rattle.engine_calls.specs.declared.call.Send.{Send}
+use Rattle.point_to_point_calls.specs.declared.call.Probe.{Probe}
+use Rattle.point_to_point_calls.specs.declared.call.Receive.{Receive}
+use Rattle.point_to_point_calls.specs.declared.call.Send.{Send}
 use Rattle.perfect_groups.specs.Calls.{Call, Cancel, Enter, Improbe, Inquire, Iprobe, Irecv, Isend, Mrecv, Test, Wait}
 use Rattle.perfect_groups.specs.Calls.{held_at, in_world, probe_on, queue_call, receive_on}
 use Rattle.perfect_groups.specs.Collectives.{CollectiveCall, part_of}
@@ -57,8 +57,8 @@ use Rattle.observation.specs.EngineCalls.{call_by, call_meant, call_seen}
 use Rattle.proof_pure_network.specs.Core.{Core, view}
 use Rattle.proof_pure_network.specs.Held.{blank}
 use Rattle.point_to_point_calls.specs.Refusals.{number_of_refusal}
-use Rattle.point_to_point_calls.specs.declared.call.CoreCall as core_calls
-use Rattle.point_to_point_calls.specs.declared.call.CoreCall.TheVariants as cores_calls
+use Rattle.point_to_point_calls.specs.declared.call.RoutedCall as core_calls
+use Rattle.point_to_point_calls.specs.declared.call.RoutedCall.TheVariants as cores_calls
 use Rattle.point_to_point_calls.specs.declared.refusal.Refusal.{Refusal}
 use Rattle.point_to_point_calls.specs.declared.refusal.Refusal.TheVariants as refusals
 use Rattle.point_to_point_calls.specs.Hearing.{first_of}
@@ -103,7 +103,7 @@ cancel_found n own l m r apart =
 
 -- so the refusal has a reason
 requests_reason : (a : Announcements) (e : EngineState) (core : Core) (m : Membership) (call : engine.Call)
-    (q : core_calls.CoreCall) (found : Option ℕ) (why : Refusal) → IsFree a e core m →
+    (q : core_calls.RoutedCall) (found : Option ℕ) (why : Refusal) → IsFree a e core m →
     call_fault e.core q ≡ free_fault e call →
     found ≡ queue_fault e.core.place.size (view blank core) (in_queues.call_meant e.core q) →
     (LacksRoom e call why → why ≡ refusals.OutOfMemory) →
@@ -130,7 +130,7 @@ as_call (queues.Mrecv message into) = Mrecv message into
 
 -- and a call that is taken has no fault
 requests_faultless : (a : Announcements) (e : EngineState) (core : Core) (m : Membership) (call : engine.Call)
-    (q : core_calls.CoreCall) (found : Option ℕ) → IsFree a e core m →
+    (q : core_calls.RoutedCall) (found : Option ℕ) → IsFree a e core m →
     call_fault e.core q ≡ free_fault e call →
     found ≡ queue_fault e.core.place.size (view blank core) (in_queues.call_seen q) →
     ((f : Request → ℕ) → as_call (in_queues.call_by f q) ≡ call_by f call) → free_fault e call ≡ None →
@@ -146,7 +146,7 @@ requests_faultless a e core m call q found free is same as_is allowed =
 
 -- a call with a route that is refused
 routed_reason : (a : Announcements) (own : Endpoint) (e : EngineState) (core : Core) (m : Membership)
-    (call : engine.Call) (q : core_calls.CoreCall) (c : Call) (five eleven : Bool) (limit : Option Refusal)
+    (call : engine.Call) (q : core_calls.RoutedCall) (c : Call) (five eleven : Bool) (limit : Option Refusal)
     (why : Refusal) → IsFree a e core m → queue_call m c ≡ Some (in_queues.call_meant e.core q) →
     in_queues.call_meant e.core q ≡ in_queues.call_seen q → free_request_fault e.core q ≡ None →
     wrong_rank m c ≡ five → wrong_incarnation core.known m c ≡ eleven →
@@ -196,7 +196,7 @@ routed_reason a own e core m call q c five eleven limit why free routed same req
 
 -- one that is taken
 routed_faultless : (a : Announcements) (own : Endpoint) (e : EngineState) (core : Core) (m : Membership)
-    (q : core_calls.CoreCall) (c : Call) (five eleven : Bool) (limit : Option Refusal) →
+    (q : core_calls.RoutedCall) (c : Call) (five eleven : Bool) (limit : Option Refusal) →
     IsFree a e core m → queue_call m c ≡ Some (in_queues.call_meant e.core q) → in_queues.call_meant e.core q ≡
     in_queues.call_seen q → free_request_fault e.core q ≡ None →
     wrong_rank m c ≡ five → wrong_incarnation core.known m c ≡ eleven →
@@ -508,7 +508,7 @@ message_reason a own e core m q into why free reason =
     (in_queues.request_by (in_queues.serial_meant e.core) q) (handed_of into) free.apart))
     (by_requests (free_request_fault e.core asked) refl reason)
   where
-    asked : core_calls.CoreCall
+    asked : core_calls.RoutedCall
     asked = cores_calls.Mrecv q into
 
     broken_by : (x : Refusal) → call_fault e.core asked ≡ Some x → why ≡ x → HasReason e.core core asked why
@@ -543,7 +543,7 @@ message_faultless : (a : Announcements) (own : Endpoint) (e : EngineState) (core
     free_fault e (calls.Mrecv q into) ≡ None →
     IsFaultless (fault own (view blank core) m (call_seen (calls.Mrecv q into))) e.core (calls.Mrecv q into)
 message_faultless a own e core m q into free allowed =
-    let asked : core_calls.CoreCall = cores_calls.Mrecv q into in
+    let asked : core_calls.RoutedCall = cores_calls.Mrecv q into in
     let requests = neither_fault (free_request_fault e.core asked) _ allowed in
     let arguments = neither_fault (argument_fault e.core.place asked) (routed_limit e asked) requests.1 in
     let fine = allowed_calls_are_faultless a e.core e.sessions.known core asked free.shown (message_cut a e core m q into None free requests.0 ∙ arguments.0) in
@@ -695,7 +695,7 @@ question_faultless a own e core m comm q free allowed =
 -- ---- ALL CALLS
 
 -- the core's fault of a call on requests is the engine's
-free_is : (a : Announcements) (e : EngineState) (core : Core) (m : Membership) (q : core_calls.CoreCall) →
+free_is : (a : Announcements) (e : EngineState) (core : Core) (m : Membership) (q : core_calls.RoutedCall) →
     IsFree a e core m → call_fault e.core q ≡ fault_at None e.core q
 free_is a e core m q free = ap (λ (b : Option Awaited). fault_at b e.core q) free.idle
 

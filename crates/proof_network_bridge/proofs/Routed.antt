@@ -34,16 +34,16 @@ use Rattle.proof_queue_calls.specs.Halves.{AreInWorld}
 use Rattle.point_to_point_calls.specs.Hearing.{first_of}
 use Rattle.point_to_point_calls.specs.Refusals.{number_of_refusal}
 use Rattle.point_to_point_calls.specs.Sending.{announced_to, or_worn_out, send_fault}
-use Rattle.point_to_point_calls.specs.declared.call.CoreReceive as core_receives
-use Rattle.point_to_point_calls.specs.declared.call.CoreSend as core_sends
-use Rattle.point_to_point_calls.specs.declared.call.CoreCall as core_calls
-use Rattle.point_to_point_calls.specs.declared.call.CoreCall.TheVariants as calls
+use Rattle.point_to_point_calls.specs.declared.call.RoutedReceive as core_receives
+use Rattle.point_to_point_calls.specs.declared.call.RoutedSend as core_sends
+use Rattle.point_to_point_calls.specs.declared.call.RoutedCall as core_calls
+use Rattle.point_to_point_calls.specs.declared.call.RoutedCall.TheVariants as calls
 use Rattle.point_to_point_calls.specs.declared.refusal.Refusal.{Refusal}
 use Rattle.point_to_point_calls.specs.declared.refusal.Refusal.TheVariants as refusals
 use Rattle.point_to_point.specs.Calls.{argument_fault, call_fault, call_frame, fault_at, free_fault, free_request_fault}
 use Rattle.point_to_point.specs.Calls.{limit_fault}
 use Rattle.match_queues.specs.declared.envelope.Message.{Message}
-use Rattle.point_to_point_calls.specs.declared.call.CoreProbe as core_probes
+use Rattle.point_to_point_calls.specs.declared.call.RoutedProbe as core_probes
 use Rattle.point_to_point.specs.CoreState.{CoreState}
 use Rattle.point_to_point.specs.Messages.{found_for, full_if, probe_rule, region_rule, search_limit}
 use Rattle.point_to_point.specs.Receiving.{receive_fault, receive_rule}
@@ -149,14 +149,14 @@ held_full : (c : CoreState) (m : Option Message) (x : Refusal) → full_if c m �
 held_full c None x h = absurd cc
 held_full c (Some m) x h = full_is (is_full c.slots c.serial) x h
 
-search_full : (source : Source) (c : CoreState) (p : core_probes.CoreProbe) (x : Refusal) →
+search_full : (source : Source) (c : CoreState) (p : core_probes.RoutedProbe) (x : Refusal) →
     search_limit source c p ≡ Some x → x ≡ refusals.Limit
 search_full sources.Null c p x h = absurd cc
-search_full sources.Any c p x h = held_full c (found_for c sources.Any p.tag p.context) x h
-search_full (sources.Rank r) c p x h = held_full c (found_for c (sources.Rank r) p.tag p.context) x h
+search_full sources.Any c p x h = held_full c (found_for c sources.Any p.probe.tag p.route.context) x h
+search_full (sources.Rank r) c p x h = held_full c (found_for c (sources.Rank r) p.probe.tag p.route.context) x h
 
 -- the only limit of a core is 13
-limit_is : (c : CoreState) (q : core_calls.CoreCall) (x : Refusal) → limit_fault c q ≡ Some x → x ≡ refusals.Limit
+limit_is : (c : CoreState) (q : core_calls.RoutedCall) (x : Refusal) → limit_fault c q ≡ Some x → x ≡ refusals.Limit
 limit_is c (calls.Isend s) x h = worn_is (is_full c.slots c.serial) (announced_to c.place s) c.transfers x h
 limit_is c (calls.Irecv v) x h = full_is (is_full c.slots c.serial) x h
 limit_is c (calls.Wait q) x h = absurd cc
@@ -164,7 +164,7 @@ limit_is c (calls.Test q) x h = absurd cc
 limit_is c (calls.Waitany qs) x h = absurd cc
 limit_is c (calls.Waitall qs) x h = absurd cc
 limit_is c (calls.Cancel q) x h = absurd cc
-limit_is c (calls.Improbe p) x h = search_full p.source c p x h
+limit_is c (calls.Improbe p) x h = search_full p.route.named c p x h
 limit_is c (calls.Mrecv q into) x h = absurd cc
 
 worn_out : (b : Bool) (x : Refusal) → fault_of_sessions (if b then Some lowers.Limit else None) ≡ Some x →
@@ -184,7 +184,7 @@ either_is : (o p : Option Refusal) (x : Refusal) → ((y : Refusal) → o ≡ So
 either_is (Some y) p x one other h = sym (same_refusal y x h) ∙ one y refl
 either_is None p x one other h = other x h
 
-pub routed_full : (e : EngineState) (q : core_calls.CoreCall) (x : Refusal) → routed_limit e q ≡ Some x →
+pub routed_full : (e : EngineState) (q : core_calls.RoutedCall) (x : Refusal) → routed_limit e q ≡ Some x →
     x ≡ refusals.Limit
 routed_full e q x h =
     either_is (limit_fault e.core q) (frame_limit e.sessions (call_frame e.core q)) x (limit_is e.core q)
@@ -196,7 +196,7 @@ group_full None x h = absurd cc
 group_full (Some group) x h = full_is (nat_lt 65535 (length group)) x h
 
 -- and of a receive with its group
-pub group_routed_full : (e : EngineState) (group : Option (List ℕ)) (q : core_calls.CoreCall) (x : Refusal) →
+pub group_routed_full : (e : EngineState) (group : Option (List ℕ)) (q : core_calls.RoutedCall) (x : Refusal) →
     first_fault (group_limit group) (routed_limit e q) ≡ Some x → x ≡ refusals.Limit
 group_routed_full e group q x h =
     either_is (group_limit group) (routed_limit e q) x (group_full group) (routed_full e q) h
@@ -235,18 +235,19 @@ five_tests : (a b b' c d : Bool) (x : Refusal) →
 five_tests a true b' c d x h room = four_tests a true c d x h room
 five_tests a false b' c d x h room = four_tests a b' c d x h room
 
-send_rule_room : (p : Place) (s : core_sends.CoreSend) (x : Refusal) → send_fault p s ≡ Some x → IsOutOfRoom x → ⊥
+send_rule_room : (p : Place) (s : core_sends.RoutedSend) (x : Refusal) → send_fault p s ≡ Some x → IsOutOfRoom x → ⊥
 unfolding send_fault
 send_rule_room p s x h room =
-    five_tests (differs_in_type (handed_of s.from)) (nat_lt send_limit (byte_count s.from))
-    (is_too_short (handed_of s.from)) (is_no_tag s.tag) (is_no_target p.size s.target) x h room
+    five_tests (differs_in_type (handed_of s.send.from)) (nat_lt send_limit (byte_count s.send.from))
+    (is_too_short (handed_of s.send.from)) (is_no_tag s.send.tag) (is_no_target p.size s.route.named) x h room
 
-receive_rule_room : (size : ℕ) (v : core_receives.CoreReceive) (x : Refusal) → receive_rule size v ≡ Some x →
+receive_rule_room : (size : ℕ) (v : core_receives.RoutedReceive) (x : Refusal) → receive_rule size v ≡ Some x →
     IsOutOfRoom x → ⊥
 unfolding receive_rule
 receive_rule_room size v x h room =
-    four_tests (is_unfit_to_receive (handed_of v.into)) (is_too_short (handed_of v.into)) (is_tag_above v.tag)
-    (is_source_beyond size v.source) x h room
+    four_tests (is_unfit_to_receive (handed_of v.receive.into)) (is_too_short (handed_of v.receive.into))
+    (is_tag_above v.receive.tag)
+    (is_source_beyond size v.route.named) x h room
 
 two_tests : (a b : Bool) (one two x : Refusal) → (IsOutOfRoom one → ⊥) → (IsOutOfRoom two → ⊥) →
     (if a then Some one else (if b then Some two else None)) ≡ Some x → IsOutOfRoom x → ⊥
@@ -274,7 +275,7 @@ region_rule_room into x h room =
     (λ r. no_room_is refusals.Count (λ i. absurd cc) (λ i. absurd cc) r) h room
 
 -- what a call breaks by what it hands in is no limit
-argument_room : (p : Place) (q : core_calls.CoreCall) (x : Refusal) → argument_fault p q ≡ Some x → IsOutOfRoom x → ⊥
+argument_room : (p : Place) (q : core_calls.RoutedCall) (x : Refusal) → argument_fault p q ≡ Some x → IsOutOfRoom x → ⊥
 argument_room p (calls.Isend s) x h room = send_rule_room p s x h room
 argument_room p (calls.Irecv v) x h room = receive_rule_room p.size v x h room
 argument_room p (calls.Wait q) x h room = absurd cc
@@ -282,7 +283,7 @@ argument_room p (calls.Test q) x h room = absurd cc
 argument_room p (calls.Waitany qs) x h room = absurd cc
 argument_room p (calls.Waitall qs) x h room = absurd cc
 argument_room p (calls.Cancel q) x h room = absurd cc
-argument_room p (calls.Improbe q) x h room = probe_rule_room p.size q.source q.tag x h room
+argument_room p (calls.Improbe q) x h room = probe_rule_room p.size q.route.named q.probe.tag x h room
 argument_room p (calls.Mrecv q into) x h room = region_rule_room into x h room
 
 -- ---- WHAT THE QUEUES FIND
@@ -309,19 +310,20 @@ tests_cut false false false true full = refl
 tests_cut false false false false full = refl
 
 -- so do a receive's
-receive_cut : (c : CoreState) (v : core_receives.CoreReceive) →
+receive_cut : (c : CoreState) (v : core_receives.RoutedReceive) →
     receive_fault c v ≡ first_of (receive_rule c.place.size v) (or_full None c)
 unfolding receive_fault receive_rule
 receive_cut c v =
-    tests_cut (is_unfit_to_receive (handed_of v.into)) (is_too_short (handed_of v.into)) (is_tag_above v.tag)
-    (is_source_beyond c.place.size v.source) (is_full c.slots c.serial)
+    tests_cut (is_unfit_to_receive (handed_of v.receive.into)) (is_too_short (handed_of v.receive.into))
+    (is_tag_above v.receive.tag)
+    (is_source_beyond c.place.size v.route.named) (is_full c.slots c.serial)
 
 first_alone : (o : Option Refusal) → o ≡ first_of o None
 first_alone None = refl
 first_alone (Some x) = refl
 
 -- the fault of a call whose requests are in order, while no earlier one is blocked
-free_cut : (c : CoreState) (q : core_calls.CoreCall) → free_request_fault c q ≡ None →
+free_cut : (c : CoreState) (q : core_calls.RoutedCall) → free_request_fault c q ≡ None →
     free_fault c q ≡ first_of (argument_fault c.place q) (limit_fault c q)
 free_cut c (calls.Isend s) requests = send_cut (send_fault c.place s) c (announced_to c.place s) c.transfers
 free_cut c (calls.Irecv v) requests = receive_cut c v
@@ -334,12 +336,12 @@ free_cut c (calls.Improbe p) requests = refl
 free_cut c (calls.Mrecv q into) requests = ap (λ (o : Option Refusal). first_of o (region_rule into)) requests ∙
     first_alone (region_rule into)
 
-pub core_fault : (c : CoreState) (q : core_calls.CoreCall) → c.blocked ≡ None → free_request_fault c q ≡ None →
+pub core_fault : (c : CoreState) (q : core_calls.RoutedCall) → c.blocked ≡ None → free_request_fault c q ≡ None →
     call_fault c q ≡ first_of (argument_fault c.place q) (limit_fault c q)
 core_fault c q idle requests = ap (λ (b : Option Awaited). fault_at b c q) idle ∙ free_cut c q requests
 
 -- what it hands in is wrong: the machine's queues find the same
-pub rule_broken : (a : Announcements) (e : EngineState) (core : Core) (m : Membership) (q : core_calls.CoreCall)
+pub rule_broken : (a : Announcements) (e : EngineState) (core : Core) (m : Membership) (q : core_calls.RoutedCall)
     (x : Refusal) → IsFree a e core m → free_request_fault e.core q ≡ None →
     argument_fault e.core.place q ≡ Some x → queue_fault e.core.place.size (view blank core) (call_meant e.core q) ≡
     Some (number_of_refusal x)
@@ -353,7 +355,7 @@ rule_broken a e core m q x free requests is =
     go (NoRoom room none) = absurd (argument_room e.core.place q x is room)
 
 -- nothing that it hands in is wrong: they find nothing
-pub rule_kept : (a : Announcements) (e : EngineState) (core : Core) (m : Membership) (q : core_calls.CoreCall) →
+pub rule_kept : (a : Announcements) (e : EngineState) (core : Core) (m : Membership) (q : core_calls.RoutedCall) →
     IsFree a e core m → free_request_fault e.core q ≡ None →
     call_meant e.core q ≡ call_seen q → argument_fault e.core.place q ≡ None →
     queue_fault e.core.place.size (view blank core) (call_meant e.core q) ≡ None

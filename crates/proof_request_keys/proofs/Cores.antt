@@ -19,13 +19,13 @@ use Rattle.requests.specs.declared.table.RequestProgress.TheVariants.{Finished}
 use Rattle.requests.specs.declared.table.Request.{Request}
 use Rattle.point_to_point_calls.specs.Calls.{Starts}
 use Rattle.point_to_point_calls.specs.Hearing.{NewsText, announced_of, message_of}
-use Rattle.point_to_point_calls.specs.declared.call.CoreCall.{CoreCall}
-use Rattle.point_to_point_calls.specs.declared.call.CoreCall.TheVariants as calls
-use Rattle.point_to_point_calls.specs.declared.call.CoreProbe.{CoreProbe}
-use Rattle.point_to_point_calls.specs.declared.call.CoreReceive.{CoreReceive}
+use Rattle.point_to_point_calls.specs.declared.call.RoutedCall.{RoutedCall}
+use Rattle.point_to_point_calls.specs.declared.call.RoutedCall.TheVariants as calls
+use Rattle.point_to_point_calls.specs.declared.call.RoutedProbe.{RoutedProbe}
+use Rattle.point_to_point_calls.specs.declared.call.RoutedReceive.{RoutedReceive}
 use Rattle.point_to_point_calls.specs.declared.call.CoreReply.{CoreReply}
 use Rattle.point_to_point_calls.specs.declared.call.CoreReply.TheVariants as replies
-use Rattle.point_to_point_calls.specs.declared.call.CoreSend.{CoreSend}
+use Rattle.point_to_point_calls.specs.declared.call.RoutedSend.{RoutedSend}
 use Rattle.point_to_point_calls.specs.declared.sends.Destination.{Destination}
 use Rattle.point_to_point_calls.specs.Sending.{announced_to, destination, is_to_itself, offered_by}
 use Rattle.requests.specs.Regions.{sent_from}
@@ -261,7 +261,7 @@ receives_go_on old new (Some q) into reply given =
 
 -- ---- calls that start a request
 
-send_goes_on : (old new : CoreState) (s : CoreSend) (r : Request) → IsSending old s r new →
+send_goes_on : (old new : CoreState) (s : RoutedSend) (r : Request) → IsSending old s r new →
     GoesOn old (replies.Started r) new
 send_goes_on old new s r given =
     starts_on old new (replies.Started r) r refl given.serial stays.serial stays.place
@@ -271,16 +271,17 @@ send_goes_on old new s r given =
     begun = record old {
       slots = given.started;
       serial = old.serial + 1;
-      transfers = offered_by old.transfers (announced_to old.place s) r.key (sent_from s.from);
+      transfers = offered_by old.transfers (announced_to old.place s) r.key (sent_from s.send.from);
     }
 
     stays : StaysIn begun new
     stays =
         as_stays begun _ new given.rest
-        (itself_stays begun (destination s.target s.tag s.context) (waiting_of s.mode (is_to_itself old.place s) r)
-        (sent_from s.from))
+        (itself_stays begun (destination s.route.named s.send.tag s.route.context)
+        (waiting_of s.send.mode (is_to_itself old.place s) r)
+        (sent_from s.send.from))
 
-post_goes_on : (old new : CoreState) (v : CoreReceive) (r : Request) → IsPosting old v r new →
+post_goes_on : (old new : CoreState) (v : RoutedReceive) (r : Request) → IsPosting old v r new →
     GoesOn old (replies.Started r) new
 post_goes_on old new v r given =
     starts_on old new (replies.Started r) r refl given.serial (ap (λ (c : CoreState). c.serial) given.rest)
@@ -288,16 +289,16 @@ post_goes_on old new v r given =
     (λ P start before. subst (λ (c : CoreState). All P c.slots) (sym given.rest)
     (own_sent_stays P given.started _ (start_stays P old.slots given.started r.key _ before start given.entry)))
 
-nothing_goes_on : (old new : CoreState) (v : CoreReceive) (r : Request) → IsReceivingNothing old v r new →
+nothing_goes_on : (old new : CoreState) (v : RoutedReceive) (r : Request) → IsReceivingNothing old v r new →
     GoesOn old (replies.Started r) new
 nothing_goes_on old new v r given =
     starts_on old new (replies.Started r) r refl given.serial (ap (λ (c : CoreState). c.serial) given.rest)
     (ap (λ (c : CoreState). c.place) given.rest)
     (λ P start before. start_stays P old.slots new.slots r.key _ before start given.entry)
 
-receive_goes_on : (old new : CoreState) (v : CoreReceive) (r : Request) → IsReceiving old v r new →
+receive_goes_on : (old new : CoreState) (v : RoutedReceive) (r : Request) → IsReceiving old v r new →
     GoesOn old (replies.Started r) new
-receive_goes_on old new v r given = go v.source given
+receive_goes_on old new v r given = go v.route.named given
   where
     go : (source : Source) → ReceivesFrom source old v r new → GoesOn old (replies.Started r) new
     go sources.Any g = post_goes_on old new v r g
@@ -305,9 +306,9 @@ receive_goes_on old new v r given = go v.source given
     go sources.Null g = nothing_goes_on old new v r g
 
 -- a matching probe
-search_goes_on : (old new : CoreState) (p : CoreProbe) (reply : CoreReply) → Searches old p reply new →
+search_goes_on : (old new : CoreState) (p : RoutedProbe) (reply : CoreReply) → Searches old p reply new →
     GoesOn old reply new
-search_goes_on old new p reply given = go p.source given
+search_goes_on old new p reply given = go p.route.named given
   where
     takes : (o : Option Message) → TakesOut old p o reply new → GoesOn old reply new
     takes None g =
@@ -323,8 +324,8 @@ search_goes_on old new p reply given = go p.source given
     go sources.Null g =
         subst (λ (x : CoreReply). GoesOn old x new) (sym g.0)
         (stays_on old new (replies.Matched _) (λ q is. absurd cc) (same_stays old new g.1))
-    go sources.Any g = takes (found_for old sources.Any p.tag p.context) g
-    go (sources.Rank r) g = takes (found_for old (sources.Rank r) p.tag p.context) g
+    go sources.Any g = takes (found_for old sources.Any p.probe.tag p.route.context) g
+    go (sources.Rank r) g = takes (found_for old (sources.Rank r) p.probe.tag p.route.context) g
 
 -- ---- every call
 
@@ -339,7 +340,7 @@ started old new replies.Accepted start on given = absurd given
 started old new (replies.Matched m) start on given = absurd given
 started old new replies.Blocked start on given = absurd given
 
-pub call_goes_on : (old new : CoreState) (call : CoreCall) (reply : CoreReply) → Answers old call reply new →
+pub call_goes_on : (old new : CoreState) (call : RoutedCall) (reply : CoreReply) → Answers old call reply new →
     GoesOn old reply new
 call_goes_on old new (calls.Isend s) reply given =
     started old new reply (λ r. IsSending old s r new) (send_goes_on old new s) given

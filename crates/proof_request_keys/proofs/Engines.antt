@@ -22,7 +22,7 @@ use Rattle.engine_calls.specs.EngineState.{EngineState}
 use Rattle.engine_calls.specs.Routing.{core_reply}
 use Rattle.engine_calls.specs.declared.call.Call.{Call}
 use Rattle.engine_calls.specs.declared.call.Call.TheVariants as calls
-use Rattle.engine_calls.specs.declared.call.Probe.{Probe}
+use Rattle.point_to_point_calls.specs.declared.call.Probe.{Probe}
 use Rattle.engine_calls.specs.declared.reply.Reply.{Reply}
 use Rattle.engine_calls.specs.declared.reply.Reply.TheVariants as replies
 use Rattle.observation.specs.CoreCalls.{has_serial}

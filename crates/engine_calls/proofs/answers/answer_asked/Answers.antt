@@ -1,8 +1,8 @@
 use Rattle.std.proofs.Common.{subst, sym}
 use Rattle.engine_calls.proofs.Answering.{answer_told, group_told}
 use Rattle.engine_calls.proofs.Clear.{clear_same}
-use Rattle.engine_calls.specs.Asks.{IsClear, group_at, groups_of}
-use Rattle.engine_calls.specs.declared.routed_call.RoutedCall.{RoutedCall}
+use Rattle.engine_calls.specs.Asks.{IsClear, group_of, groups_of}
+use Rattle.point_to_point_calls.specs.declared.call.RoutedCall.{RoutedCall}
 use Rattle.engine_calls.proofs.answers.answer_asked.Goals as goal
 
 pub answer-requires-clause-clear : goal.answer-requires-clause-clear
@@ -10,8 +10,8 @@ answer-requires-clause-clear c =
     let core = c.args.core.now.state in
     let s = c.args.sessions.now in
     let a = c.args.asked in
-    subst (λ (b : RoutedCall). IsClear core s b.call) (sym c.in-Ok.ensures.ok)
-    (clear_same core s (group_at (groups_of c.args.communicators.now) a.comm a.named) a.call c.requires.can.1)
+    subst (λ (b : RoutedCall). IsClear core s b) (sym c.in-Ok.ensures.ok)
+    (clear_same core s (group_of (groups_of c.args.communicators.now) a) a c.requires.can.1)
 
 pub returns-in-Ok-clause-exact : goal.returns-in-Ok-clause-exact
 returns-in-Ok-clause-exact c =
@@ -23,5 +23,5 @@ returns-in-Ok-clause-exact c =
 pub returns-in-Err-clause-exact : goal.returns-in-Err-clause-exact
 returns-in-Err-clause-exact c =
     group_told c.args.core.now.state (groups_of c.args.communicators.now) c.args.sessions.now c.args.asked
-    c.share_members.new.asked c.into_call.result
-    c.into_call.ensures c.in-Err.ensures.unchanged c.in-Err.ensures.need
+    c.share_members.new.asked c.call_of.result
+    c.call_of.ensures c.in-Err.ensures.unchanged c.in-Err.ensures.need

@@ -16,5 +16,5 @@ returns-in-Some c = λ rest. (
   message_refused c.args.core.now.state (groups_of c.args.communicators.now) rest c.args.sessions.now c.args.message
       c.args.into c.in-Some.refused
       (sym c.is_busy.ensures ∙ c.if-is_busy.false) (sym c.fault_of_requests.ensures ∙ c.in-Some.is),
-  c.into_call-in-Some.ensures,
+  c.call_of-in-Some.ensures,
 )
