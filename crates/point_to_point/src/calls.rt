@@ -26,9 +26,9 @@ use communicator_members::status_in;
 use datatypes::Buffer;
 use match_queues::{Body, Message};
 use point_to_point_calls::{
-    CoreReply, Destination, PreparedCall, RoutedCall, RoutedProbe, RoutedReceive, RoutedSend,
-    announced_to, destination_of, into_elements, is_own, null_status, own_message, posted_by,
-    progress_on_post, status_of,
+    CoreReply, Destination, PreparedCall, Receive, RoutedCall, RoutedProbe, RoutedReceive,
+    RoutedSend, announced_to, destination_of, into_elements, is_own, null_status, own_message,
+    posted_by, progress_on_post, status_of,
 };
 use rendezvous::Collection;
 use requests::{
@@ -144,7 +144,9 @@ impl Core {
         ensures exact { IsReceivingNothing self.old.state routed result self.new.state }
         ensures placed { self.new.state.place ≡ self.old.state.place }
     {
-        let outcome = Outcome::Received(null_status(), routed.receive.into.buffer);
+        let RoutedReceive { receive, .. } = routed;
+        let Receive { into, .. } = receive;
+        let outcome = Outcome::Received(null_status(), into.buffer);
         self.requests.start(RequestProgress::Finished(outcome))
     }
 
@@ -175,8 +177,9 @@ impl Core {
         self.collect(collection);
         let found = self.queues.post(posted);
         let own = own_send_of(found.as_ref());
-        let group = routed.group;
-        let into = ReceiveRegion::new(routed.receive.into);
+        let RoutedReceive { group, receive, .. } = routed;
+        let Receive { into, .. } = receive;
+        let into = ReceiveRegion::new(into);
         let progress = progress_on_post(Posted { into, group }, found);
         let request = self.requests.start(progress);
         self.finish_own(own);
