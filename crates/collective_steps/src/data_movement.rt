@@ -4,7 +4,6 @@ ghost use Rattle.std.specs.Prelude.{IsOkUnless, ◌≡◌, ◌<◌, ◌≤◌, �
 ghost use Rattle.std.specs.Prelude.{None, if◌then◌else◌};
 ghost use Rattle.std.specs.Option.{option_copied};
 ghost use Rattle.collective_messages.specs.Verdicts.{is_at};
-ghost use Rattle.collective_progress.specs.Progress.{IsProgress};
 ghost use Rattle.collective_messages.specs.declared.message.MessageContent.TheVariants as given;
 ghost use Rattle.collective_steps.specs.Steps.{bcast_step, block_of, blocks_to, gather_blocks, handed_in, leaving};
 ghost use Rattle.collective_steps.specs.Steps.{leaving_on, leaving_with, message_to, reduce_blocks, scatter_step};
@@ -14,9 +13,9 @@ ghost use Rattle.collective_steps.specs.declared.step.StepOutcome.TheVariants.{L
 
 use crate::contents::{block_content, member, message_to, others};
 use crate::preparation::silent_step;
+use crate::seat::Seat;
 use crate::step::{Step, StepOutcome};
-use collective_messages::{CollectiveMessage, CollectiveRefusal, Inside, Note, is_at, is_same};
-use collective_progress::Progress;
+use collective_messages::{CollectiveMessage, CollectiveRefusal, Inside, is_at, is_same};
 use datatypes::Buffer;
 use groups::Group;
 use payload::{Direction, Rooted};
@@ -89,20 +88,32 @@ pub(crate) fn bcast_step(
 /// The blocks of all members one after the other, where each is known.
 fn gather_blocks(
     alloc: Global,
-    own: Endpoint,
-    inside: &Inside,
+    seat: &Seat,
     ranks: &[u16],
-    notes: &[Note],
-    progress: &Progress,
     block: &Buffer,
 ) -> Result<Option<Buffer>, AllocError>
-    requires { IsProgress inside.now notes.now progress.now }
-    ensures { IfOk result (λ all. all ≡ gather_blocks own inside.now notes.now ranks.now block.now) }
+    ensures { IfOk result
+        (λ all. all ≡ gather_blocks seat.now.own seat.now.inside.now seat.now.notes.now ranks.now block.now) }
 {
-    if !collective_progress::are_known(own, inside, block, notes, progress, ranks) {
+    if !collective_progress::are_known(
+        seat.own,
+        seat.inside,
+        block,
+        seat.notes,
+        seat.progress,
+        ranks,
+    ) {
         return Ok(None);
     }
-    match collective_progress::concatenation_of(alloc, own, inside, block, notes, progress, ranks) {
+    match collective_progress::concatenation_of(
+        alloc,
+        seat.own,
+        seat.inside,
+        block,
+        seat.notes,
+        seat.progress,
+        ranks,
+    ) {
         Ok(all) => Ok(Some(all)),
         Err(refused) => Err(refused),
     }
@@ -111,55 +122,58 @@ fn gather_blocks(
 /// The fold of the blocks of all members in rank order, where each is known and the operation is defined on the type.
 pub(crate) fn reduce_blocks(
     alloc: Global,
-    own: Endpoint,
-    inside: &Inside,
+    seat: &Seat,
     ranks: &[u16],
-    notes: &[Note],
-    progress: &Progress,
     operation: Operation,
     block: &Buffer,
 ) -> Result<Option<Buffer>, AllocError>
-    requires { IsProgress inside.now notes.now progress.now }
-    ensures { IfOk result (λ all. all ≡ reduce_blocks own inside.now notes.now ranks.now operation block.now) }
+    ensures { IfOk result
+        (λ all. all ≡ reduce_blocks seat.now.own seat.now.inside.now seat.now.notes.now ranks.now operation block.now) }
 {
     if ranks.is_empty() {
         return Ok(None);
     }
-    if !collective_progress::are_known(own, inside, block, notes, progress, ranks) {
+    if !collective_progress::are_known(
+        seat.own,
+        seat.inside,
+        block,
+        seat.notes,
+        seat.progress,
+        ranks,
+    ) {
         return Ok(None);
     }
-    collective_progress::reduction_of(alloc, operation, own, inside, block, notes, progress, ranks)
+    collective_progress::reduction_of(
+        alloc,
+        operation,
+        seat.own,
+        seat.inside,
+        block,
+        seat.notes,
+        seat.progress,
+        ranks,
+    )
 }
 
 /// A gather: its root leaves with all blocks (MPI 3.1, 5.5), another member with none.
 pub(crate) fn gather_step(
     alloc: Global,
-    own: Endpoint,
-    inside: &Inside,
+    seat: &Seat,
     ranks: &[u16],
-    notes: &[Note],
-    progress: &Progress,
     root: u32,
     block: &Buffer,
 ) -> Result<Step, CollectiveRefusal>
-    requires { IsProgress inside.now notes.now progress.now }
     ensures ok { IfOk result (λ step. step ≡
-        (if is_at own inside.now.incarnation ranks.now root then
-        leaving_with (gather_blocks own inside.now notes.now inside.now.role.feeders block.now) else leaving None)) }
+        (if is_at seat.now.own seat.now.inside.now.incarnation ranks.now root then
+        leaving_with
+        (gather_blocks seat.now.own seat.now.inside.now seat.now.notes.now seat.now.inside.now.role.feeders
+        block.now) else leaving None)) }
     ensures err { IsOkUnless result CollectiveRefusal.OutOfMemory }
 {
-    if !is_at(own, inside.incarnation, ranks, root) {
+    if !is_at(seat.own, seat.inside.incarnation, ranks, root) {
         return Ok(silent_step(alloc, StepOutcome::Leaves(None)));
     }
-    match gather_blocks(
-        alloc,
-        own,
-        inside,
-        inside.role.feeders(),
-        notes,
-        progress,
-        block,
-    ) {
+    match gather_blocks(alloc, seat, seat.inside.role.feeders(), block) {
         Ok(made) => Ok(leaving_with(alloc, made)),
         Err(_) => Err(CollectiveRefusal::OutOfMemory),
     }
@@ -168,39 +182,29 @@ pub(crate) fn gather_step(
 /// A reduction to a root: that leaves with the fold (MPI 3.1, 5.9.1), another member with nothing.
 pub(crate) fn reduce_step(
     alloc: Global,
-    own: Endpoint,
-    inside: &Inside,
+    seat: &Seat,
     ranks: &[u16],
-    notes: &[Note],
-    progress: &Progress,
     operation: Operation,
     root: u32,
     block: &Buffer,
 ) -> Result<Step, CollectiveRefusal>
-    requires { IsProgress inside.now notes.now progress.now }
     ensures ok { IfOk result (λ step. step ≡
-        (if is_at own inside.now.incarnation ranks.now root then
-        leaving_with (reduce_blocks own inside.now notes.now inside.now.role.feeders operation block.now) else
-        leaving_on own inside.now
-        (reduce_blocks own inside.now notes.now inside.now.role.feeders operation block.now))) }
+        (if is_at seat.now.own seat.now.inside.now.incarnation ranks.now root then
+        leaving_with
+        (reduce_blocks seat.now.own seat.now.inside.now seat.now.notes.now seat.now.inside.now.role.feeders
+        operation block.now) else
+        leaving_on seat.now.own seat.now.inside.now
+        (reduce_blocks seat.now.own seat.now.inside.now seat.now.notes.now seat.now.inside.now.role.feeders operation
+        block.now))) }
     ensures err { IsOkUnless result CollectiveRefusal.OutOfMemory }
 {
-    let Ok(made) = reduce_blocks(
-        alloc,
-        own,
-        inside,
-        inside.role.feeders(),
-        notes,
-        progress,
-        operation,
-        block,
-    ) else {
+    let Ok(made) = reduce_blocks(alloc, seat, seat.inside.role.feeders(), operation, block) else {
         return Err(CollectiveRefusal::OutOfMemory);
     };
-    if is_at(own, inside.incarnation, ranks, root) {
+    if is_at(seat.own, seat.inside.incarnation, ranks, root) {
         return Ok(leaving_with(alloc, made));
     }
-    leaving_on(alloc, own, inside, made)
+    leaving_on(alloc, seat.own, seat.inside, made)
 }
 
 /// A rank leaves a reduction with nothing; member 0 tells the root what was made.
@@ -246,31 +250,20 @@ fn telling_all(
 /// A reduction to all, at member 0, which tells those right below it (MPI 3.1, 5.9.6).
 pub(crate) fn allreduce_step(
     alloc: Global,
-    own: Endpoint,
-    inside: &Inside,
-    notes: &[Note],
-    progress: &Progress,
+    seat: &Seat,
     operation: Operation,
     block: &Buffer,
 ) -> Result<Step, CollectiveRefusal>
-    requires { IsProgress inside.now notes.now progress.now }
     ensures ok { IfOk result
         (λ step. step ≡
-        telling_all own inside.now inside.now.role.onward
-        (reduce_blocks own inside.now notes.now inside.now.role.feeders operation block.now)) }
+        telling_all seat.now.own seat.now.inside.now seat.now.inside.now.role.onward
+        (reduce_blocks seat.now.own seat.now.inside.now seat.now.notes.now seat.now.inside.now.role.feeders operation
+        block.now)) }
     ensures err { IsOkUnless result CollectiveRefusal.OutOfMemory }
 {
-    match reduce_blocks(
-        alloc,
-        own,
-        inside,
-        inside.role.feeders(),
-        notes,
-        progress,
-        operation,
-        block,
-    ) {
-        Ok(made) => telling_all(alloc, own, inside, inside.role.onward(), made),
+    let onward = seat.inside.role.onward();
+    match reduce_blocks(alloc, seat, seat.inside.role.feeders(), operation, block) {
+        Ok(made) => telling_all(alloc, seat.own, seat.inside, onward, made),
         Err(_) => Err(CollectiveRefusal::OutOfMemory),
     }
 }

@@ -2,7 +2,6 @@
 
 ghost use Rattle.std.specs.Prelude.{◌≡◌, [], ◌++◌, IfErr, IfOk, IsOkUnless, Some, slice_get, if◌then◌else◌};
 ghost use Rattle.std.specs.Option.{option_to_list};
-ghost use Rattle.collective_progress.specs.Progress.{IsKept, IsProgress};
 ghost use Rattle.collective_steps.specs.Steps.{GetsNumbered, HasHeard, IsCarriedOut, IsDecided, IsHeard, IsLacking};
 ghost use Rattle.collective_steps.specs.Steps.{IsSplit, LacksFor, Prepared, barrier_step, copy_step};
 ghost use Rattle.collective_steps.specs.Steps.{difference_messages, made_step, mine, outcome_of, to_others, passed_on};
@@ -17,12 +16,13 @@ use crate::data_movement::{
     allreduce_step, bcast_step, elements_to_others, gather_step, reduce_step, scatter_with,
 };
 use crate::entry_word::word;
+use crate::seat::Seat;
 use crate::split::{made_by, plan_of};
 use crate::step::{Step, StepOutcome};
 use collective_messages::{
     CollectiveMessage, CollectiveRefusal, Entry, Inside, Note, NoteContent, Verdict, is_at,
 };
-use collective_progress::{Progress, is_like};
+use collective_progress::is_like;
 use context_agreement::{Communicator, Context, Contexts};
 use datatypes::Buffer;
 use groups::Group;
@@ -152,22 +152,20 @@ fn made_step(
 /// What member 0 does once all have entered a split.
 fn split_step(
     alloc: Global,
-    own: Endpoint,
-    inside: &Inside,
+    seat: &Seat,
     contexts: &Contexts,
     group: &Group,
-    notes: &[Note],
-    progress: &Progress,
 ) -> Result<Step, CollectiveRefusal>
-    requires { IsProgress inside.now notes.now progress.now }
-    ensures ok { IfOk result (IsSplit own inside.now contexts.now.state group.now notes.now) }
-    ensures err { IfErr result (LacksFor contexts.now.state (IsSplit own inside.now contexts.now.state group.now notes.now)) }
+    ensures ok { IfOk result (IsSplit seat.now.own seat.now.inside.now contexts.now.state group.now seat.now.notes.now) }
+    ensures err { IfErr result
+        (LacksFor contexts.now.state
+        (IsSplit seat.now.own seat.now.inside.now contexts.now.state group.now seat.now.notes.now)) }
 {
-    let Ok(plan) = plan_of(alloc, own, inside, group, notes, progress) else {
+    let Ok(plan) = plan_of(alloc, seat, group) else {
         return Err(CollectiveRefusal::OutOfMemory);
     };
     match made_by(alloc, contexts, group, &plan) {
-        Ok(made) => made_step(alloc, own, inside, group.ranks(), &made),
+        Ok(made) => made_step(alloc, seat.own, seat.inside, group.ranks(), &made),
         Err(refused) => Err(refused),
     }
 }
@@ -346,27 +344,19 @@ fn warnings(
 }
 
 /// A rank leaves with 12, and tells of it.
-fn mismatch_step(
-    alloc: Global,
-    own: Endpoint,
-    inside: &Inside,
-    ranks: &[u16],
-    notes: &[Note],
-    progress: &Progress,
-) -> Result<Step, CollectiveRefusal>
-    requires { IsProgress inside.now notes.now progress.now }
+fn mismatch_step(alloc: Global, seat: &Seat, ranks: &[u16]) -> Result<Step, CollectiveRefusal>
     ensures ok { IfOk result
         (λ step. step ≡
         record {
           outcome = outcomes.Breaks;
           drawn = 0;
           messages =
-              difference_messages own inside.now ranks.now notes.now;
+              difference_messages seat.now.own seat.now.inside.now ranks.now seat.now.notes.now;
         }) }
     ensures err { IsOkUnless result CollectiveRefusal.OutOfMemory }
 {
-    let found = progress.has_found_difference(inside, notes);
-    match warnings(alloc, own, inside, ranks, found) {
+    let found = seat.progress.has_found_difference(seat.inside, seat.notes);
+    match warnings(alloc, seat.own, seat.inside, ranks, found) {
         Ok(messages) => Ok(Step {
             outcome: StepOutcome::Breaks,
             drawn: 0,
@@ -379,56 +369,37 @@ fn mismatch_step(
 /// What the one in the middle does once all have entered.
 fn decision_step(
     alloc: Global,
-    own: Endpoint,
-    inside: &Inside,
+    seat: &Seat,
     contexts: &Contexts,
     group: &Group,
-    notes: &[Note],
-    progress: &Progress,
 ) -> Result<Step, CollectiveRefusal>
-    requires { IsProgress inside.now notes.now progress.now }
-    ensures ok { IfOk result (IsDecided own inside.now contexts.now.state group.now notes.now inside.now.entry) }
+    ensures ok { IfOk result
+        (IsDecided seat.now.own seat.now.inside.now contexts.now.state group.now seat.now.notes.now
+        seat.now.inside.now.entry) }
     ensures err { IfErr result
         (LacksFor contexts.now.state
-        (IsDecided own inside.now contexts.now.state group.now notes.now inside.now.entry)) }
+        (IsDecided seat.now.own seat.now.inside.now contexts.now.state group.now seat.now.notes.now
+        seat.now.inside.now.entry)) }
 {
     let ranks = group.ranks();
-    match &inside.entry {
-        Entry::Barrier => barrier_step(alloc, own, inside),
-        Entry::Bcast(_, block) => bcast_step(alloc, own, inside, block.buffer()),
-        Entry::Gather(root, block) => {
-            gather_step(
-                alloc,
-                own,
-                inside,
-                ranks,
-                notes,
-                progress,
-                *root,
-                block.buffer(),
-            )
-        }
+    match &seat.inside.entry {
+        Entry::Barrier => barrier_step(alloc, seat.own, seat.inside),
+        Entry::Bcast(_, block) => bcast_step(alloc, seat.own, seat.inside, block.buffer()),
+        Entry::Gather(root, block) => gather_step(alloc, seat, ranks, *root, block.buffer()),
         Entry::Scatter(rooted, all) => {
-            scatter_with(alloc, own, inside, group, *rooted, all.as_ref())
+            scatter_with(alloc, seat.own, seat.inside, group, *rooted, all.as_ref())
         }
-        Entry::Reduce(op, root, block) => {
-            reduce_step(
-                alloc,
-                own,
-                inside,
-                ranks,
-                notes,
-                progress,
-                *op,
-                *root,
-                block.buffer(),
-            )
-        }
-        Entry::Allreduce(op, block) => {
-            allreduce_step(alloc, own, inside, notes, progress, *op, block.buffer())
-        }
-        Entry::Dup => copy_step(alloc, own, inside, contexts, group),
-        Entry::Split(_) => split_step(alloc, own, inside, contexts, group, notes, progress),
+        Entry::Reduce(op, root, block) => reduce_step(
+            alloc,
+            seat,
+            ranks,
+            *op,
+            *root,
+            block.buffer(),
+        ),
+        Entry::Allreduce(op, block) => allreduce_step(alloc, seat, *op, block.buffer()),
+        Entry::Dup => copy_step(alloc, seat.own, seat.inside, contexts, group),
+        Entry::Split(_) => split_step(alloc, seat, contexts, group),
     }
 }
 
@@ -456,20 +427,18 @@ fn with_first(step: Step, first: Option<CollectiveMessage>) -> Result<Step, Coll
 }
 
 /// A rank waits to be told, and tells its word.
-fn waiting_step(
-    alloc: Global,
-    own: Endpoint,
-    inside: &Inside,
-    notes: &[Note],
-    progress: &Progress,
-) -> Result<Step, CollectiveRefusal>
-    requires { IsProgress inside.now notes.now progress.now }
+fn waiting_step(alloc: Global, seat: &Seat) -> Result<Step, CollectiveRefusal>
     ensures ok { IfOk result
         (λ step. step ≡
-        record { outcome = outcomes.Waits; drawn = 0; messages = word_messages own inside.now notes.now }) }
+        record {
+          outcome = outcomes.Waits;
+          drawn = 0;
+          messages =
+              word_messages seat.now.own seat.now.inside.now seat.now.notes.now;
+        }) }
     ensures err { IsOkUnless result CollectiveRefusal.OutOfMemory }
 {
-    let Ok(first) = word(alloc, own, inside, notes, progress) else {
+    let Ok(first) = word(alloc, seat) else {
         return Err(CollectiveRefusal::OutOfMemory);
     };
     match with_first(silent_step(alloc, StepOutcome::Waits), first) {
@@ -481,23 +450,22 @@ fn waiting_step(
 /// What a rank does that decides: its word, and then what it does once all have entered for whom it waits.
 fn deciding_step(
     alloc: Global,
-    own: Endpoint,
-    inside: &Inside,
+    seat: &Seat,
     contexts: &Contexts,
     group: &Group,
-    notes: &[Note],
-    progress: &Progress,
 ) -> Result<Step, CollectiveRefusal>
-    requires { IsProgress inside.now notes.now progress.now }
-    ensures ok { IfOk result (IsCarriedOut own inside.now contexts.now.state group.now notes.now verdicts.Decides) }
+    ensures ok { IfOk result
+        (IsCarriedOut seat.now.own seat.now.inside.now contexts.now.state group.now seat.now.notes.now
+        verdicts.Decides) }
     ensures err { IfErr result
         (LacksFor contexts.now.state
-        (IsCarriedOut own inside.now contexts.now.state group.now notes.now verdicts.Decides)) }
+        (IsCarriedOut seat.now.own seat.now.inside.now contexts.now.state group.now seat.now.notes.now
+        verdicts.Decides)) }
 {
-    let Ok(first) = word(alloc, own, inside, notes, progress) else {
+    let Ok(first) = word(alloc, seat) else {
         return Err(CollectiveRefusal::OutOfMemory);
     };
-    match decision_step(alloc, own, inside, contexts, group, notes, progress) {
+    match decision_step(alloc, seat, contexts, group) {
         Ok(step) => with_first(step, first),
         Err(refused) => Err(refused),
     }
@@ -506,22 +474,22 @@ fn deciding_step(
 /// What a rank does that was told with what it leaves: its word, unless it was told before, and what it tells on.
 fn result_step(
     alloc: Global,
-    own: Endpoint,
-    inside: &Inside,
+    seat: &Seat,
     group: &Group,
-    notes: &[Note],
-    progress: &Progress,
     place: usize,
 ) -> Result<Step, CollectiveRefusal>
-    requires { IsProgress inside.now notes.now progress.now }
-    ensures ok { IfOk result (λ step. (s : Prepared) × IsHeard own inside.now group.now (slice_get notes.now place) s ×
-        (step ≡ record s { messages = word_messages own inside.now notes.now ++ s.messages })) }
+    ensures ok { IfOk result (λ step. (s : Prepared) ×
+        IsHeard seat.now.own seat.now.inside.now group.now (slice_get seat.now.notes.now place) s ×
+        (step ≡ record s {
+          messages = word_messages seat.now.own seat.now.inside.now seat.now.notes.now ++
+              s.messages;
+        })) }
     ensures err { IsOkUnless result CollectiveRefusal.OutOfMemory }
 {
-    let Ok(first) = word(alloc, own, inside, notes, progress) else {
+    let Ok(first) = word(alloc, seat) else {
         return Err(CollectiveRefusal::OutOfMemory);
     };
-    match leaving_step_at(alloc, own, inside, group, notes, place) {
+    match leaving_step_at(alloc, seat.own, seat.inside, group, seat.notes, place) {
         Ok(step) => with_first(step, first),
         Err(refused) => Err(refused),
     }
@@ -530,25 +498,23 @@ fn result_step(
 /// What the rank at `own` does of itself in a collective of a communicator with this group.
 pub(crate) fn next_step(
     alloc: Global,
-    own: Endpoint,
-    inside: &Inside,
+    seat: &Seat,
     contexts: &Contexts,
     group: &Group,
-    notes: &[Note],
-    progress: &Progress,
 ) -> Result<Step, CollectiveRefusal>
-    requires { IsKept own inside.now notes.now progress.now }
     ensures ok { IfOk result
-        (IsCarriedOut own inside.now contexts.now.state group.now notes.now (verdict own inside.now notes.now)) }
+        (IsCarriedOut seat.now.own seat.now.inside.now contexts.now.state group.now seat.now.notes.now
+        (verdict seat.now.own seat.now.inside.now seat.now.notes.now)) }
     ensures err { IfErr result
         (LacksFor contexts.now.state
-        (IsCarriedOut own inside.now contexts.now.state group.now notes.now (verdict own inside.now notes.now))) }
+        (IsCarriedOut seat.now.own seat.now.inside.now contexts.now.state group.now seat.now.notes.now
+        (verdict seat.now.own seat.now.inside.now seat.now.notes.now))) }
 {
-    match progress.judge(own, inside, notes) {
+    match seat.progress.judge(seat.own, seat.inside, seat.notes) {
         Verdict::Stays => Ok(silent_step(alloc, StepOutcome::Stays)),
-        Verdict::Breaks => mismatch_step(alloc, own, inside, group.ranks(), notes, progress),
-        Verdict::Waits => waiting_step(alloc, own, inside, notes, progress),
-        Verdict::Decides => deciding_step(alloc, own, inside, contexts, group, notes, progress),
-        Verdict::Hears(place) => result_step(alloc, own, inside, group, notes, progress, place),
+        Verdict::Breaks => mismatch_step(alloc, seat, group.ranks()),
+        Verdict::Waits => waiting_step(alloc, seat),
+        Verdict::Decides => deciding_step(alloc, seat, contexts, group),
+        Verdict::Hears(place) => result_step(alloc, seat, group, place),
     }
 }

@@ -1,35 +1,28 @@
 //! The communicators that member 0 makes in a split, made ready: it takes memory, and changes nothing.
 
 ghost use Rattle.std.specs.Prelude.{◌≡◌, ◌+◌, length, IfOk, IfErr, IsOkUnless, All};
-ghost use Rattle.collective_progress.specs.Progress.{IsProgress};
 ghost use Rattle.collective_steps.specs.Steps.{HoldsPart, IsLacking, group_of_part, made_by, rows_from};
 ghost use Rattle.context_agreement.specs.Communicators.{coming_context};
 ghost use Rattle.context_agreement.specs.Splits.{IsSplitPlan};
 
-use collective_messages::{CollectiveRefusal, Inside, Note};
-use collective_progress::Progress;
+use crate::seat::Seat;
+use collective_messages::CollectiveRefusal;
 use context_agreement::{Communicator, Contexts, SplitPart, SplitRow, split_plan};
 use groups::Group;
 use std::alloc::{AllocError, Global};
-use vocabulary::Endpoint;
 
 /// What the members ask for in a split, by their ranks in the communicator.
 #[tactic(auto, using(crate::proofs::Rows::rows_more))]
-fn rows_of(
-    alloc: Global,
-    own: Endpoint,
-    inside: &Inside,
-    group: &Group,
-    notes: &[Note],
-    progress: &Progress,
-) -> Result<Vec<SplitRow>, AllocError>
-    requires { IsProgress inside.now notes.now progress.now }
-    ensures { IfOk result (λ rows. rows.items ≡ rows_from own inside.now notes.now 0 group.now) }
+fn rows_of(alloc: Global, seat: &Seat, group: &Group) -> Result<Vec<SplitRow>, AllocError>
+    ensures { IfOk result
+        (λ rows. rows.items ≡ rows_from seat.now.own seat.now.inside.now seat.now.notes.now 0 group.now) }
 {
     let ranks = group.ranks();
     let mut rows = Vec::new(alloc);
     for place in 0..group.len() {
-        let asked = progress.choice_known(own, inside, notes, ranks[place]);
+        let asked = seat
+            .progress
+            .choice_known(seat.own, seat.inside, seat.notes, ranks[place]);
         rows.push(SplitRow {
             colour: asked.colour,
             key: asked.key,
@@ -42,18 +35,15 @@ fn rows_of(
 /// The plan of a split, by what the members ask for.
 pub(crate) fn plan_of(
     alloc: Global,
-    own: Endpoint,
-    inside: &Inside,
+    seat: &Seat,
     group: &Group,
-    notes: &[Note],
-    progress: &Progress,
 ) -> Result<Vec<SplitPart>, CollectiveRefusal>
-    requires { IsProgress inside.now notes.now progress.now }
-    ensures plan { IfOk result (λ plan. IsSplitPlan (rows_from own inside.now notes.now 0 group.now) plan.items) }
+    ensures plan { IfOk result
+        (λ plan. IsSplitPlan (rows_from seat.now.own seat.now.inside.now seat.now.notes.now 0 group.now) plan.items) }
     ensures parts { IfOk result (λ plan. All (HoldsPart group.now) plan.items) }
     ensures err { IsOkUnless result CollectiveRefusal.OutOfMemory }
 {
-    let Ok(rows) = rows_of(alloc, own, inside, group, notes, progress) else {
+    let Ok(rows) = rows_of(alloc, seat, group) else {
         return Err(CollectiveRefusal::OutOfMemory);
     };
     match split_plan(alloc, &rows) {

@@ -4,5 +4,6 @@ use Rattle.collective_steps.proofs.preparation.deciding_step.Goals as goal
 
 pub returns-in-Err-clause-err : goal.returns-in-Err-clause-err
 returns-in-Err-clause-err c =
-    lacks_word c.args.own c.args.inside.now c.args.contexts.now.state c.args.group.now c.args.notes.now c.in-Err.refused
+    lacks_word c.args.seat.now.own c.args.seat.now.inside.now c.args.contexts.now.state c.args.group.now
+    c.args.seat.now.notes.now c.in-Err.refused
     c.in-Err.ensures.err

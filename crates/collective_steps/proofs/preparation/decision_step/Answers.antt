@@ -7,11 +7,11 @@ use Rattle.collective_steps.proofs.preparation.decision_step.Goals as goal
 
 pub returns-in-Dup-clause-err : goal.returns-in-Dup-clause-err
 returns-in-Dup-clause-err c =
-    let own = c.args.own in
-    let i = c.args.inside.now in
+    let own = c.args.seat.now.own in
+    let i = c.args.seat.now.inside.now in
     let h = c.args.contexts.now.state in
     let ranks = c.args.group.now in
-    subst (λ (e : Entry). IfErr c.copy_step.result (LacksFor h (IsDecided own i h ranks c.args.notes.now e)))
+    subst (λ (e : Entry). IfErr c.copy_step.result (LacksFor h (IsDecided own i h ranks c.args.seat.now.notes.now e)))
     (sym c.in-Dup.is)
     (err_more c.copy_step.result (IsLacking h 1) (LacksFor h (λ step. step ≡ copy_step own i h ranks))
     (lacks_copy own i h ranks) c.copy_step.ensures.err)

@@ -7,11 +7,11 @@ use Rattle.collective_steps.proofs.preparation.split_step.Goals as goal
 
 pub returns-in-Ok-made_by-clause-ok : goal.returns-in-Ok-made_by-clause-ok
 returns-in-Ok-made_by-clause-ok c =
-    let own = c.args.own in
-    let i = c.args.inside.now in
+    let own = c.args.seat.now.own in
+    let i = c.args.seat.now.inside.now in
     let h = c.args.contexts.now.state in
     let group = c.args.group.now in
-    let notes = c.args.notes.now in
+    let notes = c.args.seat.now.notes.now in
     let plan = c.in-Ok.plan.items in
     let made = c.in-Ok-made_by.made.items in
     let are : made ≡ made_by h group 0 plan =
@@ -25,7 +25,8 @@ returns-in-Ok-made_by-clause-ok c =
 pub returns-clause-err : goal.returns-clause-err
 returns-clause-err c =
     let h = c.args.contexts.now.state in
-    lacks_split c.args.own c.args.inside.now h c.args.group.now c.args.notes.now c.in-Ok.plan.items c.in-Ok.ensures.plan
+    lacks_split c.args.seat.now.own c.args.seat.now.inside.now h c.args.group.now c.args.seat.now.notes.now
+    c.in-Ok.plan.items c.in-Ok.ensures.plan
     c.in-Err.refused
     (subst (λ (parts : List SplitPart). IsLacking h (length parts) c.in-Err.refused) c.deref.ensures.value
     c.in-Err.ensures.err)
