@@ -15,9 +15,6 @@ start-requires-clause-serial c = search rules
 pub drop-into-requires : goal.drop-into-requires
 drop-into-requires c = search rules
 
-pub drop-receive-requires : goal.drop-receive-requires
-drop-receive-requires c = search rules
-
 pub invariant_of-self : goal.invariant_of-self
 invariant_of-self c = kept_on_start _ _ _ _ c.self.invariant _ _ _ tt c.start.ensures.entry
 
