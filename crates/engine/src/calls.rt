@@ -1,6 +1,6 @@
 //! How an engine answers calls.
 
-ghost use Rattle.std.specs.Prelude.{◌≡◌, ◌≤◌, ◌+◌, ◌*◌, length, None};
+ghost use Rattle.std.specs.Prelude.{◌≡◌, ◌≤◌, ◌+◌, ◌*◌, length};
 ghost use Rattle.engine_calls.specs.Asks.{AskGives, CanAskBy, IsOnRequests, call_of};
 ghost use Rattle.engine.specs.Answering.{IsOther};
 ghost use Rattle.engine_calls.specs.Calls.{CallGives, CoreGives, RefusedLeaves};
