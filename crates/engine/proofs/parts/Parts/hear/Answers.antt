@@ -1,5 +1,5 @@
 -- What is heard is what its notice says.
-use Rattle.std.proofs.Common.{None, Option, Some, sym, ap, ◌∙◌}
+use Rattle.std.proofs.Common.{Err, None, Ok, Option, Some, sym, ap, ◌∙◌}
 use Rattle.datagram.specs.Spelling.{clear_text, data_text, eager_text, request_text}
 use Rattle.sessions.specs.Heard.{heard_text}
 use Rattle.engine.proofs.Hearing.{as_heard, as_message}
@@ -35,3 +35,17 @@ pub returns-in-None-clause-exact : goal.returns-in-None-clause-exact
 returns-in-None-clause-exact c =
     as_heard None c.args.self.now c.take_news.new.self c.take_news.result (heard_text c.args.heard)
     c.in-None.ensures c.take_news.ensures.exact
+
+pub returns-in-Ok-clause-exact : goal.returns-in-Ok-clause-exact
+returns-in-Ok-clause-exact c =
+    as_heard (Some (OfAnswer (clear_text c.in-Some-Answer.answer))) c.args.self.now c.take_answer.new.self (Ok None)
+    (heard_text c.args.heard)
+    (sym (ap (λ (n : Notice). Some (notice_text n)) c.in-Some-Answer.field-0-is) ∙ c.in-Some-Answer.ensures)
+    c.in-Ok.ensures.exact
+
+pub returns-in-Err-clause-exact : goal.returns-in-Err-clause-exact
+returns-in-Err-clause-exact c =
+    as_heard (Some (OfAnswer (clear_text c.in-Some-Answer.answer))) c.args.self.now c.take_answer.new.self
+    (Err c.in-Err.refused) (heard_text c.args.heard)
+    (sym (ap (λ (n : Notice). Some (notice_text n)) c.in-Some-Answer.field-0-is) ∙ c.in-Some-Answer.ensures)
+    c.in-Err.ensures.exact
