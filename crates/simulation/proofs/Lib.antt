@@ -1,2 +1,10 @@
 pub mod PrintLaws
 pub mod OutcomeLaws
+pub mod RankLaws
+pub mod CallLaws
+pub mod TableLaws
+pub mod EventLaws
+pub mod CourseLaws
+pub mod RunLaws
+pub mod BreakLaws
+pub mod StopLaws

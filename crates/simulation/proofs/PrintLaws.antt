@@ -1,7 +1,7 @@
 -- Lines that are printed one after the other.
-use Rattle.std.proofs.Common.{◌≡◌, ℕ, zero, suc, ◌+◌, ◌-◌, ◌≤◌, List, [], ◌∷◌, ◌++◌, Option, Some, None, refl, sym, ap}
+use Rattle.std.proofs.Common.{◌≡◌, ℕ, zero, suc, ◌+◌, ◌-◌, ◌≤◌, List, [], ◌∷◌, ◌++◌, Option, Some, None, Result, Ok, Err, refl, sym, ap}
 use Rattle.std.proofs.Common.{subst, ◌∙◌, arith}
-use Rattle.std.specs.Prelude.{slice_get}
+use Rattle.std.specs.Prelude.{IfErr, slice_get}
 use Rattle.std.specs.List.{flat_map, range_with_len}
 use Rattle.std.proofs.lemmas.Grind.{flat_map-append}
 use Rattle.std.proofs.lemmas.List.{append-nil, append_assoc}
@@ -75,6 +75,27 @@ pub cuts_more : (e : SimulateError) (old mid new : Option (List ℕ)) (xs ys : L
 cuts_more (errors.Script line) old mid new xs ys a c = c
 cuts_more errors.OutOfMemory old mid new xs ys a c = begins_more old mid new xs ys a c
 cuts_more errors.Output old mid new xs ys a c = tt
+
+-- printing the first line was cut off
+pub cuts_line : (e : SimulateError) (old new : Option (List ℕ)) (line : List ℕ) (more : List (List ℕ)) →
+    CutsOff e old new (line ∷ []) → CutsOff e old new (line ∷ more)
+cuts_line e old new line more c = cuts_front e old new (line ∷ []) more c
+
+-- printing was cut off behind an answer and what went out
+pub cuts_entry : (e : SimulateError) (old mid between new : Option (List ℕ)) (line : List ℕ)
+    (emitted completed : List (List ℕ)) → Prints old mid (line ∷ []) → Prints mid between emitted →
+    CutsOff e between new completed → CutsOff e old new (line ∷ (emitted ++ completed))
+cuts_entry e old mid between new line emitted completed a b c =
+    cuts_more e old mid new (line ∷ []) (emitted ++ completed) a (cuts_more e mid between new emitted completed b c)
+
+-- what follows for each error follows for the result of a call
+pub err_more : {T E : Type 0} (r : Result T E) (P Q : E → Type 0) → ((e : E) → P e → Q e) → IfErr r P → IfErr r Q
+err_more (Ok x) P Q more h = tt
+err_more (Err e) P Q more h = more e h
+
+-- where a call answers this error, what is said of it is said of the result
+pub err_same : {T E : Type 0} (r : Result T E) (e : E) (P : E → Type 0) → r ≡ Err e → P e → IfErr r P
+err_same r e P is h = subst (λ (x : Result _ _). IfErr x P) (sym is) h
 
 -- ---- datagrams
 

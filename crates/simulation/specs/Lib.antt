@@ -1,3 +1,9 @@
 pub mod Printed
 pub mod Printing
 pub mod Lines
+pub mod RankAnswers
+pub mod Parts
+pub mod Courses
+pub mod Turns
+pub mod Beginnings
+pub mod Files

@@ -81,7 +81,7 @@ fn print_completed<W: Write>(
 }
 
 /// What an event answered, what it emitted, and the answer of a blocked call.
-#[tactic(auto, using(crate::proofs::PrintLaws::prints_more))]
+#[tactic(auto, using(crate::proofs::PrintLaws::prints_more, crate::proofs::PrintLaws::cuts_line, crate::proofs::PrintLaws::cuts_output))]
 fn print_entry<W: Write>(
     alloc: Global,
     world: &World,
@@ -90,6 +90,8 @@ fn print_entry<W: Write>(
     out: &mut W,
 ) -> Result<(), SimulateError>
     ensures ok { OnOk result (Prints (W.contents out.old) (W.contents out.new)
+        (entry_lines entry.now (emitted_lines world.now.datagrams stepped.first stepped.count))) }
+    ensures err { IfErr result (λ e. CutsOff e (W.contents out.old) (W.contents out.new)
         (entry_lines entry.now (emitted_lines world.now.datagrams stepped.first stepped.count))) }
 {
     print_answered(alloc, &entry.reply, out)?;
@@ -105,6 +107,8 @@ pub fn print_stepped<W: Write>(
     out: &mut W,
 ) -> Result<(), SimulateError>
     ensures ok { OnOk result (Prints (W.contents out.old) (W.contents out.new) (stepped_lines world.now stepped)) }
+    ensures err { IfErr result (λ e.
+        CutsOff e (W.contents out.old) (W.contents out.new) (stepped_lines world.now stepped)) }
 {
     match world.history().get(stepped.place) {
         Some(entry) => print_entry(alloc, world, entry, stepped, out),
