@@ -45,7 +45,7 @@ use Rattle.simulation.proofs.BreakLaws.{breaks_behind, breaks_first, breaks_in, 
 pub taken_breaks : (e : SimulateError) (rank : ℕ) (asks : PendingCall) (w v : WorldState) (s : RankNames)
     (added : Stepped) (old new : Option (List ℕ)) → StepGives w (events.Call rank asks.call) (Ok added) v →
     IsRunOfMachine v → CutsOff e old new
-        (taken_lines (is_silent asks.pending) (made_in v added asks.pending s).0.told (stepped_lines v added)) →
+    (taken_lines (is_silent asks.pending) (made_in v added asks.pending s).0.told (stepped_lines v added)) →
     BreaksOff e (λ part. CallMade rank asks (standing w s) part) old new
 taken_breaks e rank asks w v s added old new gives seen cut =
     let part : Part = step_part (events.Call rank asks.call) (Ok added) (call_lines asks.pending (Ok added) v s) in
@@ -299,9 +299,11 @@ pub line_faulty : (t s : SimulationState) (fault lack : Option LineFault) (numbe
     (to : Scene) (old new : Option (List ℕ)) → t ≡ s → lack ≡ fault →
     LineActed rank action t.scene old new (acted.Faulty fault) to →
     LineStops (errors.Script number) lack s.scene (record { number = number; statement = statements.Rank rank action })
-        old new
+    old new
 line_faulty t s fault lack number rank action to old new same is r =
     let there : LineActed rank action s.scene old new (acted.Faulty fault) to =
-    subst (λ (v : SimulationState). LineActed rank action v.scene old new (acted.Faulty fault) to) same r in
-    (refl, subst (λ (f : Option LineFault). IsFaultyLine f s.scene (statements.Rank rank action)) (sym is) there.0,
-        there.1)
+    subst (λ (v : SimulationState). LineActed rank action v.scene old new (acted.Faulty fault) to) same r in (
+      refl,
+      subst (λ (f : Option LineFault). IsFaultyLine f s.scene (statements.Rank rank action)) (sym is) there.0,
+      there.1,
+    )

@@ -19,10 +19,10 @@ returns-in_default-hear_completion-clause-err g c = λ size.
 pub returns-in-Ok-clause-ok : goal.returns-in-Ok-clause-ok
 returns-in-Ok-clause-ok g c =
     let named : get nat_cmp c.args.ranks.now c.in-Some.entry.now.endpoint.rank ≡ Some c.in-Some-get_mut.names.now =
-        search rules in
+    search rules in
     let writes : WritesThrough nat_cmp (nat_cmp c.in-Some.entry.now.endpoint.rank) c.args.ranks.now
-        c.call_following.new.names (c.get_mut.follows.lender c.call_following.new.names) =
-        search rules in
+    c.call_following.new.names (c.get_mut.follows.lender c.call_following.new.names) =
+    search rules in
     IfOk-weaker c.call_following.result _ _
     (λ done r size. completed_some size c.args.world.now c.call_following.new.world c.args.ranks.now
     (c.get_mut.follows.lender c.call_following.new.names) (entry_in c.args.world.now c.args.stepped)
