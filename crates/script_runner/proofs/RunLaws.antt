@@ -1,7 +1,7 @@
 -- What is so of a run of lines.
 use Rattle.std.proofs.Common.{◌≡◌, ◌≢◌, ℕ, zero, suc, ◌+◌, ◌-◌, ◌<◌, ◌==◌, nat_lt, Bool, true, false, List, [], ◌∷◌}
-use Rattle.std.proofs.Common.{length, drop, Option, Some, None, refl, sym, ◌∙◌, ap, arith}
-use Rattle.std.specs.Prelude.{if◌then◌else◌, slice_get}
+use Rattle.std.proofs.Common.{length, drop, Option, Some, None, Result, Ok, Err, refl, sym, ◌∙◌, ap, arith}
+use Rattle.std.specs.Prelude.{OnErr, if◌then◌else◌, slice_get}
 use Rattle.std.proofs.lemmas.Bool.{eq-eqb, eqb-true, false≢true, lt-ltb}
 use Rattle.script_files.specs.declared.script.RankLine.{RankLine}
 use Rattle.script_files.specs.Selections.{FirstOf}
@@ -10,6 +10,11 @@ use Rattle.event_loop.specs.declared.runner.RunnerStep.TheVariants as steps
 use Rattle.script_runner.specs.ScriptRanks.{Acts, RankState, acts}
 use Rattle.script_runner.specs.Running.{Does, along, does_by, does_or}
 use Rattle.script_runner.specs.Standing.{numbered, taken_last}
+
+-- what is so is so where there is an error
+pub on_err : {X E : Type 0} (r : Result X E) (p : Type 0) → p → OnErr r p
+on_err (Ok x) p is = tt
+on_err (Err e) p is = is
 
 -- the first line is done, and then as it says
 pub along_first : (lines : List RankLine) (names : RankState) (line : RankLine) (rest : List RankLine)

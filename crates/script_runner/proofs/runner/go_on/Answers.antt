@@ -1,5 +1,5 @@
-use Rattle.std.proofs.Common.{◌≡◌, ◌∙◌, [], ◌∷◌, sym, Some, None}
-use Rattle.script_runner.proofs.RunLaws.{along_first, along_none}
+use Rattle.std.proofs.Common.{◌≡◌, ◌≢◌, ◌∙◌, [], ◌∷◌, sym, Some, None}
+use Rattle.script_runner.proofs.RunLaws.{along_first, along_none, on_err}
 use Rattle.script_runner.proofs.runner.go_on.Goals as goal
 
 pub returns-in-Some-2-clause-does : goal.returns-in-Some-2-clause-does
@@ -8,9 +8,10 @@ returns-in-Some-2-clause-does c =
     (rw c.in-Some-2.is at c.in_ok-step.ensures)
 
 pub returns-in_err-step-clause-memory : goal.returns-in_err-step-clause-memory
-returns-in_err-step-clause-memory c none =
-    let clash : c.in-Some.line ∷ c.next.new.self ≡ [] = sym c.in-Some.ensures ∙ c.loop-line.invariant.1 none in
-    absurd cc
+returns-in_err-step-clause-memory c =
+    on_err c.from_residual.result (c.args.lines.now ≢ []) (λ none. absurd (
+    let clash : c.in-Some.line ∷ c.next.new.self ≡ [] = sym c.in-Some.ensures ∙ c.loop-line.invariant.1 none in cc
+    ))
 
 pub loop-line-preserved : goal.loop-line-preserved
 loop-line-preserved c = (
