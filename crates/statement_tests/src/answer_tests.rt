@@ -79,10 +79,14 @@ fn is_count(alloc: Global, copies: Option<u64>, text: &str) -> bool {
 }
 
 #[test]
-fn answers_are_written(rt: HostRuntime) {
-    assert_eq!(rt; answers_with_data(rt.alloc()), Some(6));
+fn counts_are_written(rt: HostRuntime) {
     assert!(rt; is_count(rt.alloc(), Some(0), "0"));
     assert!(rt; is_count(rt.alloc(), None, "undefined"));
+}
+
+#[test]
+fn answers_are_written(rt: HostRuntime) {
+    assert_eq!(rt; answers_with_data(rt.alloc()), Some(6));
     for (answer, text) in [
         (AnswerText::Started(12), "request 12"),
         (AnswerText::Blocked, "blocked"),
@@ -94,6 +98,17 @@ fn answers_are_written(rt: HostRuntime) {
         (AnswerText::IndexUndefined, "index undefined"),
         (AnswerText::All(&[OutcomeText::Sent]), "sent"),
         (AnswerText::All(&[]), "done"),
+        (AnswerText::Pending, "pending"),
+        (AnswerText::Done, "done"),
+        (AnswerText::Taken, "ok"),
+    ] {
+        assert!(rt; is_written(rt.alloc(), answer, text), "{text}");
+    }
+}
+
+#[test]
+fn answers_about_communicators_are_written(rt: HostRuntime) {
+    for (answer, text) in [
         (
             AnswerText::Communicator(CommunicatorText { place: None }),
             "comm null",
@@ -120,9 +135,6 @@ fn answers_are_written(rt: HostRuntime) {
         ),
         (AnswerText::Comparison(ComparisonText::Similar), "similar"),
         (AnswerText::Comparison(ComparisonText::Unequal), "unequal"),
-        (AnswerText::Pending, "pending"),
-        (AnswerText::Done, "done"),
-        (AnswerText::Taken, "ok"),
     ] {
         assert!(rt; is_written(rt.alloc(), answer, text), "{text}");
     }
