@@ -1,8 +1,9 @@
 //! Payloads of collectives that are too long for a frame: announced, asked for, and sent in pieces. What passes between
 //! engines takes them by `&mut` and answers plain values, so that no engine is dropped there.
 
-use crate::steps::{Told, block, copies, deliver, enter, rank_of_two, two_ranks};
+use crate::entering::{Told, block, enter};
 use engine::{Call, Engine, Entry, Region, Reply, Send};
+use engine_pairs::{copies, deliver, rank_of_two, two_ranks};
 use std::alloc::Global;
 use vocabulary::{Mode, Source};
 

@@ -1,10 +1,10 @@
-//! What the tests have in common. Helpers take engines by `&mut` and answer plain values, or nothing where a step
-//! failed; what owns memory is dropped in generic code, since each drop in place is followed anew.
+//! Entering collectives, and what a rank is told then. What owns memory is dropped in generic code, since each drop in
+//! place is followed anew.
 
 use datatypes::Buffer;
-use engine::{Block, Call, Ending, Engine, Entry, Place, Refusal, Reply};
+use engine::{Block, Call, Ending, Engine, Entry, Reply};
+use engine_pairs::copies;
 use std::alloc::Global;
-use vocabulary::{BasicType, Endpoint};
 
 /// What a rank is told of the collective that it enters.
 #[derive(Clone, Copy, Debug, PartialEq, Eq)]
@@ -21,35 +21,6 @@ pub(crate) enum Told {
     Refused(u8, Option<usize>),
     /// Anything else.
     Other,
-}
-
-/// A rank of two at an incarnation.
-pub(crate) fn rank_of_two(alloc: Global, rank: u16, incarnation: u16) -> Result<Engine, Refusal> {
-    let place = Place {
-        endpoint: Endpoint { rank, incarnation },
-        size: 2,
-        job: 1,
-    };
-    Engine::new(alloc, place)
-}
-
-fn add_rank(alloc: Global, ranks: &mut Vec<Engine>, rank: u16, incarnation: u16) -> Option<()> {
-    ranks.push(rank_of_two(alloc, rank, incarnation).ok()?).ok()
-}
-
-/// Ranks 0 and 1 at these incarnations.
-pub(crate) fn two_ranks(alloc: Global, first: u16, second: u16) -> Option<Vec<Engine>> {
-    let mut ranks = Vec::new(alloc);
-    add_rank(alloc, &mut ranks, 0, first)?;
-    add_rank(alloc, &mut ranks, 1, second)?;
-    Some(ranks)
-}
-
-/// So many bytes of one value.
-pub(crate) fn copies(alloc: Global, number: u8, count: usize) -> Option<Buffer> {
-    let mut elements = Buffer::new(alloc, BasicType::Uint8);
-    elements.push_copies(u64::from(number), count).ok()?;
-    Some(elements)
 }
 
 /// So many bytes of one value, as a rank hands them in.
@@ -100,13 +71,4 @@ pub(crate) fn enter(engine: &mut Engine, entry: Entry) -> Told {
     let told = told_by_reply(&reply);
     drop(reply);
     told
-}
-
-/// Each datagram that one engine emitted comes to another; how many there were.
-pub(crate) fn deliver(from: &mut Engine, to: &mut Engine) -> Option<usize> {
-    let emitted = from.take_out();
-    for (_target, bytes) in emitted.as_slice() {
-        to.on_datagram(bytes.as_slice()).ok()?;
-    }
-    Some(emitted.len())
 }

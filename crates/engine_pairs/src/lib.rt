@@ -1,0 +1,6 @@
+//! Engines of one rank and of two, as tests make them and let them speak with one another.
+#![tactic(auto)]
+
+mod pairs;
+
+pub use pairs::{copies, deliver, rank_of_two, two_ranks};
