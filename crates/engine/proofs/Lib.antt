@@ -6,3 +6,4 @@ pub mod Announced
 pub mod Hearing
 pub mod Turning
 pub mod LastPiece
+pub mod WithoutMemory

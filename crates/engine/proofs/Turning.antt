@@ -4,6 +4,7 @@ use Rattle.std.proofs.Common.{subst, ◌∙◌, arith, inl, inr, Option, Some, N
 use Rattle.std.proofs.lemmas.Grind.{common_steps}
 use Rattle.std.proofs.lemmas.List.{length-append, length-drop, length-take}
 use Rattle.std.proofs.lemmas.List.Sorted.{length_permutation}
+use Rattle.std.proofs.lemmas.Option.{same_Some}
 use Rattle.std.specs.Option.{is_some}
 use Rattle.vocabulary.specs.declared.endpoint.Endpoint.{Endpoint}
 use Rattle.datagram.specs.declared.refusal.DatagramRefusal as reading
@@ -30,8 +31,10 @@ use Rattle.point_to_point_calls.specs.declared.refusal.Refusal.{Refusal}
 use Rattle.point_to_point_calls.specs.declared.refusal.Refusal.TheVariants as refusals
 use Rattle.engine_calls.specs.EngineState.{EngineState}
 use Rattle.engine.specs.Datagrams.{FollowGives, FollowedBy, HasFollowed, HeardGives, TurnGives, acknowledged, notice_in}
-use Rattle.engine.specs.Datagrams.{turn_from, without_next}
-use Rattle.engine.specs.Following.{FollowEnds, StaysFor, TurnEnds}
+use Rattle.engine.specs.Datagrams.{MeetsWant, says_nothing, turn_from, without_next}
+use Rattle.engine.specs.Following.{FollowEnds, GoesOrStays, IsLeft, IsTurnRefusal, IsWant, LeavesTurn}
+use Rattle.engine.specs.Following.{NextIsRefused, TurnEnds}
+use Rattle.engine.proofs.WithoutMemory.{turn_refusal}
 use Rattle.engine.proofs.Hearing.{IsCarried, carried_by, known_carried, unheard_leaves}
 
 -- ---- what follows
@@ -66,6 +69,10 @@ of_bytes source bytes h e = of_read source (datagram_of bytes) h e
 pub can_hear : (s : SessionsState) (source : Endpoint) (h : HeardText) → IsTurnOf source h →
     source.rank < length s.peers → CanHear s (Some h)
 can_hear s source h t there = subst (λ (x : HeardText). CanHear s (Some x)) t.is (there, tt)
+
+-- it says something
+pub says_something : (source : Endpoint) (h : HeardText) → IsTurnOf source h → says_nothing h.lesson h.word ≡ false
+says_something source h t = subst (λ (x : HeardText). says_nothing x.lesson x.word ≡ false) t.is refl
 
 pub source_there : (source : Endpoint) (h : HeardText) (size : ℕ) → IsTurnOf source h → source.rank < size →
     h.source.rank < size
@@ -230,45 +237,83 @@ arranged_within from old new arranged =
 
 -- ---- so many turns
 
--- nothing follows where nothing is held
-pub nothing_held : (why : Option Refusal) (turns at : ℕ) (source : Endpoint) (old : EngineState) → 0 < turns →
-    turn_from old source ≡ None →
-    FollowEnds why turns at source old old
-nothing_held why zero at source old some is = absurd (omega (arith, some))
-nothing_held why (suc k) at source old some is = rw is refl
-
--- whatever is held may stay for want of memory or a limit
-pub stays : (why : Option Refusal) (turns at : ℕ) (source : Endpoint) (old new : EngineState) → 0 < turns →
-    StaysFor why → new ≡ old →
-    FollowEnds why turns at source old new
-stays why zero at source old new some for same = absurd (omega (arith, some))
-stays why (suc k) at source old new some for same = go (turn_from old source)
+-- a turn in which nothing is taken in is the last one
+pub left_turn : (why : Option Refusal) (turns at : ℕ) (source : Endpoint) (old new : EngineState) → 0 < turns →
+    LeavesTurn (turn_from old source) why source old new → FollowEnds why turns at source old new
+left_turn why zero at source old new some leaves = absurd (omega (arith, some))
+left_turn why (suc k) at source old new some leaves = go (turn_from old source) leaves
   where
-    go : (t : Option (Option HeardText)) → TurnEnds t why at source (FollowEnds why k at source) old new
-    go None = same
-    go (Some None) = inr (for, same)
-    go (Some (Some h)) = inr (inr (for, same))
+    go : (t : Option (Option HeardText)) → LeavesTurn t why source old new →
+        TurnEnds t why at source (FollowEnds why k at source) old new
+    go None leaves = leaves
+    go (Some None) leaves = leaves
+    go (Some (Some h)) leaves = inr leaves
+
+-- nothing follows where nothing is held
+pub nothing_held : (turns at : ℕ) (source : Endpoint) (old : EngineState) → 0 < turns →
+    turn_from old source ≡ None →
+    FollowEnds None turns at source old old
+nothing_held turns at source old some is =
+    left_turn None turns at source old old some
+    (subst (λ (t : Option (Option HeardText)). LeavesTurn t None source old old) (sym is) (refl, refl))
 
 -- what spells no frame is taken out
 pub taken_out : (turns at : ℕ) (source : Endpoint) (old new : EngineState) → 0 < turns →
     turn_from old source ≡ Some None → new ≡ without_next old source →
     FollowEnds None turns at source old new
-taken_out zero at source old new some is gone = absurd (omega (arith, some))
-taken_out (suc k) at source old new some is gone = rw is (inl (refl, gone))
+taken_out turns at source old new some is gone =
+    left_turn None turns at source old new some
+    (subst (λ (t : Option (Option HeardText)). LeavesTurn t None source old new) (sym is) (refl, gone))
 
--- and so is what breaks a rule
-pub refused : (turns at : ℕ) (source : Endpoint) (old mid new : EngineState) (h : HeardText) → 0 < turns →
-    turn_from old source ≡ Some (Some h) →
-    HeardGives old h (Err refusals.BadFrame) mid → new ≡ without_next mid source →
-    FollowEnds None turns at source old new
-refused zero at source old mid new h some is gives gone = absurd (omega (arith, some))
-refused (suc k) at source old mid new h some is gives gone =
-    let same : mid ≡ old = unheard_leaves (notice_in h.lesson old.payloads h.source.rank h.word) old mid h refusals.BadFrame gives in
-    rw is (inr (inl (
-      refl,
-      subst (λ (e : EngineState). HeardGives old h (Err refusals.BadFrame) e) same gives,
-      gone ∙ ap (λ (e : EngineState). without_next e source) same,
-    )))
+-- what is refused in its turn is left so
+left_so : (refused : Refusal) (why : Option Refusal) (source : Endpoint) (old new : EngineState) (h : HeardText) →
+    HeardGives old h (Err refused) old → GoesOrStays refused why source old new → IsLeft h why source old new
+left_so refused None source old new h gives (is, gone) =
+    (subst (λ (r : Refusal). HeardGives old h (Err r) old) is gives, gone)
+left_so refused (Some why) source old new h gives (for, is, same) =
+    (for, subst (λ (r : Refusal). HeardGives old h (Err r) old) is gives, same)
+
+-- no limit, and no want of memory, is a bad frame
+no_want : (why : Refusal) → IsWant why → refusals.BadFrame ≡ why → ⊥
+no_want why (inl limit) is =
+    let same : refusals.BadFrame ≡ refusals.Limit = is ∙ limit in absurd cc
+no_want why (inr memory) is =
+    let same : refusals.BadFrame ≡ refusals.OutOfMemory = is ∙ memory in absurd cc
+
+-- and so is what spells no frame
+left_unread : (refused : Refusal) (why : Option Refusal) (source : Endpoint) (old new : EngineState) →
+    refused ≡ refusals.BadFrame → GoesOrStays refused why source old new → LeavesTurn (Some None) why source old new
+left_unread refused None source old new bad (is, gone) = (refl, gone)
+left_unread refused (Some why) source old new bad (for, is, same) = absurd (no_want why for (sym bad ∙ is))
+
+-- without memory
+pub left_next : (o : Option (Option HeardText)) (refused : Refusal) (why : Option Refusal) (source : Endpoint)
+    (old new : EngineState) → NextIsRefused o (Some refused) old →
+    (IsTurnRefusal refused → GoesOrStays refused why source old new) → LeavesTurn o why source old new
+left_next None refused why source old new is goes = absurd cc
+left_next (Some None) refused why source old new is goes =
+    let bad : refused ≡ refusals.BadFrame = same_Some refused refusals.BadFrame is in
+    left_unread refused why source old new bad (goes (inl bad))
+left_next (Some (Some h)) refused why source old new (r, is, gives) goes =
+    let given : HeardGives old h (Err refused) old =
+    subst (λ (x : Refusal). HeardGives old h (Err x) old) (sym (same_Some refused r is)) gives in
+    left_so refused why source old new h given
+    (goes (turn_refusal (notice_in h.lesson old.payloads h.source.rank h.word) old old h refused given))
+
+-- a frame that is refused ends the turns
+pub refused_turn : (why : Option Refusal) (turns at : ℕ) (source : Endpoint) (old mid new : EngineState)
+    (h : HeardText) (refused : Refusal) → 0 < turns → turn_from old source ≡ Some (Some h) →
+    HeardGives old h (Err refused) mid → (IsTurnRefusal refused → GoesOrStays refused why source mid new) →
+    FollowEnds why turns at source old new
+refused_turn why turns at source old mid new h refused some is gives goes =
+    let same : mid ≡ old = unheard_leaves (notice_in h.lesson old.payloads h.source.rank h.word) old mid h refused gives in
+    let given : HeardGives old h (Err refused) old = subst (λ (e : EngineState). HeardGives old h (Err refused) e) same gives in
+    let gone : GoesOrStays refused why source old new =
+    subst (λ (e : EngineState). GoesOrStays refused why source e new) same
+    (goes (turn_refusal (notice_in h.lesson old.payloads h.source.rank h.word) old mid h refused gives)) in
+    left_turn why turns at source old new some
+    (subst (λ (t : Option (Option HeardText)). LeavesTurn t why source old new) (sym is)
+    (left_so refused why source old new h given gone))
 
 -- a turn that is taken in, and the rest
 pub taken : (why : Option Refusal) (turns at : ℕ) (source : Endpoint) (old mid new : EngineState) (h : HeardText) →
@@ -281,19 +326,24 @@ taken why (suc k) at source old mid new h some is gives rest =
     let back : suc k - 1 ≡ k = omega arith in
     rw is (inl (mid, gives, subst (λ (n : ℕ). FollowEnds why n at source (acknowledged at source mid) new) back rest))
 
+-- a limit that it meets, or want of memory
+wanting : (why : Refusal) (e : EngineState) (h : HeardText) → IsWant why → HeardGives e h (Err why) e → MeetsWant e h
+wanting why e h (inl is) gives = inl (subst (λ (r : Refusal). HeardGives e h (Err r) e) is gives)
+wanting why e h (inr is) gives = inr (subst (λ (r : Refusal). HeardGives e h (Err r) e) is gives)
+
 -- the reason is forgotten
 forget_turn : (why : Option Refusal) (k at : ℕ) (source : Endpoint) (old new : EngineState)
     (t : Option (Option HeardText)) →
     ((e : EngineState) → FollowEnds why k at source e new → FollowGives k at source e new) →
     TurnEnds t why at source (FollowEnds why k at source) old new →
     TurnGives t at source (FollowGives k at source) old new
-forget_turn why k at source old new None rest ends = ends
-forget_turn why k at source old new (Some None) rest (inl ends) = inl ends.1
-forget_turn why k at source old new (Some None) rest (inr ends) = inr ends.1
+forget_turn why k at source old new None rest ends = ends.1
+forget_turn why k at source old new (Some None) rest ends = ends.1
 forget_turn why k at source old new (Some (Some h)) rest (inl ends) =
     inl (ends.0, ends.1, rest (acknowledged at source ends.0) ends.2)
-forget_turn why k at source old new (Some (Some h)) rest (inr (inl ends)) = inr (inl (ends.1, ends.2))
-forget_turn why k at source old new (Some (Some h)) rest (inr (inr ends)) = inr (inr ends.1)
+forget_turn None k at source old new (Some (Some h)) rest (inr ends) = inr (inl ends)
+forget_turn (Some why) k at source old new (Some (Some h)) rest (inr (for, gives, same)) =
+    inr (inr (wanting why old h for gives, same))
 
 pub forget : (why : Option Refusal) (turns at : ℕ) (source : Endpoint) (old new : EngineState) →
     FollowEnds why turns at source old new →

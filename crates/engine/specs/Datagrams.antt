@@ -434,17 +434,21 @@ without_next e source = record e { sessions = without_ready e.sessions source.ra
 abbrev pub turn_from : EngineState → Endpoint → Option (Option HeardText)
 turn_from e source = option_map (turn_of source) (ready_from e.sessions source.rank)
 
+-- what is heard meets a limit (13), or, where it breaks no rule and meets no limit, memory is wanting (14)
+abbrev pub MeetsWant : EngineState → HeardText → Type 0
+MeetsWant e h = HeardGives e h (Err refusals.Limit) e ⊎ HeardGives e h (Err refusals.OutOfMemory) e
+
 -- One turn, and then the rest: the frame is taken in as any other, and the acknowledgement says so; or it breaks a rule
--- (30), is held no more, and nothing follows; or it stays held, for a limit (13) or want of memory (14), and nothing
--- follows
+-- (30), is held no more, and nothing follows; or it meets 13 or 14 itself, stays held, and nothing follows. What spells
+-- no frame is held no more
 abbrev pub TurnGives : Option (Option HeardText) → (at : ℕ) → Endpoint → (rest : EngineState → EngineState → Type 0) →
     EngineState → EngineState → Type 0
 TurnGives None at source rest old new = new ≡ old
-TurnGives (Some None) at source rest old new = (new ≡ without_next old source) ⊎ (new ≡ old)
+TurnGives (Some None) at source rest old new = new ≡ without_next old source
 TurnGives (Some (Some h)) at source rest old new =
     ((first : EngineState) × HeardGives old h (Ok tt) first × rest (acknowledged at source first) new)
     ⊎ ((HeardGives old h (Err refusals.BadFrame) old × (new ≡ without_next old source))
-    ⊎ (new ≡ old))
+    ⊎ (MeetsWant old h × (new ≡ old)))
 
 -- so many turns at most
 abbrev pub FollowGives : (turns : ℕ) → (at : ℕ) → Endpoint → EngineState → EngineState → Type 0

@@ -50,6 +50,10 @@ engine_in s ended = record {
 abbrev pub engine_with : Parts → (ended : Option Ending) → EngineState
 engine_with p ended = engine_in (state_of p) ended
 
+-- the engine of a core, payloads and sessions alone, whatever it holds besides
+abbrev pub engine_by : CoreState → payloads.State → SessionsState → GroupsState → (ended : Option Ending) → EngineState
+engine_by c p s g ended = record { core = c; groups = g; ended = ended; payloads = p; sessions = s }
+
 -- they stay at their place
 abbrev pub StayInPlace : (old new : Parts) → Type 0
 StayInPlace old new = (new.sessions.place ≡ old.sessions.place) × (new.core.state.place ≡ old.core.state.place)

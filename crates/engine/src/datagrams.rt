@@ -71,7 +71,7 @@ fn form_fault(message: Eager<'_>) -> Option<Refusal>
 
 /// The rule that a word breaks by the frame that is to be held: the form of a collective's message (30). All else of it
 /// is judged when its turn comes.
-fn hold_fault(word: LinkEvent<'_>) -> Option<Refusal>
+pub(crate) fn hold_fault(word: LinkEvent<'_>) -> Option<Refusal>
     ensures { result ≡ hold_fault (word_text word.entry) }
 {
     match word {
@@ -90,7 +90,7 @@ fn hold_fault(word: LinkEvent<'_>) -> Option<Refusal>
 }
 
 /// What of it concerns the core.
-fn news_of<'a>(heard: Heard<'a>) -> News<'a>
+pub(crate) fn news_of<'a>(heard: Heard<'a>) -> News<'a>
     ensures { news_text result ≡ news_of (heard_text heard.entry) }
 {
     News {
@@ -140,22 +140,20 @@ fn carry_out(
     }
 }
 
-impl Parts {
-    /// The limit that what is heard meets: of its own number, or of the frames that the core calls for. It takes no
-    /// memory.
-    fn limit_of_heard(&self, heard: Heard<'_>) -> Option<Refusal>
-        requires { CanHear self.now.sessions (Some (heard_text heard)) }
-        ensures { result ≡ fault_of_sessions
-            (event_limit self.now.sessions (Some (heard_text heard.entry))
-            (replies self.now.core.state (heard_text heard.entry))) }
-    {
-        let count = self.core.frame_count(news_of(heard));
-        match self.sessions.limit_of_replies(heard, count) {
-            Some(limit) => Some(of_sessions(limit)),
-            None => None,
-        }
+/// The limit that what is heard meets: of its own number, or of the frames that the core calls for. It takes no memory.
+pub(crate) fn limit_of_news(core: &Core, sessions: &Sessions, heard: Heard<'_>) -> Option<Refusal>
+    requires { CanHear sessions.now (Some (heard_text heard)) }
+    ensures { result ≡ fault_of_sessions
+        (event_limit sessions.now (Some (heard_text heard.entry)) (replies core.now.state (heard_text heard.entry))) }
+{
+    let count = core.frame_count(news_of(heard));
+    match sessions.limit_of_replies(heard, count) {
+        Some(limit) => Some(of_sessions(limit)),
+        None => None,
     }
+}
 
+impl Parts {
     /// Takes in what is heard and concerns no collective, or refuses it. Answered is with what a collective ends by it,
     /// by a lesson.
     fn take_news(&mut self, heard: Heard<'_>) -> Result<Option<Ending>, Refusal>
@@ -176,7 +174,7 @@ impl Parts {
         if let Some(fault) = self.core.fault_of_news(news) {
             return Err(fault);
         }
-        if let Some(limit) = self.limit_of_heard(heard) {
+        if let Some(limit) = limit_of_news(&self.core, &self.sessions, heard) {
             return Err(limit);
         }
         let ready = self.core.prepare_news(news)?;

@@ -13,12 +13,14 @@ ghost use Rattle.sessions.specs.Heard.{heard_text, word_text, CanHear, WordFits}
 ghost use Rattle.sessions.specs.Peers.{peer_at};
 ghost use Rattle.sessions.specs.Spellings.{ack_of};
 ghost use Rattle.sessions.specs.Windows.{room};
-ghost use Rattle.engine.specs.Following.{FollowEnds, StaysFor};
+ghost use Rattle.engine.specs.Following.{FollowEnds, GoesOrStays, IsTurnRefusal, IsWant, LeavesTurn};
+ghost use Rattle.engine.specs.Following.{NextIsRefused};
 ghost use Rattle.engine.specs.Datagrams.{HasFollowed, HeardGives, IsTakenInUnless, says_nothing, without_next};
-ghost use Rattle.engine.specs.Datagrams.{woken_engine};
+ghost use Rattle.engine.specs.Datagrams.{turn_from, woken_engine};
 
 use crate::datagrams::says_nothing;
 use crate::engine::Engine;
+use crate::refused_turns::refusal_of_next;
 use datagram::Bytes;
 use point_to_point::Refusal;
 use reliable_link::WINDOW;
@@ -54,7 +56,7 @@ impl Engine {
         ensures ack { IfOk result
             (λ ack. ack ≡
             ack_of self.old.sessions.place source (advanced (peer_at self.old.sessions.peers source.rank).receiver)) }
-        ensures err { IfErr result (λ e. StaysFor (Some e)) }
+        ensures err { IfErr result IsWant }
         ensures kept { self.new ≡ self.old }
     {
         // The place shows that there is a session for each rank.
@@ -88,10 +90,62 @@ impl Engine {
         self.parts.sessions.discard(source.rank);
     }
 
+    /// With what the next frame of an endpoint would be refused, were there no memory at all.
+    fn refuse_next(&mut self, source: Endpoint) -> Option<Refusal>
+        requires { source.rank < self.old.sessions.place.size }
+        ensures exact { NextIsRefused (turn_from self.old source) result self.old }
+        ensures kept { self.new ≡ self.old }
+    {
+        let parts = &mut self.parts;
+        refusal_of_next(&parts.core, &mut parts.payloads, &parts.sessions, source)
+    }
+
+    /// The next frame of an endpoint was refused so in its turn: with 30 it isn't held any more, with 13 and 14 it stays
+    /// held. Answered is why it stays held, if it does.
+    fn discard_or_keep(&mut self, source: Endpoint, refused: Refusal) -> Option<Refusal>
+        requires { source.rank < self.old.sessions.place.size }
+        ensures exact { IsTurnRefusal refused → GoesOrStays refused result source self.old self.new }
+        ensures within { length self.new.sessions.out + room self.new.sessions.peers ≤ length self.old.sessions.out +
+            room self.old.sessions.peers }
+        ensures longer { length self.old.sessions.out ≤ length self.new.sessions.out }
+        ensures known { self.new.sessions.known ≡ self.old.sessions.known }
+        ensures placed { self.new.sessions.place ≡ self.old.sessions.place }
+        ensures core_placed { self.new.core.place ≡ self.old.core.place }
+    {
+        // The place shows that there is a session for each rank.
+        let _place = self.parts.sessions.place();
+        match refused {
+            Refusal::BadFrame => {
+                self.discard(source);
+                None
+            }
+            Refusal::Limit => Some(Refusal::Limit),
+            _ => Some(Refusal::OutOfMemory),
+        }
+    }
+
+    /// Memory is wanting for the next frame of an endpoint. One that breaks a rule all the same isn't held any more, and
+    /// any other stays held. Answered is why it stays held (13, 14), if it does.
+    fn leave(&mut self, source: Endpoint) -> Option<Refusal>
+        requires { source.rank < self.old.sessions.place.size }
+        ensures exact { LeavesTurn (turn_from self.old source) result source self.old self.new }
+        ensures within { length self.new.sessions.out + room self.new.sessions.peers ≤ length self.old.sessions.out +
+            room self.old.sessions.peers }
+        ensures longer { length self.old.sessions.out ≤ length self.new.sessions.out }
+        ensures known { self.new.sessions.known ≡ self.old.sessions.known }
+        ensures placed { self.new.sessions.place ≡ self.old.sessions.place }
+        ensures core_placed { self.new.core.place ≡ self.old.core.place }
+    {
+        match self.refuse_next(source) {
+            Some(refused) => self.discard_or_keep(source, refused),
+            None => None,
+        }
+    }
+
     /// Takes in the frames of an endpoint that were held behind the one that was handed up, so many at most, and the
-    /// acknowledgement at this place says so. One that breaks a rule isn't held any more, and one that meets a limit,
-    /// or for which there is no memory, stays held; nothing follows either. Answered is why one stays held (13, 14), if
-    /// one does.
+    /// acknowledgement at this place says so. One that breaks a rule isn't held any more, whether or not there is
+    /// memory, and one that meets a limit, or for which there is no memory, stays held; nothing follows either.
+    /// Answered is why one stays held (13, 14), if one does.
     fn follow(&mut self, at: usize, source: Endpoint, turns: u32) -> Option<Refusal>
         requires there { source.rank < self.old.sessions.place.size }
         requires at { at < length self.old.sessions.out }
@@ -108,7 +162,7 @@ impl Engine {
         }
         let held = match self.next_held(source.rank) {
             Ok(held) => held,
-            Err(refused) => return Some(refused),
+            Err(_) => return self.leave(source),
         };
         let Some(bytes) = held else {
             return None;
@@ -119,19 +173,14 @@ impl Engine {
         };
         let ack = match self.spell_turn(source, &bytes, heard) {
             Ok(ack) => ack,
-            Err(refused) => return Some(refused),
+            Err(_) => return self.leave(source),
         };
         match self.take_heard(heard) {
             Ok(()) => {
                 self.replace(at, source.rank, ack);
                 self.follow(at, source, turns - 1)
             }
-            Err(Refusal::BadFrame) => {
-                self.discard(source);
-                None
-            }
-            Err(Refusal::Limit) => Some(Refusal::Limit),
-            Err(_) => Some(Refusal::OutOfMemory),
+            Err(refused) => self.discard_or_keep(source, refused),
         }
     }
 

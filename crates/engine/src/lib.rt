@@ -27,6 +27,7 @@ mod outgoing_payloads;
 mod parts;
 mod probes;
 mod questions;
+mod refused_turns;
 
 pub use collectives::Ending;
 pub use communicators::{Block, CommunicatorComparison, Entry, Question};

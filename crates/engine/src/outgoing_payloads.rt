@@ -21,7 +21,7 @@ use collective_transfers::{CollectiveTransfers, ComingPayload};
 use collectives::Ending;
 use datagram::{ClearToSend, Clearance, Frame, Outgoing, RequestToSend};
 use engine_calls::of_sessions;
-use point_to_point::{News, Refusal};
+use point_to_point::{Core, News, Refusal};
 use point_to_point_calls::frames_of;
 use rendezvous::{announce, count_of, pieces_of};
 use sessions::{Heard, Sessions};
@@ -174,27 +174,28 @@ fn send_data(
     carry_out(sessions, heard, &frames)
 }
 
-impl Parts {
-    /// The first rule or limit that the announcement of a payload meets: it is of a synchronous send, which no payload
-    /// is (30), its number isn't the next one of its session (30), or the sessions meet their limit (13). It takes no
-    /// memory.
-    fn fault_of_announcement(&self, heard: Heard<'_>, request: RequestToSend) -> Option<Refusal>
-        requires { CanHear self.now.sessions (Some (heard_text heard)) }
-        ensures { result ≡
-            announcement_fault self.now.core.state self.now.sessions (heard_text heard.entry) (request_text request) }
-    {
-        if let Mode::Synchronous = request.mode {
-            return Some(Refusal::BadFrame);
-        }
-        if !self
-            .core
-            .is_next(heard.source.rank, heard.lesson, request.transfer)
-        {
-            return Some(Refusal::BadFrame);
-        }
-        limit_of(&self.sessions, heard, 1)
+/// The first rule or limit that the announcement of a payload meets: it is of a synchronous send, which no payload is
+/// (30), its number isn't the next one of its session (30), or the sessions meet their limit (13). It takes no memory.
+pub(crate) fn fault_of_announcement(
+    core: &Core,
+    sessions: &Sessions,
+    heard: Heard<'_>,
+    request: RequestToSend,
+) -> Option<Refusal>
+    requires { CanHear sessions.now (Some (heard_text heard)) }
+    ensures { result ≡
+        announcement_fault core.now.state sessions.now (heard_text heard.entry) (request_text request) }
+{
+    if let Mode::Synchronous = request.mode {
+        return Some(Refusal::BadFrame);
     }
+    if !core.is_next(heard.source.rank, heard.lesson, request.transfer) {
+        return Some(Refusal::BadFrame);
+    }
+    limit_of(sessions, heard, 1)
+}
 
+impl Parts {
     /// The announcement of a payload, which breaks no rule and meets no limit, is counted, and the answer to it is
     /// sent; or there is no memory (14), and nothing changes.
     fn count_and_answer(&mut self, heard: Heard<'_>, request: RequestToSend) -> Result<(), Refusal>
@@ -240,7 +241,7 @@ impl Parts {
         ensures within { OnOk result (StaysWithin (Some (heard_text heard.entry)) self.old.sessions self.new.sessions) }
         ensures placed { StayInPlace self.old self.new }
     {
-        if let Some(fault) = self.fault_of_announcement(heard, request) {
+        if let Some(fault) = fault_of_announcement(&self.core, &self.sessions, heard, request) {
             return Err(fault);
         }
         let coming = make_place(alloc, &mut self.payloads, heard, request)?;

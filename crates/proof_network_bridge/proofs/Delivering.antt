@@ -434,11 +434,10 @@ turns_follow shows laws (suc turns) n r place engines datagrams happenings old e
         ((x : EngineState) → IsDelivering n r engines w s T x → FollowGives turns place s x new →
         IsDelivering n r engines w s T new) → IsDelivering n r engines w s T new
     go None is g next = same g
-    go (Some None) is (inl g) next = out g
-    go (Some None) is (inr g) next = same g
+    go (Some None) is g next = out g
     go (Some (Some h)) is (inl g) next = next (acknowledged place s g.0) (taken h g.0 is g.1) g.2
     go (Some (Some h)) is (inr (inl g)) next = out g.1
-    go (Some (Some h)) is (inr (inr g)) next = same g
+    go (Some (Some h)) is (inr (inr g)) next = same g.1
 
 -- ---- the end
 

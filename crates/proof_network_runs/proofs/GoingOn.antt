@@ -298,6 +298,7 @@ happenings_go_on n hs h vs le g = go step
         record {
           more = [];
           own = tt;
+          one = tt;
           goes = subst (λ (es : List Event). GoesWith n (hs ++ h ∷ []) es) (sym (append-nil vs))
               (record {
                 allowed = g.allowed;
@@ -309,6 +310,7 @@ happenings_go_on n hs h vs le g = go step
         record {
           more = v.event ∷ [];
           own = (v.own, tt);
+          one = tt;
           goes = record {
             allowed = more_allowed n (machine_opening n) vs v.event g.allowed v.allowed;
             tells = seen_more (machine_opening n) vs v.event ∙

@@ -74,13 +74,21 @@ abbrev pub IsAt : Endpoint → Event → Type 0
 IsAt e (At x call moves) = x ≡ e
 IsAt e (Restart r) = r ≡ e.rank
 
--- A run goes on, by events at one endpoint alone
+-- no event, or one
+abbrev pub IsOneAtMost : List Event → Type 0
+IsOneAtMost [] = Unit {0}
+IsOneAtMost (v ∷ []) = Unit {0}
+IsOneAtMost (v ∷ (u ∷ vs)) = ⊥
+
+-- A run goes on, by one event at most, at this endpoint
 pub record GoesOnWith (n : ℕ) (happenings : List Happening) (events : List Event) (e : Endpoint) : Type 0 where
   pub more : List Event
   pub own : AllByRecursion (IsAt e) more
+  pub one : IsOneAtMost more
   pub goes : GoesWith n happenings (events ++ more)
 
--- whatever run goes with some happenings, it goes on with one more, by events at the endpoint that was at its rank
+-- whatever run goes with some happenings, it goes on with one more, by one event at most, at the endpoint that was at
+-- its rank
 abbrev pub HappeningsGoOn : Type 0
 HappeningsGoOn =
     (n : ℕ) (happenings : List Happening) (h : Happening) (events : List Event) → n ≤ 65536 →

@@ -341,9 +341,7 @@ turn_stays : (Rest : EngineState → EngineState → Type 0) → ((a b : EngineS
     (o : Option (Option HeardText)) (at : ℕ) (source : Endpoint) (old new : EngineState) →
     TurnGives o at source Rest old new → StaysIn old.core new.core
 turn_stays Rest stays None at source old new g = same_stays old.core new.core (ap (λ (e : EngineState). e.core) g)
-turn_stays Rest stays (Some None) at source old new (inl g) =
-    same_stays old.core new.core (ap (λ (e : EngineState). e.core) g)
-turn_stays Rest stays (Some None) at source old new (inr g) =
+turn_stays Rest stays (Some None) at source old new g =
     same_stays old.core new.core (ap (λ (e : EngineState). e.core) g)
 turn_stays Rest stays (Some (Some h)) at source old new (inl (first, takes, rest)) =
     then_stays old.core first.core new.core (heard_stays old first h takes)
@@ -351,7 +349,7 @@ turn_stays Rest stays (Some (Some h)) at source old new (inl (first, takes, rest
 turn_stays Rest stays (Some (Some h)) at source old new (inr (inl g)) =
     same_stays old.core new.core (ap (λ (e : EngineState). e.core) g.1)
 turn_stays Rest stays (Some (Some h)) at source old new (inr (inr g)) =
-    same_stays old.core new.core (ap (λ (e : EngineState). e.core) g)
+    same_stays old.core new.core (ap (λ (e : EngineState). e.core) g.1)
 
 follow_stays : (turns at : ℕ) (source : Endpoint) (old new : EngineState) → FollowGives turns at source old new →
     StaysIn old.core new.core

@@ -12,6 +12,7 @@ ghost use Rattle.sessions.specs.declared.peers.Peer.{Peer};
 ghost use Rattle.sessions.specs.Peers.{peer_at};
 ghost use Rattle.sessions.specs.Spellings.{ack_of};
 ghost use Rattle.std.specs.Prelude.{IfSome};
+ghost use Rattle.std.specs.Option.{option_copied};
 
 use crate::heard::{Heard, LinkEvent};
 use crate::peers;
@@ -51,6 +52,14 @@ impl Sessions {
         self.out.len()
     }
 
+    /// The bytes of the next frame of a rank, where they are held, lent. It takes no memory.
+    pub fn next_held(&self, rank: u16) -> Option<&Bytes>
+        requires { rank < self.now.place.size }
+        ensures { option_copied result ≡ ready_from self.now rank }
+    {
+        peers::peer_at(&self.peers, rank).receiver.ready()
+    }
+
     /// The bytes of the next frame of a rank, where they are held, for one more owner. The only error is that there are
     /// too many owners.
     pub fn ready(&self, rank: u16) -> Result<Option<Bytes>, SessionRefusal>
@@ -58,7 +67,7 @@ impl Sessions {
         ensures ok { IfOk result (λ bytes. bytes ≡ ready_from self.now rank) }
         ensures err { IfErr result (λ e. e ≡ SessionRefusal.OutOfMemory) }
     {
-        let Some(bytes) = peers::peer_at(&self.peers, rank).receiver.ready() else {
+        let Some(bytes) = self.next_held(rank) else {
             return Ok(None);
         };
         match bytes.share() {

@@ -10,7 +10,9 @@ use Rattle.incarnation.specs.declared.place.Place.{Place}
 use Rattle.perfect_groups.specs.Calls.{held_at}
 use Rattle.perfect_groups.specs.Communicators.{Communicator}
 use Rattle.perfect_groups.specs.Events as machine
+use Rattle.perfect_groups.specs.Machine.{machine_opening}
 use Rattle.perfect_groups.specs.Membership.{Membership}
+use Rattle.perfect_groups.specs.Runs.{seen}
 use Rattle.perfect_groups.specs.Soundness.{IsAmong}
 use Rattle.proof_group_network.specs.Network.{Happening}
 use Rattle.proof_network_bridge.proofs.Closed.{engines_share_groups, following_is_each_run}
@@ -18,16 +20,18 @@ use Rattle.proof_network_bridge.proofs.Worlds.{place_is}
 use Rattle.proof_network_bridge.specs.GoingOn.{IsFollowedBy, IsSeenBy}
 use Rattle.proof_network_bridge.specs.Joined.{network_after, opening_engines}
 use Rattle.proof_network_runs.proofs.GoingOn.{each_has_a_run, happenings_go_on, none_is_a_run}
-use Rattle.proof_network_runs.specs.Runs.{GoesOnWith, GoesWith, HasARun, IsAt, after, rank_of}
+use Rattle.proof_network_runs.specs.Runs.{GoesOnWith, GoesWith, HasARun, IsAt, IsOneAtMost, after, rank_of}
 use Rattle.proof_pure_network.specs.Network.{here}
 use Rattle.vocabulary.specs.declared.endpoint.Endpoint.{Endpoint}
 use Rattle.world.proofs.Keys.{means_what_is_seen}
+use Rattle.world.proofs.OneEvent.{one_behind}
 use Rattle.world.proofs.Refusals.{refusal_sound_by}
-use Rattle.world.proofs.Sound.{Further, IsSoundOn, Still, event_sound_on, opening_sound_by, sound_by}
+use Rattle.world.proofs.Sound.{Further, IsNoTick, IsSoundOn, Still, event_sound_on, opening_sound_by, sound_by}
 use Rattle.world.specs.EventByEvent.{AllShareGroups, AreOwnSteps, AreStepsOf, GoesAllTheWay, GoesOn, GoesOnFrom, HasRun}
-use Rattle.world.specs.EventByEvent.{HasSomeRun, IsSoundBy, RunGoesOn, ShareGroups, SharesGroupsOnwards, StepGoesOn}
+use Rattle.world.specs.EventByEvent.{HasSomeRun, IsOneFor, IsSoundBy, RunGoesOn, ShareGroups, SharesGroupsOnwards, StepGoesOn}
 use Rattle.world.specs.Headline.{IsSound, history_seen}
 use Rattle.world.specs.Steps.{ByTheEngine, ByTheWorld, ForRoom, Gave, IsRefusedBy, IsWhy, RanAt, StepGives, Went}
+use Rattle.world.specs.Steps.{entry_of}
 use Rattle.world.specs.WorldState.{WorldState, opening_world}
 use Rattle.world.specs.declared.event.HistoryEntry.{HistoryEntry}
 use Rattle.world.specs.declared.event.Event.{Event}
@@ -121,15 +125,23 @@ endpoint_there : (n rank : ℕ) (happenings : List Happening) (engines : List En
 endpoint_there n rank happenings engines d h e f there =
     sym (ap (λ (p : Place). p.endpoint) (place_is n rank engines d (network_after n happenings) e f.joined there).1)
 
+-- the run that a world has come by tells its history
+tells_of : (w : WorldState) (run_events : List machine.Event) → HasRun w run_events →
+    seen (machine_opening (length w.engines)) run_events ≡ history_seen w.history
+tells_of w run_events h =
+    subst (λ (vs : List machine.Event). seen (machine_opening (length w.engines)) vs ≡ history_seen w.history) h.by
+    h.headline.tells
+
 -- what an event that was taken adds to the run
 record Adds (old new : WorldState) (event : Event) (run_events : List machine.Event) : Type 0 where
   pub more : List machine.Event
   pub own : AreOwnSteps old event more
+  pub still : (IsNoTick event → ⊥) → more ≡ []
   pub has : HasRun new (run_events ++ more)
 
 event_adds : (old new : WorldState) (event : Event) (run_events : List machine.Event) (h : HasRun old run_events)
     (gave : Gave) → (ran : RanAt old.datagrams event old.engines (Ok gave) new.engines) →
-    IsSoundOn ran.rank h.happenings new.engines new.datagrams new.history → Adds old new event run_events
+    IsSoundOn event ran.rank h.happenings new.engines new.datagrams new.history → Adds old new event run_events
 event_adds old new event run_events h gave ran on = go on
   where
     size : length new.engines ≡ length old.engines
@@ -145,24 +157,34 @@ event_adds old new event run_events h gave ran on = go on
         ran.engine h.sound.followed ran.there
 
     steps : (more : List machine.Event) → AllByRecursion (IsAt ran.engine.sessions.place.endpoint) more →
-        AreOwnSteps old event more
-    steps more own = record { rank = ran.rank; target = ran.target; engine = ran.engine; there = ran.there; own = own }
+        IsOneAtMost more → AreOwnSteps old event more
+    steps more own one = record {
+      rank = ran.rank;
+      target = ran.target;
+      engine = ran.engine;
+      there = ran.there;
+      own = own;
+      one = one;
+    }
 
-    go : IsSoundOn ran.rank h.happenings new.engines new.datagrams new.history → Adds old new event run_events
+    go : IsSoundOn event ran.rank h.happenings new.engines new.datagrams new.history → Adds old new event run_events
     go (Still s) = record {
       more = [];
-      own = steps [] tt;
+      own = steps [] tt tt;
+      still = λ tick. refl;
       has = subst (λ (vs : List machine.Event). HasRun new vs) (sym (append-nil run_events))
           (has_run new h.happenings run_events s (goes_there h.happenings run_events h.goes));
     }
-    go (Further x at_rank s) =
+    go (Further x at_rank no_tick s) =
         let g : GoesOnWith (length old.engines) (h.happenings ++ x ∷ []) run_events (here (after (length old.engines) h.happenings).net (rank_of x)) =
         happenings_go_on (length old.engines) h.happenings x run_events (omega (arith, h.sound.followed.few)) h.goes in
         record {
           more = g.more;
           own = steps g.more
               (subst (λ (e : Endpoint). AllByRecursion (IsAt e) g.more)
-              (ap (λ (r : ℕ). here (after (length old.engines) h.happenings).net r) at_rank ∙ endpoint) g.own);
+              (ap (λ (r : ℕ). here (after (length old.engines) h.happenings).net r) at_rank ∙ endpoint) g.own)
+              g.one;
+          still = λ tick. absurd (tick no_tick);
           has = has_run new (h.happenings ++ x ∷ []) (run_events ++ g.more) s
               (goes_there (h.happenings ++ x ∷ []) (run_events ++ g.more) g.goes);
         }
@@ -170,18 +192,29 @@ event_adds old new event run_events h gave ran on = go on
 went_on : (old new : WorldState) (event : Event) (added : Stepped) (run_events : List machine.Event) →
     Went old event added new → IsSound new.engines new.datagrams new.history → HasRun old run_events →
     StepGoesOn old run_events event (Ok added) new
-went_on old new event added run_events w sound h = (a.more, a.own, a.has)
+went_on old new event added run_events w sound h = (a.more, (a.own, one), a.has)
   where
-    on : IsSoundOn w.ran.rank h.happenings new.engines new.datagrams new.history
+    on : IsSoundOn event w.ran.rank h.happenings new.engines new.datagrams new.history
     on =
-        subst (λ (d : List (ℕ × List ℕ)). IsSoundOn w.ran.rank h.happenings new.engines d new.history) (sym w.datagrams)
-        (subst (λ (es : List HistoryEntry). IsSoundOn w.ran.rank h.happenings new.engines (old.datagrams ++ w.gave.out)
+        subst (λ (d : List (ℕ × List ℕ)). IsSoundOn event w.ran.rank h.happenings new.engines d new.history) (sym w.datagrams)
+        (subst (λ (es : List HistoryEntry). IsSoundOn event w.ran.rank h.happenings new.engines (old.datagrams ++ w.gave.out)
         es) (sym w.history)
         (event_sound_on h.happenings old.engines new.engines old.datagrams old.history event w.gave h.sound w.allowed
         w.ran sound.world))
 
     a : Adds old new event run_events
     a = event_adds old new event run_events h w.gave w.ran on
+
+    size : length new.engines ≡ length old.engines
+    size = ap length w.ran.others ∙ length-set old.engines w.ran.rank w.ran.next
+
+    one : IsOneFor event a.more
+    one =
+        one_behind (length old.engines) run_events a.more old.history old.datagrams event w.ran.engine w.ran.next
+        w.gave w.ran.ran a.own.one a.still (tells_of old run_events h)
+        (subst (λ (n : ℕ). seen (machine_opening n) (run_events ++ a.more) ≡
+        history_seen (old.history ++ entry_of event w.gave ∷ [])) size
+        (tells_of new (run_events ++ a.more) a.has ∙ ap history_seen w.history))
 
 -- a refusal adds nothing
 refused_stands : (old : WorldState) (event : Event) (refused : WorldRefusal) (out : List (ℕ × List ℕ))

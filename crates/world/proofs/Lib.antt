@@ -11,4 +11,5 @@ pub mod Keys
 pub mod Refusals
 pub mod Ordered
 pub mod Headlines
+pub mod OneEvent
 pub mod EventByEvent

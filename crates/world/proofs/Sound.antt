@@ -123,6 +123,26 @@ followed before old new d h rank event gave mid next seen f state others out is 
     (subst (λ (m : ℕ). IsFollowedOn m rank before (slice_set old rank (emptied mid)) (d ++ mid.sessions.out)
     (history_seen h ++ seen)) (sym size_is) f)))
 
+-- the same where nothing happened
+followed_still : (before : List Happening) (old new : List EngineState) (d : List (ℕ × List ℕ)) (h : List HistoryEntry)
+    (rank : ℕ) (event : Event) (gave : Gave) (mid next : EngineState) (seen : List machine.Entry) →
+    IsFollowedBy (length old) before (slice_set old rank (emptied mid)) (d ++ mid.sessions.out)
+    (history_seen h ++ seen) → next ≡ emptied mid →
+    new ≡ slice_set old rank next → gave.out ≡ mid.sessions.out → seen ≡ entry_seen (entry_of event gave) →
+    IsFollowedBy (length new) before new (d ++ gave.out) (history_seen (h ++ entry_of event gave ∷ []))
+followed_still before old new d h rank event gave mid next seen f state others out is =
+    let engines_are : new ≡ slice_set old rank (emptied mid) = others ∙ ap (slice_set old rank) state in
+    let size_is : length new ≡ length old = ap length engines_are ∙ length-set old rank (emptied mid) in
+    let history_is : history_seen (h ++ entry_of event gave ∷ []) ≡ history_seen h ++ seen =
+    seen_more h (entry_of event gave) ∙ ap (λ (x : List machine.Entry). history_seen h ++ x) (sym is) in
+    subst (λ (x : List machine.Entry). IsFollowedBy (length new) before new (d ++ gave.out) x) (sym history_is)
+    (subst (λ (x : List (ℕ × List ℕ)). IsFollowedBy (length new) before new (d ++ x) (history_seen h ++ seen))
+    (sym out)
+    (subst (λ (x : List EngineState). IsFollowedBy (length new) before x (d ++ mid.sessions.out)
+    (history_seen h ++ seen)) (sym engines_are)
+    (subst (λ (m : ℕ). IsFollowedBy m before (slice_set old rank (emptied mid)) (d ++ mid.sessions.out)
+    (history_seen h ++ seen)) (sym size_is) f)))
+
 -- what an event that the engine of a rank took leaves, by what the history says of it
 abbrev pub Leaves : (rank : ℕ) (before : List Happening) (new : List EngineState) (d : List (ℕ × List ℕ))
     (h : List HistoryEntry) → Event → Gave → Type 0
@@ -207,19 +227,25 @@ delivery_followed before old new d h number rank e next gave at target ran = go 
 
 -- ---- a tick
 
+-- nothing happens at one
+abbrev LeavesStill : (before : List Happening) (new : List EngineState) (d : List (ℕ × List ℕ)) (h : List HistoryEntry) →
+    Event → Gave → Type 0
+LeavesStill before new d h event gave =
+    IsFollowedBy (length new) before new (d ++ gave.out) (history_seen (h ++ entry_of event gave ∷ []))
+
 tick_followed : (before : List Happening) (old new : List EngineState) (d : List (ℕ × List ℕ)) (h : List HistoryEntry)
     (rank r now : ℕ) (e next : EngineState) (gave : Gave) →
     IsEngineOf before old new d h rank e next → TickRuns e now (Ok gave) next →
-    Leaves rank before new d h (events.Tick r now) gave
+    LeavesStill before new d h (events.Tick r now) gave
 tick_followed before old new d h rank r now e next gave at ran = go gave.reply refl
   where
-    go : (o : Option Reply) → gave.reply ≡ o → Leaves rank before new d h (events.Tick r now) gave
+    go : (o : Option Reply) → gave.reply ≡ o → LeavesStill before new d h (events.Tick r now) gave
     go (Some reply) is = absurd (subst (λ (o : Option Reply). TakesTime e now o ran.mid) is ran.event)
     go None is =
-        followed before old new d h rank (events.Tick r now) gave ran.mid next
+        followed_still before old new d h rank (events.Tick r now) gave ran.mid next
         (told_completion e.sessions.place.endpoint (completion_of ran.mid))
-        (Stands (ticks_stand (length old) rank now before old d (history_seen h) e ran.mid at.before at.there
-        (subst (λ (o : Option Reply). TakesTime e now o ran.mid) is ran.event)))
+        (ticks_stand (length old) rank now before old d (history_seen h) e ran.mid at.before at.there
+        (subst (λ (o : Option Reply). TakesTime e now o ran.mid) is ran.event))
         ran.state at.others ran.out (completion_at e ran.mid gave ran.endpoint ran.completion)
 
 -- ---- a restart
@@ -259,10 +285,19 @@ fault_as size n d d' event o size_is d_is h =
     subst (λ (m : ℕ). event_fault m d' event ≡ o) size_is
     (subst (λ (x : List (ℕ × List ℕ)). event_fault size x event ≡ o) d_is h)
 
+-- at a tick nothing happens; at any other event something may
+abbrev LeavesBy : (rank : ℕ) (before : List Happening) (new : List EngineState) (d : List (ℕ × List ℕ))
+    (h : List HistoryEntry) → Event → Gave → Type 0
+LeavesBy rank before new d h (events.Call r call) gave = Leaves rank before new d h (events.Call r call) gave
+LeavesBy rank before new d h (events.Deliver number) gave = Leaves rank before new d h (events.Deliver number) gave
+LeavesBy rank before new d h (events.Stray r bytes) gave = Leaves rank before new d h (events.Stray r bytes) gave
+LeavesBy rank before new d h (events.Tick r now) gave = LeavesStill before new d h (events.Tick r now) gave
+LeavesBy rank before new d h (events.Restart r) gave = Leaves rank before new d h (events.Restart r) gave
+
 event_followed : (before : List Happening) (old new : List EngineState) (d : List (ℕ × List ℕ)) (h : List HistoryEntry)
     (event : Event) (rank : ℕ) (e next : EngineState) (gave : Gave) →
     IsEngineOf before old new d h rank e next → event_fault (length old) d event ≡ None →
-    target_of d event ≡ Some rank → EventRuns d event e (Ok gave) next → Leaves rank before new d h event gave
+    target_of d event ≡ Some rank → EventRuns d event e (Ok gave) next → LeavesBy rank before new d h event gave
 event_followed before old new d h (events.Call r call) rank e next gave at allowed target ran =
     call_followed before old new d h rank r call e next gave at ran
 event_followed before old new d h (events.Deliver number) rank e next gave at allowed target ran =
@@ -275,19 +310,28 @@ event_followed before old new d h (events.Restart r) rank e next gave at allowed
     subst (λ (x : ℕ). Leaves rank before new d h (events.Restart x) gave) (sym (same_Some r rank target))
     (restart_followed before old new d h rank e next gave at ran)
 
--- what is true of a world by some happenings is true after an event by one more, at its rank, or by none
-pub data IsSoundOn (rank : ℕ) (before : List Happening) (engines : List EngineState) (d : List (ℕ × List ℕ))
-    (h : List HistoryEntry) : Type 0 where
-  Still : IsSoundBy before engines d h → IsSoundOn rank before engines d h
-  Further : (x : Happening) → rank_of x ≡ rank → IsSoundBy (before ++ x ∷ []) engines d h →
-      IsSoundOn rank before engines d h
+-- something may happen at any event but a tick
+abbrev pub IsNoTick : Event → Type 0
+IsNoTick (events.Call r call) = Unit {0}
+IsNoTick (events.Deliver number) = Unit {0}
+IsNoTick (events.Stray r bytes) = Unit {0}
+IsNoTick (events.Tick r now) = ⊥
+IsNoTick (events.Restart r) = Unit {0}
+
+-- what is true of a world by some happenings is true after an event by one more, at its rank, or by none: by none after
+-- a tick
+pub data IsSoundOn (event : Event) (rank : ℕ) (before : List Happening) (engines : List EngineState)
+    (d : List (ℕ × List ℕ)) (h : List HistoryEntry) : Type 0 where
+  Still : IsSoundBy before engines d h → IsSoundOn event rank before engines d h
+  Further : (x : Happening) → rank_of x ≡ rank → IsNoTick event → IsSoundBy (before ++ x ∷ []) engines d h →
+      IsSoundOn event rank before engines d h
 
 pub event_sound_on : (before : List Happening) (old new : List EngineState) (d : List (ℕ × List ℕ))
     (h : List HistoryEntry) (event : Event) (gave : Gave) →
     IsSoundBy before old d h → event_fault (length old) d event ≡ None → (ran : RanAt d event old (Ok gave) new) →
-    IsWorld new → IsSoundOn ran.rank before new (d ++ gave.out) (h ++ entry_of event gave ∷ [])
+    IsWorld new → IsSoundOn event ran.rank before new (d ++ gave.out) (h ++ entry_of event gave ∷ [])
 event_sound_on before old new d h event gave s allowed ran w =
-    go (event_followed before old new d h event ran.rank ran.engine ran.next gave
+    by event refl (event_followed before old new d h event ran.rank ran.engine ran.next gave
     (record { before = s.followed; there = ran.there; others = ran.others }) allowed ran.target ran.ran)
   where
     was : IsFollowed (length old) old d (history_seen h)
@@ -305,10 +349,23 @@ event_sound_on before old new d h event gave s allowed ran w =
           (sound_placed old d h (is_sound before old d h s)) s.named;
     }
 
-    go : Leaves ran.rank before new d h event gave →
-        IsSoundOn ran.rank before new (d ++ gave.out) (h ++ entry_of event gave ∷ [])
-    go (Stands f) = Still (sound before f)
-    go (Happened x is f) = Further x is (sound (before ++ x ∷ []) f)
+    go : IsNoTick event → Leaves ran.rank before new d h event gave →
+        IsSoundOn event ran.rank before new (d ++ gave.out) (h ++ entry_of event gave ∷ [])
+    go no_tick (Stands f) = Still (sound before f)
+    go no_tick (Happened x is f) = Further x is no_tick (sound (before ++ x ∷ []) f)
+
+    by : (v : Event) → v ≡ event → LeavesBy ran.rank before new d h v gave →
+        IsSoundOn event ran.rank before new (d ++ gave.out) (h ++ entry_of event gave ∷ [])
+    by (events.Call r call) is l =
+        go (subst IsNoTick is tt) (subst (λ (x : Event). Leaves ran.rank before new d h x gave) is l)
+    by (events.Deliver number) is l =
+        go (subst IsNoTick is tt) (subst (λ (x : Event). Leaves ran.rank before new d h x gave) is l)
+    by (events.Stray r bytes) is l =
+        go (subst IsNoTick is tt) (subst (λ (x : Event). Leaves ran.rank before new d h x gave) is l)
+    by (events.Tick r now) is l =
+        Still (sound before (subst (λ (x : Event). LeavesStill before new d h x gave) is l))
+    by (events.Restart r) is l =
+        go (subst IsNoTick is tt) (subst (λ (x : Event). Leaves ran.rank before new d h x gave) is l)
 
 pub event_sound : (old new : List EngineState) (d : List (ℕ × List ℕ)) (h : List HistoryEntry) (event : Event)
     (gave : Gave) →
@@ -317,8 +374,8 @@ pub event_sound : (old new : List EngineState) (d : List (ℕ × List ℕ)) (h :
 event_sound old new d h event gave s allowed ran w =
     go (event_sound_on s.followed.happenings old new d h event gave (sound_by old d h s) allowed ran w)
   where
-    go : IsSoundOn ran.rank s.followed.happenings new (d ++ gave.out) (h ++ entry_of event gave ∷ []) →
+    go : IsSoundOn event ran.rank s.followed.happenings new (d ++ gave.out) (h ++ entry_of event gave ∷ []) →
         IsSound new (d ++ gave.out) (h ++ entry_of event gave ∷ [])
     go (Still x) = is_sound s.followed.happenings new (d ++ gave.out) (h ++ entry_of event gave ∷ []) x
-    go (Further y is x) =
+    go (Further y is no_tick x) =
         is_sound (s.followed.happenings ++ y ∷ []) new (d ++ gave.out) (h ++ entry_of event gave ∷ []) x

@@ -5,15 +5,16 @@
 -- the machine is at an endpoint, `IsAt`, and that a run goes with what happened in the pure network, `GoesWith`
 -- (proof_network_runs, Runs); that a world follows that network by just these happenings, `IsFollowedBy`
 -- (proof_network_bridge, GoingOn)
-use Rattle.std.specs.Prelude.{◌≡◌, ℕ, List, [], ◌∷◌, ◌++◌, length, Option, Some, Result, Ok, Err, slice_get}
+use Rattle.std.specs.Prelude.{◌≡◌, ℕ, List, [], ◌∷◌, ◌++◌, length, Option, Some, None, Result, Ok, Err, slice_get}
 use Rattle.std.specs.List.{AllByRecursion}
 use Rattle.engine_calls.specs.EngineState.{EngineState, member_of}
-use Rattle.perfect_groups.specs.Calls.{held_at}
+use Rattle.observation.specs.EngineCalls.{call_seen}
+use Rattle.perfect_groups.specs.Calls.{Call, held_at}
 use Rattle.perfect_groups.specs.Communicators.{Communicator}
 use Rattle.perfect_groups.specs.Events as machine
 use Rattle.proof_group_network.specs.Network.{Happening}
 use Rattle.proof_network_bridge.specs.GoingOn.{IsFollowedBy}
-use Rattle.proof_network_runs.specs.Runs.{GoesWith, IsAt}
+use Rattle.proof_network_runs.specs.Runs.{GoesWith, IsAt, IsOneAtMost}
 use Rattle.world.specs.Faults.{target_of}
 use Rattle.world.specs.Given.{AreNamed}
 use Rattle.world.specs.Headline.{IsRunOfMachine, history_seen}
@@ -21,6 +22,7 @@ use Rattle.world.specs.Steps.{StepGives}
 use Rattle.world.specs.WorldState.{IsWorld, WorldState}
 use Rattle.world.specs.declared.event.HistoryEntry.{HistoryEntry}
 use Rattle.world.specs.declared.event.Event.{Event}
+use Rattle.world.specs.declared.event.Event.TheVariants as events
 use Rattle.world.specs.declared.event.Failed.{Failed}
 use Rattle.world.specs.declared.event.Stepped.{Stepped}
 
@@ -41,18 +43,44 @@ pub record HasRun (w : WorldState) (run_events : List machine.Event) : Type 0 wh
   pub goes : GoesWith (length w.engines) happenings run_events
   pub sound : IsSoundBy happenings w.engines w.datagrams w.history
 
--- steps of the machine that are all at the endpoint at which an event happens: that of the engine of its rank before
--- the event
+-- One event of the machine at most, at the endpoint at which an event of the world happens: that of the engine of its
+-- rank before the event. So all that is answered in an event of the world is answered in one event of the machine
 pub record AreOwnSteps (w : WorldState) (event : Event) (more : List machine.Event) : Type 0 where
   pub rank : ℕ
   pub target : target_of w.datagrams event ≡ Some rank
   pub engine : EngineState
   pub there : slice_get w.engines rank ≡ Some engine
   pub own : AllByRecursion (IsAt engine.sessions.place.endpoint) more
+  pub one : IsOneAtMost more
 
--- what an event adds to the run: steps at its own endpoint alone, and none where it is refused
+-- one event of the machine, of this call
+abbrev pub IsCallOf : Call → List machine.Event → Type 0
+IsCallOf c [] = ⊥
+IsCallOf c (machine.At e None moves ∷ []) = ⊥
+IsCallOf c (machine.At e (Some d) moves ∷ []) = d ≡ c
+IsCallOf c (machine.Restart r ∷ []) = ⊥
+IsCallOf c (v ∷ (u ∷ vs)) = ⊥
+
+-- none, or one without a call: steps, and what is answered then
+abbrev pub IsWithoutCall : List machine.Event → Type 0
+IsWithoutCall [] = Unit {0}
+IsWithoutCall (machine.At e None moves ∷ []) = Unit {0}
+IsWithoutCall (machine.At e (Some d) moves ∷ []) = ⊥
+IsWithoutCall (machine.Restart r ∷ []) = ⊥
+IsWithoutCall (v ∷ (u ∷ vs)) = ⊥
+
+-- WHICH EVENT OF THE MACHINE AN EVENT OF THE WORLD IS: a call is one, of the same call; a restart is one; a delivery is
+-- one without a call, or none; a tick is none
+abbrev pub IsOneFor : Event → List machine.Event → Type 0
+IsOneFor (events.Call rank call) more = IsCallOf (call_seen call) more
+IsOneFor (events.Deliver number) more = IsWithoutCall more
+IsOneFor (events.Stray rank bytes) more = IsWithoutCall more
+IsOneFor (events.Tick rank now) more = more ≡ []
+IsOneFor (events.Restart rank) more = more ≡ machine.Restart rank ∷ []
+
+-- what an event adds to the run: one event at most, at its own endpoint, and none where it is refused
 abbrev pub AreStepsOf : WorldState → Event → Result Stepped Failed → List machine.Event → Type 0
-AreStepsOf w event (Ok added) more = AreOwnSteps w event more
+AreStepsOf w event (Ok added) more = AreOwnSteps w event more × IsOneFor event more
 AreStepsOf w event (Err failed) more = more ≡ []
 
 -- an event goes on from the run: the new world has come by the old run and the event's own steps

@@ -294,9 +294,11 @@ impl World {
     /// with 29, the refusal of a datagram for a former incarnation of its target, a reset goes out to the datagram's
     /// source, unless the datagram was a reset; it is numbered, and the refusal tells its number.
     ///
-    /// Whatever run of the machine the world had come by, it has now come by that run and steps of the machine at the
-    /// event's own endpoint alone, which is that of the rank's engine before the event; and by the very same run where
-    /// the event is refused (`event_by_event`).
+    /// Whatever run of the machine the world had come by, it has now come by that run and one event of the machine at
+    /// most, at the event's own endpoint, which is that of the rank's engine before the event: a call is one, of the
+    /// same call; a restart is one; a delivery is one without a call, or none; a tick is none. So what is answered in
+    /// an event is answered in one event of the machine. Where the event is refused, the run is the very same
+    /// (`event_by_event`).
     pub fn step(&mut self, event: Event) -> StepResult
         ensures exact { StepGives self.old event result self.new }
         ensures headline { IsRunOfMachine self.new }
@@ -317,7 +319,7 @@ impl World {
     /// Room for all answers is made first. Where memory for that is wanting, which is 14, nothing happens, and the
     /// events are handed back. For every list of events, what is seen of the world after each of them is a run of the
     /// machine of queues and groups, which has come to rest where the world is quiet: see `history`. Each of these runs
-    /// goes on from the one before by its event's own steps: see `step`. And of any two worlds on the way, be it that a
+    /// goes on from the one before by its event's own, or by none: see `step`. And of any two worlds on the way, be it that a
     /// rank was started anew between them, ranks share one group for each context (`event_by_event`).
     pub fn run(&mut self, events: Vec<Event>) -> Result<Vec<StepResult>, FailedRun>
         ensures exact { IfOk result (λ answers. RunGives self.old events.items answers.items self.new) }

@@ -11,7 +11,7 @@ use Rattle.engine_calls.specs.EngineState.{EngineState}
 use Rattle.engine.specs.Datagrams.{HeardGives, notice_in, without_next}
 use Rattle.engine.specs.Following.{FollowEnds}
 use Rattle.engine.proofs.Hearing.{unheard_leaves}
-use Rattle.engine.proofs.Turning.{can_hear, discard_within, longer, of_bytes, refused, replaced, stays, taken}
+use Rattle.engine.proofs.Turning.{can_hear, discard_within, longer, of_bytes, refused_turn, replaced, taken}
 use Rattle.engine.proofs.Turning.{turn_known, turn_within}
 use Rattle.engine.proofs.engine.Engine.+follow.Goals as goal
 
@@ -119,54 +119,54 @@ returns-in-Ok-take_heard-clause-known t c =
     c.follow.ensures.known ∙ ap (λ (e : EngineState). e.sessions.known) c.replace.ensures
     ∙ turn_known old mid c.args.source h (of_bytes c.args.source _ h c.in-Some-turn_in.ensures.exact) gives
 
-pub returns-in-Err-BadFrame-clause-exact : goal.returns-in-Err-BadFrame-clause-exact
-returns-in-Err-BadFrame-clause-exact t c =
+pub returns-clause-exact : goal.returns-clause-exact
+returns-clause-exact t c =
     let old : EngineState = c.args.self.now in
+    let before : EngineState = c.spell_turn.new.self in
     let mid : EngineState = c.take_heard.new.self in
     let h : HeardText = heard_text c.in-Some-turn_in.heard in
+    let why : Refusal = c.in-Err-take_heard.refused in
     let is = ap (option_map (turn_of c.args.source)) (sym c.in-Ok.ensures.ok ∙ c.in-Some.is) ∙ ap Some (sym c.in-Some-turn_in.ensures.exact) in
-    refused c.args.turns c.args.at c.args.source old mid c.discard-in-Err-BadFrame.new.self h
+    refused_turn c.discard_or_keep.result c.args.turns c.args.at c.args.source old mid c.discard_or_keep.new.self h why
     (grind (arith, common_steps, c.if-turns-eq0.false)) is
-    (subst (λ (r : Refusal). HeardGives old h (Err r) mid) c.in-Err-BadFrame.field-0-is
-    (subst (λ (e : EngineState). HeardGives e h (Err c.in-Err-BadFrame.field-0) mid) c.spell_turn.ensures.kept
-    c.in-Err-BadFrame.ensures.exact))
-    c.discard-in-Err-BadFrame.ensures
+    (subst (λ (e : EngineState). HeardGives e h (Err why) mid) c.spell_turn.ensures.kept
+    c.in-Err-take_heard.ensures.exact)
+    c.discard_or_keep.ensures.exact
 
-pub returns-in-Err-BadFrame-clause-within : goal.returns-in-Err-BadFrame-clause-within
-returns-in-Err-BadFrame-clause-within t c =
-    let before : EngineState = c.spell_turn.new.self in
-    let mid : EngineState = c.take_heard.new.self in
-    let h : HeardText = heard_text c.in-Some-turn_in.heard in
-    let same = unheard_leaves (notice_in h.lesson before.payloads h.source.rank h.word) before mid h c.in-Err-BadFrame.field-0 c.in-Err-BadFrame.ensures.exact
-    ∙ c.spell_turn.ensures.kept in
-    discard_within c.args.self.now c.discard-in-Err-BadFrame.new.self c.args.source c.requires.there
-    c.in-Ok.ensures.peers
-    (c.discard-in-Err-BadFrame.ensures ∙ ap (λ (e : EngineState). without_next e c.args.source) same)
-
-pub returns-in-Err-Limit-clause-exact : goal.returns-in-Err-Limit-clause-exact
-returns-in-Err-Limit-clause-exact t c =
-    let before : EngineState = c.spell_turn.new.self in
-    let mid : EngineState = c.take_heard.new.self in
-    let h : HeardText = heard_text c.in-Some-turn_in.heard in
-    let same = unheard_leaves (notice_in h.lesson before.payloads h.source.rank h.word) before mid h c.in-Err-Limit.field-0 c.in-Err-Limit.ensures.exact
-    ∙ c.spell_turn.ensures.kept in
-    stays _ c.args.turns c.args.at c.args.source c.args.self.now mid (grind (arith, common_steps, c.if-turns-eq0.false))
-    (inl refl) same
-
-pub returns : goal.returns
-returns t c =
+pub returns-clause-within : goal.returns-clause-within
+returns-clause-within t c =
     let old : EngineState = c.args.self.now in
     let before : EngineState = c.spell_turn.new.self in
     let mid : EngineState = c.take_heard.new.self in
     let h : HeardText = heard_text c.in-Some-turn_in.heard in
-    let same : mid ≡ old = unheard_leaves (notice_in h.lesson before.payloads h.source.rank h.word) before mid h c.in-Err-take_heard.field-0 c.in-Err-take_heard.ensures.exact
+    let why : Refusal = c.in-Err-take_heard.refused in
+    let same : mid ≡ old = unheard_leaves (notice_in h.lesson before.payloads h.source.rank h.word) before mid h why c.in-Err-take_heard.ensures.exact
     ∙ c.spell_turn.ensures.kept in
-    rw same (record {
-      exact = stays _ c.args.turns c.args.at c.args.source old old (grind (arith, common_steps, c.if-turns-eq0.false))
-          (inr refl) refl;
-      within = omega arith;
-      longer = omega arith;
-      known = refl;
-      placed = refl;
-      core_placed = refl;
-    })
+    omega (
+      arith,
+      c.discard_or_keep.ensures.within,
+      ap (λ (e : EngineState). length e.sessions.out) same,
+      ap (λ (e : EngineState). room e.sessions.peers) same,
+    )
+
+pub returns-clause-longer : goal.returns-clause-longer
+returns-clause-longer t c =
+    let old : EngineState = c.args.self.now in
+    let before : EngineState = c.spell_turn.new.self in
+    let mid : EngineState = c.take_heard.new.self in
+    let h : HeardText = heard_text c.in-Some-turn_in.heard in
+    let why : Refusal = c.in-Err-take_heard.refused in
+    let same : mid ≡ old = unheard_leaves (notice_in h.lesson before.payloads h.source.rank h.word) before mid h why c.in-Err-take_heard.ensures.exact
+    ∙ c.spell_turn.ensures.kept in
+    omega (arith, c.discard_or_keep.ensures.longer, ap (λ (e : EngineState). length e.sessions.out) same)
+
+pub returns-clause-known : goal.returns-clause-known
+returns-clause-known t c =
+    let old : EngineState = c.args.self.now in
+    let before : EngineState = c.spell_turn.new.self in
+    let mid : EngineState = c.take_heard.new.self in
+    let h : HeardText = heard_text c.in-Some-turn_in.heard in
+    let why : Refusal = c.in-Err-take_heard.refused in
+    let same : mid ≡ old = unheard_leaves (notice_in h.lesson before.payloads h.source.rank h.word) before mid h why c.in-Err-take_heard.ensures.exact
+    ∙ c.spell_turn.ensures.kept in
+    c.discard_or_keep.ensures.known ∙ ap (λ (e : EngineState). e.sessions.known) same

@@ -6,11 +6,11 @@ use Rattle.sessions.specs.Heard.{heard_text}
 use Rattle.engine.specs.Datagrams.{replies}
 use Rattle.engine_calls.specs.Refusals.{fault_of_sessions}
 use Rattle.engine.proofs.Replies.{replies_are_for}
-use Rattle.engine.proofs.parts.Parts.limit_of_heard.Goals as goal
+use Rattle.engine.proofs.datagrams.limit_of_news.Goals as goal
 
 pub returns-in-Some : goal.returns-in-Some
 returns-in-Some c =
-    let core = c.args.self.now.core.state in
+    let core = c.args.core.now.state in
     let h = heard_text c.args.heard in
     let count = c.frame_count-count.ensures ∙ ap (λ (n : NewsText). length (news_frames core n)) c.news_of.ensures in
     rw c.of_sessions.ensures
@@ -20,7 +20,7 @@ returns-in-Some c =
 
 pub returns-in-None : goal.returns-in-None
 returns-in-None c =
-    let core = c.args.self.now.core.state in
+    let core = c.args.core.now.state in
     let h = heard_text c.args.heard in
     let count = c.frame_count-count.ensures ∙ ap (λ (n : NewsText). length (news_frames core n)) c.news_of.ensures in
     ap fault_of_sessions

@@ -3,7 +3,7 @@ use Rattle.datagram.specs.Spelling.{request_text}
 use Rattle.sessions.specs.Heard.{heard_text}
 use Rattle.engine.proofs.Announced.{answer_is_for, mode_fault}
 use Rattle.engine.specs.Datagrams.{answer_to}
-use Rattle.engine.proofs.parts.Parts.fault_of_announcement.Goals as goal
+use Rattle.engine.proofs.outgoing_payloads.fault_of_announcement.Goals as goal
 
 pub returns : goal.returns
 returns c =
