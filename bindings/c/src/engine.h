@@ -1,0 +1,226 @@
+/* One rank of a job, as C programs see it: what the static library `libc_exports.a` exports.
+ *
+ * A rank knows no socket, no clock, no thread and no file. C tells it calls, datagrams and the time, and gets answers,
+ * data and datagrams. It never waits: what isn't ready is answered ENGINE_PENDING or ENGINE_BLOCKED, and C asks again
+ * once it has carried datagrams and told the time. All that MPI means is decided behind this border and proved: which
+ * message a receive takes, order, collectives, communicators, resending, every refusal. (MPI 3.1 is the standard.)
+ *
+ * What crosses is numbers, records of fixed size and slices of bytes. No record holds a pointer, and the rank keeps no
+ * pointer to what is C's: a send's data are copied in by the call, and what came is copied out by `kombazily_take`.
+ *
+ * What C owes: it gives a handle to one call at a time, and only to the thread that made it; a slice's bytes are there,
+ * and its pointer isn't null, even where its length is 0; slices and records that are written to overlap nothing else
+ * that the call is given. The numbers themselves may be anything.
+ */
+#ifndef KOMBAZILY_ENGINE_H
+#define KOMBAZILY_ENGINE_H
+
+#include <stdbool.h>
+#include <stddef.h>
+#include <stdint.h>
+
+/* A rank, or nothing where all of it is zero. C makes it `{0}`, and neither looks inside nor copies it. */
+struct engine_rank {
+    void *at;
+    uint64_t holds;
+};
+
+/* Where the rank stands in its job. Job, size and message limit are the same at all ranks of a job. */
+struct engine_place {
+    uint64_t job;           /* the job's number, which each datagram carries */
+    uint64_t message_limit; /* the most bytes of a send; a collective's block has 16 fewer. For now 1,048,576 alone */
+    uint16_t rank;          /* in `world`, below the size */
+    uint16_t size;          /* 1 to 1,024 */
+    uint16_t incarnation;   /* 0 at first, one more with each restart of this rank */
+};
+
+/* A request, or a message that a matching probe took out. */
+struct engine_request {
+    uint64_t key;
+    uint64_t serial;
+};
+
+/* What is asked for. Behind each: the fields of the call that it reads. The others may hold anything. */
+enum engine_call_kind {
+    ENGINE_ISEND = 1, /* communicator, peer, tag, basic; data: the elements. A standard send. STARTED */
+    ENGINE_ISSEND,    /* the same, synchronous: finished once a receive has its message. STARTED */
+    ENGINE_IRECV,     /* communicator, peer, tag, basic, count. STARTED */
+    ENGINE_TEST,      /* request: ends it if it is finished. DONE or PENDING */
+    ENGINE_LOOK,      /* request: whether it is finished, and leaves it. FACT (1 or 0); also while a call is blocked */
+    ENGINE_CANCEL,    /* request: of a receive. ACCEPTED; its test then tells whether it was in time */
+    ENGINE_IPROBE,    /* communicator, peer, tag. PROBED or NOTHING */
+    ENGINE_IMPROBE,   /* communicator, peer, tag: takes the message out. MATCHED or NOTHING */
+    ENGINE_MRECV,     /* request (the message), basic, count. DONE or BLOCKED */
+    ENGINE_FINISH,    /* the answer of the call that was BLOCKED, once: DONE or LEFT, or PENDING */
+    ENGINE_BARRIER,   /* communicator. This and all further ones: LEFT or BLOCKED */
+    ENGINE_BCAST,     /* communicator, peer (root), basic, count, has_data. Data at each member: the root's */
+    ENGINE_GATHER,    /* communicator, peer (root), basic; data: the own block. Data at the root: all, in rank order */
+    ENGINE_SCATTER,   /* communicator, peer (root), basic, count (of a block), has_data. Data: the own block */
+    ENGINE_REDUCE,    /* communicator, peer (root), basic, operation; data. Data at the root */
+    ENGINE_ALLREDUCE, /* communicator, basic, operation; data. Data at each member */
+    ENGINE_DUP,       /* communicator. LEFT with the new communicator */
+    ENGINE_SPLIT,     /* communicator, colour, order. LEFT with the new communicator, or ENGINE_NO_COMMUNICATOR */
+    ENGINE_RANK,      /* communicator: the own rank in it. FACT */
+    ENGINE_SIZE,      /* communicator: how many members. FACT */
+    ENGINE_MEMBERS,   /* communicator: their ranks in `world`, in order. FACT: how many; data: ENGINE_UINT16 */
+    ENGINE_COMPARE    /* communicator, other. FACT: ENGINE_IDENT .. ENGINE_UNEQUAL */
+};
+
+/* Basic types: of a message's elements. Two match where they are the same (3.3.1). */
+enum engine_basic {
+    ENGINE_INT8 = 1,
+    ENGINE_INT16,
+    ENGINE_INT32,
+    ENGINE_INT64,
+    ENGINE_UINT8,
+    ENGINE_UINT16,
+    ENGINE_UINT32,
+    ENGINE_UINT64,
+    ENGINE_BYTE
+};
+
+/* Operations of reductions (5.9.2). */
+enum engine_operation {
+    ENGINE_MAX = 1,
+    ENGINE_MIN,
+    ENGINE_SUM,
+    ENGINE_PROD,
+    ENGINE_LAND,
+    ENGINE_LOR,
+    ENGINE_LXOR,
+    ENGINE_BAND,
+    ENGINE_BOR,
+    ENGINE_BXOR
+};
+
+/* Communicators are named by their places among those that the rank holds. */
+#define ENGINE_WORLD UINT32_C(0)
+#define ENGINE_SELF UINT32_C(1)
+#define ENGINE_NO_COMMUNICATOR UINT32_MAX /* MPI_COMM_NULL */
+
+/* Peers and tags that are none. Every other negative one is a fault: 5 (ERR_RANK), 7 (ERR_ROOT) or 3 (ERR_TAG). */
+enum { ENGINE_ANY = -1, ENGINE_NULL = -2 };
+
+/* The colour of MPI_UNDEFINED; every other negative colour is a fault of C's, which is to be found before. */
+enum { ENGINE_NO_COLOUR = -1 };
+
+/* A call. */
+struct engine_call {
+    uint32_t kind;         /* an engine_call_kind */
+    uint32_t communicator; /* its place */
+    int32_t peer;          /* a target, a source (or ENGINE_ANY) or a root, in the communicator; or ENGINE_NULL */
+    int32_t tag;           /* 0 to 2,147,483,647; a receive or a probe may say ENGINE_ANY */
+    uint32_t basic;        /* an engine_basic */
+    uint32_t operation;    /* an engine_operation */
+    uint64_t count;        /* elements: of a receive's room, of a block */
+    struct engine_request request;
+    uint32_t other;    /* the communicator that is compared with */
+    int32_t colour;    /* 0 and more, or ENGINE_NO_COLOUR */
+    int32_t order;     /* the key of a split */
+    uint32_t has_data; /* BCAST, SCATTER: 1 where the slice holds the elements (at the root), 0 where none are handed in */
+};
+
+/* What a call answers. Behind each: the fields of the answer that it sets. The others are 0. */
+enum engine_answer_kind {
+    ENGINE_REFUSED,  /* number: why. Nothing changed */
+    ENGINE_STARTED,  /* request */
+    ENGINE_DONE,     /* outcome, number; of a receive: source, tag, count, basic, bytes */
+    ENGINE_PENDING,  /* not finished, nothing changed */
+    ENGINE_ACCEPTED, /* the cancel was taken */
+    ENGINE_BLOCKED,  /* the answer comes by FINISH; until then every call but FINISH and LOOK is refused with 6 */
+    ENGINE_LEFT,     /* a collective ended: number; basic, count, bytes where it gives data; a new communicator */
+    ENGINE_FACT,     /* fact */
+    ENGINE_PROBED,   /* source, tag, count, basic */
+    ENGINE_MATCHED,  /* request, source, tag, count, basic. Of the null process: key and serial are UINT64_MAX */
+    ENGINE_NOTHING   /* a probe found nothing */
+};
+
+/* How an operation ended. */
+enum engine_outcome {
+    ENGINE_SENT = 1,  /* a send: its data are on their way */
+    ENGINE_RECEIVED,  /* a receive: `bytes` bytes are there to be taken, `count` elements of type `basic` */
+    ENGINE_FAILED,    /* a receive that used its message up without its data: number 2 (another type) or 10 (too long) */
+    ENGINE_REPLACED,  /* the other rank was started anew: number 11 */
+    ENGINE_CANCELLED, /* a receive was cancelled in time */
+    ENGINE_EMPTY      /* the null request */
+};
+
+/* How two communicators compare (6.4.1): the fact of ENGINE_COMPARE. */
+enum engine_comparison { ENGINE_IDENT, ENGINE_CONGRUENT, ENGINE_SIMILAR, ENGINE_UNEQUAL };
+
+/* An answer. */
+struct engine_answer {
+    uint32_t kind;    /* an engine_answer_kind */
+    uint32_t number;  /* 0, or why it was refused or ended so: docs/NUMBERS.md */
+    uint32_t outcome; /* an engine_outcome */
+    uint32_t basic;   /* of the elements; 0 where it isn't known */
+    struct engine_request request;
+    int32_t source;        /* in the communicator; ENGINE_NULL of the null process */
+    int32_t tag;           /* ENGINE_ANY of the null process */
+    uint64_t count;        /* elements of the message */
+    uint64_t bytes;        /* so many bytes of data are there for kombazily_take */
+    uint64_t fact;         /* a number, or a comparison */
+    uint32_t communicator; /* the place of a new one, or ENGINE_NO_COMMUNICATOR */
+};
+
+/* Numbers beside those of docs/NUMBERS.md (1 to 14: calls, 21 to 41: datagrams and clocks). */
+enum engine_number {
+    ENGINE_NOTHING_HELD = 81, /* the handle holds no rank */
+    ENGINE_HELD_ALREADY = 82, /* kombazily_new: the handle holds a rank, which stays */
+    ENGINE_NO_SUCH_CALL = 83, /* the kind names no call */
+    ENGINE_OTHER_LIMIT = 84   /* kombazily_new: a message limit that isn't served */
+};
+
+/* What goes out: datagrams to one rank, one behind the other in the slice, all of one length but for the last, which
+ * may be shorter: as UDP_SEGMENT takes them. */
+struct engine_outgoing {
+    uint64_t kept_until; /* when a kept acknowledgement is to go, on the clock of kombazily_tick; 0 if none is kept */
+    uint32_t each;       /* the length of each datagram but the last */
+    uint32_t count;      /* how many */
+    uint16_t target;     /* the rank in `world` that they go to */
+};
+
+/* The room that one datagram may need: a slice of kombazily_next has as much at least. */
+enum { ENGINE_LONGEST_DATAGRAM = 1232 };
+
+/* Makes the rank of this place, at its start: `world` and `self` are there, nothing is pending, its clock is at 0.
+ * 0, or 5 (the rank isn't below the size), 13 (above 1,024 ranks), 14 (no memory), 82, 84. A refusal leaves the handle
+ * as it was. */
+uint32_t kombazily_new(struct engine_rank *rank, const struct engine_place *place);
+
+/* Gives its memory back. The handle holds nothing then; so it did where it held nothing. */
+void kombazily_free(struct engine_rank *rank);
+
+/* Answers a call. The data are the elements of sends and collectives, in the machine's own byte order, whole elements
+ * of the call's basic type; calls that name no data read none. Where the numbers name no call, the answer is refused:
+ * 81 (nothing held), 83 (kind), 2 (basic), 9 (operation), 1 (the data aren't whole elements, or a count can't be
+ * meant), in this order; else it is the engine's answer. */
+void kombazily_call(struct engine_rank *rank, const struct engine_call *call, const uint8_t *data, size_t length,
+                    struct engine_answer *answer);
+
+/* Copies data out that the last answer with `bytes` told of, in the machine's byte order: from the element `first` on,
+ * as many whole elements as are there and fit. How many bytes it put; what lies behind them is as it was. The data stay
+ * until an answer brings others, and may be taken in parts and as often as one likes. */
+size_t kombazily_take(struct engine_rank *rank, uint64_t first, uint8_t *into, size_t length);
+
+/* Takes in a datagram; its bytes may be anything. 0, or the number of the refusal: then nothing changed. */
+uint32_t kombazily_datagram(struct engine_rank *rank, const uint8_t *bytes, size_t length);
+
+/* The clock says `now`, in nanoseconds; its start is C's choice. The engine is told whole milliseconds. What was sent
+ * 20 ms ago or earlier and isn't acknowledged goes out again, and an acknowledgement that was kept back for 1 ms goes.
+ * 0, or 41 (an earlier call said more), 14, 81. */
+uint32_t kombazily_tick(struct engine_rank *rank, uint64_t now);
+
+/* Hands out what is to be sent next: at most `most` datagrams (1 where the kernel doesn't cut them apart), as many as
+ * fit. How many bytes it put; 0 where nothing is to go, or where `length` is too short for the next datagram, which
+ * then stays. To be called until it answers 0, behind each datagram, each call and each tick. Short acknowledgements
+ * are kept back for a millisecond of that clock, since a later one may stand for them; with `kept_too` none is: before
+ * C sleeps, and before it ends. A datagram may be lost, late or repeated: what has to come goes again. */
+size_t kombazily_next(struct engine_rank *rank, uint32_t most, bool kept_too, struct engine_outgoing *out,
+                      uint8_t *into, size_t length);
+
+/* Whether nothing waits and all that was sent is acknowledged (what is kept back or wasn't handed out yet doesn't
+ * count). A handle that holds nothing is idle. */
+bool kombazily_is_idle(struct engine_rank *rank);
+
+#endif
