@@ -117,7 +117,7 @@ struct engine_call {
     uint32_t other;    /* the communicator that is compared with */
     int32_t colour;    /* 0 and more, or ENGINE_NO_COLOUR */
     int32_t order;     /* the key of a split */
-    uint32_t has_data; /* BCAST, SCATTER: 1 where the slice holds the elements (at the root), 0 where none are handed in */
+    uint32_t has_data; /* BCAST, SCATTER: 1 where the slice has the elements (at the root), 0 where it has none */
 };
 
 /* What a call answers. Behind each: the fields of the answer that it sets. The others are 0. */
@@ -139,7 +139,7 @@ enum engine_answer_kind {
 enum engine_outcome {
     ENGINE_SENT = 1,  /* a send: its data are on their way */
     ENGINE_RECEIVED,  /* a receive: `bytes` bytes are there to be taken, `count` elements of type `basic` */
-    ENGINE_FAILED,    /* a receive that used its message up without its data: number 2 (another type) or 10 (too long) */
+    ENGINE_FAILED,    /* a receive whose message is used up, without its data: number 2 (another type) or 10 (too long) */
     ENGINE_REPLACED,  /* the other rank was started anew: number 11 */
     ENGINE_CANCELLED, /* a receive was cancelled in time */
     ENGINE_EMPTY      /* the null request */
