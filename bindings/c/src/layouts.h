@@ -1,0 +1,64 @@
+/* Where the data of a type stand in memory, and how they are put in a row: pure functions of their arguments. */
+#ifndef KOMBAZILY_LAYOUTS_H
+#define KOMBAZILY_LAYOUTS_H
+
+#include <stdbool.h>
+#include <stddef.h>
+
+/* Bytes of data that stand one behind the other, seen from the item's address. */
+struct stretch {
+    ptrdiff_t at;
+    size_t length;
+};
+
+/* Where the data of one item stand. The stretches are in the order in which the data go, and none is empty. */
+struct layout {
+    size_t size;      /* bytes of data */
+    ptrdiff_t lower;  /* the lower bound */
+    ptrdiff_t extent; /* from one item to the next */
+    size_t count;     /* of stretches */
+    struct stretch *stretches;
+};
+
+/* How making a layout ended. */
+enum layout_end { LAYOUT_MADE, LAYOUT_TOO_LARGE, LAYOUT_NO_MEMORY };
+
+/* Blocks of items: `length` of them from the item `at` on, counted in extents of the item. */
+struct block {
+    int length;
+    ptrdiff_t at;
+};
+
+/* The layout of one element of so many bytes. */
+enum layout_end layout_of_element(size_t size, struct layout *made);
+
+/* The layout of blocks of items (4.1.2): in order. It is the caller's, to be freed by layout_free. */
+enum layout_end layout_of_blocks(const struct layout *item, const struct block *blocks, size_t count,
+                                 struct layout *made);
+void layout_free(struct layout *layout);
+
+/* Whether so many items have their data in one row in memory, without gaps. */
+bool is_row(const struct layout *layout, size_t items);
+
+/* The bytes of data of so many items, or SIZE_MAX where that can't be told. */
+size_t data_size(const struct layout *layout, size_t items);
+
+/* Puts the data of so many items in a row. */
+void pack(const struct layout *layout, const void *items, size_t count, unsigned char *row);
+
+/* Puts the first bytes of a row where they belong; what they don't reach is as it was. */
+void unpack(const struct layout *layout, const unsigned char *row, size_t length, void *items);
+
+/* Where the data of items are that stand in a row, and where they are put: the address of their first byte. */
+static inline void *row_of(const struct layout *layout, const void *items) {
+    return layout->count == 0 ? (void *)items : (char *)items + layout->stretches[0].at;
+}
+
+/* The row of so many items' data: the items themselves where they are one, else room that is to be freed behind its
+ * use. NULL where there is no memory, and then only. `items` may be NULL where there are no data. */
+const void *data_row(const struct layout *layout, const void *items, size_t count, void **room);
+
+/* So many items were made of so many bytes of data, or -1 if they aren't whole items. */
+ptrdiff_t whole_items(const struct layout *layout, size_t bytes);
+
+#endif
