@@ -17,7 +17,7 @@ struct datatype {
     uint32_t basic;     /* what the engine carries it as: an engine_basic */
     size_t unit;        /* bytes of one element of the engine */
     enum family family; /* of its basic type */
-    int base;           /* the place of its basic type among the predefined ones */
+    size_t element;     /* bytes of one element of its basic type, as C has it */
     struct layout layout;
     bool is_committed;
     bool is_predefined;

@@ -1,0 +1,71 @@
+/* Checks of what calls are given: see errors.h. */
+#include "errors.h"
+#include "internal.h"
+
+#include <stdio.h>
+
+void check_running(const char *call) {
+    if (process.phase == RUNNING) return;
+    fflush(stdout);
+    fprintf(stderr, "rank %d: %s: called %s\n", process.rank, call,
+            process.phase == FINALIZED ? "after MPI_Finalize" : "before MPI_Init");
+    end_job(MPI_ERR_OTHER);
+}
+
+int check_comm(MPI_Comm comm, const char *call, struct communicator **found) {
+    *found = communicator_of(comm);
+    if (*found != NULL) return MPI_SUCCESS;
+    if (comm == MPI_COMM_NULL) return raise_on(MPI_COMM_WORLD, call, MPI_ERR_COMM, "the communicator is MPI_COMM_NULL");
+    return raise_on(MPI_COMM_WORLD, call, MPI_ERR_COMM, "no such communicator");
+}
+
+int check_count(MPI_Comm comm, const char *call, int count) {
+    return count >= 0 ? MPI_SUCCESS : raise_on(comm, call, MPI_ERR_COUNT, "a count of %d", count);
+}
+
+int check_type(MPI_Comm comm, const char *call, MPI_Datatype type, struct datatype **found) {
+    *found = datatype_of(type);
+    if (type == MPI_DATATYPE_NULL) return raise_on(comm, call, MPI_ERR_TYPE, "the type is MPI_DATATYPE_NULL");
+    if (*found == NULL) return raise_on(comm, call, MPI_ERR_TYPE, "no such type");
+    return (*found)->is_committed ? MPI_SUCCESS : raise_on(comm, call, MPI_ERR_TYPE, "the type isn't committed");
+}
+
+int check_buffer(MPI_Comm comm, const char *call, const void *buf, int count, const struct datatype *type) {
+    if (buf != NULL || count == 0 || type->layout.size == 0) return MPI_SUCCESS;
+    return raise_on(comm, call, MPI_ERR_BUFFER, "the buffer of %d items is NULL", count);
+}
+
+/* Tells of a rank that the communicator hasn't. */
+static int no_such_rank(MPI_Comm comm, const char *call, const struct communicator *in, int class, int rank) {
+    const char *what = class == MPI_ERR_ROOT ? "root" : "rank";
+    return raise_on(comm, call, class, "%s %d of a communicator of %d", what, rank, in->size);
+}
+
+int check_target(MPI_Comm comm, const char *call, const struct communicator *in, int rank) {
+    if (rank == MPI_PROC_NULL || (rank >= 0 && rank < in->size)) return MPI_SUCCESS;
+    if (rank == MPI_ANY_SOURCE) return raise_on(comm, call, MPI_ERR_RANK, "the destination is MPI_ANY_SOURCE");
+    return no_such_rank(comm, call, in, MPI_ERR_RANK, rank);
+}
+
+int check_source(MPI_Comm comm, const char *call, const struct communicator *in, int rank) {
+    if (rank == MPI_ANY_SOURCE) return MPI_SUCCESS;
+    return check_target(comm, call, in, rank);
+}
+
+int check_root(MPI_Comm comm, const char *call, const struct communicator *in, int rank) {
+    return rank >= 0 && rank < in->size ? MPI_SUCCESS : no_such_rank(comm, call, in, MPI_ERR_ROOT, rank);
+}
+
+int check_tag(MPI_Comm comm, const char *call, int tag) {
+    if (tag >= 0) return MPI_SUCCESS;
+    if (tag == MPI_ANY_TAG) return raise_on(comm, call, MPI_ERR_TAG, "the tag of a send is MPI_ANY_TAG");
+    return raise_on(comm, call, MPI_ERR_TAG, "tag %d", tag);
+}
+
+int check_receive_tag(MPI_Comm comm, const char *call, int tag) {
+    return tag == MPI_ANY_TAG ? MPI_SUCCESS : check_tag(comm, call, tag);
+}
+
+int check_result(MPI_Comm comm, const char *call, const void *result, const char *name) {
+    return result != NULL ? MPI_SUCCESS : raise_on(comm, call, MPI_ERR_ARG, "%s is NULL", name);
+}
