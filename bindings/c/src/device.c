@@ -1,0 +1,202 @@
+/* The device: one UDP socket at 127.0.0.1 and the clock. See device.h. */
+#define _GNU_SOURCE
+#include "device.h"
+
+#include <arpa/inet.h>
+#include <errno.h>
+#include <netinet/in.h>
+#include <netinet/udp.h>
+#include <poll.h>
+#include <sched.h>
+#include <string.h>
+#include <sys/socket.h>
+#include <time.h>
+#include <unistd.h>
+
+#ifndef UDP_SEGMENT
+#define UDP_SEGMENT 103
+#endif
+#ifndef UDP_GRO
+#define UDP_GRO 104
+#endif
+
+enum {
+    SOCKET_ROOM = 16 << 20,     /* bytes that the system is asked to keep for a socket in each direction */
+    MOST_TOGETHER = 60,         /* datagrams that the system is handed as one: it takes no more than 64 */
+    LONGEST_TOGETHER = 65000,   /* and their bytes: an IP packet has no more than 65,535 */
+    LEAST_ROOM = 2048,          /* more than the longest datagram has */
+    OUT_ROOM = 4 * LONGEST_TOGETHER,
+    MOST_GROUPS = 32,           /* of datagrams that are handed over in one call */
+    MOST_HEARD = 8,             /* packets that are taken in one call */
+    HEARD_ROOM = 1 << 16
+};
+
+/* Datagrams to one rank that stand in a row, all of one length; the last may be shorter. */
+struct group {
+    uint16_t target, each;
+    uint32_t count;
+    unsigned char *bytes;
+    size_t len;
+};
+
+/* Room for one control message with a number. */
+union control {
+    char room[CMSG_SPACE(sizeof(int))];
+    struct cmsghdr aligned;
+};
+
+static int own_socket = -1, first_port_of_job;
+static bool can_segment;
+
+static unsigned char out_room[OUT_ROOM];
+static size_t out_len;
+static struct group groups[MOST_GROUPS];
+static int group_count;
+
+static unsigned char heard_room[MOST_HEARD][HEARD_ROOM];
+static struct mmsghdr heard[MOST_HEARD];
+static struct iovec heard_parts[MOST_HEARD];
+static union control heard_controls[MOST_HEARD];
+
+static struct sockaddr_in address_of(int rank) {
+    return (struct sockaddr_in){.sin_family = AF_INET,
+                                .sin_port = htons((uint16_t)(first_port_of_job + rank)),
+                                .sin_addr.s_addr = htonl(INADDR_LOOPBACK)};
+}
+
+/* Asks for large rooms, and for datagrams that are cut and joined by the system where it can. */
+static void set_options(void) {
+    int room = SOCKET_ROOM, on = 1, none = 0;
+    if (setsockopt(own_socket, SOL_SOCKET, SO_RCVBUFFORCE, &room, sizeof room) != 0)
+        (void)setsockopt(own_socket, SOL_SOCKET, SO_RCVBUF, &room, sizeof room);
+    if (setsockopt(own_socket, SOL_SOCKET, SO_SNDBUFFORCE, &room, sizeof room) != 0)
+        (void)setsockopt(own_socket, SOL_SOCKET, SO_SNDBUF, &room, sizeof room);
+    can_segment = setsockopt(own_socket, IPPROTO_UDP, UDP_SEGMENT, &none, sizeof none) == 0;
+    (void)setsockopt(own_socket, IPPROTO_UDP, UDP_GRO, &on, sizeof on);
+}
+
+bool device_open(int rank, int first_port) {
+    first_port_of_job = first_port;
+    own_socket = socket(AF_INET, SOCK_DGRAM | SOCK_NONBLOCK | SOCK_CLOEXEC, 0);
+    if (own_socket < 0) return false;
+    struct sockaddr_in own = address_of(rank);
+    if (bind(own_socket, (struct sockaddr *)&own, sizeof own) != 0) {
+        int why = errno;
+        device_close();
+        errno = why;
+        return false;
+    }
+    set_options();
+    return true;
+}
+
+void device_close(void) {
+    if (own_socket >= 0) close(own_socket);
+    own_socket = -1;
+    out_len = 0;
+    group_count = 0;
+}
+
+bool device_is_open(void) { return own_socket >= 0; }
+
+unsigned char *device_room(size_t *len) {
+    if (group_count == MOST_GROUPS || out_len + LEAST_ROOM > OUT_ROOM) device_flush();
+    *len = OUT_ROOM - out_len < LONGEST_TOGETHER ? OUT_ROOM - out_len : LONGEST_TOGETHER;
+    return out_room + out_len;
+}
+
+uint32_t device_most(void) { return can_segment ? MOST_TOGETHER : 1; }
+
+void device_put(uint16_t target, uint32_t count, uint32_t each, size_t len) {
+    groups[group_count++] = (struct group){.target = target, .each = (uint16_t)each, .count = count, .bytes = out_room + out_len, .len = len};
+    out_len += len;
+}
+
+/* The message by which the system is handed a group. */
+static void describe(const struct group *group, struct msghdr *message, struct sockaddr_in *to, struct iovec *part, union control *control) {
+    *to = address_of(group->target);
+    *part = (struct iovec){group->bytes, group->len};
+    *message = (struct msghdr){.msg_name = to, .msg_namelen = sizeof *to, .msg_iov = part, .msg_iovlen = 1};
+    if (group->count == 1) return;
+    memset(control, 0, sizeof *control);
+    message->msg_control = control->room;
+    message->msg_controllen = CMSG_SPACE(sizeof(uint16_t));
+    struct cmsghdr *length = CMSG_FIRSTHDR(message);
+    length->cmsg_level = IPPROTO_UDP;
+    length->cmsg_type = UDP_SEGMENT;
+    length->cmsg_len = CMSG_LEN(sizeof(uint16_t));
+    memcpy(CMSG_DATA(length), &group->each, sizeof group->each);
+}
+
+void device_flush(void) {
+    static struct mmsghdr messages[MOST_GROUPS];
+    static struct sockaddr_in targets[MOST_GROUPS];
+    static struct iovec parts[MOST_GROUPS];
+    static union control controls[MOST_GROUPS];
+    for (int i = 0; i < group_count; i++) describe(&groups[i], &messages[i].msg_hdr, &targets[i], &parts[i], &controls[i]);
+    for (int at = 0; at < group_count;) {
+        int sent = sendmmsg(own_socket, messages + at, (unsigned)(group_count - at), 0);
+        if (sent > 0) {
+            at += sent;
+            continue;
+        }
+        if (errno == EINTR) continue;
+        /* What the system doesn't take is lost, as any datagram may be, and goes out again. */
+        if (groups[at].count > 1 && (errno == EINVAL || errno == EIO || errno == EMSGSIZE)) can_segment = false;
+        at++;
+    }
+    group_count = 0;
+    out_len = 0;
+}
+
+/* The length of the datagrams that the system joined to a packet of so many bytes. */
+static size_t length_of_each(struct msghdr *message, size_t len) {
+    for (struct cmsghdr *it = CMSG_FIRSTHDR(message); it != NULL; it = CMSG_NXTHDR(message, it)) {
+        if (it->cmsg_level != IPPROTO_UDP || it->cmsg_type != UDP_GRO) continue;
+        int each = 0;
+        memcpy(&each, CMSG_DATA(it), sizeof each);
+        if (each > 0) return (size_t)each;
+    }
+    return len;
+}
+
+/* Takes in what has come, without waiting: how many packets. */
+static int take_packets(void) {
+    for (int i = 0; i < MOST_HEARD; i++) {
+        heard_parts[i] = (struct iovec){heard_room[i], HEARD_ROOM};
+        heard[i].msg_hdr = (struct msghdr){.msg_iov = &heard_parts[i],
+                                           .msg_iovlen = 1,
+                                           .msg_control = heard_controls[i].room,
+                                           .msg_controllen = sizeof heard_controls[i].room};
+    }
+    return recvmmsg(own_socket, heard, MOST_HEARD, MSG_DONTWAIT, NULL);
+}
+
+bool device_hear(device_hearer *hearer) {
+    int count = take_packets();
+    for (int i = 0; i < count; i++) {
+        size_t len = heard[i].msg_len;
+        if (len > 0) hearer(heard_room[i], len, length_of_each(&heard[i].msg_hdr, len));
+    }
+    return count > 0;
+}
+
+void device_sleep(int milliseconds) {
+    struct pollfd came = {.fd = own_socket, .events = POLLIN};
+    (void)poll(&came, own_socket >= 0, milliseconds);
+}
+
+uint64_t device_nanoseconds(void) {
+    struct timespec time;
+    clock_gettime(CLOCK_MONOTONIC, &time);
+    return (uint64_t)time.tv_sec * 1000000000u + (uint64_t)time.tv_nsec;
+}
+
+int device_processors(void) {
+    cpu_set_t set;
+    if (sched_getaffinity(0, sizeof set, &set) != 0) return 1;
+    int count = CPU_COUNT(&set);
+    return count > 0 ? count : 1;
+}
+
+void device_yield(void) { sched_yield(); }
