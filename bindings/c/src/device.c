@@ -21,13 +21,13 @@
 #endif
 
 enum {
-    SOCKET_ROOM = 16 << 20,     /* bytes that the system is asked to keep for a socket in each direction */
-    MOST_TOGETHER = 60,         /* datagrams that the system is handed as one: it takes no more than 64 */
-    LONGEST_TOGETHER = 65000,   /* and their bytes: an IP packet has no more than 65,535 */
-    LEAST_ROOM = 2048,          /* more than the longest datagram has */
+    SOCKET_ROOM = 16 << 20,   /* bytes that the system is asked to keep for a socket in each direction */
+    MOST_TOGETHER = 60,       /* datagrams that the system is handed as one: it takes no more than 64 */
+    LONGEST_TOGETHER = 65000, /* and their bytes: an IP packet has no more than 65,535 */
+    LEAST_ROOM = 2048,        /* more than the longest datagram has */
     OUT_ROOM = 4 * LONGEST_TOGETHER,
-    MOST_GROUPS = 32,           /* of datagrams that are handed over in one call */
-    MOST_HEARD = 8,             /* packets that are taken in one call */
+    MOST_GROUPS = 32, /* of datagrams that are handed over in one call */
+    MOST_HEARD = 8,   /* packets that are taken in one call */
     HEARD_ROOM = 1 << 16
 };
 
@@ -108,12 +108,14 @@ unsigned char *device_room(size_t *len) {
 uint32_t device_most(void) { return can_segment ? MOST_TOGETHER : 1; }
 
 void device_put(uint16_t target, uint32_t count, uint32_t each, size_t len) {
-    groups[group_count++] = (struct group){.target = target, .each = (uint16_t)each, .count = count, .bytes = out_room + out_len, .len = len};
+    groups[group_count++] = (struct group){
+        .target = target, .each = (uint16_t)each, .count = count, .bytes = out_room + out_len, .len = len};
     out_len += len;
 }
 
 /* The message by which the system is handed a group. */
-static void describe(const struct group *group, struct msghdr *message, struct sockaddr_in *to, struct iovec *part, union control *control) {
+static void describe(const struct group *group, struct msghdr *message, struct sockaddr_in *to, struct iovec *part,
+                     union control *control) {
     *to = address_of(group->target);
     *part = (struct iovec){group->bytes, group->len};
     *message = (struct msghdr){.msg_name = to, .msg_namelen = sizeof *to, .msg_iov = part, .msg_iovlen = 1};
@@ -133,7 +135,8 @@ void device_flush(void) {
     static struct sockaddr_in targets[MOST_GROUPS];
     static struct iovec parts[MOST_GROUPS];
     static union control controls[MOST_GROUPS];
-    for (int i = 0; i < group_count; i++) describe(&groups[i], &messages[i].msg_hdr, &targets[i], &parts[i], &controls[i]);
+    for (int i = 0; i < group_count; i++)
+        describe(&groups[i], &messages[i].msg_hdr, &targets[i], &parts[i], &controls[i]);
     for (int at = 0; at < group_count;) {
         int sent = sendmmsg(own_socket, messages + at, (unsigned)(group_count - at), 0);
         if (sent > 0) {

@@ -1,5 +1,5 @@
-/* The device: datagrams between the ranks of a job, and the clock. Any datagram may be lost, repeated or late: nothing else rests on the
- * device, and no other file knows a socket or a clock. */
+/* The device: datagrams between the ranks of a job, and the clock. Any datagram may be lost, repeated or late: nothing
+ * else rests on the device, and no other file knows a socket or a clock. */
 #ifndef KOMBAZILY_DEVICE_H
 #define KOMBAZILY_DEVICE_H
 
@@ -7,7 +7,8 @@
 #include <stddef.h>
 #include <stdint.h>
 
-/* Opens the socket of a rank, at the port `first_port + rank` of this machine: whether it could. `errno` says why it couldn't. */
+/* Opens the socket of a rank, at the port `first_port + rank` of this machine: whether it could. `errno` says why it
+ * couldn't. */
 bool device_open(int rank, int first_port);
 void device_close(void);
 bool device_is_open(void);
@@ -16,13 +17,14 @@ bool device_is_open(void);
 unsigned char *device_room(size_t *len);
 /* How many datagrams may stand in the room: 1 where the system doesn't cut them apart. */
 uint32_t device_most(void);
-/* What stands in the room goes to this rank, at the next device_flush at the latest: so many datagrams behind one another, each of so
- * many bytes but for the last, which may have fewer; `len` bytes in all. */
+/* What stands in the room goes to this rank, at the next device_flush at the latest: so many datagrams behind one
+ * another, each of so many bytes but for the last, which may have fewer; `len` bytes in all. */
 void device_put(uint16_t target, uint32_t count, uint32_t each, size_t len);
 /* Hands all that goes out to the system. */
 void device_flush(void);
 
-/* Who is handed what came: some bytes, in which datagrams of `each` bytes stand behind one another, of which the last may be shorter. */
+/* Who is handed what came: some bytes, in which datagrams of `each` bytes stand behind one another, of which the last
+ * may be shorter. */
 typedef void device_hearer(const unsigned char *bytes, size_t len, size_t each);
 /* Hands over what has come, if anything has, and doesn't wait: whether anything had. */
 bool device_hear(device_hearer *hearer);

@@ -1,5 +1,5 @@
-/* What the process, its progress and its requests are to the other files of the library; a program sees none of it. Errors, types and
- * communicators have headers of their own. Each section says in which file its functions stand. */
+/* What the process, its progress and its requests are to the other files of the library; a program sees none of it.
+ * Errors, types and communicators have headers of their own. Each section says in which file its functions stand. */
 #ifndef KOMBAZILY_INTERNAL_H
 #define KOMBAZILY_INTERNAL_H
 
@@ -10,6 +10,8 @@
 #include <stddef.h>
 #include <stdint.h>
 
+struct datatype;
+
 /* ---- environment.c ---- */
 
 enum phase { BEFORE_INIT, RUNNING, FINALIZED };
@@ -17,54 +19,108 @@ enum phase { BEFORE_INIT, RUNNING, FINALIZED };
 /* This process: its place in the job. */
 struct process {
     enum phase phase;
-    int rank, size;         /* in MPI_COMM_WORLD */
-    uint16_t incarnation;
+    int rank; /* in MPI_COMM_WORLD */
+    int size;
+    int incarnation;
     uint64_t job;
-    int first_port;         /* that of rank 0 */
-    long patience;          /* milliseconds; 0: no time after which a rank gives up */
+    int first_port; /* that of rank 0 */
+    long patience;  /* milliseconds; 0: there is no time after which a rank gives up */
     int thread_level;
 };
 extern struct process process;
 
 /* The engine of this rank. */
-extern struct rank_held engine;
+extern struct engine_rank engine;
+
+/* The status of a rank that gave up, as of every program here. */
+enum { STATUS_PATIENCE = 4 };
 
 /* Ends this process with this status, and so the job: the launcher ends the others. */
 _Noreturn void end_job(int status);
 
 /* ---- progress.c ---- */
 
+/* Asks the engine. Data may be NULL where there are none. */
+void call_engine(const struct engine_call *call, const void *data, size_t len, struct engine_answer *answer);
+/* The answer of a call that was BLOCKED, once it is there: for collectives, and receives of matched messages. An answer
+ * of another kind is one already. */
+void await_finish(struct engine_answer *answer);
+
 /* Takes in what has come and sends what is to go out; doesn't wait. */
 void progress(void);
-/* Sends what the engine wants sent. */
+/* Sends what is to go out. To be called behind each call to the engine that begins something. */
 void progress_out(void);
-/* Waits a little for something to come, and takes it in: for loops that wait. */
+/* Waits a little for something to come, and takes it in: for loops that wait, behind progress_begin_wait. */
 void progress_wait(void);
+/* From now on counts the time after which a rank gives up. */
+void progress_begin_wait(void);
+/* Waits until all that was sent is acknowledged, or so long, or without end (-1): whether it is. */
+bool progress_until_idle(int milliseconds);
+/* At the start of the process, once its place is known. */
+void progress_open(void);
 
 /* ---- requests.c ---- */
 
 enum request_kind { REQUEST_SEND, REQUEST_RECEIVE };
 
-struct datatype;
+/* Numbers of the engine that C tells apart (docs/NUMBERS.md). */
+enum { NUMBER_TRUNCATED = 10, NUMBER_NO_MEMORY = 14 };
 
 /* An operation that was begun. */
 struct request {
-    struct rank_request own;        /* what the engine knows it by */
+    struct engine_request own; /* what the engine knows it by */
     enum request_kind kind;
-    bool is_freed;                  /* the program has let it go */
-    const struct datatype *type;
-    void *buf;                      /* where the data of a receive go */
-    size_t count;                   /* so many elements there is room for */
-    void *packed;                   /* room for them in a row, where the type isn't dense */
-    MPI_Comm comm;                  /* whose error handler is told */
-    const char *call;               /* the call that began it */
+    bool is_ended;   /* it is at its end: `number` and `end` tell how */
+    uint32_t number; /* 0, or why it failed */
+    MPI_Status end;
+    struct datatype *type; /* of what is received, and where it goes */
+    void *buf;
+    MPI_Comm comm;         /* whose error handler is told */
+    struct request *other; /* the send that ends together with this receive, or NULL */
+    struct request *next;  /* among those that the program let go */
 };
 
-/* A send or a receive over the engine's number of a communicator, for calls that are made of several: nothing is checked but by the
- * engine. 0, or the number of a refusal. What is begun must be ended by end_request. */
-int begin_send(struct request *request, uint32_t place, const void *buf, int count, const struct datatype *type, int target, int tag,
-               bool is_synchronous);
-int begin_receive(struct request *request, uint32_t place, void *buf, int count, const struct datatype *type, int source, int tag);
-/* Waits until it is at its end: 0, or the number of its failure. */
-int end_request(struct request *request, MPI_Status *status);
+/* Whether a request is at its end now. What it received then is where it belongs. */
+bool is_at_end(struct request *request);
+/* Notes that it is, by what the engine answered. */
+void end_request(struct request *request, const struct engine_answer *answer);
+/* Waits until it is: 0, or the number of its failure. */
+uint32_t await_request(struct request *request);
+/* Tells the error handler why a request failed. */
+int raise_end(const char *call, const struct request *request);
+/* Gives the memory of a request back that has its own. */
+void forget_request(struct request *request);
+
+/* The handle of a request, which is copied to memory of its own. MPI_REQUEST_NULL where there is none. */
+MPI_Request publish_request(const struct request *request);
+/* The request of a handle, or NULL; and the check: 0 and NULL of MPI_REQUEST_NULL, an error of what is no request. */
+struct request *request_of(MPI_Request handle);
+int check_request(const char *call, MPI_Request handle, struct request **found);
+/* Ends a handle and its request. */
+void unpublish_request(MPI_Request *handle);
+
+/* Ends those that are at their ends of the requests that the program let go. */
+void settle_freed(void);
+bool has_freed(void);
+/* Cancels all receives that wait; gives all requests back that are left. */
+void cancel_requests(void);
+void close_requests(void);
+/* Of probes.c: the messages that were taken out. */
+void close_messages(void);
+
+/* What a probe tells, or an operation that ended. */
+MPI_Status status_of(const struct engine_answer *answer);
+/* The status of null requests (3.7.3). */
+MPI_Status empty_status(void);
+/* Fills a status, if one is wanted. */
+void put_status(MPI_Status *status, const MPI_Status *of);
+
+/* ---- point_to_point.c ---- */
+
+/* A send or a receive over the engine's number of a communicator, for calls that are made of several: nothing is
+ * checked but by the engine. 0, or the number of a refusal. What was begun must be ended by await_request. */
+uint32_t begin_send(struct request *request, uint32_t place, bool is_synchronous, const void *buf, int count,
+                    const struct datatype *type, int target, int tag);
+uint32_t begin_receive(struct request *request, uint32_t place, void *buf, int count, struct datatype *type, int source,
+                       int tag);
 #endif

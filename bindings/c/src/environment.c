@@ -1,0 +1,206 @@
+/* The beginning and the end of MPI in a process, and what a program may ask of its surroundings (MPI 3.1, 8 and 12.4).
+ */
+#define _GNU_SOURCE
+#include "device.h"
+#include "errors.h"
+#include "internal.h"
+#include "place.h"
+#include "types.h"
+
+#include <errno.h>
+#include <stdarg.h>
+#include <stdio.h>
+#include <stdlib.h>
+#include <string.h>
+#include <threads.h>
+#include <unistd.h>
+
+enum {
+    STATUS_PLACE = 2, /* what the launcher tells of the place is wrong */
+    STATUS_SOCKET = 3,
+    MESSAGE_LIMIT = 1 << 20, /* bytes of a message */
+    LAST_MILLISECONDS = 100  /* so long a rank that ends waits for the last acknowledgements of all */
+};
+
+struct process process = {.size = 1};
+struct engine_rank engine;
+static thrd_t main_thread;
+
+_Noreturn void end_job(int status) {
+    fflush(NULL);
+    _exit(status & 255 ? status & 255 : 1);
+}
+
+/* ---- the beginning ---- */
+
+/* Ends a process that can't begin. */
+static _Noreturn void refuse_start(int status, const char *cause, const char *detail) {
+    fflush(stdout);
+    fprintf(stderr, "rank %d: MPI_Init: %s%s\n", process.rank, cause, detail);
+    end_job(status);
+}
+
+/* Takes words of the launcher out of the program's. */
+static void drop_words(int taken, int *argc, char ***argv) {
+    memmove(*argv + 1, *argv + 1 + taken, (size_t)(*argc - taken) * sizeof **argv);
+    *argc -= taken;
+}
+
+/* The place of this process: from words, else from the environment, else a job of it alone. */
+static void find_place(int *argc, char ***argv) {
+    struct place place = {.size = 1, .port = 1};
+    const char *fault = NULL;
+    int taken = 0;
+    enum place_source source = PLACE_NONE;
+    if (argc != NULL && argv != NULL) source = place_in_words(*argc, *argv, &place, &taken, &fault);
+    if (source == PLACE_TOLD) drop_words(taken, argc, argv);
+    if (source == PLACE_NONE) source = place_in_environment(getenv, &place, &fault);
+    if (source == PLACE_FAULTY) refuse_start(STATUS_PLACE, "its place is told wrongly: ", fault);
+    process.rank = (int)place.rank;
+    process.size = (int)place.size;
+    process.incarnation = (int)place.incarnation;
+    process.job = place.job;
+    process.first_port = (int)place.port;
+    process.patience = (long)place.patience;
+}
+
+static void open_engine(void) {
+    const struct engine_place place = {.job = process.job,
+                                       .message_limit = MESSAGE_LIMIT,
+                                       .rank = (uint16_t)process.rank,
+                                       .size = (uint16_t)process.size,
+                                       .incarnation = (uint16_t)process.incarnation};
+    uint32_t number = kombazily_new(&engine, &place);
+    if (number != 0) refuse_start(STATUS_PLACE, "the engine refuses its place: ", cause_of(number));
+}
+
+/* A job of one process needs no socket. */
+static void open_device(void) {
+    if (process.size == 1 || device_open(process.rank, process.first_port)) return;
+    char port[64];
+    snprintf(port, sizeof port, "%d: %s", process.first_port + process.rank, strerror(errno));
+    refuse_start(STATUS_SOCKET, "no socket at port ", port);
+}
+
+int MPI_Init_thread(int *argc, char ***argv, int required, int *provided) {
+    static const char call[] = "MPI_Init";
+    if (process.phase != BEFORE_INIT) return raise_on(MPI_COMM_WORLD, call, MPI_ERR_OTHER, "it was called before");
+    find_place(argc, argv);
+    open_engine();
+    open_device();
+    progress_open();
+    process.phase = RUNNING;
+    main_thread = thrd_current();
+    process.thread_level = required < MPI_THREAD_SERIALIZED ? required : MPI_THREAD_SERIALIZED;
+    if (provided != NULL) *provided = process.thread_level;
+    progress();
+    return open_communicators();
+}
+
+int MPI_Init(int *argc, char ***argv) { return MPI_Init_thread(argc, argv, MPI_THREAD_SINGLE, NULL); }
+
+int MPI_Initialized(int *flag) {
+    *flag = process.phase != BEFORE_INIT;
+    return MPI_SUCCESS;
+}
+
+/* ---- the end ---- */
+
+/* All that this rank sent is acknowledged before it enters a barrier; so behind the barrier nobody has anything to say
+ * but what belongs to the barrier itself, and of that only an acknowledgement may be missed. */
+static void leave_job(void) {
+    const struct engine_call barrier = {.kind = ENGINE_BARRIER, .communicator = ENGINE_WORLD};
+    struct engine_answer answer;
+    progress_until_idle(-1);
+    call_engine(&barrier, NULL, 0, &answer);
+    await_finish(&answer);
+    progress_until_idle(LAST_MILLISECONDS);
+}
+
+int MPI_Finalize(void) {
+    check_running("MPI_Finalize");
+    cancel_requests();
+    settle_freed();
+    if (device_is_open()) leave_job();
+    close_requests();
+    close_messages();
+    close_communicators();
+    close_types();
+    device_close();
+    kombazily_free(&engine);
+    process.phase = FINALIZED;
+    return MPI_SUCCESS;
+}
+
+int MPI_Finalized(int *flag) {
+    *flag = process.phase == FINALIZED;
+    return MPI_SUCCESS;
+}
+
+int MPI_Abort(MPI_Comm comm, int errorcode) {
+    (void)comm;
+    fflush(stdout);
+    fprintf(stderr, "rank %d: MPI_Abort: code %d\n", process.rank, errorcode);
+    end_job(errorcode);
+}
+
+/* ---- threads ---- */
+
+int MPI_Query_thread(int *provided) {
+    check_running("MPI_Query_thread");
+    *provided = process.thread_level;
+    return MPI_SUCCESS;
+}
+
+int MPI_Is_thread_main(int *flag) {
+    check_running("MPI_Is_thread_main");
+    *flag = thrd_equal(thrd_current(), main_thread) != 0;
+    return MPI_SUCCESS;
+}
+
+/* ---- surroundings ---- */
+
+int MPI_Get_version(int *version, int *subversion) {
+    *version = MPI_VERSION;
+    *subversion = MPI_SUBVERSION;
+    return MPI_SUCCESS;
+}
+
+int MPI_Get_library_version(char *version, int *resultlen) {
+    *resultlen = snprintf(version, MPI_MAX_LIBRARY_VERSION_STRING, "Kombazily, a part of MPI %d.%d", MPI_VERSION,
+                          MPI_SUBVERSION);
+    return MPI_SUCCESS;
+}
+
+int MPI_Get_processor_name(char *name, int *resultlen) {
+    check_running("MPI_Get_processor_name");
+    if (gethostname(name, MPI_MAX_PROCESSOR_NAME) != 0) strcpy(name, "localhost");
+    name[MPI_MAX_PROCESSOR_NAME - 1] = '\0';
+    *resultlen = (int)strlen(name);
+    return MPI_SUCCESS;
+}
+
+double MPI_Wtime(void) { return (double)device_nanoseconds() * 1e-9; }
+
+double MPI_Wtick(void) { return 1e-9; }
+
+int MPI_Alloc_mem(MPI_Aint size, MPI_Info info, void *baseptr) {
+    static const char call[] = "MPI_Alloc_mem";
+    (void)info;
+    check_running(call);
+    if (size < 0) return raise_on(MPI_COMM_WORLD, call, MPI_ERR_ARG, "a size of %td bytes", size);
+    void *made = malloc(size > 0 ? (size_t)size : 1);
+    if (made == NULL) return raise_on(MPI_COMM_WORLD, call, MPI_ERR_NO_MEM, "no memory of %td bytes", size);
+    memcpy(baseptr, &made, sizeof made);
+    return MPI_SUCCESS;
+}
+
+int MPI_Free_mem(void *base) {
+    free(base);
+    return MPI_SUCCESS;
+}
+
+int MPI_Pcontrol(const int level, ...) {
+    (void)level;
+    return MPI_SUCCESS;
+}

@@ -1,0 +1,131 @@
+/* Progress: datagrams are carried between the device and the engine, and the engine is told the time. */
+#include "device.h"
+#include "errors.h"
+#include "internal.h"
+
+#include <stdio.h>
+
+enum {
+    MILLISECOND = 1000000,
+    LONGEST_SLEEP = 5,     /* milliseconds; the engine sends again what it sent 20 ms ago */
+    LONGEST_SPIN = 200000, /* nanoseconds in which a rank that waits asks again and again before it sleeps */
+    YIELDS_OF_CROWDED = 4  /* so often where there are more ranks than processors, and it lets others run between */
+};
+
+/* What the engine was told last, in nanoseconds, and until when it keeps an acknowledgement back (0: none is kept). */
+static uint64_t told, kept_until;
+/* When a datagram was taken in last. */
+static uint64_t heard;
+static bool is_crowded;
+
+void progress_open(void) {
+    is_crowded = process.size > device_processors();
+    heard = device_nanoseconds();
+    told = 0;
+    kept_until = 0;
+}
+
+/* The engine is told the time each millisecond, and when what it keeps back is to go: whether it was. */
+static bool tell_time(void) {
+    uint64_t now = device_nanoseconds();
+    bool is_due = kept_until != 0 && now >= kept_until;
+    if (!is_due && now / MILLISECOND == told / MILLISECOND) return false;
+    told = now;
+    /* For want of memory nothing goes out again now: it does the next time. */
+    (void)kombazily_tick(&engine, now);
+    return true;
+}
+
+/* Sends what is to go out; what is kept back too, if it is told so. */
+static void send_out(bool kept_too) {
+    if (!device_is_open()) return;
+    struct engine_outgoing out = {0};
+    for (;;) {
+        size_t room;
+        unsigned char *into = device_room(&room);
+        size_t len = kombazily_next(&engine, device_most(), kept_too, &out, into, room);
+        if (len == 0) break;
+        device_put(out.target, out.count, out.each, len);
+    }
+    kept_until = out.kept_until;
+    device_flush();
+}
+
+void progress_out(void) { send_out(false); }
+
+/* Takes in some datagrams. One that the engine refuses is dropped: it is none of this job's, or comes again. */
+static void hear(const unsigned char *bytes, size_t len, size_t each) {
+    for (size_t at = 0; at < len; at += each) {
+        size_t rest = len - at;
+        (void)kombazily_datagram(&engine, bytes + at, rest < each ? rest : each);
+    }
+    send_out(false);
+}
+
+/* Whether something came in, which the engine then has. */
+static bool take_in(void) {
+    if (!device_is_open() || !device_hear(hear)) return false;
+    heard = told;
+    return true;
+}
+
+void progress(void) {
+    tell_time();
+    take_in();
+    send_out(false);
+}
+
+/* Asks for a little while whether something came, if other ranks needn't have the processor meanwhile. */
+static bool spin(void) {
+    uint64_t until = device_nanoseconds() + LONGEST_SPIN;
+    for (int turn = 0; is_crowded ? turn < YIELDS_OF_CROWDED : device_nanoseconds() < until; turn++) {
+        if (take_in()) return true;
+        if (is_crowded) device_yield();
+        if (tell_time()) send_out(false);
+    }
+    return false;
+}
+
+/* A rank that was told a patience gives up where nothing came for so long. */
+static void lose_patience(void) {
+    if (process.patience == 0 || (told - heard) / MILLISECOND < (uint64_t)process.patience) return;
+    fflush(stdout);
+    fprintf(stderr, "rank %d: gave up: nothing came for %ld ms\n", process.rank, process.patience);
+    end_job(STATUS_PATIENCE);
+}
+
+void progress_wait(void) {
+    if (spin()) return;
+    send_out(true);
+    device_sleep(LONGEST_SLEEP);
+    progress();
+    lose_patience();
+}
+
+void progress_begin_wait(void) { heard = told; }
+
+bool progress_until_idle(int milliseconds) {
+    uint64_t until = device_nanoseconds() + (uint64_t)milliseconds * MILLISECOND;
+    while (!kombazily_is_idle(&engine)) {
+        if (milliseconds >= 0 && device_nanoseconds() >= until) return false;
+        progress_wait();
+    }
+    send_out(true);
+    return true;
+}
+
+void await_finish(struct engine_answer *answer) {
+    const struct engine_call finish = {.kind = ENGINE_FINISH};
+    progress_out();
+    progress_begin_wait();
+    while (answer->kind == ENGINE_BLOCKED || answer->kind == ENGINE_PENDING) {
+        progress_wait();
+        call_engine(&finish, NULL, 0, answer);
+    }
+    progress_out();
+}
+
+void call_engine(const struct engine_call *call, const void *data, size_t len, struct engine_answer *answer) {
+    static const unsigned char nothing[1];
+    kombazily_call(&engine, call, data == NULL || len == 0 ? nothing : data, len, answer);
+}

@@ -1,0 +1,184 @@
+/* Calls that end requests: one, any, all or some of a list (MPI 3.1, 3.7.3 and 3.7.5). */
+#include "errors.h"
+#include "internal.h"
+
+#include <stdlib.h>
+
+/* Ends a request that is at its end: its status, and 0 or the class of its failure. */
+static int finish_request(const char *call, MPI_Request *handle, struct request *request, MPI_Status *status) {
+    put_status(status, &request->end);
+    int class = request->number == 0 ? MPI_SUCCESS : raise_end(call, request);
+    unpublish_request(handle);
+    if (has_freed()) settle_freed();
+    return class;
+}
+
+static void put_empty(MPI_Status *status) {
+    if (status != MPI_STATUS_IGNORE) *status = empty_status();
+}
+
+int MPI_Wait(MPI_Request *request, MPI_Status *status) {
+    static const char call[] = "MPI_Wait";
+    struct request *found;
+    check_running(call);
+    int class = check_request(call, *request, &found);
+    if (class != 0) return class;
+    if (found == NULL) {
+        put_empty(status);
+        return MPI_SUCCESS;
+    }
+    await_request(found);
+    return finish_request(call, request, found, status);
+}
+
+int MPI_Test(MPI_Request *request, int *flag, MPI_Status *status) {
+    static const char call[] = "MPI_Test";
+    struct request *found;
+    check_running(call);
+    int class = check_request(call, *request, &found);
+    if (class != 0) return class;
+    progress();
+    *flag = found == NULL || is_at_end(found);
+    if (found == NULL) put_empty(status);
+    if (found == NULL || !*flag) return MPI_SUCCESS;
+    return finish_request(call, request, found, status);
+}
+
+/* ---- lists ---- */
+
+/* That each of a list is a request or null, and that the list is one. */
+static int check_list(const char *call, int count, const MPI_Request list[]) {
+    check_running(call);
+    if (count < 0) return raise_on(MPI_COMM_WORLD, call, MPI_ERR_ARG, "a list of %d requests", count);
+    if (count > 0 && list == NULL) return raise_on(MPI_COMM_WORLD, call, MPI_ERR_ARG, "the list of requests is NULL");
+    for (int i = 0; i < count; i++) {
+        struct request *found;
+        int class = check_request(call, list[i], &found);
+        if (class != 0) return class;
+    }
+    return MPI_SUCCESS;
+}
+
+/* The place of the first of a list that is at its end, -1 where none is, or MPI_UNDEFINED where all are null. */
+static int first_at_end(int count, const MPI_Request list[]) {
+    int found = MPI_UNDEFINED;
+    for (int i = 0; i < count; i++) {
+        if (list[i] == MPI_REQUEST_NULL) continue;
+        if (is_at_end(request_of(list[i]))) return i;
+        found = -1;
+    }
+    return found;
+}
+
+/* How many of a list are at their ends; all of them are counted that are null, if `with_nulls`. */
+static int count_at_end(int count, const MPI_Request list[], bool with_nulls) {
+    int found = 0;
+    for (int i = 0; i < count; i++)
+        if (list[i] == MPI_REQUEST_NULL ? with_nulls : is_at_end(request_of(list[i]))) found++;
+    return found;
+}
+
+static bool are_all_null(int count, const MPI_Request list[]) {
+    for (int i = 0; i < count; i++)
+        if (list[i] != MPI_REQUEST_NULL) return false;
+    return true;
+}
+
+/* Answers a Waitany or a Testany of which this is the place. */
+static int finish_any(const char *call, int place, MPI_Request list[], int *index, MPI_Status *status) {
+    *index = place;
+    if (place != MPI_UNDEFINED) return finish_request(call, &list[place], request_of(list[place]), status);
+    put_empty(status);
+    return MPI_SUCCESS;
+}
+
+int MPI_Waitany(int count, MPI_Request array_of_requests[], int *index, MPI_Status *status) {
+    static const char call[] = "MPI_Waitany";
+    int class = check_list(call, count, array_of_requests);
+    if (class != 0) return class;
+    int place;
+    progress_begin_wait();
+    while ((place = first_at_end(count, array_of_requests)) == -1) progress_wait();
+    return finish_any(call, place, array_of_requests, index, status);
+}
+
+int MPI_Testany(int count, MPI_Request array_of_requests[], int *index, int *flag, MPI_Status *status) {
+    static const char call[] = "MPI_Testany";
+    int class = check_list(call, count, array_of_requests);
+    if (class != 0) return class;
+    progress();
+    int place = first_at_end(count, array_of_requests);
+    *flag = place != -1;
+    *index = MPI_UNDEFINED;
+    return *flag ? finish_any(call, place, array_of_requests, index, status) : MPI_SUCCESS;
+}
+
+/* Ends those of a list that are at their ends. `indices` takes their places, where it is there; statuses go to the
+ * places of their requests without it, else one behind the other. Where one failed, each status says what became of it,
+ * and the answer is MPI_ERR_IN_STATUS. */
+static int finish_list(const char *call, int count, MPI_Request list[], int indices[], MPI_Status statuses[]) {
+    int done = 0, failed = -1;
+    for (int i = 0; i < count; i++) {
+        struct request *it = request_of(list[i]);
+        if (it != NULL && is_at_end(it) && it->number != 0 && failed < 0) failed = i;
+    }
+    struct request told = failed < 0 ? (struct request){0} : *request_of(list[failed]);
+    for (int i = 0; i < count; i++) {
+        struct request *it = request_of(list[i]);
+        if (indices != NULL && (it == NULL || !is_at_end(it))) continue;
+        MPI_Status *status =
+            statuses == MPI_STATUSES_IGNORE ? MPI_STATUS_IGNORE : &statuses[indices == NULL ? i : done];
+        if (indices != NULL) indices[done] = i;
+        done++;
+        if (it == NULL) put_empty(status);
+        else put_status(status, &it->end);
+        if (failed >= 0 && status != MPI_STATUS_IGNORE) status->MPI_ERROR = it == NULL ? 0 : class_of(it->number);
+        if (it != NULL) unpublish_request(&list[i]);
+    }
+    if (has_freed()) settle_freed();
+    if (failed < 0) return MPI_SUCCESS;
+    return raise_on(told.comm, call, MPI_ERR_IN_STATUS, "request %d of %d: %s", failed, count, cause_of(told.number));
+}
+
+int MPI_Waitall(int count, MPI_Request array_of_requests[], MPI_Status array_of_statuses[]) {
+    static const char call[] = "MPI_Waitall";
+    int class = check_list(call, count, array_of_requests);
+    if (class != 0) return class;
+    for (int i = 0; i < count; i++)
+        if (array_of_requests[i] != MPI_REQUEST_NULL) await_request(request_of(array_of_requests[i]));
+    return finish_list(call, count, array_of_requests, NULL, array_of_statuses);
+}
+
+int MPI_Testall(int count, MPI_Request array_of_requests[], int *flag, MPI_Status array_of_statuses[]) {
+    static const char call[] = "MPI_Testall";
+    int class = check_list(call, count, array_of_requests);
+    if (class != 0) return class;
+    progress();
+    *flag = count_at_end(count, array_of_requests, true) == count;
+    return *flag ? finish_list(call, count, array_of_requests, NULL, array_of_statuses) : MPI_SUCCESS;
+}
+
+int MPI_Waitsome(int incount, MPI_Request array_of_requests[], int *outcount, int array_of_indices[],
+                 MPI_Status array_of_statuses[]) {
+    static const char call[] = "MPI_Waitsome";
+    int class = check_list(call, incount, array_of_requests);
+    if (class != 0) return class;
+    *outcount = MPI_UNDEFINED;
+    if (are_all_null(incount, array_of_requests)) return MPI_SUCCESS;
+    progress_begin_wait();
+    progress();
+    while ((*outcount = count_at_end(incount, array_of_requests, false)) == 0) progress_wait();
+    return finish_list(call, incount, array_of_requests, array_of_indices, array_of_statuses);
+}
+
+int MPI_Testsome(int incount, MPI_Request array_of_requests[], int *outcount, int array_of_indices[],
+                 MPI_Status array_of_statuses[]) {
+    static const char call[] = "MPI_Testsome";
+    int class = check_list(call, incount, array_of_requests);
+    if (class != 0) return class;
+    *outcount = MPI_UNDEFINED;
+    if (are_all_null(incount, array_of_requests)) return MPI_SUCCESS;
+    progress();
+    *outcount = count_at_end(incount, array_of_requests, false);
+    return finish_list(call, incount, array_of_requests, array_of_indices, array_of_statuses);
+}
