@@ -124,11 +124,6 @@ size_t data_size(const struct layout *layout, size_t items) {
     return layout->size != 0 && items > SIZE_MAX / 2 / layout->size ? SIZE_MAX : items * layout->size;
 }
 
-/* The address of an item among those that begin at an address. */
-static char *item_at(const struct layout *layout, const void *items, size_t number) {
-    return (char *)items + (ptrdiff_t)number * layout->extent;
-}
-
 void pack(const struct layout *layout, const void *items, size_t count, unsigned char *row) {
     for (size_t done = 0; layout->count != 0 && done < count; done++) {
         const char *item = item_at(layout, items, done);

@@ -54,6 +54,11 @@ static inline void *row_of(const struct layout *layout, const void *items) {
     return layout->count == 0 ? (void *)items : (char *)items + layout->stretches[0].at;
 }
 
+/* The address of an item among those that begin at an address. */
+static inline void *item_at(const struct layout *layout, const void *items, size_t number) {
+    return (char *)items + (ptrdiff_t)number * layout->extent;
+}
+
 /* The row of so many items' data: the items themselves where they are one, else room that is to be freed behind its
  * use. NULL where there is no memory, and then only. `items` may be NULL where there are no data. */
 const void *data_row(const struct layout *layout, const void *items, size_t count, void **room);

@@ -1,0 +1,203 @@
+/* Communicators (MPI 3.1, 6.4, 6.6.1, 6.8): what is decided about them is the engine's; here stand their handles. */
+#include "communicators.h"
+
+#include "errors.h"
+#include "groups.h"
+#include "internal.h"
+#include "names.h"
+#include "rows.h"
+#include "table.h"
+
+#include <stdlib.h>
+
+/* All communicators; MPI_COMM_WORLD and MPI_COMM_SELF have the first two places, as in the engine. */
+static struct table communicators = TABLE_OF(KIND_COMMUNICATOR);
+
+struct communicator *communicator_of(MPI_Comm handle) { return table_find(&communicators, (int)(intptr_t)handle); }
+
+/* What the engine tells of a communicator by a number. */
+static int fact_of(uint32_t place, enum engine_call_kind question) {
+    struct engine_answer answer;
+    ask_engine(&(struct engine_call){.kind = question, .communicator = place}, NULL, 0, &answer);
+    return (int)answer.fact;
+}
+
+/* Makes room for a communicator, which isn't one yet; NULL: there is no memory. */
+static struct communicator *new_communicator(MPI_Comm *handle) {
+    struct communicator *made = calloc(1, sizeof *made);
+    int number = made == NULL ? 0 : table_add(&communicators, made);
+    if (number == 0) {
+        free(made);
+        return NULL;
+    }
+    *handle = (MPI_Comm)(intptr_t)number;
+    return made;
+}
+
+static void remove_communicator(MPI_Comm handle) { free(table_remove(&communicators, (int)(intptr_t)handle)); }
+
+/* Says which communicator of the engine it is. */
+static void place_communicator(struct communicator *made, uint32_t place, MPI_Errhandler errhandler) {
+    made->place = place;
+    made->rank = fact_of(place, ENGINE_RANK);
+    made->size = fact_of(place, ENGINE_SIZE);
+    made->errhandler = errhandler;
+}
+
+int open_communicators(void) {
+    static const char *const names[] = {"MPI_COMM_WORLD", "MPI_COMM_SELF"};
+    for (uint32_t place = ENGINE_WORLD; place <= ENGINE_SELF; place++) {
+        MPI_Comm handle;
+        struct communicator *made = new_communicator(&handle);
+        if (made == NULL) return MPI_ERR_NO_MEM;
+        place_communicator(made, place, MPI_ERRORS_ARE_FATAL);
+        copy_name(made->name, names[place]);
+    }
+    return MPI_SUCCESS;
+}
+
+void close_communicators(void) {
+    for (int place = 0; place < communicators.count; place++)
+        free(table_remove(&communicators, HANDLE(KIND_COMMUNICATOR, place)));
+    table_free(&communicators);
+    close_groups();
+}
+
+int MPI_Comm_size(MPI_Comm comm, int *size) {
+    struct communicator *own;
+    check_running("MPI_Comm_size");
+    int class = check_comm(comm, "MPI_Comm_size", &own);
+    if (class == MPI_SUCCESS) class = check_result(comm, "MPI_Comm_size", size, "size");
+    if (class == MPI_SUCCESS) *size = own->size;
+    return class;
+}
+
+int MPI_Comm_rank(MPI_Comm comm, int *rank) {
+    struct communicator *own;
+    check_running("MPI_Comm_rank");
+    int class = check_comm(comm, "MPI_Comm_rank", &own);
+    if (class == MPI_SUCCESS) class = check_result(comm, "MPI_Comm_rank", rank, "rank");
+    if (class == MPI_SUCCESS) *rank = own->rank;
+    return class;
+}
+
+int MPI_Comm_compare(MPI_Comm comm1, MPI_Comm comm2, int *result) {
+    const char *call = "MPI_Comm_compare";
+    struct communicator *first, *second;
+    check_running(call);
+    int class = check_comm(comm1, call, &first);
+    if (class == MPI_SUCCESS) class = check_comm(comm2, call, &second);
+    if (class == MPI_SUCCESS) class = check_result(comm1, call, result, "result");
+    if (class != MPI_SUCCESS) return class;
+    static const int comparisons[] = {[ENGINE_IDENT] = MPI_IDENT, [ENGINE_CONGRUENT] = MPI_CONGRUENT,
+                                      [ENGINE_SIMILAR] = MPI_SIMILAR, [ENGINE_UNEQUAL] = MPI_UNEQUAL};
+    struct engine_answer answer;
+    struct engine_call compare = {.kind = ENGINE_COMPARE, .communicator = first->place, .other = second->place};
+    ask_engine(&compare, NULL, 0, &answer);
+    if (answer.kind != ENGINE_FACT) return raise_number(comm1, call, answer.number);
+    *result = comparisons[answer.fact & 3];
+    return MPI_SUCCESS;
+}
+
+int MPI_Comm_group(MPI_Comm comm, MPI_Group *group) {
+    const char *call = "MPI_Comm_group";
+    struct communicator *own;
+    check_running(call);
+    int class = check_comm(comm, call, &own);
+    if (class == MPI_SUCCESS) class = check_result(comm, call, group, "group");
+    if (class != MPI_SUCCESS) return class;
+    struct engine_answer answer;
+    ask_engine(&(struct engine_call){.kind = ENGINE_MEMBERS, .communicator = own->place}, NULL, 0, &answer);
+    if (answer.kind != ENGINE_FACT) return raise_number(comm, call, answer.number);
+    uint16_t *members = malloc((size_t)own->size * sizeof *members);
+    if (members == NULL) return raise_on(comm, call, MPI_ERR_NO_MEM, "no memory for a group");
+    kombazily_take(&engine, 0, (uint8_t *)members, (size_t)own->size * sizeof *members);
+    class = add_group(comm, call, members, own->size, group);
+    free(members);
+    return class;
+}
+
+/* Enters the call that makes a communicator of another one. */
+static int make_communicator(MPI_Comm comm, const char *call, struct engine_call *entry, MPI_Comm *newcomm) {
+    struct communicator *own = communicator_of(comm);
+    MPI_Comm handle;
+    struct engine_answer answer;
+    struct communicator *made = new_communicator(&handle);
+    if (made == NULL) return raise_on(comm, call, MPI_ERR_NO_MEM, "no memory for a communicator");
+    entry->communicator = own->place;
+    *newcomm = MPI_COMM_NULL;
+    uint32_t number = enter_engine(entry, NULL, 0, &answer);
+    if (number != 0 || answer.communicator == ENGINE_NO_COMMUNICATOR) {
+        remove_communicator(handle);
+        return number == 0 ? MPI_SUCCESS : raise_number(comm, call, number);
+    }
+    place_communicator(made, answer.communicator, own->errhandler);
+    *newcomm = handle;
+    return MPI_SUCCESS;
+}
+
+int MPI_Comm_dup(MPI_Comm comm, MPI_Comm *newcomm) {
+    struct communicator *own;
+    check_running("MPI_Comm_dup");
+    int class = check_comm(comm, "MPI_Comm_dup", &own);
+    if (class == MPI_SUCCESS) class = check_result(comm, "MPI_Comm_dup", newcomm, "newcomm");
+    if (class != MPI_SUCCESS) return class;
+    return make_communicator(comm, "MPI_Comm_dup", &(struct engine_call){.kind = ENGINE_DUP}, newcomm);
+}
+
+int MPI_Comm_split(MPI_Comm comm, int color, int key, MPI_Comm *newcomm) {
+    struct communicator *own;
+    check_running("MPI_Comm_split");
+    int class = check_comm(comm, "MPI_Comm_split", &own);
+    if (class == MPI_SUCCESS) class = check_result(comm, "MPI_Comm_split", newcomm, "newcomm");
+    if (class != MPI_SUCCESS) return class;
+    if (color < 0 && color != MPI_UNDEFINED) return raise_on(comm, "MPI_Comm_split", MPI_ERR_ARG, "colour %d", color);
+    struct engine_call entry = {.kind = ENGINE_SPLIT, .order = key};
+    entry.colour = color == MPI_UNDEFINED ? ENGINE_NO_COLOUR : color;
+    return make_communicator(comm, "MPI_Comm_split", &entry, newcomm);
+}
+
+int MPI_Comm_free(MPI_Comm *comm) {
+    const char *call = "MPI_Comm_free";
+    struct communicator *own;
+    check_running(call);
+    int class = check_result(MPI_COMM_WORLD, call, comm, "comm");
+    if (class == MPI_SUCCESS) class = check_comm(*comm, call, &own);
+    if (class != MPI_SUCCESS) return class;
+    if (own->place <= ENGINE_SELF) return raise_on(*comm, call, MPI_ERR_COMM, "%s can't be freed", own->name);
+    remove_communicator(*comm);
+    *comm = MPI_COMM_NULL;
+    return MPI_SUCCESS;
+}
+
+int MPI_Comm_test_inter(MPI_Comm comm, int *flag) {
+    struct communicator *own;
+    check_running("MPI_Comm_test_inter");
+    int class = check_comm(comm, "MPI_Comm_test_inter", &own);
+    if (class == MPI_SUCCESS) class = check_result(comm, "MPI_Comm_test_inter", flag, "flag");
+    if (class == MPI_SUCCESS) *flag = 0;
+    return class;
+}
+
+int MPI_Comm_get_name(MPI_Comm comm, char *comm_name, int *resultlen) {
+    struct communicator *own;
+    check_running("MPI_Comm_get_name");
+    int class = check_comm(comm, "MPI_Comm_get_name", &own);
+    if (class == MPI_SUCCESS) class = check_result(comm, "MPI_Comm_get_name", comm_name, "comm_name");
+    if (class == MPI_SUCCESS) class = check_result(comm, "MPI_Comm_get_name", resultlen, "resultlen");
+    if (class == MPI_SUCCESS) *resultlen = copy_name(comm_name, own->name);
+    return class;
+}
+
+int MPI_Comm_set_name(MPI_Comm comm, const char *comm_name) {
+    struct communicator *own;
+    check_running("MPI_Comm_set_name");
+    int class = check_comm(comm, "MPI_Comm_set_name", &own);
+    if (class == MPI_SUCCESS) class = check_result(comm, "MPI_Comm_set_name", comm_name, "comm_name");
+    if (class == MPI_SUCCESS) copy_name(own->name, comm_name);
+    return class;
+}
+
+/* Handles as Fortran has them (17.2.4): their numbers. */
+MPI_Fint MPI_Comm_c2f(MPI_Comm comm) { return (MPI_Fint)(intptr_t)comm; }
+MPI_Comm MPI_Comm_f2c(MPI_Fint comm) { return (MPI_Comm)(intptr_t)comm; }

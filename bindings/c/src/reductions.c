@@ -1,0 +1,89 @@
+/* Reductions (MPI 3.1, 5.9): of integers by the engine, of floating-point numbers by a fold in rank order. */
+#include "errors.h"
+#include "internal.h"
+#include "operations.h"
+#include "rows.h"
+
+/* What a reduction was given, once it is checked. */
+struct reduction {
+    struct communicator *comm;
+    struct datatype *type;
+    enum engine_operation operation;
+    size_t length; /* bytes of a member's row */
+};
+
+/* Checks what all members give. */
+static int check_reduction(MPI_Comm comm, const char *call, int count, MPI_Datatype datatype, MPI_Op op,
+                           struct reduction *found) {
+    check_running(call);
+    int class = check_comm(comm, call, &found->comm);
+    if (class == MPI_SUCCESS) class = check_count(comm, call, count);
+    if (class == MPI_SUCCESS) class = check_type(comm, call, datatype, &found->type);
+    if (class != MPI_SUCCESS) return class;
+    int operation = operation_of(op);
+    if (operation == 0) return raise_on(comm, call, MPI_ERR_OP, "no such operation");
+    found->operation = (enum engine_operation)operation;
+    const char *name = operation_name(found->operation);
+    if (!found->type->is_predefined)
+        return raise_on(comm, call, MPI_ERR_OP, "%s isn't defined on a derived type", name);
+    if (!is_defined_on(found->operation, found->type->family))
+        return raise_on(comm, call, MPI_ERR_OP, "%s isn't defined on %s", name, found->type->name);
+    found->length = data_size(&found->type->layout, (size_t)count);
+    return MPI_SUCCESS;
+}
+
+/* Checks the buffers of a member that gets a result, and answers in `row` where its own elements are. */
+static int check_buffers(MPI_Comm comm, const char *call, const void *sendbuf, void *recvbuf, int count,
+                         const struct datatype *type, const void **row) {
+    int class = check_buffer(comm, call, recvbuf, count, type);
+    if (class == MPI_SUCCESS) class = check_buffer(comm, call, sendbuf, count, type);
+    if (class != MPI_SUCCESS) return class;
+    if (recvbuf == MPI_IN_PLACE) return raise_on(comm, call, MPI_ERR_BUFFER, "recvbuf is MPI_IN_PLACE");
+    if (sendbuf == recvbuf && count > 0)
+        return raise_on(comm, call, MPI_ERR_BUFFER, "sendbuf is recvbuf: MPI_IN_PLACE says so");
+    *row = sendbuf == MPI_IN_PLACE ? recvbuf : sendbuf;
+    return MPI_SUCCESS;
+}
+
+/* A reduction's elements are of one type at all members, also where there are none. */
+static struct collective rows_of(struct reduction of, int root) {
+    return (struct collective){of.comm, root, of.type->basic, of.type->unit};
+}
+
+int MPI_Reduce(const void *sendbuf, void *recvbuf, int count, MPI_Datatype datatype, MPI_Op op, int root,
+               MPI_Comm comm) {
+    const char *call = "MPI_Reduce";
+    struct reduction of;
+    const void *row = sendbuf;
+    int class = check_reduction(comm, call, count, datatype, op, &of);
+    if (class == MPI_SUCCESS) class = check_root(comm, call, of.comm, root);
+    if (class != MPI_SUCCESS) return class;
+    if (of.comm->rank == root) {
+        class = check_buffers(comm, call, sendbuf, recvbuf, count, of.type, &row);
+    } else {
+        class = check_buffer(comm, call, sendbuf, count, of.type);
+        if (sendbuf == MPI_IN_PLACE) class = raise_on(comm, call, MPI_ERR_BUFFER, "MPI_IN_PLACE is the root's alone");
+    }
+    if (class != MPI_SUCCESS) return class;
+    uint32_t number = of.type->family == FAMILY_FLOATING
+        ? fold_rows(rows_of(of, root), of.type->element, of.operation, row, of.length, recvbuf)
+        : reduce_rows(rows_of(of, root), of.operation, row, of.length, recvbuf);
+    return number == 0 ? MPI_SUCCESS : raise_number(comm, call, number);
+}
+
+int MPI_Allreduce(const void *sendbuf, void *recvbuf, int count, MPI_Datatype datatype, MPI_Op op, MPI_Comm comm) {
+    const char *call = "MPI_Allreduce";
+    struct reduction of;
+    const void *row;
+    int class = check_reduction(comm, call, count, datatype, op, &of);
+    if (class == MPI_SUCCESS) class = check_buffers(comm, call, sendbuf, recvbuf, count, of.type, &row);
+    if (class != MPI_SUCCESS) return class;
+    uint32_t number;
+    if (of.type->family == FAMILY_FLOATING) {
+        number = fold_rows(rows_of(of, 0), of.type->element, of.operation, row, of.length, recvbuf);
+        if (number == 0) number = broadcast_row(rows_of(of, 0), recvbuf, of.length);
+    } else {
+        number = allreduce_rows(rows_of(of, 0), of.operation, row, of.length, recvbuf);
+    }
+    return number == 0 ? MPI_SUCCESS : raise_number(comm, call, number);
+}
