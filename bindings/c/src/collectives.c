@@ -61,7 +61,8 @@ static int check_rooted(MPI_Comm comm, const char *call, int root, struct commun
 /* Checks that what the root sends to itself is what it receives: the same data of the same basic type. */
 static int check_own_block(MPI_Comm comm, const char *call, struct items sent, struct items received) {
     size_t out = length_of(sent), in = length_of(received);
-    if (out != in) return raise_on(comm, call, MPI_ERR_COUNT, "the root sends itself %zu bytes and receives %zu", out, in);
+    if (out != in)
+        return raise_on(comm, call, MPI_ERR_COUNT, "the root sends itself %zu bytes and receives %zu", out, in);
     if (out != 0 && sent.type->basic != received.type->basic)
         return raise_on(comm, call, MPI_ERR_TYPE, "the root sends itself another type than it receives");
     return MPI_SUCCESS;

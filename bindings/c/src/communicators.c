@@ -18,7 +18,7 @@ struct communicator *communicator_of(MPI_Comm handle) { return table_find(&commu
 /* What the engine tells of a communicator by a number. */
 static int fact_of(uint32_t place, enum engine_call_kind question) {
     struct engine_answer answer;
-    ask_engine(&(struct engine_call){.kind = question, .communicator = place}, NULL, 0, &answer);
+    call_engine(&(struct engine_call){.kind = question, .communicator = place}, NULL, 0, &answer);
     return (int)answer.fact;
 }
 
@@ -93,7 +93,7 @@ int MPI_Comm_compare(MPI_Comm comm1, MPI_Comm comm2, int *result) {
                                       [ENGINE_SIMILAR] = MPI_SIMILAR, [ENGINE_UNEQUAL] = MPI_UNEQUAL};
     struct engine_answer answer;
     struct engine_call compare = {.kind = ENGINE_COMPARE, .communicator = first->place, .other = second->place};
-    ask_engine(&compare, NULL, 0, &answer);
+    call_engine(&compare, NULL, 0, &answer);
     if (answer.kind != ENGINE_FACT) return raise_number(comm1, call, answer.number);
     *result = comparisons[answer.fact & 3];
     return MPI_SUCCESS;
@@ -107,7 +107,7 @@ int MPI_Comm_group(MPI_Comm comm, MPI_Group *group) {
     if (class == MPI_SUCCESS) class = check_result(comm, call, group, "group");
     if (class != MPI_SUCCESS) return class;
     struct engine_answer answer;
-    ask_engine(&(struct engine_call){.kind = ENGINE_MEMBERS, .communicator = own->place}, NULL, 0, &answer);
+    call_engine(&(struct engine_call){.kind = ENGINE_MEMBERS, .communicator = own->place}, NULL, 0, &answer);
     if (answer.kind != ENGINE_FACT) return raise_number(comm, call, answer.number);
     uint16_t *members = malloc((size_t)own->size * sizeof *members);
     if (members == NULL) return raise_on(comm, call, MPI_ERR_NO_MEM, "no memory for a group");

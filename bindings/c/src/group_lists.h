@@ -1,6 +1,6 @@
 /* Lists of the members of groups (MPI 3.1, 6.3): pure functions. A member is a rank in MPI_COMM_WORLD, and stands in a
- * list once. What makes a list writes it into `made`, which has room for all members that are handed in, and answers its
- * length. */
+ * list once. What makes a list writes it into `made`, which has room for all members that are handed in, and answers
+ * its length. */
 #ifndef KOMBAZILY_GROUP_LISTS_H
 #define KOMBAZILY_GROUP_LISTS_H
 

@@ -10,14 +10,9 @@
 /* What the engine answers for want of memory; the number is told as one of its own. */
 enum { NO_MEMORY = 14 };
 
-void ask_engine(const struct engine_call *call, const void *data, size_t length, struct engine_answer *answer) {
-    static const uint8_t none;
-    kombazily_call(&engine, call, length == 0 ? &none : data, length, answer);
-}
-
 uint32_t enter_engine(const struct engine_call *entry, const void *data, size_t length, struct engine_answer *answer) {
-    ask_engine(entry, data, length, answer);
-    progress_finish(answer);
+    call_engine(entry, data, length, answer);
+    await_finish(answer);
     return answer->number;
 }
 
@@ -28,9 +23,9 @@ struct collective collective_of(const struct communicator *comm, int root, const
 }
 
 size_t part_of_block(int members) {
-    const size_t longest = 1048560, in_all = (size_t)16 << 20, least = 16384;
+    const size_t longest = 1048560, in_all = (size_t)16 << 20;
     size_t part = in_all / (size_t)members / 16 * 16;
-    return part > longest ? longest : part < least ? least : part;
+    return part < longest ? part : longest;
 }
 
 /* Part after part of a row: the first one is there even where the row is empty. */

@@ -10,9 +10,6 @@
 #include <stddef.h>
 #include <stdint.h>
 
-/* The engine's answer to a call; `data` may be NULL where there are none. */
-void ask_engine(const struct engine_call *call, const void *data, size_t length, struct engine_answer *answer);
-
 /* Enters a collective and waits for its end: 0, or a number. */
 uint32_t enter_engine(const struct engine_call *entry, const void *data, size_t length, struct engine_answer *answer);
 
@@ -25,8 +22,8 @@ struct collective {
 };
 struct collective collective_of(const struct communicator *comm, int root, const struct datatype *type, size_t bytes);
 
-/* The longest part of a block that goes at once, in bytes: one engine of the job holds at most 16 MiB then, unless there
- * are more than 1,024 members. It is a multiple of 16, so elements aren't cut. */
+/* The longest part of a block that goes at once, in bytes: the root's engine holds at most 16 MiB then, as there are at
+ * most 1,024 members. It is a multiple of 16, so elements aren't cut. */
 size_t part_of_block(int members);
 
 /* The root's row, at all members (5.4). */
@@ -39,7 +36,8 @@ uint32_t gather_rows(struct collective of, const void *row, size_t length, unsig
 uint32_t scatter_rows(struct collective of, const unsigned char *all, size_t length, void *row);
 
 /* The rows of all members combined element by element, by the engine: at the root, or at all members (5.9.1, 5.9.6). */
-uint32_t reduce_rows(struct collective of, enum engine_operation operation, const void *row, size_t length, void *result);
+uint32_t reduce_rows(struct collective of, enum engine_operation operation, const void *row, size_t length,
+                     void *result);
 uint32_t allreduce_rows(struct collective of, enum engine_operation operation, const void *row, size_t length,
                         void *result);
 
