@@ -7,6 +7,7 @@ usage: ./run                            two ranks play ping-pong
        ./run --picture FILE             the same as a picture in the terminal, a column a rank
        ./run --picture [-n N] SCRIPT    one play of a script as a picture
        ./run --explore [-n N] SCRIPT    all schedules of a script that can matter: what may go wrong
+       ./run [-n N] FILE.c [WORD ..]    compiles a C program (tools/mpicc) and runs it with these words; without -n 2 ranks
        ./run build                      builds the programs, and runs nothing
        ./run --proved [..]              as above, by proved programs alone; proves them first
        ./run --help
@@ -36,6 +37,7 @@ from pathlib import Path
 
 sys.dont_write_bytecode = True
 sys.path.insert(0, str(Path(__file__).resolve().parent))
+import c_programs
 import ports
 import programs
 
@@ -44,6 +46,7 @@ PINGPONG = TOP / "examples" / "scripts" / "pingpong.txt"
 OWN_FAILURE = 125
 VIEWS = ("--lines", "--picture", "--explore")
 PASSED_ON = ("-job", "-baseport", "-restart", "-patience")
+OPTIONS_OF_C = ("-n", "-np")
 
 
 class Fault(Exception):
@@ -58,7 +61,7 @@ class Request:
     """What the words of the command line ask for."""
 
     def __init__(self, words):
-        self.ranks, self.options, self.file = None, {}, None
+        self.ranks, self.options, self.file, self.words = None, {}, None, []
         words = list(words)
         self.is_proved = words[:1] == ["--proved"]
         words = words[self.is_proved :]
@@ -68,11 +71,22 @@ class Request:
             self.take_option(words)
         if self.builds_only:
             return
+        if self.is_c(words):
+            words, self.words = words[:1], words[1:]
         if len(words) > 1:
             raise Fault("'%s': one file is run, and nothing stands behind its name (./run --help)" % words[1])
         self.file = Path(words[0]) if words else PINGPONG
         if self.view and not words:
             raise Fault("behind '%s' a file is missing" % self.view)
+
+    def is_c(self, words):
+        """Whether a C program is named; behind it stand its own words, among which `-n N` may stand first."""
+        if not words or not words[0].endswith(".c"):
+            return False
+        while len(words) > 1 and words[1] in OPTIONS_OF_C and self.ranks is None:
+            option = [words.pop(1) for _ in words[1:3]]
+            self.take_option(option)
+        return True
 
     def take_option(self, words):
         option = words.pop(0)
@@ -153,6 +167,8 @@ def short(path):
 
 def command(request):
     """The words to run."""
+    if request.file.suffix == ".c":
+        return command_of_c(request)
     lines = lines_of(request.file)
     if is_events(lines):
         if request.view == "--explore":
@@ -179,14 +195,30 @@ def command(request):
     if request.view:
         return [short(find(["mpiexplore"], request.is_proved)["mpiexplore"]), "-n", str(ranks), short(request.file)]
     found = find(["mpiexec", "rank_main"], request.is_proved)
+    return [*launch(found["mpiexec"], request, ranks), short(found["rank_main"]), short(request.file)]
+
+
+def launch(mpiexec, request, ranks):
+    """The words that launch so many ranks, up to the program."""
     options = {"-job": random_below(10**15), **request.options}
     if "-baseport" not in options:
         # Numbers that are none are mpiexec's to refuse.
         options["-baseport"] = free_ports(min(max(int(ranks), 1), 1024)) if str(ranks).isdecimal() else ports.LOWEST
-    words = [short(found["mpiexec"])]
+    words = [short(mpiexec)]
     for option, value in options.items():
         words += [option, str(value)]
-    return words + ["-n", str(ranks), short(found["rank_main"]), short(request.file)]
+    return words + ["-n", str(ranks)]
+
+
+def command_of_c(request):
+    """The same for a C program, which is compiled first."""
+    if request.view:
+        raise Fault("'%s' shows scripts and files of events: a C program can only be run" % request.view)
+    if not request.file.is_file():
+        raise Fault("%s can't be read" % request.file)
+    mpiexec = find(["mpiexec"], request.is_proved)["mpiexec"]
+    program = c_programs.compiled(say, request.file, request.is_proved)
+    return [*launch(mpiexec, request, request.ranks or 2), short(program), *request.words]
 
 
 def show(program, file):
@@ -213,7 +245,7 @@ def main(words):
             say("they stand in %s (a shell finds them after: export PATH=%s:$PATH)" % (", ".join(folders), ":".join(folders)))
             return 0
         chosen = command(request)
-    except (Fault, programs.NotBuilt) as why:
+    except (Fault, c_programs.Fault, programs.NotBuilt) as why:
         say(why)
         return OWN_FAILURE
     except KeyboardInterrupt:
