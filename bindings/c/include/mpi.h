@@ -9,6 +9,9 @@
 extern "C" {
 #endif
 
+/* Which MPI this is, for programs that ask by #ifdef. */
+#define KOMBAZILY 1
+
 /* The version of the standard (8.1.1). */
 #define MPI_VERSION 3
 #define MPI_SUBVERSION 1
