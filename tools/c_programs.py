@@ -4,6 +4,7 @@ The engine is the static library of the crate c_exports: the proved one, which `
 built of the same sources before any proof, which is kept in out/unproved. bindings/c/Makefile makes libmpi.a of it in out/c.
 """
 
+import hashlib
 import os
 import shutil
 import subprocess
@@ -28,7 +29,8 @@ class Fault(Exception):
 def sources():
     """All files that the library is made of."""
     own = [it for part in ("src", "include") for it in sorted((BINDING / part).iterdir())]
-    return [*own, BINDING / "Makefile", *programs.files_of(programs.crates_of(CRATE), ("src",))]
+    crates = programs.crates_of(CRATE) if CRATE in programs.dependencies() else []
+    return [*own, BINDING / "Makefile", *programs.files_of(crates, ("src",))]
 
 
 def may_be_old():
@@ -50,13 +52,7 @@ def is_proved():
 
 def sum_of_unproved():
     """A sum of all that the unproved engine is built from."""
-    return programs.sum_of_sources(CRATE) + " " + str(hash_of(BUILDER))
-
-
-def hash_of(file):
-    import hashlib
-
-    return hashlib.sha256(file.read_bytes()).hexdigest()
+    return programs.sum_of_sources(CRATE) + " " + hashlib.sha256(BUILDER.read_bytes()).hexdigest()
 
 
 def is_built():

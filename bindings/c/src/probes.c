@@ -53,9 +53,11 @@ static int look(const struct look *it, bool waits, struct engine_answer *answer)
     for (;;) {
         look_once(it, comm, answer);
         if (answer->kind == ENGINE_REFUSED) return raise_number(it->comm, it->call, answer->number);
-        if (!waits || answer->kind != ENGINE_NOTHING) return MPI_SUCCESS;
+        if (!waits || answer->kind != ENGINE_NOTHING) break;
         progress_wait();
     }
+    if (has_freed()) settle_freed();
+    return MPI_SUCCESS;
 }
 
 /* Tells of what was found. */

@@ -91,11 +91,14 @@ bool is_at_end(struct request *request) {
 }
 
 uint32_t await_request(struct request *request) {
-    if (is_at_end(request)) return request->number;
-    progress_begin_wait();
-    do progress_wait();
-    while (!is_at_end(request));
-    progress_out();
+    if (!is_at_end(request)) {
+        progress_begin_wait();
+        do progress_wait();
+        while (!is_at_end(request));
+        progress_out();
+    }
+    /* By this end the program may know of the end of a receive that it let go. */
+    if (has_freed()) settle_freed();
     return request->number;
 }
 
