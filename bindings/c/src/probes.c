@@ -163,6 +163,7 @@ static int receive_message(const char *call, MPI_Message *message, const struct 
     }
     hold_type(type);
     end_request(request, &answer);
+    if (has_freed()) settle_freed();
     return MPI_SUCCESS;
 }
 

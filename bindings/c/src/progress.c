@@ -123,8 +123,8 @@ void await_finish(struct engine_answer *answer) {
         call_engine(&finish, NULL, 0, answer);
     }
     progress_out();
-    /* The program may know by this call that a receive is at its end that it let go. */
-    if (has_freed()) settle_freed();
+    /* The program may know by this end of the end of a receive that it let go. Data of the answer are taken first. */
+    if (answer->bytes == 0 && has_freed()) settle_freed();
 }
 
 void call_engine(const struct engine_call *call, const void *data, size_t len, struct engine_answer *answer) {
