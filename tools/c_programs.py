@@ -19,7 +19,7 @@ BINDING, OUT = TOP / "bindings" / "c", TOP / "out" / "c"
 LIBRARY, ENGINE = OUT / "lib" / "libmpi.a", OUT / "libengine.a"
 PROVED = TOP / "crates" / CRATE / "out" / ("lib%s.a" % CRATE)
 UNPROVED = programs.UNPROVED / ("lib%s.a" % CRATE)
-BUILDER = TOP / "tools" / "unproved_library"
+BUILDER = TOP / "tools" / "unproved_static"
 
 
 class Fault(Exception):

@@ -1,5 +1,5 @@
-/* The same figures as `messages pair` of plain datagrams on 127.0.0.1 between two processes that ask again and again for
- * what comes: nothing is acknowledged or sent again, but for one datagram back behind each 64.
+/* The same figures as `messages pair` of plain datagrams on 127.0.0.1 between two processes that ask again and again
+ * for what comes: nothing is acknowledged or sent again, but for one datagram back behind each 64.
  *
  *   datagrams PORT     it takes this port and the next
  */

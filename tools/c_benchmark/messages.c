@@ -1,9 +1,9 @@
 /* How long messages and collectives take under an MPI: rank 0 prints a line for each figure, its name and the median of
  * several batches.
  *
- *   messages pair     two ranks: half a round trip in microseconds for sizes from 0 bytes to 1 MiB, messages of 4 bytes a
- *                     second with 64 in flight, a stream of 1 MiB messages in MB a second
- *   messages all      all ranks: a barrier and an allreduce of 8 bytes, in microseconds
+ *   messages pair     two ranks: half a round trip in microseconds for sizes from 0 bytes to 1 MiB, messages of 4 bytes
+ * a second with 64 in flight, a stream of 1 MiB messages in MB a second messages all      all ranks: a barrier and an
+ * allreduce of 8 bytes, in microseconds
  */
 #include <mpi.h>
 #include <stdio.h>
