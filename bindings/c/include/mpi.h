@@ -325,6 +325,8 @@ int MPI_Comm_set_name(MPI_Comm comm, const char *comm_name);
 MPI_Fint MPI_Comm_c2f(MPI_Comm comm);
 MPI_Comm MPI_Comm_f2c(MPI_Fint comm);
 
+#include "mpi_profiling.h"
+
 #ifdef __cplusplus
 }
 #endif

@@ -82,8 +82,7 @@ static void open_device(void) {
     refuse_start(STATUS_SOCKET, "no socket at port ", port);
 }
 
-int MPI_Init_thread(int *argc, char ***argv, int required, int *provided) {
-    static const char call[] = "MPI_Init";
+static int begin(const char *call, int *argc, char ***argv, int required) {
     if (process.phase != BEFORE_INIT) return raise_on(MPI_COMM_WORLD, call, MPI_ERR_OTHER, "it was called before");
     find_place(argc, argv);
     open_engine();
@@ -92,12 +91,17 @@ int MPI_Init_thread(int *argc, char ***argv, int required, int *provided) {
     process.phase = RUNNING;
     main_thread = thrd_current();
     process.thread_level = required < MPI_THREAD_SERIALIZED ? required : MPI_THREAD_SERIALIZED;
-    if (provided != NULL) *provided = process.thread_level;
     progress();
     return open_communicators();
 }
 
-int MPI_Init(int *argc, char ***argv) { return MPI_Init_thread(argc, argv, MPI_THREAD_SINGLE, NULL); }
+int MPI_Init(int *argc, char ***argv) { return begin("MPI_Init", argc, argv, MPI_THREAD_SINGLE); }
+
+int MPI_Init_thread(int *argc, char ***argv, int required, int *provided) {
+    int class = begin("MPI_Init_thread", argc, argv, required);
+    *provided = process.thread_level;
+    return class;
+}
 
 int MPI_Initialized(int *flag) {
     *flag = process.phase != BEFORE_INIT;
