@@ -2,6 +2,8 @@
 use Rattle.std.specs.Prelude.{◌≡◌, ℕ, Option, None, Result, Ok, Err}
 use Rattle.point_to_point_calls.specs.declared.refusal.Refusal.{Refusal}
 use Rattle.point_to_point_calls.specs.Refusals.{IsRefusal}
+use Rattle.point_to_point_calls.specs.declared.refusal.Refusal.TheVariants as refusals
+use Rattle.sessions.specs.Peers.{IsAnyDue}
 use Rattle.sessions.specs.Ticks as lower
 use Rattle.engine_calls.specs.EngineState.{EngineState}
 use Rattle.engine_calls.specs.Refusals.{fault_of_sessions}
@@ -14,7 +16,9 @@ clock_fault e now = fault_of_sessions (lower.clock_fault e.sessions.clock now)
 abbrev pub after_tick : EngineState → ℕ → EngineState
 after_tick e now = record e { sessions = lower.after_tick e.sessions now }
 
--- a tick does this, unless the clock would go back, or else for want of memory; a refusal changes nothing
+-- a tick does this, unless the clock would go back, or else for want of memory, which only a frame that is due can
+-- bring; a refusal changes nothing
 abbrev pub TickGives : EngineState → ℕ → Result (Unit {0}) Refusal → EngineState → Type 0
 TickGives old now (Ok x) new = (clock_fault old now ≡ None) × (new ≡ after_tick old now)
-TickGives old now (Err e) new = (new ≡ old) × IsRefusal (clock_fault old now) e
+TickGives old now (Err e) new =
+    (new ≡ old) × IsRefusal (clock_fault old now) e × (e ≡ refusals.OutOfMemory → IsAnyDue old.sessions.peers now)

@@ -96,7 +96,8 @@ impl Engine {
 
     /// The clock says `now`, in milliseconds: what was last sent 20 ms or more before is sent again.
     ///
-    /// Refused with 41 exactly where `now` is below the last tick, and with 14. A refusal changes nothing.
+    /// Refused with 41 exactly where `now` is below the last tick, and with 14, which comes only where a frame is due.
+    /// A refusal changes nothing.
     pub fn tick(&mut self, now: u64) -> Result<(), Refusal>
         ensures exact { TickGives self.old now result self.new }
         ensures unchanged { OnErr result (self.new ≡ self.old) }

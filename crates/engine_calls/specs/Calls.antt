@@ -34,6 +34,23 @@ use Rattle.engine_calls.specs.declared.reply.Fact.TheVariants as facts
 use Rattle.engine_calls.specs.declared.reply.Reply.{Reply}
 use Rattle.engine_calls.specs.declared.reply.Reply.TheVariants as replies
 
+-- WHAT A CALL OWNS
+
+-- a call with data of its own, a buffer or a list of requests: to copy them takes memory
+abbrev pub OwnsData : Call → Type 0
+OwnsData (calls.Isend s) = Unit {0}
+OwnsData (calls.Irecv v) = Unit {0}
+OwnsData (calls.Wait q) = ⊥
+OwnsData (calls.Test q) = ⊥
+OwnsData (calls.Waitany qs) = Unit {0}
+OwnsData (calls.Waitall qs) = Unit {0}
+OwnsData (calls.Cancel q) = ⊥
+OwnsData (calls.Enter comm entry) = Unit {0}
+OwnsData (calls.Ask comm question) = ⊥
+OwnsData (calls.Iprobe p) = ⊥
+OwnsData (calls.Improbe p) = ⊥
+OwnsData (calls.Mrecv q into) = Unit {0}
+
 -- WHY A CALL IS REFUSED
 
 -- what the core is asked takes memory

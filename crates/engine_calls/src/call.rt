@@ -43,9 +43,10 @@ pub enum Call {
 }
 
 impl Call {
-    /// The same call once more. The only error is want of memory.
+    /// The same call once more. The only error is want of memory, for a buffer or a list of requests.
     pub fn try_clone(&self, alloc: Global) -> Result<Call, AllocError>
-        ensures { IfOk result (λ copy. copy ≡ self.now) }
+        ensures copy { IfOk result (λ copy. copy ≡ self.now) }
+        ensures data { OnErr result (OwnsData self.now) }
     {
         match self {
             Call::Isend(send) => Ok(Call::Isend(send.try_clone(alloc)?)),

@@ -5,7 +5,7 @@ ghost use Rattle.std.specs.Prelude.{IsOk, OnOk, OnErr, IfErr, IsTrue, IsErrOf, I
 ghost use Rattle.std.specs.Option.{option_copied};
 ghost use Rattle.reliable_link.specs.SenderState.{SenderState, next_number, out_count, out_end, after_accept};
 ghost use Rattle.reliable_link.specs.SenderState.{entered_on_accept, passed_to, with_marks, after_ack, IsOfSent};
-ghost use Rattle.reliable_link.specs.SenderState.{due_at, after_due, frame_at, after_take_back, StandsAt};
+ghost use Rattle.reliable_link.specs.SenderState.{IsSomeDue, due_at, after_due, frame_at, after_take_back, StandsAt};
 ghost use Rattle.reliable_link.specs.Accepting.{AcceptGives};
 ghost use Rattle.std.proofs.Common.{min};
 
@@ -200,6 +200,7 @@ impl OpenSender {
         ensures clock { IsErrOf result LinkRefusal.ClockBack ↔ (now < self.now.clock) }
         ensures only { IfErr result (λ e. (e ≡ LinkRefusal.ClockBack) ⊎ (e ≡ LinkRefusal.OutOfMemory)) }
         ensures due { IfOk result (λ numbers. numbers.items ≡ due_at self.now now) }
+        ensures memory { IsErrOf result LinkRefusal.OutOfMemory → IsSomeDue self.now now }
     {
         if now < self.clock {
             return Err(LinkRefusal::ClockBack);

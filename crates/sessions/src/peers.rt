@@ -3,14 +3,14 @@
 ghost use Rattle.std.specs.Prelude.{◌≡◌, ◌≢◌, ◌≤◌, ◌<◌, ◌+◌, ◌-◌, ◌*◌, ◌++◌, length, All, IsTrue, IfOk, OnOk, OnErr};
 ghost use Rattle.std.specs.Prelude.{IfErr, nat_lt, ◌^◌, [], ◌∷◌, if◌then◌else◌, slice_set, vec_len, vec_capacity};
 ghost use Rattle.reliable_link.specs.SenderState.{after_accept, after_ack, IsOfSent, entered_on_ack, due_at, out_end};
-ghost use Rattle.reliable_link.specs.SenderState.{StandsAt};
+ghost use Rattle.reliable_link.specs.SenderState.{IsSomeDue, StandsAt};
 ghost use Rattle.reliable_link.specs.Accepting.{HasNumberLeft};
 ghost use Rattle.reliable_link.specs.ReceiverState.{advanced, after_frame, discarded};
 ghost use Rattle.std.specs.List.{range_with_len};
 ghost use Rattle.sessions.specs.Carrying.{taken_back};
 ghost use Rattle.sessions.specs.Busy.{busy_among, busy_in};
 ghost use Rattle.sessions.specs.Peers.{new_peers, peer_at, with_sender, with_receiver, with_new_session, frames_out};
-ghost use Rattle.sessions.specs.Peers.{due_out, after_all_due};
+ghost use Rattle.sessions.specs.Peers.{IsAnyDue, due_out, after_all_due};
 
 use crate::refusal::SessionRefusal;
 use datagram::{Bytes, Drafts};
@@ -350,14 +350,40 @@ fn due_frames_of(
         frames.items ≡ frames_out rank peer.now.sender (due_at peer.now.sender now)) }
     ensures few { IfOk result (λ frames. vec_len frames ≤ 64) }
     ensures err { IfErr result (λ e. e ≡ SessionRefusal.OutOfMemory) }
+    ensures memory { OnErr result (IsSomeDue peer.now.sender now) }
 {
     if peer.sender.is_empty() {
         return Ok(Vec::new(alloc));
     }
-    match peer.sender.due(now) {
-        Ok(numbers) => frames_of(alloc, rank, &peer.sender, &numbers),
-        Err(_) => Err(SessionRefusal::OutOfMemory),
+    let Ok(numbers) = peer.sender.due(now) else {
+        return Err(SessionRefusal::OutOfMemory);
+    };
+    if numbers.is_empty() {
+        return Ok(Vec::new(alloc));
     }
+    frames_of(alloc, rank, &peer.sender, &numbers)
+}
+
+/// The frames of one session that are due at this time go out behind the others. Memory is wanted only where one is due.
+fn add_due_frames(
+    frames: &mut Vec<(u16, Bytes)>,
+    alloc: Global,
+    rank: u16,
+    peer: &Peer,
+    now: u64,
+) -> Result<(), SessionRefusal>
+    requires { peer.now.sender.clock ≤ now }
+    ensures ok { OnOk result (
+        frames.new.items ≡ frames.old.items ++ frames_out rank peer.now.sender (due_at peer.now.sender now)) }
+    ensures few { OnOk result (vec_len frames.new ≤ vec_len frames.old + 64) }
+    ensures err { IfErr result (λ e. e ≡ SessionRefusal.OutOfMemory) }
+    ensures memory { OnErr result (IsSomeDue peer.now.sender now) }
+{
+    let due = due_frames_of(alloc, rank, peer, now)?;
+    if due.is_empty() {
+        return Ok(());
+    }
+    emit_all(frames, due)
 }
 
 /// The frames that are due at this time, by rising rank.
@@ -372,11 +398,11 @@ pub(crate) fn due_frames(
     ensures ok { IfOk result (λ frames. frames.items ≡ due_out 0 peers.now now) }
     ensures few { IfOk result (λ frames. vec_len frames ≤ 64 * length peers.now) }
     ensures err { IfErr result (λ e. e ≡ SessionRefusal.OutOfMemory) }
+    ensures memory { OnErr result (IsAnyDue peers.now now) }
 {
     let mut frames = Vec::new(alloc);
     for (rank, peer) in peers.iter().enumerate() {
-        let due = due_frames_of(alloc, rank as u16, peer, now)?;
-        emit_all(&mut frames, due)?;
+        add_due_frames(&mut frames, alloc, rank as u16, peer, now)?;
     }
     Ok(frames)
 }

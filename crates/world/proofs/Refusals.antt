@@ -27,7 +27,7 @@ use Rattle.requests.specs.declared.answer.Answer.{Answer}
 use Rattle.world.specs.Faults.{event_fault, target_of}
 use Rattle.world.specs.EventByEvent.{IsSoundBy}
 use Rattle.world.specs.Headline.{IsSound, history_seen}
-use Rattle.world.specs.Steps.{DatagramRuns, DeliveryRuns, EventRuns, HasOwnBytes, IsCall, IsRefusedBy, IsWhy, RanAt}
+use Rattle.world.specs.Steps.{DatagramRuns, DeliveryRuns, EventRuns, HasOwnBytes, IsCallWithData, IsRefusedBy, IsWhy, RanAt}
 use Rattle.world.specs.Steps.{Rejection, fault_in, first_of, with_out}
 use Rattle.world.specs.WorldState.{HasRoom, WorldState}
 use Rattle.world.specs.declared.event.HistoryEntry.{HistoryEntry}
@@ -279,9 +279,10 @@ had_no_room old size datagrams entries found size_is datagrams_are entries_are e
     both_ways found none
     (enough (omega (arith, size_is, datagrams_are, room.datagrams)) (omega (arith, entries_are, room.entries)))
 
--- of what breaks no rule of the world a call alone has data of its own: stray bytes always break one
-pub copied_call : (w : WorldState) (event : Event) → fault_in w event ≡ None → HasOwnBytes event → IsCall event
-copied_call w (events.Call r call) allowed has = tt
+-- of what breaks no rule of the world calls alone have data of their own: stray bytes always break one
+pub copied_call : (w : WorldState) (event : Event) → fault_in w event ≡ None → HasOwnBytes event →
+    IsCallWithData event
+copied_call w (events.Call r call) allowed has = has
 copied_call w (events.Deliver number) allowed has = has
 copied_call w (events.Stray r bytes) allowed has = stray_breaks (length w.engines) w.datagrams r bytes allowed
 copied_call w (events.Tick r now) allowed has = has

@@ -182,23 +182,24 @@ pub record Went (old : WorldState) (event : Event) (added : Stepped) (new : Worl
 
 -- an event with data of its own, which to copy may take memory
 abbrev pub HasOwnBytes : Event → Type 0
-HasOwnBytes (events.Call rank call) = Unit {0}
+HasOwnBytes (events.Call rank call) = OwnsData call
 HasOwnBytes (events.Deliver number) = ⊥
 HasOwnBytes (events.Stray rank bytes) = Unit {0}
 HasOwnBytes (events.Tick rank now) = ⊥
 HasOwnBytes (events.Restart rank) = ⊥
 
--- a call, of which the engine takes a copy
-abbrev pub IsCall : Event → Type 0
-IsCall (events.Call rank call) = Unit {0}
-IsCall (events.Deliver number) = ⊥
-IsCall (events.Stray rank bytes) = ⊥
-IsCall (events.Tick rank now) = ⊥
-IsCall (events.Restart rank) = ⊥
+-- a call with data of its own, of which the engine takes a copy
+abbrev pub IsCallWithData : Event → Type 0
+IsCallWithData (events.Call rank call) = OwnsData call
+IsCallWithData (events.Deliver number) = ⊥
+IsCallWithData (events.Stray rank bytes) = ⊥
+IsCallWithData (events.Tick rank now) = ⊥
+IsCallWithData (events.Restart rank) = ⊥
 
--- the world needs memory for an event: it has no room for what that may add, or the event is a call, which is copied
+-- the world needs memory for an event: it has no room for what that may add, or the event is a call with data of its
+-- own, which are copied
 abbrev pub NeedsMemory : WorldState → Event → Type 0
-NeedsMemory w event = (HasRoom w → ⊥) ⊎ IsCall event
+NeedsMemory w event = (HasRoom w → ⊥) ⊎ IsCallWithData event
 
 -- Why an event is refused, and what goes out with that
 pub data IsWhy (old : WorldState) (event : Event) (refused : WorldRefusal) (out : List (ℕ × List ℕ)) : Type 0 where
