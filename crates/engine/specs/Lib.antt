@@ -5,6 +5,7 @@ pub mod Parts
 pub mod Entering
 pub mod Following
 pub mod Ticks
+pub mod Looks
 pub use Rattle.datagram.specs.Spelling
 pub use Rattle.datagram.specs.Reading
 pub use Rattle.match_queues.specs.State

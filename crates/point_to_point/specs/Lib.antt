@@ -8,3 +8,4 @@ pub use Rattle.datagram.specs.Spelling
 pub use Rattle.match_queues.specs.State
 pub use Rattle.requests.specs.Table
 pub mod Messages
+pub mod Looks

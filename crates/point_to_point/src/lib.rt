@@ -11,6 +11,7 @@ mod arrivals;
 mod call_preparation;
 mod calls;
 mod faults;
+mod looks;
 mod news_preparation;
 mod rank;
 mod transfer_numbers;
