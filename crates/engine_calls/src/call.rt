@@ -1,6 +1,7 @@
 //! What a program may ask of its rank.
 
-ghost use Rattle.std.specs.Prelude.{◌≡◌, IfOk};
+ghost use Rattle.std.specs.Prelude.{◌≡◌, IfOk, OnErr};
+ghost use Rattle.engine_calls.specs.Calls.{OwnsData};
 
 use collective_messages::Entry;
 use communicators::Question;

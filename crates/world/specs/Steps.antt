@@ -5,7 +5,7 @@ use Rattle.std.specs.Prelude.{slice_get, slice_set, ◌==◌, if◌then◌else�
 use Rattle.vocabulary.specs.declared.endpoint.Endpoint.{Endpoint}
 use Rattle.vocabulary.specs.Endpoints.{last_incarnation}
 use Rattle.incarnation.specs.declared.place.Place.{Place}
-use Rattle.engine_calls.specs.Calls.{CallGives, IsStepLimited, IsTaken}
+use Rattle.engine_calls.specs.Calls.{CallGives, IsStepLimited, IsTaken, OwnsData}
 use Rattle.engine_calls.specs.EngineState.{EngineState, completion_of, emptied, opening}
 use Rattle.engine_calls.specs.Faults.{fault_of}
 use Rattle.engine_calls.specs.declared.call.Call.{Call}
