@@ -1,6 +1,6 @@
 -- What is due is due in some frame of some session.
-use Rattle.std.proofs.Common.{◌≡◌, ℕ, zero, suc, ◌+◌, List, [], ◌∷◌, ◌++◌, take, refl, sym, ◌∙◌}
-use Rattle.std.specs.Prelude.{Bool, true, false, Some, slice_get}
+use Rattle.std.proofs.Common.{◌≡◌, ℕ, zero, suc, ◌+◌, ◌<◌, List, [], ◌∷◌, ◌++◌, take, length, get_or, refl, sym, ap, arith, ◌∙◌}
+use Rattle.std.specs.Prelude.{Bool, true, false, Err, Ok, OnErr, Result, Some, slice_get}
 use Rattle.reliable_link.specs.declared.out_frame.OutFrame.{OutFrame}
 use Rattle.reliable_link.specs.SenderState.{HasDue, IsSomeDue, SenderState, due_at, is_due, numbers_due, out_count}
 use Rattle.sessions.specs.declared.peers.Peer.{Peer}
@@ -8,6 +8,11 @@ use Rattle.sessions.specs.Peers.{IsAnyDue, due_out, frames_out}
 
 not_none : {A : Type 0} (x : A) (xs : List A) → x ∷ xs ≡ [] → ⊥
 not_none x xs h = absurd cc
+
+-- what holds anyhow holds of an error
+pub on_error : {X E P : Type 0} (r : Result X E) → P → OnErr r P
+on_error (Ok x) p = tt
+on_error (Err e) p = p
 
 -- where a number is noted, a frame is due
 pub numbers_some : (now n : ℕ) (fs : List OutFrame) → (numbers_due now n fs ≡ [] → ⊥) → HasDue now fs
@@ -35,3 +40,10 @@ out_some rank now (p ∷ ps) some = go (due_at p.sender now) refl (out_some (suc
         let later : IsAnyDue ps now = rest (λ none. some (rw is none)) in
         (suc later.0, later.1, later.2, later.3)
     go (n ∷ ns) is rest = (0, p, refl, some_due p.sender now (λ none. not_none n ns (sym is ∙ none)))
+
+-- what stands at a place within is found there
+pub at_place : (ps : List Peer) (place : ℕ) (p : Peer) → place < length ps → p ≡ get_or ps place p →
+    slice_get ps place ≡ Some p
+at_place [] place p within is = absurd (omega (arith, within))
+at_place (q ∷ ps) zero p within is = ap Some (sym is)
+at_place (q ∷ ps) (suc place) p within is = at_place ps place p (omega (arith, within)) is
