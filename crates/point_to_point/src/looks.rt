@@ -14,7 +14,7 @@ impl Core {
     pub fn is_finished(&self, request: Request) -> Option<bool>
         ensures { result ≡ finished_at self.now.state.slots request }
     {
-        self.requests.is_finished(request)
+        self.requests.look(request)
     }
 
     /// The basic type of the message that a receive of this source, tag and context would take now, if there is one.
