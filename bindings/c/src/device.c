@@ -100,7 +100,7 @@ void device_close(void) {
 bool device_is_open(void) { return own_socket >= 0; }
 
 unsigned char *device_room(size_t *len) {
-    if (group_count == MOST_GROUPS || out_len + LEAST_ROOM > OUT_ROOM) device_flush();
+    if (group_count == MOST_GROUPS || out_len + LEAST_ROOM > OUT_ROOM) device_flush(1);
     *len = OUT_ROOM - out_len < LONGEST_TOGETHER ? OUT_ROOM - out_len : LONGEST_TOGETHER;
     return out_room + out_len;
 }
@@ -130,24 +130,28 @@ static void describe(const struct group *group, struct msghdr *message, struct s
     memcpy(CMSG_DATA(length), &group->each, sizeof group->each);
 }
 
-void device_flush(void) {
+/* Hands so many messages to the system. What it doesn't take is lost, as any datagram may be, and goes out again. */
+static void hand_over(struct mmsghdr *messages, int count) {
+    for (int at = 0; at < count;) {
+        int sent = sendmmsg(own_socket, messages + at, (unsigned)(count - at), 0);
+        if (sent > 0) {
+            at += sent;
+            continue;
+        }
+        if (errno == EINTR) continue;
+        if (groups[at].count > 1 && (errno == EINVAL || errno == EIO || errno == EMSGSIZE)) can_segment = false;
+        at++;
+    }
+}
+
+void device_flush(int copies) {
     static struct mmsghdr messages[MOST_GROUPS];
     static struct sockaddr_in targets[MOST_GROUPS];
     static struct iovec parts[MOST_GROUPS];
     static union control controls[MOST_GROUPS];
     for (int i = 0; i < group_count; i++)
         describe(&groups[i], &messages[i].msg_hdr, &targets[i], &parts[i], &controls[i]);
-    for (int at = 0; at < group_count;) {
-        int sent = sendmmsg(own_socket, messages + at, (unsigned)(group_count - at), 0);
-        if (sent > 0) {
-            at += sent;
-            continue;
-        }
-        if (errno == EINTR) continue;
-        /* What the system doesn't take is lost, as any datagram may be, and goes out again. */
-        if (groups[at].count > 1 && (errno == EINVAL || errno == EIO || errno == EMSGSIZE)) can_segment = false;
-        at++;
-    }
+    for (int copy = 0; copy < copies; copy++) hand_over(messages, group_count);
     group_count = 0;
     out_len = 0;
 }
@@ -163,20 +167,23 @@ static size_t length_of_each(struct msghdr *message, size_t len) {
     return len;
 }
 
-/* Takes in what has come, without waiting: how many packets. */
-static int take_packets(void) {
-    for (int i = 0; i < MOST_HEARD; i++) {
+/* Room for so many packets. */
+static void clear_heard(int count) {
+    for (int i = 0; i < count; i++) {
         heard_parts[i] = (struct iovec){heard_room[i], HEARD_ROOM};
         heard[i].msg_hdr = (struct msghdr){.msg_iov = &heard_parts[i],
                                            .msg_iovlen = 1,
                                            .msg_control = heard_controls[i].room,
                                            .msg_controllen = sizeof heard_controls[i].room};
     }
-    return recvmmsg(own_socket, heard, MOST_HEARD, MSG_DONTWAIT, NULL);
 }
 
 bool device_hear(device_hearer *hearer) {
-    int count = take_packets();
+    /* Mostly one packet comes at a time: it is looked for more where there was as much as was looked for. */
+    static int wanted = 1;
+    clear_heard(wanted);
+    int count = recvmmsg(own_socket, heard, (unsigned)wanted, MSG_DONTWAIT, NULL);
+    wanted = count == wanted ? MOST_HEARD : 1;
     for (int i = 0; i < count; i++) {
         size_t len = heard[i].msg_len;
         if (len > 0) hearer(heard_room[i], len, length_of_each(&heard[i].msg_hdr, len));

@@ -20,8 +20,8 @@ uint32_t device_most(void);
 /* What stands in the room goes to this rank, at the next device_flush at the latest: so many datagrams behind one
  * another, each of so many bytes but for the last, which may have fewer; `len` bytes in all. */
 void device_put(uint16_t target, uint32_t count, uint32_t each, size_t len);
-/* Hands all that goes out to the system. */
-void device_flush(void);
+/* Hands all that goes out to the system, so many times. */
+void device_flush(int copies);
 
 /* Who is handed what came: some bytes, in which datagrams of `each` bytes stand behind one another, of which the last
  * may be shorter. */

@@ -18,8 +18,7 @@
 enum {
     STATUS_PLACE = 2, /* what the launcher tells of the place is wrong */
     STATUS_SOCKET = 3,
-    MESSAGE_LIMIT = 1 << 20, /* bytes of a message */
-    LAST_MILLISECONDS = 100  /* so long a rank that ends waits for the last acknowledgements of all */
+    MESSAGE_LIMIT = 1 << 20 /* bytes of a message */
 };
 
 struct process process = {.size = 1};
@@ -110,15 +109,15 @@ int MPI_Initialized(int *flag) {
 
 /* ---- the end ---- */
 
-/* All that this rank sent is acknowledged before it enters a barrier; so behind the barrier nobody has anything to say
- * but what belongs to the barrier itself, and of that only an acknowledgement may be missed. */
+/* All that this rank sent is acknowledged before it enters a barrier; so behind the barrier nobody waits for anything
+ * but frames of the barrier itself, and whoever has left it waits for acknowledgements of these alone. */
 static void leave_job(void) {
     const struct engine_call barrier = {.kind = ENGINE_BARRIER, .communicator = ENGINE_WORLD};
     struct engine_answer answer;
-    progress_until_idle(-1);
+    progress_until_idle();
     call_engine(&barrier, NULL, 0, &answer);
     await_finish(&answer);
-    progress_until_idle(LAST_MILLISECONDS);
+    progress_last_words();
 }
 
 int MPI_Finalize(void) {

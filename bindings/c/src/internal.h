@@ -54,8 +54,10 @@ void progress_out(void);
 void progress_wait(void);
 /* From now on counts the time after which a rank gives up. */
 void progress_begin_wait(void);
-/* Waits until all that was sent is acknowledged, or so long, or without end (-1): whether it is. */
-bool progress_until_idle(int milliseconds);
+/* Waits until all that was sent is acknowledged. */
+void progress_until_idle(void);
+/* The same, but not for long: behind the barrier with which all end. Others get its last acknowledgements. */
+void progress_last_words(void);
 /* At the start of the process, once its place is known. */
 void progress_open(void);
 

@@ -6,10 +6,12 @@
 #include <stdio.h>
 
 enum {
-    MILLISECOND = 1000000,
-    LONGEST_SLEEP = 5,     /* milliseconds; the engine sends again what it sent 20 ms ago */
-    LONGEST_SPIN = 200000, /* nanoseconds in which a rank that waits asks again and again before it sleeps */
-    YIELDS_OF_CROWDED = 4  /* so often where there are more ranks than processors, and it lets others run between */
+    MILLISECOND = 1000000,   /* the following are in nanoseconds but where it is said */
+    LONGEST_SPIN = 200000,   /* so long a rank that waits asks again and again before it sleeps */
+    YIELDS_OF_CROWDED = 4,   /* so often where there are more ranks than processors, and it lets others run between */
+    LONGEST_SLEEP = 5,       /* milliseconds; the engine sends again what it sent 20 ms ago */
+    LAST_WORDS = 2000000000, /* so long a rank that ends waits for the last acknowledgements at most */
+    COPIES_OF_LAST = 3       /* so often it says its own last ones, which nobody can ask for again */
 };
 
 /* What the engine was told last, in nanoseconds, and until when it keeps an acknowledgement back (0: none is kept). */
@@ -37,7 +39,7 @@ static bool tell_time(void) {
 }
 
 /* Sends what is to go out; what is kept back too, if it is told so. */
-static void send_out(bool kept_too) {
+static void send_copies(bool kept_too, int copies) {
     if (!device_is_open()) return;
     struct engine_outgoing out = {0};
     for (;;) {
@@ -48,8 +50,10 @@ static void send_out(bool kept_too) {
         device_put(out.target, out.count, out.each, len);
     }
     kept_until = out.kept_until;
-    device_flush();
+    device_flush(copies);
 }
+
+static void send_out(bool kept_too) { send_copies(kept_too, 1); }
 
 void progress_out(void) { send_out(false); }
 
@@ -104,14 +108,15 @@ void progress_wait(void) {
 
 void progress_begin_wait(void) { heard = told; }
 
-bool progress_until_idle(int milliseconds) {
-    uint64_t until = device_nanoseconds() + (uint64_t)milliseconds * MILLISECOND;
-    while (!kombazily_is_idle(&engine)) {
-        if (milliseconds >= 0 && device_nanoseconds() >= until) return false;
-        progress_wait();
-    }
-    send_out(true);
-    return true;
+void progress_until_idle(void) {
+    progress_begin_wait();
+    while (!kombazily_is_idle(&engine)) progress_wait();
+}
+
+void progress_last_words(void) {
+    uint64_t until = device_nanoseconds() + LAST_WORDS;
+    while (!kombazily_is_idle(&engine) && device_nanoseconds() < until) progress_wait();
+    send_copies(true, COPIES_OF_LAST);
 }
 
 void await_finish(struct engine_answer *answer) {
