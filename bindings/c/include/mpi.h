@@ -16,8 +16,8 @@ extern "C" {
 #define MPI_VERSION 3
 #define MPI_SUBVERSION 1
 
-/* Handles (2.5.1): pointers to nothing that can be looked into, so that a compiler tells a communicator from a type. What
- * they hold is a number: the kind of the object and its place in a table; 0 is none. */
+/* Handles (2.5.1): pointers to nothing that can be looked into, so that a compiler tells a communicator from a type.
+ * What they hold is a number: the kind of the object and its place in a table; 0 is none. */
 typedef struct kombazily_communicator *MPI_Comm;
 typedef struct kombazily_datatype *MPI_Datatype;
 typedef struct kombazily_errhandler *MPI_Errhandler;

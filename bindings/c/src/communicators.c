@@ -13,7 +13,9 @@
 /* All communicators; MPI_COMM_WORLD and MPI_COMM_SELF have the first two places, as in the engine. */
 static struct table communicators = TABLE_OF(KIND_COMMUNICATOR);
 
-struct communicator *communicator_of(MPI_Comm handle) { return table_find(&communicators, (int)(intptr_t)handle); }
+struct communicator *communicator_of(MPI_Comm handle) {
+    return table_find(&communicators, (int)(intptr_t)handle);
+}
 
 /* What the engine tells of a communicator by a number. */
 static int fact_of(uint32_t place, enum engine_call_kind question) {
@@ -89,8 +91,10 @@ int MPI_Comm_compare(MPI_Comm comm1, MPI_Comm comm2, int *result) {
     if (class == MPI_SUCCESS) class = check_comm(comm2, call, &second);
     if (class == MPI_SUCCESS) class = check_result(comm1, call, result, "result");
     if (class != MPI_SUCCESS) return class;
-    static const int comparisons[] = {[ENGINE_IDENT] = MPI_IDENT, [ENGINE_CONGRUENT] = MPI_CONGRUENT,
-                                      [ENGINE_SIMILAR] = MPI_SIMILAR, [ENGINE_UNEQUAL] = MPI_UNEQUAL};
+    static const int comparisons[] = {[ENGINE_IDENT] = MPI_IDENT,
+                                      [ENGINE_CONGRUENT] = MPI_CONGRUENT,
+                                      [ENGINE_SIMILAR] = MPI_SIMILAR,
+                                      [ENGINE_UNEQUAL] = MPI_UNEQUAL};
     struct engine_answer answer;
     struct engine_call compare = {.kind = ENGINE_COMPARE, .communicator = first->place, .other = second->place};
     call_engine(&compare, NULL, 0, &answer);

@@ -9,8 +9,8 @@
 
 /* A communicator. */
 struct communicator {
-    uint32_t place;        /* how the engine names it */
-    int rank;              /* the own rank in it */
+    uint32_t place; /* how the engine names it */
+    int rank;       /* the own rank in it */
     int size;
     MPI_Errhandler errhandler;
     char name[MPI_MAX_OBJECT_NAME];

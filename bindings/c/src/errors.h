@@ -11,8 +11,7 @@
 /* Tells the error handler of a communicator (of MPI_COMM_WORLD, where there is no such one) of an error. With
  * MPI_ERRORS_RETURN it answers the class; else it writes one line, `rank 3: MPI_Send: rank 7 of a communicator of 4`,
  * and ends the job with the class as its status. The cause is a format as for printf. */
-int raise_on(MPI_Comm comm, const char *call, int class, const char *cause, ...)
-    __attribute__((format(printf, 4, 5)));
+int raise_on(MPI_Comm comm, const char *call, int class, const char *cause, ...) __attribute__((format(printf, 4, 5)));
 
 /* The same of a number of the engine that isn't 0. */
 int raise_number(MPI_Comm comm, const char *call, uint32_t number);

@@ -7,11 +7,16 @@
 #define FOLD_OF(type, combine_them, fold_them)                                                                         \
     static type combine_them(enum engine_operation operation, type a, type b) {                                        \
         switch (operation) {                                                                                           \
-        case ENGINE_MAX: return a < b ? b : a;                                                                         \
-        case ENGINE_MIN: return b < a ? b : a;                                                                         \
-        case ENGINE_SUM: return a + b;                                                                                 \
-        case ENGINE_PROD: return a * b;                                                                                \
-        default: return a;                                                                                             \
+        case ENGINE_MAX:                                                                                               \
+            return a < b ? b : a;                                                                                      \
+        case ENGINE_MIN:                                                                                               \
+            return b < a ? b : a;                                                                                      \
+        case ENGINE_SUM:                                                                                               \
+            return a + b;                                                                                              \
+        case ENGINE_PROD:                                                                                              \
+            return a * b;                                                                                              \
+        default:                                                                                                       \
+            return a;                                                                                                  \
         }                                                                                                              \
     }                                                                                                                  \
     static void fold_them(enum engine_operation operation, unsigned char *all, const unsigned char *next,              \
@@ -31,8 +36,14 @@ FOLD_OF(long double, combine_long_doubles, fold_long_double_list)
 
 void fold_floats(enum precision precision, enum engine_operation operation, void *all, const void *next, size_t count) {
     switch (precision) {
-    case PRECISION_FLOAT: fold_float_list(operation, all, next, count); return;
-    case PRECISION_DOUBLE: fold_double_list(operation, all, next, count); return;
-    case PRECISION_LONG_DOUBLE: fold_long_double_list(operation, all, next, count); return;
+    case PRECISION_FLOAT:
+        fold_float_list(operation, all, next, count);
+        return;
+    case PRECISION_DOUBLE:
+        fold_double_list(operation, all, next, count);
+        return;
+    case PRECISION_LONG_DOUBLE:
+        fold_long_double_list(operation, all, next, count);
+        return;
     }
 }

@@ -22,13 +22,16 @@ bool is_defined_on(enum engine_operation operation, enum family family) {
     case ENGINE_MAX:
     case ENGINE_MIN:
     case ENGINE_SUM:
-    case ENGINE_PROD: return family == FAMILY_INTEGER || family == FAMILY_FLOATING || family == FAMILY_ADDRESS;
+    case ENGINE_PROD:
+        return family == FAMILY_INTEGER || family == FAMILY_FLOATING || family == FAMILY_ADDRESS;
     case ENGINE_LAND:
     case ENGINE_LOR:
-    case ENGINE_LXOR: return family == FAMILY_INTEGER || family == FAMILY_LOGICAL;
+    case ENGINE_LXOR:
+        return family == FAMILY_INTEGER || family == FAMILY_LOGICAL;
     case ENGINE_BAND:
     case ENGINE_BOR:
-    case ENGINE_BXOR: return family == FAMILY_INTEGER || family == FAMILY_BYTE || family == FAMILY_ADDRESS;
+    case ENGINE_BXOR:
+        return family == FAMILY_INTEGER || family == FAMILY_BYTE || family == FAMILY_ADDRESS;
     }
     return false;
 }

@@ -66,8 +66,8 @@ int MPI_Reduce(const void *sendbuf, void *recvbuf, int count, MPI_Datatype datat
     }
     if (class != MPI_SUCCESS) return class;
     uint32_t number = of.type->family == FAMILY_FLOATING
-        ? fold_rows(rows_of(of, root), of.type->element, of.operation, row, of.length, recvbuf)
-        : reduce_rows(rows_of(of, root), of.operation, row, of.length, recvbuf);
+                          ? fold_rows(rows_of(of, root), of.type->element, of.operation, row, of.length, recvbuf)
+                          : reduce_rows(rows_of(of, root), of.operation, row, of.length, recvbuf);
     return number == 0 ? MPI_SUCCESS : raise_number(comm, call, number);
 }
 

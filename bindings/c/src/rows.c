@@ -43,8 +43,8 @@ static bool next_part(struct part *part, size_t length, size_t longest) {
 
 /* The call that enters a part of a collective. */
 static struct engine_call entry_of(enum engine_call_kind kind, struct collective of, size_t bytes) {
-    return (struct engine_call){.kind = kind, .communicator = of.comm->place, .peer = of.root, .basic = of.basic,
-                                .count = bytes / of.unit};
+    return (struct engine_call){
+        .kind = kind, .communicator = of.comm->place, .peer = of.root, .basic = of.basic, .count = bytes / of.unit};
 }
 
 /* Takes the data that the last answer told of, from this byte on. */

@@ -16,10 +16,14 @@
 #define CARRIED_OF(c_type) ((c_type)-1 < (c_type)1 ? SIGNED_OF(c_type) : UNSIGNED_OF(c_type))
 
 #define LAYOUT_OF(c_type)                                                                                              \
-    {sizeof(c_type), 0, sizeof(c_type), 1, &(struct stretch) { 0, sizeof(c_type) }}
+    {                                                                                                                  \
+        sizeof(c_type), 0, sizeof(c_type), 1, &(struct stretch) { 0, sizeof(c_type) }                                  \
+    }
 #define BASIC(of_name, c_type, of_family, of_basic, of_unit)                                                           \
-    {.basic = (of_basic), .unit = (of_unit), .family = FAMILY_##of_family, .element = sizeof(c_type),                  \
-     .layout = LAYOUT_OF(c_type), .is_committed = true, .is_predefined = true, .uses = 1, .name = "MPI_" #of_name}
+    {                                                                                                                  \
+        .basic = (of_basic), .unit = (of_unit), .family = FAMILY_##of_family, .element = sizeof(c_type),               \
+        .layout = LAYOUT_OF(c_type), .is_committed = true, .is_predefined = true, .uses = 1, .name = "MPI_" #of_name   \
+    }
 #define INTEGER(of_name, c_type, of_family) BASIC(of_name, c_type, of_family, CARRIED_OF(c_type), sizeof(c_type))
 
 /* The basic types, in the order of their handles in mpi.h. The bits of a FLOAT or a DOUBLE go as an unsigned integer of

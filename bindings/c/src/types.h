@@ -21,7 +21,7 @@ struct datatype {
     struct layout layout;
     bool is_committed;
     bool is_predefined;
-    int uses;           /* by the program's handle, and by operations that aren't at their end */
+    int uses; /* by the program's handle, and by operations that aren't at their end */
     char name[MPI_MAX_OBJECT_NAME];
 };
 

@@ -13,8 +13,8 @@ static void check_bounds(MPI_Datatype type, int size, MPI_Aint lower, MPI_Aint e
     CHECK(span == extent);
 }
 
-/* Sends items to the own rank as integers in a row, and compares with the places where their data are to stand. Then the
- * other way round: what arrives goes to these places, and nothing else is touched. */
+/* Sends items to the own rank as integers in a row, and compares with the places where their data are to stand. Then
+ * the other way round: what arrives goes to these places, and nothing else is touched. */
 static void check_places(MPI_Datatype type, int items, const int *places, int count) {
     int from[ROOM], row[ROOM], into[ROOM];
     MPI_Request request;

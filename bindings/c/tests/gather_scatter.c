@@ -42,8 +42,7 @@ static void check_scatter(int root, int length, bool in_place) {
     } else {
         MPI_Scatter(NULL, -1, MPI_DATATYPE_NULL, own, length, MPI_INT, root, MPI_COMM_WORLD);
     }
-    for (int i = 0; i < length; i++)
-        wrong += own[i] != (test_rank == root && in_place ? -1 : value(test_rank, i));
+    for (int i = 0; i < length; i++) wrong += own[i] != (test_rank == root && in_place ? -1 : value(test_rank, i));
     CHECK(wrong == 0 && own[length] == -1);
     free(own);
     free(all);

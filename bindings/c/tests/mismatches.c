@@ -1,8 +1,10 @@
-/* A message of another type than its receive is told (MPI 3.1, 3.3.1), and is used up; what MPI matches by isn't the type. */
+/* A message of another type than its receive is told (MPI 3.1, 3.3.1), and is used up; what MPI matches by isn't the
+ * type. */
 #include "test.h"
 
 static MPI_Datatype sent[] = {MPI_INT, MPI_INT, MPI_DOUBLE, MPI_DOUBLE, MPI_FLOAT, MPI_CHAR, MPI_LONG, MPI_SHORT};
-static MPI_Datatype wanted[] = {MPI_DOUBLE, MPI_FLOAT, MPI_FLOAT, MPI_LONG, MPI_INT, MPI_INT, MPI_INT, MPI_UNSIGNED_SHORT};
+static MPI_Datatype wanted[] = {MPI_DOUBLE, MPI_FLOAT, MPI_FLOAT, MPI_LONG,
+                                MPI_INT,    MPI_INT,   MPI_INT,   MPI_UNSIGNED_SHORT};
 enum { PAIRS = sizeof sent / sizeof *sent };
 
 /* Collectives in which members have different types, counts or roots end with an error at a member at least. */

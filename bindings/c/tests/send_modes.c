@@ -9,12 +9,24 @@ static unsigned char from[LONGEST + 1], into[LONGEST + 1];
 static void send_by(int way, const void *row, int length, int tag) {
     MPI_Request request = MPI_REQUEST_NULL;
     switch (way) {
-    case 0: MPI_Send(row, length, MPI_BYTE, 1, tag, MPI_COMM_WORLD); return;
-    case 1: MPI_Ssend(row, length, MPI_BYTE, 1, tag, MPI_COMM_WORLD); return;
-    case 2: MPI_Rsend(row, length, MPI_BYTE, 1, tag, MPI_COMM_WORLD); return;
-    case 3: MPI_Isend(row, length, MPI_BYTE, 1, tag, MPI_COMM_WORLD, &request); break;
-    case 4: MPI_Issend(row, length, MPI_BYTE, 1, tag, MPI_COMM_WORLD, &request); break;
-    default: MPI_Irsend(row, length, MPI_BYTE, 1, tag, MPI_COMM_WORLD, &request); break;
+    case 0:
+        MPI_Send(row, length, MPI_BYTE, 1, tag, MPI_COMM_WORLD);
+        return;
+    case 1:
+        MPI_Ssend(row, length, MPI_BYTE, 1, tag, MPI_COMM_WORLD);
+        return;
+    case 2:
+        MPI_Rsend(row, length, MPI_BYTE, 1, tag, MPI_COMM_WORLD);
+        return;
+    case 3:
+        MPI_Isend(row, length, MPI_BYTE, 1, tag, MPI_COMM_WORLD, &request);
+        break;
+    case 4:
+        MPI_Issend(row, length, MPI_BYTE, 1, tag, MPI_COMM_WORLD, &request);
+        break;
+    default:
+        MPI_Irsend(row, length, MPI_BYTE, 1, tag, MPI_COMM_WORLD, &request);
+        break;
     }
     MPI_Wait(&request, MPI_STATUS_IGNORE);
     CHECK(request == MPI_REQUEST_NULL);

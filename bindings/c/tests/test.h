@@ -73,7 +73,8 @@ struct named_type {
     const char *name;
     int size;
 };
-#define NAMED(of_name, c_type) {MPI_##of_name, "MPI_" #of_name, (int)sizeof(c_type)}
+#define NAMED(of_name, c_type)                                                                                         \
+    { MPI_##of_name, "MPI_" #of_name, (int)sizeof(c_type) }
 #define INTEGER_TYPES                                                                                                  \
     NAMED(SIGNED_CHAR, signed char), NAMED(UNSIGNED_CHAR, unsigned char), NAMED(SHORT, short),                         \
         NAMED(UNSIGNED_SHORT, unsigned short), NAMED(INT, int), NAMED(UNSIGNED, unsigned), NAMED(LONG, long),          \
