@@ -90,7 +90,7 @@ static const struct {
     [13] = {MPI_ERR_OTHER, "a limit of the library is reached"},
     [14] = {MPI_ERR_NO_MEM, "no memory"},
 };
-enum { ENGINE_NUMBERS = sizeof engine_numbers / sizeof *engine_numbers };
+enum { ENGINE_NUMBERS = sizeof engine_numbers / sizeof *engine_numbers, LONGEST_CAUSE = 400 };
 
 int class_of(uint32_t number) {
     if (number == 0) return MPI_SUCCESS;
@@ -101,12 +101,12 @@ const char *cause_of(uint32_t number) {
     return number != 0 && number < ENGINE_NUMBERS ? engine_numbers[number].cause : "an answer that isn't understood";
 }
 
-/* Writes the line of a fatal error, and ends the job. */
+/* Writes the line of a fatal error, at once, so that lines of several ranks don't mix; and ends the job. */
 static _Noreturn void end_by_error(const char *call, int class, const char *cause, va_list arguments) {
+    char text[LONGEST_CAUSE];
+    vsnprintf(text, sizeof text, cause, arguments);
     fflush(stdout);
-    fprintf(stderr, "rank %d: %s: ", process.rank, call);
-    vfprintf(stderr, cause, arguments);
-    fputc('\n', stderr);
+    fprintf(stderr, "rank %d: %s: %s\n", process.rank, call, text);
     end_job(class);
 }
 

@@ -108,7 +108,7 @@ static void check_empty(void) {
 static void check_freed(void) {
     MPI_Datatype inner, outer;
     MPI_Request request;
-    int from[4] = {1, 2, 3, 4}, into[8] = {0};
+    int from[4] = {1, 2, 3, 4}, into[9] = {0};
     MPI_Type_vector(2, 1, 2, MPI_INT, &inner);
     MPI_Type_vector(2, 1, 2, inner, &outer);
     MPI_Type_free(&inner);
@@ -118,7 +118,7 @@ static void check_freed(void) {
     MPI_Type_free(&outer);
     MPI_Send(from, 4, MPI_INT, test_rank, 3, MPI_COMM_WORLD);
     MPI_Wait(&request, MPI_STATUS_IGNORE);
-    CHECK(into[0] == 1 && into[2] == 2 && into[1] == 0);
+    CHECK(into[0] == 1 && into[2] == 2 && into[6] == 3 && into[8] == 4 && into[1] == 0);
 }
 
 /* A message that isn't whole items: its elements are counted, its items aren't (4.1.11). */
