@@ -77,6 +77,7 @@ struct request {
     MPI_Status end;
     struct datatype *type; /* of what is received, and where it goes */
     void *buf;
+    size_t room;           /* so many bytes of data it may be */
     MPI_Comm comm;         /* whose error handler is told */
     struct request *other; /* the send that ends together with this receive, or NULL */
     struct request *next;  /* among those that the program let go */

@@ -49,6 +49,7 @@ uint32_t begin_send(struct request *request, uint32_t place, bool is_synchronous
 uint32_t begin_receive(struct request *request, uint32_t place, void *buf, int count, struct datatype *type, int source,
                        int tag) {
     *request = (struct request){.kind = REQUEST_RECEIVE, .comm = MPI_COMM_WORLD, .type = type, .buf = buf};
+    request->room = data_size(&type->layout, (size_t)count);
     const struct engine_call receive = {.kind = ENGINE_IRECV,
                                         .communicator = place,
                                         .peer = source == MPI_PROC_NULL    ? ENGINE_NULL

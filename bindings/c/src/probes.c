@@ -148,6 +148,7 @@ static int receive_message(const char *call, MPI_Message *message, const struct 
     int class = check_message(call, message, room, &type, &comm);
     if (class != 0) return class;
     *request = (struct request){.kind = REQUEST_RECEIVE, .comm = comm, .type = type, .buf = room->buf};
+    request->room = data_size(&type->layout, (size_t)room->count);
     struct engine_answer answer = {
         .kind = ENGINE_DONE, .outcome = ENGINE_RECEIVED, .source = ENGINE_NULL, .tag = ENGINE_ANY};
     struct message *own = table_remove(&messages, (int)(intptr_t)*message);

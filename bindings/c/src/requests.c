@@ -106,8 +106,8 @@ int raise_end(const char *call, const struct request *request) {
     const MPI_Status *end = &request->end;
     if (request->number != NUMBER_TRUNCATED) return raise_number(request->comm, call, request->number);
     return raise_on(request->comm, call, MPI_ERR_TRUNCATE,
-                    "a message of %lld bytes from rank %d with tag %d is longer than its receive", end->reserved_bytes,
-                    end->MPI_SOURCE, end->MPI_TAG);
+                    "a message of %lld bytes from rank %d with tag %d is longer than its receive of %zu bytes",
+                    end->reserved_bytes, end->MPI_SOURCE, end->MPI_TAG, request->room);
 }
 
 void forget_request(struct request *request) {
