@@ -6,8 +6,9 @@
 #include <stdio.h>
 
 enum {
-    MILLISECOND = 1000000,   /* the following are in nanoseconds but where it is said */
-    LONGEST_SPIN = 200000,   /* so long a rank that waits asks again and again before it sleeps */
+    MILLISECOND = 1000000, /* the following are in nanoseconds but where it is said */
+    LONGEST_SPIN = 100000, /* so long a rank that waits asks again and again before it sleeps, and no shorter than */
+    SHORTEST_SPIN = 5000,
     YIELDS_OF_CROWDED = 4,   /* so often where there are more ranks than processors, and it lets others run between */
     LONGEST_SLEEP = 5,       /* milliseconds; the engine sends again what it sent 20 ms ago */
     LAST_WORDS = 2000000000, /* so long a rank that ends waits for the last acknowledgements at most */
@@ -79,14 +80,20 @@ void progress(void) {
     send_out(false);
 }
 
-/* Asks for a little while whether something came, if other ranks needn't have the processor meanwhile. */
+/* Asks for a little while whether something came. Where that was in vain it asks for a shorter while the next time:
+ * then others want the processor, or what is waited for takes its time. */
 static bool spin(void) {
-    uint64_t until = device_nanoseconds() + LONGEST_SPIN;
-    for (int turn = 0; is_crowded ? turn < YIELDS_OF_CROWDED : device_nanoseconds() < until; turn++) {
-        if (take_in()) return true;
+    static uint64_t while_ = LONGEST_SPIN;
+    uint64_t until = device_nanoseconds() + while_;
+    for (int turn = 1; is_crowded ? turn <= YIELDS_OF_CROWDED : device_nanoseconds() < until; turn++) {
+        if (take_in()) {
+            while_ = 2 * while_ < LONGEST_SPIN ? 2 * while_ : LONGEST_SPIN;
+            return true;
+        }
         if (is_crowded) device_yield();
         if (tell_time()) send_out(false);
     }
+    while_ = while_ / 2 > SHORTEST_SPIN ? while_ / 2 : SHORTEST_SPIN;
     return false;
 }
 
