@@ -208,5 +208,3 @@ int device_processors(void) {
     int count = CPU_COUNT(&set);
     return count > 0 ? count : 1;
 }
-
-void device_yield(void) { sched_yield(); }

@@ -35,6 +35,4 @@ void device_sleep(int milliseconds);
 uint64_t device_nanoseconds(void);
 /* How many processors this process may use. */
 int device_processors(void);
-/* Lets another process have the processor. */
-void device_yield(void);
 #endif

@@ -6,10 +6,10 @@
 #include <stdio.h>
 
 enum {
-    MILLISECOND = 1000000, /* the following are in nanoseconds but where it is said */
-    LONGEST_SPIN = 100000, /* so long a rank that waits asks again and again before it sleeps, and no shorter than */
-    SHORTEST_SPIN = 5000,
-    YIELDS_OF_CROWDED = 4,   /* so often where there are more ranks than processors, and it lets others run between */
+    MILLISECOND = 1000000,   /* the following are in nanoseconds but where it is said */
+    LONGEST_SPIN = 100000,   /* so long a rank that waits asks again and again before it sleeps */
+    SHORTEST_SPIN = 5000,    /* so long in any case */
+    CROWDED_SPIN = 10000,    /* the longest where there are more ranks than processors */
     LONGEST_SLEEP = 5,       /* milliseconds; the engine sends again what it sent 20 ms ago */
     LAST_WORDS = 2000000000, /* so long a rank that ends waits for the last acknowledgements at most */
     COPIES_OF_LAST = 3       /* so often it says its own last ones, which nobody can ask for again */
@@ -19,10 +19,12 @@ enum {
 static uint64_t told, kept_until;
 /* When a datagram was taken in last. */
 static uint64_t heard;
-static bool is_crowded;
+/* So long it asks again and again before it sleeps. */
+static uint64_t spin_time, longest_spin;
 
 void progress_open(void) {
-    is_crowded = process.size > device_processors();
+    longest_spin = process.size > device_processors() ? CROWDED_SPIN : LONGEST_SPIN;
+    spin_time = longest_spin;
     heard = device_nanoseconds();
     told = 0;
     kept_until = 0;
@@ -83,17 +85,15 @@ void progress(void) {
 /* Asks for a little while whether something came. Where that was in vain it asks for a shorter while the next time:
  * then others want the processor, or what is waited for takes its time. */
 static bool spin(void) {
-    static uint64_t while_ = LONGEST_SPIN;
-    uint64_t until = device_nanoseconds() + while_;
-    for (int turn = 1; is_crowded ? turn <= YIELDS_OF_CROWDED : device_nanoseconds() < until; turn++) {
+    uint64_t until = device_nanoseconds() + spin_time;
+    do {
         if (take_in()) {
-            while_ = 2 * while_ < LONGEST_SPIN ? 2 * while_ : LONGEST_SPIN;
+            spin_time = 2 * spin_time < longest_spin ? 2 * spin_time : longest_spin;
             return true;
         }
-        if (is_crowded) device_yield();
         if (tell_time()) send_out(false);
-    }
-    while_ = while_ / 2 > SHORTEST_SPIN ? while_ / 2 : SHORTEST_SPIN;
+    } while (device_nanoseconds() < until);
+    spin_time = spin_time / 2 > SHORTEST_SPIN ? spin_time / 2 : SHORTEST_SPIN;
     return false;
 }
 
