@@ -22,7 +22,7 @@
 /* A rank, or nothing where all of it is zero. C makes it `{0}`, and neither looks inside nor copies it. */
 struct engine_rank {
     void *at;
-    uint64_t holds;
+    bool is_held;
 };
 
 /* Where the rank stands in its job. Job, size and message limit are the same at all ranks of a job. */
@@ -53,7 +53,7 @@ enum engine_call_kind {
     ENGINE_MRECV,     /* request (the message), basic, count. DONE or BLOCKED */
     ENGINE_FINISH,    /* the answer of the call that was BLOCKED, once: DONE or LEFT, or PENDING */
     ENGINE_BARRIER,   /* communicator. This and all further ones: LEFT or BLOCKED */
-    ENGINE_BCAST,     /* communicator, peer (root), basic, count, has_data. Data at each member: the root's */
+    ENGINE_BCAST,     /* communicator, peer (root), basic, count, has_data. Data at all but the root: the root's */
     ENGINE_GATHER,    /* communicator, peer (root), basic; data: the own block. Data at the root: all, in rank order */
     ENGINE_SCATTER,   /* communicator, peer (root), basic, count (of a block), has_data. Data: the own block */
     ENGINE_REDUCE,    /* communicator, peer (root), basic, operation; data. Data at the root */
@@ -193,8 +193,8 @@ void kombazily_free(struct engine_rank *rank);
 
 /* Answers a call. The data are the elements of sends and collectives, in the machine's own byte order, whole elements
  * of the call's basic type; calls that name no data read none. Where the numbers name no call, the answer is refused:
- * 81 (nothing held), 83 (kind), 2 (basic), 9 (operation), 1 (the data aren't whole elements, or a count can't be
- * meant), in this order; else it is the engine's answer. */
+ * 81 (nothing held), 83 (kind), 2 (basic), 1 (the last element isn't whole, or a block has 2^32 elements or more), 9
+ * (operation), in this order; else it is the engine's answer. */
 void kombazily_call(struct engine_rank *rank, const struct engine_call *call, const uint8_t *data, size_t length,
                     struct engine_answer *answer);
 
