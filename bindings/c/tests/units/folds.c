@@ -57,8 +57,23 @@ static void check_lists(void) {
     CHECK(wide[0] == 1 + LDBL_EPSILON);
 }
 
+/* Of a long double just the bytes change that have its value, so the bytes of a result are the same in every run. */
+static void check_padding(void) {
+    unsigned char all[sizeof(long double)], next[sizeof(long double)];
+    long double one = 1, two = 2;
+    memset(all, 0x11, sizeof all);
+    memset(next, 0x22, sizeof next);
+    memcpy(all, &one, 10);
+    memcpy(next, &two, 10);
+    fold_floats(PRECISION_LONG_DOUBLE, ENGINE_SUM, all, next, 1);
+    memcpy(&one, all, sizeof one);
+    CHECK(one == 3);
+    for (size_t at = 10; LDBL_MANT_DIG == 64 && at < sizeof all; at++) CHECK(all[at] == 0x11);
+}
+
 int main(void) {
     check_doubles();
+    check_padding();
     check_lists();
     return unit_end();
 }
