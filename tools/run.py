@@ -7,10 +7,11 @@ usage: ./run                            two ranks play ping-pong
        ./run --picture FILE             the same as a picture in the terminal, a column a rank
        ./run --picture [-n N] SCRIPT    one play of a script as a picture
        ./run --explore [-n N] SCRIPT    all schedules of a script that can matter: what may go wrong
+       ./run .. -                       what stands on the standard input, in place of a file
        ./run [-n N] FILE.c [WORD ..]    compiles a C program (tools/mpicc) and runs it with these words; without -n 2 ranks
        ./run build                      builds the programs, and runs nothing
        ./run --proved [..]              as above, by proved programs alone; proves them first
-       ./run --help
+       ./run --help, ./run --version
 
 options, as mpiexec has them:
        -restart K      how often a rank may be started again (0)
@@ -18,9 +19,12 @@ options, as mpiexec has them:
        -job J          the job's number (one at random)
        -baseport P     the port of rank 0; the others have the ports behind it (free ones)
 
-Scripts are run by mpiexec and rank_main and explored by mpiexplore, files of events are run by mpisim and drawn by
-mpidraw. The proved programs are taken
-where `rt ci` or `./run --proved` has left them and no source has changed since. Else programs of
+Options stand in any order, in front of the file or behind it. Those of mpiexplore (--most K, --seed S, ..) may
+stand beside --explore, and those of mpidraw (--width W, ..) beside --picture.
+
+A script is judged before ranks are started: what is wrong with it is told once, and the status is 1. Scripts are
+run by mpiexec and rank_main and explored by mpiexplore, files of events are run by mpisim and drawn by mpidraw. The
+proved programs are taken where `rt ci` or `./run --proved` has left them and no source has changed since. Else programs of
 the same sources are taken, of which nothing is proved: they are built once, in two to three minutes,
 and kept in out/unproved. RUN_PROGRAMS may name a folder whose programs are taken as they are.
 
@@ -46,6 +50,11 @@ PINGPONG = TOP / "examples" / "scripts" / "pingpong.txt"
 OWN_FAILURE = 125
 VIEWS = ("--lines", "--picture", "--explore")
 PASSED_ON = ("-job", "-baseport", "-restart", "-patience")
+# Options of the programs that show something, each with how many values it has.
+SHOWING = {
+    "--explore": {"--most": 1, "--seed": 1, "--events": 1, "--out": 1, "--results": 1, "--synchronous": 0, "--both": 0},
+    "--picture": {"--width": 1, "--datagrams": 0},
+}
 OPTIONS_OF_C = ("-n", "-np")
 
 
@@ -61,23 +70,25 @@ class Request:
     """What the words of the command line ask for."""
 
     def __init__(self, words):
-        self.ranks, self.options, self.file, self.words = None, {}, None, []
-        words = list(words)
-        self.is_proved = words[:1] == ["--proved"]
-        words = words[self.is_proved :]
-        self.view = words.pop(0) if words[:1] and words[0] in VIEWS else None
-        self.builds_only = words == ["build"]
-        while words and words[0].startswith("-"):
-            self.take_option(words)
+        self.ranks, self.options, self.shown, self.words, self.is_proved = None, {}, [], [], False
+        words, files = list(words), []
+        own = next((place for place, it in enumerate(words) if it.endswith(".c")), len(words))
+        self.view = next((it for it in words[:own] if it in VIEWS), None)
+        self.builds_only = [it for it in words if it != "--proved"] == ["build"]
+        while words:
+            if self.is_c(words):
+                files, self.words, words = [*files, words[0]], words[1:], []
+            elif words[0].startswith("-") and words[0] != "-":
+                self.take_option(words)
+            else:
+                files.append(words.pop(0))
         if self.builds_only:
             return
-        if self.is_c(words):
-            words, self.words = words[:1], words[1:]
-        if len(words) > 1:
-            raise Fault("'%s': one file is run, and nothing stands behind its name (./run --help)" % words[1])
-        self.file = Path(words[0]) if words else PINGPONG
-        if self.view and not words:
-            raise Fault("behind '%s' a file is missing" % self.view)
+        if len(files) > 1:
+            raise Fault("'%s': one file is run, and '%s' is named too (./run --help)" % (files[1], files[0]))
+        if self.view and not files:
+            raise Fault("beside '%s' a file is missing" % self.view)
+        self.file = Path(files[0]) if files else PINGPONG
 
     def is_c(self, words):
         """Whether a C program is named; behind it stand its own words, among which `-n N` may stand first."""
@@ -90,14 +101,38 @@ class Request:
 
     def take_option(self, words):
         option = words.pop(0)
-        if option not in ("-n", "-np", *PASSED_ON):
-            raise Fault("'%s': no such option (./run --help)" % option)
-        if not words:
-            raise Fault("behind '%s' a number is missing" % option)
-        if option in ("-n", "-np"):
+        shown = SHOWING.get(self.view, {})
+        if option == "--proved":
+            self.is_proved = True
+        elif option in VIEWS:
+            if option != self.view:
+                raise Fault("'%s' and '%s': one of them at a time" % (self.view, option))
+        elif option not in ("-n", "-np", *PASSED_ON, *shown):
+            raise Fault("'%s': no such option%s (./run --help)" % (option, " beside '%s'" % self.view if self.view else ""))
+        elif shown.get(option) == 0:
+            self.shown.append(option)
+        elif not words:
+            raise Fault("behind '%s' a value is missing" % option)
+        elif option in ("-n", "-np"):
             self.ranks = words.pop(0)
+        elif option in shown:
+            self.shown += [option, words.pop(0)]
         else:
             self.options[option] = words.pop(0)
+
+
+def taken(file):
+    """The file itself; of a pipe, or of the standard input for '-', a copy that is there as long as this process."""
+    try:
+        if str(file) != "-" and (file.is_file() or not file.exists()):
+            return file
+        text = sys.stdin.buffer.read() if str(file) == "-" else file.read_bytes()
+    except OSError as why:
+        raise Fault("%s can't be read: %s" % (file, why.strerror))
+    copy = os.memfd_create("script", 0)
+    with open(copy, "wb", closefd=False) as it:
+        it.write(text)
+    return Path("/proc/%d/fd/%d" % (os.getpid(), copy))
 
 
 def lines_of(file):
@@ -152,11 +187,11 @@ def find(names, is_proved):
         say("the proved programs")
         return found
     if programs.unproved_folders(names) is None:
+        say("nothing is proved of the programs that are built now ('./run --proved' proves them first)")
         programs.build_unproved(say, names)
     found = programs.unproved_folders(names)
     if found is None:
         raise Fault("a source changed while the programs were built: run it again")
-    say("nothing is proved of these programs: they were built before any proof ('./run --proved' proves them first)")
     return found
 
 
@@ -165,10 +200,23 @@ def short(path):
     return min(str(path), os.path.relpath(path), key=len)
 
 
+class Judged(Exception):
+    """A script is at fault, which is told."""
+
+
+def judge(rank_main, ranks, file):
+    """Lets a script be judged for so many ranks, unless their number is mpiexec's to refuse."""
+    if str(ranks).isdecimal() and 0 < int(ranks) <= 1024:
+        words = [str(rank_main.resolve()), "--judge", str(int(ranks)), str(file)]
+        if subprocess.run(words, stdin=subprocess.DEVNULL, stdout=subprocess.DEVNULL).returncode == 1:
+            raise Judged
+
+
 def command(request):
     """The words to run."""
     if request.file.suffix == ".c":
         return command_of_c(request)
+    request.file = taken(request.file)
     lines = lines_of(request.file)
     if is_events(lines):
         if request.view == "--explore":
@@ -176,7 +224,7 @@ def command(request):
         if request.ranks or request.options:
             raise Fault("%s is a file of events, which takes no options: its first line says how many ranks there are" % request.file)
         if request.view == "--picture":
-            return [short(find(["mpidraw"], request.is_proved)["mpidraw"]), "--text", short(request.file)]
+            return [short(find(["mpidraw"], request.is_proved)["mpidraw"]), "--text", *request.shown, short(request.file)]
         return [short(find(["mpisim"], request.is_proved)["mpisim"]), short(request.file)]
     if request.view == "--lines":
         raise Fault("%s is no file of events" % request.file)
@@ -191,10 +239,11 @@ def command(request):
     if str(ranks).isdecimal() and 0 < int(ranks) < named:
         say("the script names rank %d, and '-n %s' starts the ranks below %s" % (named - 1, ranks, ranks))
     if request.view == "--picture":
-        return [short(find(["mpidraw"], request.is_proved)["mpidraw"]), "--text", "--ranks", str(ranks), short(request.file)]
+        return [short(find(["mpidraw"], request.is_proved)["mpidraw"]), "--text", *request.shown, "--ranks", str(ranks), short(request.file)]
     if request.view:
-        return [short(find(["mpiexplore"], request.is_proved)["mpiexplore"]), "-n", str(ranks), short(request.file)]
+        return [short(find(["mpiexplore"], request.is_proved)["mpiexplore"]), *request.shown, "-n", str(ranks), short(request.file)]
     found = find(["mpiexec", "rank_main"], request.is_proved)
+    judge(found["rank_main"], ranks, request.file)
     return [*launch(found["mpiexec"], request, ranks), short(found["rank_main"]), short(request.file)]
 
 
@@ -236,6 +285,9 @@ def main(words):
     if words[:1] in (["-h"], ["--help"], ["help"]):
         print(__doc__, end="")
         return 0
+    if words == ["--version"]:
+        print("run (Kombazily) in work")
+        return 0
     signal.signal(signal.SIGTERM, lambda *_: sys.exit(128 + signal.SIGTERM))
     try:
         request = Request(words)
@@ -248,6 +300,8 @@ def main(words):
     except (Fault, c_programs.Fault, programs.NotBuilt) as why:
         say(why)
         return OWN_FAILURE
+    except Judged:
+        return 1
     except KeyboardInterrupt:
         return 128 + signal.SIGINT
     say(shlex.join(chosen))
