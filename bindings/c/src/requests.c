@@ -66,6 +66,9 @@ static void note_end(struct request *request, const struct engine_answer *answer
     if (answer->outcome == ENGINE_CANCELLED) request->end.reserved_cancelled = 1;
     if (answer->outcome == ENGINE_REPLACED) request->number = answer->number;
     if (answer->outcome == ENGINE_RECEIVED || answer->outcome == ENGINE_FAILED) request->end = status_of(answer);
+    /* A message that is too long has the type of its receive. */
+    if (answer->outcome == ENGINE_FAILED && answer->number == NUMBER_TRUNCATED)
+        request->end.reserved_bytes = (MPI_Count)(answer->count * request->type->unit);
     /* A message of no elements fits a receive of any type (3.3.1). */
     if (answer->outcome == ENGINE_FAILED && answer->count != 0) request->number = answer->number;
     if (answer->outcome == ENGINE_RECEIVED) request->number = take_data(request, answer->bytes);
