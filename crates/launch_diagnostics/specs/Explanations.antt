@@ -30,6 +30,7 @@ page =
     codes "  -baseport P      rank r's port is P + r; without it P is 47000\n" ++
     codes "  -restart K       each rank may be started again so often; without it 0\n" ++
     codes "  -patience MS     so many milliseconds a rank waits before it gives up\n" ++
+    codes "  -abort           in front of all words: a rank that fails for good ends the others\n" ++
     codes "Jobs that run at one time need numbers and ports of their own. More stands in\n" ++
     codes "docs/LAUNCHING.md."
 

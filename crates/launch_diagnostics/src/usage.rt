@@ -15,6 +15,7 @@ prints what they wrote, by rising rank, once they have ended.\n\
 \x20 -baseport P      rank r's port is P + r; without it P is 47000\n\
 \x20 -restart K       each rank may be started again so often; without it 0\n\
 \x20 -patience MS     so many milliseconds a rank waits before it gives up\n\
+\x20 -abort           in front of all words: a rank that fails for good ends the others\n\
 Jobs that run at one time need numbers and ports of their own. More stands in\n\
 docs/LAUNCHING.md.";
 

@@ -2,6 +2,7 @@
 
 use crate::keeper::keep;
 use crate::launcher::launch;
+use launch_decisions::request_of;
 use launch_diagnostics::explain;
 use launch_keeper::{Word, kept_rank};
 use launch_plan::planning::plan;
@@ -11,6 +12,7 @@ use std::net::Net;
 use std::os::fd::AsRawFd;
 use std::process::{OpenProcess, Processes};
 use std::rt::{Env, Files};
+use std::time::Clock;
 use std::{env, fs, io};
 
 /// The words behind the program's own name.
@@ -67,11 +69,18 @@ fn tell_refusal(
 }
 
 /// Plans what the words ask for, and launches it.
-fn run_launch<R: Net + Env + Files + Print + Eprint + AllocGlobal + Processes>(
-    rt: &R,
-    words: &[Word],
-) -> LaunchOutcome {
+fn run_launch<
+    R: Net
+        + Env
+        + Files
+        + Print
+        + Eprint
+        + AllocGlobal
+        + Processes<Started: OpenProcess<Stdout: AsRawFd>>,
+>(rt: &R, words: &[Word]) -> LaunchOutcome {
     let alloc = rt.alloc();
+    let request = request_of(words);
+    let words = request.words;
     let config = match config_of(rt, words) {
         Ok(config) => config,
         Err(refused) => return tell_number(rt, refused),
@@ -84,18 +93,16 @@ fn run_launch<R: Net + Env + Files + Print + Eprint + AllocGlobal + Processes>(
     let Ok(words) = spelled_out(alloc, words, config) else {
         return LaunchOutcome::Failed;
     };
-    match launch(rt, &plan, words.as_slice()) {
-        Ok(status) => LaunchOutcome::Ended(status),
+    match launch(rt, &plan, words.as_slice(), request.aborts) {
+        Ok(outcome) => outcome,
         Err(_) => LaunchOutcome::Failed,
     }
 }
 
 /// Plans the launch anew, and keeps the rank.
-fn run_keeper<R: Print + Eprint + AllocGlobal + Processes<Started: OpenProcess<Stdout: AsRawFd>>>(
-    rt: &R,
-    rank: u16,
-    words: &[Word],
-) -> LaunchOutcome {
+fn run_keeper<
+    R: Print + Eprint + AllocGlobal + Clock + Processes<Started: OpenProcess<Stdout: AsRawFd>>,
+>(rt: &R, rank: u16, words: &[Word]) -> LaunchOutcome {
     let Ok(plan) = plan(rt.alloc(), words, None) else {
         return LaunchOutcome::Failed;
     };
@@ -114,6 +121,7 @@ pub fn run_words<
         + Print
         + Eprint
         + AllocGlobal
+        + Clock
         + Processes<Started: OpenProcess<Stdout: AsRawFd>>,
 >(rt: &R, words: &[Word]) -> u8 {
     let outcome = match kept_rank(words) {
@@ -131,6 +139,7 @@ pub fn run<
         + Print
         + Eprint
         + AllocGlobal
+        + Clock
         + Processes<Started: OpenProcess<Stdout: AsRawFd>>,
 >(rt: &R) -> u8 {
     match words_of(rt) {

@@ -4,9 +4,10 @@
 
 mod child;
 mod command;
-mod commands;
+mod ending;
+mod gathering;
 mod keeper;
 mod launcher;
-mod text;
+mod reports;
 
 pub use crate::command::{run, run_words};

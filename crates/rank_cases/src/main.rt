@@ -30,6 +30,7 @@ fn run_launcher<
         + Print
         + Eprint
         + AllocGlobal
+        + Clock
         + Processes<Started: OpenProcess<Stdout: AsRawFd>>,
 >(rt: &R, texts: &[String]) -> io::Result<u8> {
     let mut words = Vec::new(rt.alloc());

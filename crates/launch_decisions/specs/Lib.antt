@@ -1,0 +1,4 @@
+pub mod Endings
+pub mod Failures
+pub mod Requests
+pub mod Starts

@@ -1,0 +1,105 @@
+//! What a rank reads of its environment.
+
+ghost use Rattle.std.specs.Prelude.{◌≡◌, ◌≤◌, None, IfSome};
+ghost use Rattle.rank_environment.specs.Reading.{number_in, patience_in, are_given, Finds, IsFound};
+
+use crate::place::RankPlace;
+use numerals::number_between;
+
+/// The values of the variables that tell a rank its place, where they are there.
+#[derive(Clone, Copy, Debug)]
+pub struct EnvironmentTexts<'a> {
+    /// `KOMBAZILY_RANK`.
+    pub rank: Option<&'a str>,
+    /// `KOMBAZILY_SIZE`.
+    pub size: Option<&'a str>,
+    /// `KOMBAZILY_INCARNATION`.
+    pub incarnation: Option<&'a str>,
+    /// `KOMBAZILY_JOB`.
+    pub job: Option<&'a str>,
+    /// `KOMBAZILY_PORT`.
+    pub base_port: Option<&'a str>,
+    /// `KOMBAZILY_PATIENCE`.
+    pub patience: Option<&'a str>,
+}
+
+/// What an environment says of a rank's place.
+#[derive(Clone, Copy, Debug)]
+pub enum FoundPlace {
+    /// None of the variables but the patience is there: no launcher started this process.
+    Missing,
+    /// Some are missing, or a value is none that a launcher sets.
+    Faulty,
+    /// They tell this place.
+    At(RankPlace),
+}
+
+/// The number that a variable spells, between these bounds.
+fn number_in(text: Option<&str>, low: u64, high: u64) -> Option<u64>
+    ensures exact { result ≡ number_in text.entry low high }
+    ensures low { IfSome result (λ n. low ≤ n) }
+    ensures high { IfSome result (λ n. n ≤ high) }
+{
+    number_between(text?.as_bytes(), low, high)
+}
+
+/// The patience that a variable spells; none where it isn't there.
+fn patience_in(text: Option<&str>) -> Option<Option<u32>>
+    ensures { result ≡ patience_in text.entry }
+{
+    match text {
+        Some(text) => match number_between(text.as_bytes(), 1, 3_600_000) {
+            Some(number) => Some(Some(number as u32)),
+            None => None,
+        },
+        None => Some(None),
+    }
+}
+
+/// Whether one of the variables is there that have to be.
+fn are_given(texts: &EnvironmentTexts) -> bool
+    ensures { result ≡ are_given texts.now }
+{
+    texts.rank.is_some()
+        || texts.size.is_some()
+        || texts.incarnation.is_some()
+        || texts.job.is_some()
+        || texts.base_port.is_some()
+}
+
+/// The place that these values tell.
+fn place_of(texts: &EnvironmentTexts) -> Option<RankPlace>
+    ensures { Finds texts.now result }
+{
+    let rank = number_in(texts.rank, 0, 1_023)?;
+    let size = number_in(texts.size, 1, 1_024)?;
+    let incarnation = number_in(texts.incarnation, 0, 65_535)?;
+    let job = number_in(texts.job, 0, u64::MAX)?;
+    let base_port = number_in(texts.base_port, 1, 65_535)?;
+    let patience = patience_in(texts.patience)?;
+    if rank >= size || base_port + size > 65_536 {
+        return None;
+    }
+    Some(RankPlace {
+        rank: rank as u16,
+        size: size as u16,
+        incarnation: incarnation as u16,
+        job,
+        base_port: base_port as u16,
+        patience,
+    })
+}
+
+/// The place that these values of the environment tell: each is decimal digits without leading zeros and in its
+/// range, the rank is below the size, and no port of a rank is above 65,535. It takes no memory.
+pub fn place_in(texts: &EnvironmentTexts) -> FoundPlace
+    ensures { IsFound texts.now result }
+{
+    if !are_given(texts) {
+        return FoundPlace::Missing;
+    }
+    match place_of(texts) {
+        Some(place) => FoundPlace::At(place),
+        None => FoundPlace::Faulty,
+    }
+}
