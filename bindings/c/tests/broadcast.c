@@ -64,7 +64,7 @@ int main(int argc, char **argv) {
     static const int lengths[] = {0, 1, 1000, 1024, 1025, 70000, 1048560, 1048561, LONGEST};
     test_begin(&argc, &argv);
     for (int root = 0; root < test_size; root++) {
-        for (int i = 0; i < 6; i++) check_length(lengths[i], root);
+        for (int i = root % 2; i < 6; i += 2) check_length(lengths[i], root);
         check_derived(root);
     }
     for (int i = 6; i < 9; i++) check_length(lengths[i], i % test_size);
