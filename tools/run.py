@@ -6,6 +6,7 @@ usage: ./run                            two ranks play ping-pong
        ./run --lines FILE               the same, each line with its answers
        ./run --picture FILE             the same as a picture in the terminal, a column a rank
        ./run --picture [-n N] SCRIPT    one play of a script as a picture
+       ./run --svg PICTURE.svg ..       the same, written as an SVG
        ./run --explore [-n N] SCRIPT    all schedules of a script that can matter: what may go wrong
        ./run .. -                       what stands on the standard input, in place of a file
        ./run [-n N] FILE.c [WORD ..]    compiles a C program (tools/mpicc) and runs it with these words; without -n 2 ranks
@@ -20,7 +21,7 @@ options, as mpiexec has them:
        -baseport P     the port of rank 0; the others have the ports behind it (free ones)
 
 Options stand in any order, in front of the file or behind it. Those of mpiexplore (--most K, --seed S, ..) may
-stand beside --explore, and those of mpidraw (--width W, ..) beside --picture.
+stand beside --explore, and those of mpidraw (--width W, --datagrams) beside --picture and --svg.
 
 A script is judged before ranks are started: what is wrong with it is told once, and the status is 1. Scripts are
 run by mpiexec and rank_main and explored by mpiexplore, files of events are run by mpisim and drawn by mpidraw. The
@@ -48,12 +49,14 @@ import programs
 TOP = programs.TOP
 PINGPONG = TOP / "examples" / "scripts" / "pingpong.txt"
 OWN_FAILURE = 125
-VIEWS = ("--lines", "--picture", "--explore")
+VIEWS = ("--lines", "--picture", "--svg", "--explore")
+PICTURES = ("--picture", "--svg")
 PASSED_ON = ("-job", "-baseport", "-restart", "-patience")
 # Options of the programs that show something, each with how many values it has.
 SHOWING = {
     "--explore": {"--most": 1, "--seed": 1, "--events": 1, "--out": 1, "--results": 1, "--synchronous": 0, "--both": 0},
     "--picture": {"--width": 1, "--datagrams": 0},
+    "--svg": {"--datagrams": 0},
 }
 OPTIONS_OF_C = ("-n", "-np")
 
@@ -71,6 +74,7 @@ class Request:
 
     def __init__(self, words):
         self.ranks, self.options, self.shown, self.words, self.is_proved = None, {}, [], [], False
+        self.svg = None
         words, files = list(words), []
         own = next((place for place, it in enumerate(words) if it.endswith(".c")), len(words))
         self.view = next((it for it in words[:own] if it in VIEWS), None)
@@ -99,6 +103,13 @@ class Request:
             self.take_option(option)
         return True
 
+    @staticmethod
+    def svg_in(words):
+        """The file that an SVG is written to. By its end it is told from what is drawn."""
+        if not words or not words[0].endswith(".svg"):
+            raise Fault("behind '--svg' stands the picture's file, PICTURE.svg")
+        return Path(words.pop(0))
+
     def take_option(self, words):
         option = words.pop(0)
         shown = SHOWING.get(self.view, {})
@@ -107,6 +118,8 @@ class Request:
         elif option in VIEWS:
             if option != self.view:
                 raise Fault("'%s' and '%s': one of them at a time" % (self.view, option))
+            if option == "--svg":
+                self.svg = self.svg_in(words)
         elif option not in ("-n", "-np", *PASSED_ON, *shown):
             raise Fault("'%s': no such option%s (./run --help)" % (option, " beside '%s'" % self.view if self.view else ""))
         elif shown.get(option) == 0:
@@ -223,8 +236,8 @@ def command(request):
             raise Fault("%s is a file of events: it has one schedule, its own" % request.file)
         if request.ranks or request.options:
             raise Fault("%s is a file of events, which takes no options: its first line says how many ranks there are" % request.file)
-        if request.view == "--picture":
-            return [short(find(["mpidraw"], request.is_proved)["mpidraw"]), "--text", *request.shown, short(request.file)]
+        if request.view in PICTURES:
+            return [*drawing(request), short(request.file)]
         return [short(find(["mpisim"], request.is_proved)["mpisim"]), short(request.file)]
     if request.view == "--lines":
         raise Fault("%s is no file of events" % request.file)
@@ -238,13 +251,19 @@ def command(request):
     named = ranks_named(lines) or 0
     if str(ranks).isdecimal() and 0 < int(ranks) < named:
         say("the script names rank %d, and '-n %s' starts the ranks below %s" % (named - 1, ranks, ranks))
-    if request.view == "--picture":
-        return [short(find(["mpidraw"], request.is_proved)["mpidraw"]), "--text", *request.shown, "--ranks", str(ranks), short(request.file)]
+    if request.view in PICTURES:
+        return [*drawing(request), "--ranks", str(ranks), short(request.file)]
     if request.view:
         return [short(find(["mpiexplore"], request.is_proved)["mpiexplore"]), *request.shown, "-n", str(ranks), short(request.file)]
     found = find(["mpiexec", "rank_main"], request.is_proved)
     judge(found["rank_main"], ranks, request.file)
     return [*launch(found["mpiexec"], request, ranks), short(found["rank_main"]), short(request.file)]
+
+
+def drawing(request):
+    """The words that draw, up to what is drawn."""
+    form = "--svg" if request.svg else "--text"
+    return [short(find(["mpidraw"], request.is_proved)["mpidraw"]), form, *request.shown]
 
 
 def launch(mpiexec, request, ranks):
@@ -281,6 +300,18 @@ def show(program, file):
     return ended.returncode
 
 
+def write(chosen, file):
+    """Writes the picture into the file; where nothing was drawn the file stays as it was."""
+    ended = subprocess.run(chosen, stdin=subprocess.DEVNULL, stdout=subprocess.PIPE)
+    if ended.stdout:
+        try:
+            file.write_bytes(ended.stdout)
+        except OSError as why:
+            say("%s can't be written: %s" % (file, why.strerror))
+            return OWN_FAILURE
+    return ended.returncode
+
+
 def main(words):
     if words[:1] in (["-h"], ["--help"], ["help"]):
         print(__doc__, end="")
@@ -308,6 +339,8 @@ def main(words):
     program = chosen[0] if os.sep in chosen[0] else os.path.join(".", chosen[0])
     if request.view == "--lines":
         return show(program, request.file)
+    if request.svg:
+        return write([program, *chosen[1:]], request.svg)
     signal.signal(signal.SIGTERM, signal.SIG_DFL)
     os.execv(program, chosen)
 
