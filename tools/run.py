@@ -286,7 +286,9 @@ def command_of_c(request):
         raise Fault("%s can't be read" % request.file)
     mpiexec = find(["mpiexec"], request.is_proved)["mpiexec"]
     program = c_programs.compiled(say, request.file, request.is_proved)
-    return [*launch(mpiexec, request, request.ranks or 2), short(program), *request.words]
+    words = launch(mpiexec, request, request.ranks or 2)
+    # A rank that fails ends the others: a fatal error and MPI_Abort mean the job.
+    return [words[0], "-abort", *words[1:], short(program), *request.words]
 
 
 def show(program, file):
