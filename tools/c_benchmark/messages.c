@@ -1,37 +1,34 @@
-/* How long messages and collectives take under an MPI: rank 0 prints a line for each figure, its name and the median of
- * several batches.
+/* How long messages and collectives take under an MPI: rank 0 prints a line for each figure, its name and the
+ * least of many short batches.
  *
- *   messages pair     two ranks: half a round trip in microseconds for sizes from 0 bytes to 1 MiB, messages of 4 bytes
- * a second with 64 in flight, a stream of 1 MiB messages in MB a second messages all      all ranks: a barrier and an
- * allreduce of 8 bytes, in microseconds
+ *   messages small | large     two ranks: half a round trip in microseconds for sizes from 0 bytes to 1 MiB
+ *   messages rate              two ranks: messages of 4 bytes a second with 64 in flight
+ *   messages stream            two ranks: messages of 1 MiB one way, in MB a second
+ *   messages barrier           all ranks, in microseconds
+ *   messages allreduce         all ranks: one of 8 bytes, in microseconds
  */
 #include <mpi.h>
 #include <stdio.h>
 #include <stdlib.h>
 #include <string.h>
 
-enum { BATCHES = 11, LARGEST = 1 << 20, IN_FLIGHT = 64 };
+enum { BATCHES = 41, LARGEST = 1 << 20, IN_FLIGHT = 64 };
 
 static int rank;
 static char *out_room, *in_room;
 
-static int compare(const void *one, const void *other) {
-    double a = *(const double *)one, b = *(const double *)other;
-    return (a > b) - (a < b);
-}
-
-/* The median of what a batch takes at rank 0, in seconds; all ranks run it. */
-static double median(void (*batch)(int size, int count), int size, int count) {
-    double times[BATCHES];
-    batch(size, count / 4 + 1);
+/* The least that a batch takes at rank 0, in seconds; all ranks run it. Other work on the machine makes batches longer,
+ * so the shortest says what the messages take. */
+static double least(void (*batch)(int size, int count), int size, int count) {
+    double found = 1e9;
     for (int i = 0; i < BATCHES; i++) {
         MPI_Barrier(MPI_COMM_WORLD);
         double begun = MPI_Wtime();
         batch(size, count);
-        times[i] = MPI_Wtime() - begun;
+        double time = MPI_Wtime() - begun;
+        if (i > 0 && time < found) found = time;
     }
-    qsort(times, BATCHES, sizeof *times, compare);
-    return times[BATCHES / 2];
+    return found;
 }
 
 static void show(const char *name, int size, double value) {
@@ -81,14 +78,19 @@ static void reductions(int size, int count) {
     for (int i = 0; i < count; i++) MPI_Allreduce(&own, &all, 1, MPI_LONG_LONG, MPI_SUM, MPI_COMM_WORLD);
 }
 
-static void measure_pair(void) {
-    static const int sizes[] = {0, 4, 64, 1024, 2048, 16384, 131072, 1048576};
-    for (size_t i = 0; i < sizeof sizes / sizeof *sizes; i++) {
-        int size = sizes[i], count = size > 100000 ? 20 : size > 10000 ? 100 : 1000;
-        show("half_round_trip", size, median(round_trips, size, count) / count / 2 * 1e6);
-    }
-    show("rate", 4, 100 * IN_FLIGHT / median(in_flight, 4, 100));
-    show("stream", LARGEST, 20.0 * LARGEST / median(stream, LARGEST, 20) / 1e6);
+static void measure_round_trips(const int *sizes, int count_of_sizes, int count) {
+    for (int i = 0; i < count_of_sizes; i++)
+        show("half_round_trip", sizes[i], least(round_trips, sizes[i], count) / count / 2 * 1e6);
+}
+
+static void measure(const char *what) {
+    static const int small[] = {0, 4, 64, 1024, 2048}, large[] = {16384, 131072, 1048576};
+    if (strcmp(what, "small") == 0) measure_round_trips(small, sizeof small / sizeof *small, 50);
+    if (strcmp(what, "large") == 0) measure_round_trips(large, sizeof large / sizeof *large, 2);
+    if (strcmp(what, "rate") == 0) show("rate", 4, 10 * IN_FLIGHT / least(in_flight, 4, 10));
+    if (strcmp(what, "stream") == 0) show("stream", LARGEST, 4.0 * LARGEST / least(stream, LARGEST, 4) / 1e6);
+    if (strcmp(what, "barrier") == 0) show("barrier", 0, least(barriers, 0, 30) / 30 * 1e6);
+    if (strcmp(what, "allreduce") == 0) show("allreduce", 8, least(reductions, 8, 30) / 30 * 1e6);
 }
 
 int main(int count, char **words) {
@@ -98,12 +100,7 @@ int main(int count, char **words) {
     in_room = calloc(1, LARGEST);
     if (out_room == NULL || in_room == NULL || count != 2) MPI_Abort(MPI_COMM_WORLD, 2);
     memset(out_room, 1 + rank, LARGEST);
-    if (strcmp(words[1], "pair") == 0) {
-        measure_pair();
-    } else {
-        show("barrier", 0, median(barriers, 0, 300) / 300 * 1e6);
-        show("allreduce", 8, median(reductions, 8, 300) / 300 * 1e6);
-    }
+    measure(words[1]);
     free(out_room);
     free(in_room);
     MPI_Finalize();
