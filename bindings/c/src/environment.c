@@ -115,6 +115,7 @@ static void leave_job(void) {
     const struct engine_call barrier = {.kind = ENGINE_BARRIER, .communicator = ENGINE_WORLD};
     struct engine_answer answer;
     progress_until_idle();
+    progress_say_often();
     call_engine(&barrier, NULL, 0, &answer);
     await_finish(&answer);
     progress_last_words();

@@ -56,8 +56,10 @@ void progress_wait(void);
 void progress_begin_wait(void);
 /* Waits until all that was sent is acknowledged. */
 void progress_until_idle(void);
-/* The same, but not for long: behind the barrier with which all end. Others get its last acknowledgements. */
+/* The same, but not for long: behind the barrier with which all end. */
 void progress_last_words(void);
+/* From now on all is sent several times: before that barrier, since a rank behind it can't be asked again. */
+void progress_say_often(void);
 /* At the start of the process, once its place is known. */
 void progress_open(void);
 

@@ -12,7 +12,7 @@ enum {
     CROWDED_SPIN = 10000,    /* the longest where there are more ranks than processors */
     LONGEST_SLEEP = 5,       /* milliseconds; the engine sends again what it sent 20 ms ago */
     LAST_WORDS = 2000000000, /* so long a rank that ends waits for the last acknowledgements at most */
-    COPIES_OF_LAST = 3       /* so often it says its own last ones, which nobody can ask for again */
+    COPIES_OF_LAST = 3       /* so often a rank that ends says what it says: it may be gone before it is asked again */
 };
 
 /* What the engine was told last, in nanoseconds, and until when it keeps an acknowledgement back (0: none is kept). */
@@ -21,6 +21,8 @@ static uint64_t told, kept_until;
 static uint64_t heard;
 /* So long it asks again and again before it sleeps. */
 static uint64_t spin_time, longest_spin;
+/* So often all is sent that goes out. */
+static int copies = 1;
 
 void progress_open(void) {
     longest_spin = process.size > device_processors() ? CROWDED_SPIN : LONGEST_SPIN;
@@ -42,7 +44,7 @@ static bool tell_time(void) {
 }
 
 /* Sends what is to go out; what is kept back too, if it is told so. */
-static void send_copies(bool kept_too, int copies) {
+static void send_out(bool kept_too) {
     if (!device_is_open()) return;
     struct engine_outgoing out = {0};
     for (;;) {
@@ -55,8 +57,6 @@ static void send_copies(bool kept_too, int copies) {
     kept_until = out.kept_until;
     device_flush(copies);
 }
-
-static void send_out(bool kept_too) { send_copies(kept_too, 1); }
 
 void progress_out(void) { send_out(false); }
 
@@ -120,10 +120,12 @@ void progress_until_idle(void) {
     while (!kombazily_is_idle(&engine)) progress_wait();
 }
 
+void progress_say_often(void) { copies = COPIES_OF_LAST; }
+
 void progress_last_words(void) {
     uint64_t until = device_nanoseconds() + LAST_WORDS;
     while (!kombazily_is_idle(&engine) && device_nanoseconds() < until) progress_wait();
-    send_copies(true, COPIES_OF_LAST);
+    send_out(true);
 }
 
 void await_finish(struct engine_answer *answer) {
