@@ -139,7 +139,7 @@ enum engine_answer_kind {
 enum engine_outcome {
     ENGINE_SENT = 1,  /* a send: its data are on their way */
     ENGINE_RECEIVED,  /* a receive: `bytes` bytes are there to be taken, `count` elements of type `basic` */
-    ENGINE_FAILED,    /* a receive whose message is used up, without its data: number 2 (another type) or 10 (too long) */
+    ENGINE_FAILED,    /* a receive whose message is used up, without data: number 2 (another type) or 10 (too long) */
     ENGINE_REPLACED,  /* the other rank was started anew: number 11 */
     ENGINE_CANCELLED, /* a receive was cancelled in time */
     ENGINE_EMPTY      /* the null request */
