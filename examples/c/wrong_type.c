@@ -1,5 +1,5 @@
-/* A bug: rank 0 sends a double, rank 1 receives a float. Many MPIs hand over half of the double's bytes and say
- * nothing; here the receive is told that the types differ, and the job ends.
+/* A bug: rank 0 sends a double, rank 1 receives a float. Where nobody compares the types, this goes unnoticed or is told
+ * as a message that is too long; here the receive is told that the types differ, and the job ends.
  *
  *   ./run -n 2 examples/c/wrong_type.c        status 3
  */
