@@ -1,0 +1,4 @@
+pub mod Names
+pub mod Asking
+pub mod Keeping
+pub mod Refusing
