@@ -90,14 +90,17 @@ fn start_send(alloc: Global, engine: &mut Engine) -> Option<Request> {
     started(ask(engine, copied(alloc, call)?))
 }
 
-fn start_receive(alloc: Global, engine: &mut Engine, source: Source) -> Option<Request> {
-    let call = Call::Irecv(Receive {
+fn receive_from(alloc: Global, source: Source) -> Option<Call> {
+    Some(Call::Irecv(Receive {
         comm: Some(0),
         source,
         tag: None,
         into: Region::whole(copies(alloc, 0, 2)?),
-    });
-    started(ask(engine, call))
+    }))
+}
+
+fn start_receive(alloc: Global, engine: &mut Engine, source: Source) -> Option<Request> {
+    started(ask(engine, receive_from(alloc, source)?))
 }
 
 /// A send of rank 0 to itself, of no elements.
@@ -216,6 +219,42 @@ fn limit(alloc: Global) -> Option<(u64, Option<u8>, bool, u64)> {
 #[test]
 fn a_rank_has_65536_requests_at_one_time(rt: HostRuntime) {
     assert_eq!(rt; limit(rt.alloc()), Some((65_535, Some(13), true, 65_536)));
+}
+
+/// Starts so many receives from rank 1, which sends nothing, and answers the last one's request.
+fn start_receives(alloc: Global, engine: &mut Engine, count: u32) -> Option<Request> {
+    let mut last = None;
+    for _number in 0..count {
+        last = Some(start_receive(alloc, engine, Source::Rank(1))?);
+    }
+    last
+}
+
+/// The serial of the last receive that there is room for, how one more and a send are refused, and the serial of the
+/// next receive once one was cancelled and waited for.
+fn wait_with_all(alloc: Global, engine: &mut Engine) -> Option<(u64, Option<u8>, Option<u8>, u64)> {
+    let last = start_receives(alloc, engine, 65_536)?;
+    let receive = number_of_refusal(ask(engine, receive_from(alloc, Source::Rank(1))?));
+    let send = number_of_refusal(ask(engine, send_to_itself(alloc)));
+    let _cancelled = ask(engine, Call::Cancel(Some(last)));
+    let _ended = ask(engine, Call::Wait(Some(last)));
+    let next = start_receive(alloc, engine, Source::Rank(1))?;
+    Some((last.serial, receive, send, next.serial))
+}
+
+fn waiting_receives(alloc: Global) -> Option<(u64, Option<u8>, Option<u8>, u64)> {
+    let mut engine = rank_of_two(alloc, 0, 0).ok()?;
+    let told = wait_with_all(alloc, &mut engine);
+    drop(engine);
+    told
+}
+
+#[test]
+fn unfinished_receives_take_all_65536_places(rt: HostRuntime) {
+    assert_eq!(rt;
+        waiting_receives(rt.alloc()),
+        Some((65_535, Some(13), Some(13), 65_536))
+    );
 }
 
 #[test]
