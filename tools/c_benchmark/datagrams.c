@@ -14,7 +14,7 @@
 #include <time.h>
 #include <unistd.h>
 
-enum { BATCHES = 41, PIECE = 1068, IN_FLIGHT = 64, ROOM = 65536 };
+enum { BATCHES = 60, PIECE = 1068, IN_FLIGHT = 64, ROOM = 65536 };
 
 static int rank, own;
 static struct sockaddr_in other;
@@ -84,7 +84,7 @@ int main(int count, char **words) {
     own = sockets[rank];
     other = at(port + 1 - rank);
     for (size_t i = 0; i < sizeof sizes / sizeof *sizes; i++) {
-        double time = least(round_trips, sizes[i], 50) / 50 / 2;
+        double time = least(round_trips, sizes[i], 20) / 20 / 2;
         if (rank == 0) printf("half_round_trip %d %.3f\n", sizes[i], time * 1e6);
     }
     double rate = 10 * IN_FLIGHT / least(windows, 4, 10);

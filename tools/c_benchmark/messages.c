@@ -12,7 +12,7 @@
 #include <stdlib.h>
 #include <string.h>
 
-enum { BATCHES = 41, LARGEST = 1 << 20, IN_FLIGHT = 64 };
+enum { BATCHES = 60, LARGEST = 1 << 20, IN_FLIGHT = 64 };
 
 static int rank;
 static char *out_room, *in_room;
@@ -85,12 +85,12 @@ static void measure_round_trips(const int *sizes, int count_of_sizes, int count)
 
 static void measure(const char *what) {
     static const int small[] = {0, 4, 64, 1024, 2048}, large[] = {16384, 131072, 1048576};
-    if (strcmp(what, "small") == 0) measure_round_trips(small, sizeof small / sizeof *small, 50);
-    if (strcmp(what, "large") == 0) measure_round_trips(large, sizeof large / sizeof *large, 2);
-    if (strcmp(what, "rate") == 0) show("rate", 4, 10 * IN_FLIGHT / least(in_flight, 4, 10));
-    if (strcmp(what, "stream") == 0) show("stream", LARGEST, 4.0 * LARGEST / least(stream, LARGEST, 4) / 1e6);
-    if (strcmp(what, "barrier") == 0) show("barrier", 0, least(barriers, 0, 30) / 30 * 1e6);
-    if (strcmp(what, "allreduce") == 0) show("allreduce", 8, least(reductions, 8, 30) / 30 * 1e6);
+    if (strcmp(what, "small") == 0) measure_round_trips(small, sizeof small / sizeof *small, 20);
+    if (strcmp(what, "large") == 0) measure_round_trips(large, sizeof large / sizeof *large, 1);
+    if (strcmp(what, "rate") == 0) show("rate", 4, 4 * IN_FLIGHT / least(in_flight, 4, 4));
+    if (strcmp(what, "stream") == 0) show("stream", LARGEST, 2.0 * LARGEST / least(stream, LARGEST, 2) / 1e6);
+    if (strcmp(what, "barrier") == 0) show("barrier", 0, least(barriers, 0, 10) / 10 * 1e6);
+    if (strcmp(what, "allreduce") == 0) show("allreduce", 8, least(reductions, 8, 10) / 10 * 1e6);
 }
 
 int main(int count, char **words) {

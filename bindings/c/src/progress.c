@@ -82,19 +82,20 @@ void progress(void) {
     send_out(false);
 }
 
-/* Asks for a little while whether something came. Where that was in vain it asks for a shorter while the next time:
- * then others want the processor, or what is waited for takes its time. */
-static bool spin(void) {
-    uint64_t until = device_nanoseconds() + spin_time;
+/* Asks until some time whether something came: whether it did. */
+static bool spin(uint64_t until) {
     do {
-        if (take_in()) {
-            spin_time = 2 * spin_time < longest_spin ? 2 * spin_time : longest_spin;
-            return true;
-        }
+        if (take_in()) return true;
         if (tell_time()) send_out(false);
     } while (device_nanoseconds() < until);
-    spin_time = spin_time / 2 > SHORTEST_SPIN ? spin_time / 2 : SHORTEST_SPIN;
     return false;
+}
+
+/* After a wait that asking would have covered it asks for longer the next time. After a longer one it asks for shorter:
+ * others want the processor, or what is waited for takes its time. */
+static void learn(uint64_t waited) {
+    uint64_t next = waited < longest_spin ? 2 * spin_time : spin_time / 2;
+    spin_time = next < SHORTEST_SPIN ? SHORTEST_SPIN : next > longest_spin ? longest_spin : next;
 }
 
 /* A rank that was told a patience gives up where nothing came for so long. */
@@ -106,11 +107,14 @@ static void lose_patience(void) {
 }
 
 void progress_wait(void) {
-    if (spin()) return;
-    send_out(true);
-    device_sleep(LONGEST_SLEEP);
-    progress();
-    lose_patience();
+    uint64_t begun = device_nanoseconds();
+    if (!spin(begun + spin_time)) {
+        send_out(true);
+        device_sleep(LONGEST_SLEEP);
+        progress();
+        lose_patience();
+    }
+    learn(device_nanoseconds() - begun);
 }
 
 void progress_begin_wait(void) { heard = told; }
