@@ -5,7 +5,7 @@
 #include <time.h>
 
 static const struct named_type types[] = {INTEGER_TYPES, OTHER_TYPES};
-enum { TYPES = sizeof types / sizeof *types, LONGEST = 3000000 };
+enum { TYPES = sizeof types / sizeof *types, LONGEST = 1200000 };
 
 static unsigned char row[LONGEST];
 

@@ -44,7 +44,7 @@ CHECK_TYPE(check_long_double, long double, MPI_LONG_DOUBLE)
 
 /* A row that goes in several parts. */
 static void check_long_row(void) {
-    const int count = 400000;
+    const int count = 150000;
     double *own = malloc(sizeof *own * (size_t)count), *all = malloc(sizeof *all * (size_t)count);
     int wrong = 0;
     for (int i = 0; i < count; i++) own[i] = i + test_rank * 0.5;

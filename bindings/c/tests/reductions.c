@@ -112,7 +112,7 @@ static void check_other_types(void) {
 
 /* A row that goes in several parts. */
 static void check_long_row(void) {
-    const int count = 700000;
+    const int count = 300000;
     int *own = malloc(sizeof *own * (size_t)count), *all = malloc(sizeof *all * (size_t)count), wrong = 0;
     for (int i = 0; i < count; i++) own[i] = i % 1000 + test_rank;
     MPI_Allreduce(own, all, count, MPI_INT, MPI_SUM, MPI_COMM_WORLD);
