@@ -33,6 +33,8 @@ void device_sleep(int milliseconds);
 
 /* The time since some moment in the past, in nanoseconds; it never goes back. */
 uint64_t device_nanoseconds(void);
+/* Whether others were given its processor since it was asked last. */
+bool device_was_preempted(void);
 /* How many processors this process may use. */
 int device_processors(void);
 #endif

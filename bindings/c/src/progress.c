@@ -9,6 +9,8 @@ enum {
     MILLISECOND = 1000000,   /* the following are in nanoseconds but where it is said */
     LONGEST_SPIN = 100000,   /* so long a rank that waits asks again and again before it sleeps */
     SHORTEST_SPIN = 5000,    /* so long in any case */
+    LONG_WAIT = 20000,       /* behind a wait of so long it looks whether others had the processor */
+    MODEST_WAITS = 100,      /* for so many waits it then asks as short as it may */
     CROWDED_SPIN = 10000,    /* the longest where there are more ranks than processors */
     LONGEST_SLEEP = 5,       /* milliseconds; the engine sends again what it sent 20 ms ago */
     LAST_WORDS = 2000000000, /* so long a rank that ends waits for the last acknowledgements at most */
@@ -91,10 +93,14 @@ static bool spin(uint64_t until) {
     return false;
 }
 
-/* After a wait that asking would have covered it asks for longer the next time. After a longer one it asks for shorter:
- * others want the processor, or what is waited for takes its time. */
+/* After a wait that asking would have covered it asks for longer the next time, after a longer one for shorter. Where
+ * others were given the processor meanwhile, who may be those that it waits for, it asks no longer than it must for a
+ * while: then they get it at once. */
 static void learn(uint64_t waited) {
+    static int modest;
+    if (waited > LONG_WAIT && device_was_preempted()) modest = MODEST_WAITS;
     uint64_t next = waited < longest_spin ? 2 * spin_time : spin_time / 2;
+    if (modest > 0) modest--, next = 0;
     spin_time = next < SHORTEST_SPIN ? SHORTEST_SPIN : next > longest_spin ? longest_spin : next;
 }
 

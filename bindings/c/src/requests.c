@@ -80,13 +80,19 @@ void end_request(struct request *request, const struct engine_answer *answer) {
     request->type = NULL;
 }
 
+/* Asks the engine whether a request is at its end, and then how: looking takes a twentieth of the time of a test. */
+static void ask_end(struct request *request) {
+    struct engine_call call = {.kind = ENGINE_LOOK, .request = request->own};
+    struct engine_answer answer;
+    call_engine(&call, NULL, 0, &answer);
+    if (answer.kind == ENGINE_FACT && answer.fact == 0) return;
+    call.kind = ENGINE_TEST;
+    call_engine(&call, NULL, 0, &answer);
+    if (answer.kind != ENGINE_PENDING) end_request(request, &answer);
+}
+
 bool is_at_end(struct request *request) {
-    if (!request->is_ended) {
-        const struct engine_call test = {.kind = ENGINE_TEST, .request = request->own};
-        struct engine_answer answer;
-        call_engine(&test, NULL, 0, &answer);
-        if (answer.kind != ENGINE_PENDING) end_request(request, &answer);
-    }
+    if (!request->is_ended) ask_end(request);
     bool is_other_at_end = request->other == NULL || is_at_end(request->other);
     if (!request->is_ended || !is_other_at_end) return false;
     if (request->number == 0 && request->other != NULL) request->number = request->other->number;
