@@ -43,7 +43,7 @@ def may_be_old():
 
 def is_proved():
     """Whether the proved engine is there and newer than all that it was built from."""
-    if not PROVED.is_file():
+    if not PROVED.is_file() or CRATE not in programs.dependencies():
         return False
     built = PROVED.stat().st_mtime_ns
     parts = programs.files_of(programs.crates_of(CRATE), ("src", "specs", "proofs"))
@@ -69,6 +69,8 @@ def need_kit():
 def build_unproved(say):
     """Builds the unproved engine where it isn't current."""
     with programs.locked(say):
+        if CRATE not in programs.dependencies():
+            raise Fault("crates.txt names no crate %s, which gives the engine to C" % CRATE)
         if is_built():
             return
         need_kit()
