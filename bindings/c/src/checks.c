@@ -5,6 +5,7 @@
 #include <stdio.h>
 
 void check_running(const char *call) {
+    process.call = call;
     if (process.phase == RUNNING) return;
     fflush(stdout);
     fprintf(stderr, "rank %d: %s: called %s\n", process.rank, call,

@@ -21,7 +21,7 @@ enum {
     MESSAGE_LIMIT = 1 << 20 /* bytes of a message */
 };
 
-struct process process = {.size = 1};
+struct process process = {.size = 1, .call = "MPI_Init"};
 struct engine_rank engine;
 static thrd_t main_thread;
 

@@ -26,6 +26,7 @@ struct process {
     int first_port; /* that of rank 0 */
     long patience;  /* milliseconds; 0: there is no time after which a rank gives up */
     int thread_level;
+    const char *call; /* the call of MPI that the program made last */
 };
 extern struct process process;
 

@@ -108,7 +108,7 @@ static void learn(uint64_t waited) {
 static void lose_patience(void) {
     if (process.patience == 0 || (told - heard) / MILLISECOND < (uint64_t)process.patience) return;
     fflush(stdout);
-    fprintf(stderr, "rank %d: gave up: nothing came for %ld ms\n", process.rank, process.patience);
+    fprintf(stderr, "rank %d: %s: gave up: nothing came for %ld ms\n", process.rank, process.call, process.patience);
     end_job(STATUS_PATIENCE);
 }
 
