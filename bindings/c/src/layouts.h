@@ -54,9 +54,10 @@ static inline void *row_of(const struct layout *layout, const void *items) {
     return layout->count == 0 ? (void *)items : (char *)items + layout->stretches[0].at;
 }
 
-/* The address of an item among those that begin at an address. */
+/* The address of an item among those that begin at an address, which may be NULL where the item has no data. */
 static inline void *item_at(const struct layout *layout, const void *items, size_t number) {
-    return (char *)items + (ptrdiff_t)number * layout->extent;
+    ptrdiff_t offset = (ptrdiff_t)number * layout->extent;
+    return offset == 0 ? (void *)items : (char *)items + offset;
 }
 
 /* The row of so many items' data: the items themselves where they are one, else room that is to be freed behind its

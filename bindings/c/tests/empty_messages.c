@@ -56,6 +56,7 @@ static void check_collectives(void) {
     int one = 7;
     CHECK(MPI_Bcast(NULL, 0, own, 0, MPI_COMM_WORLD) == MPI_SUCCESS);
     CHECK(MPI_Gather(NULL, 0, own, &one, 0, MPI_DOUBLE, test_size - 1, MPI_COMM_WORLD) == MPI_SUCCESS);
+    CHECK(MPI_Gather(test_rank == 1 ? MPI_IN_PLACE : NULL, 0, own, NULL, 0, own, 1, MPI_COMM_WORLD) == MPI_SUCCESS);
     CHECK(MPI_Scatter(&one, 0, MPI_CHAR, NULL, 0, own, 0, MPI_COMM_WORLD) == MPI_SUCCESS);
     CHECK(MPI_Reduce(NULL, NULL, 0, MPI_INT, MPI_SUM, 0, MPI_COMM_WORLD) == MPI_SUCCESS);
     CHECK(MPI_Allreduce(NULL, NULL, 0, MPI_DOUBLE, MPI_MAX, MPI_COMM_WORLD) == MPI_SUCCESS);
