@@ -15,11 +15,16 @@ enum { LONG_DOUBLE_BYTES = sizeof(long double) };
 #define FOLD_OF(type, value_bytes, combine_them, fold_them)                                                            \
     static type combine_them(enum engine_operation operation, type a, type b) {                                        \
         switch (operation) {                                                                                           \
-        case ENGINE_MAX: return a < b ? b : a;                                                                         \
-        case ENGINE_MIN: return b < a ? b : a;                                                                         \
-        case ENGINE_SUM: return a + b;                                                                                 \
-        case ENGINE_PROD: return a * b;                                                                                \
-        default: return a;                                                                                             \
+        case ENGINE_MAX:                                                                                               \
+            return a < b ? b : a;                                                                                      \
+        case ENGINE_MIN:                                                                                               \
+            return b < a ? b : a;                                                                                      \
+        case ENGINE_SUM:                                                                                               \
+            return a + b;                                                                                              \
+        case ENGINE_PROD:                                                                                              \
+            return a * b;                                                                                              \
+        default:                                                                                                       \
+            return a;                                                                                                  \
         }                                                                                                              \
     }                                                                                                                  \
     static void fold_them(enum engine_operation operation, unsigned char *all, const unsigned char *next,              \
