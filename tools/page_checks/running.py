@@ -81,7 +81,7 @@ class Runner:
         """Lays the programs, ./run and examples/ into a page's folder, and returns what runs its commands there."""
         port, bin_folder = self.ports.take(SHOWN_RANKS), folder / ".bin"
         bin_folder.mkdir()
-        for name in ("rank_main", "mpisim", "mpidraw", "mpiexplore"):
+        for name in ("rank_main", "mpisim", "mpidraw", "mpiexplore", "mpirun"):
             (bin_folder / name).symlink_to(self.programs[name])
         (bin_folder / "mpiexec").write_text(LAUNCHER % (shlex.quote(str(self.programs["mpiexec"])), port))
         (bin_folder / "mpiexec").chmod(0o755)

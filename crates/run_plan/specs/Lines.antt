@@ -1,0 +1,24 @@
+-- What a rank writes, line by line.
+use Rattle.std.specs.Prelude.{◌≡◌, ◌⊎◌, ℕ, ◌≤◌, List, [], ◌∷◌, ◌++◌, length, take, drop}
+use Rattle.launch_keeper.specs.Joined.{IsLine, ended}
+
+-- nothing, or something that ends with the end of a line
+abbrev pub AreEnded : List ℕ → Type 0
+AreEnded lines = (lines ≡ []) ⊎ ((front : List ℕ) × (lines ≡ ended front))
+
+-- so many bytes are whole lines, and no line ends behind them
+pub record IsWholeLength (bytes : List ℕ) (whole : ℕ) : Type 0 where
+  pub within : whole ≤ length bytes
+  pub lines : AreEnded (take whole bytes)
+  pub rest : IsLine (drop whole bytes)
+
+-- these whole lines are taken of all bytes, and this rest is left, in which no line ends
+pub record IsTaken (all lines rest : List ℕ) : Type 0 where
+  pub nothing_lost : all ≡ lines ++ rest
+  pub are_whole : AreEnded lines
+  pub rest_is_line : IsLine rest
+
+-- a last line gets its end
+abbrev pub rest_line : List ℕ → List ℕ
+rest_line [] = []
+rest_line (byte ∷ bytes) = ended (byte ∷ bytes)

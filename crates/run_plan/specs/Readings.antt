@@ -1,0 +1,166 @@
+-- Reading the words of mpirun from left to right, each by what is due where it stands.
+use Rattle.std.specs.Prelude.{ℕ, ◌+◌, Bool, true, false, not, ◌&&◌, ◌==◌, is_some, List, [], ◌∷◌, length, take, min, codes, Option, Some, None}
+use Rattle.std.specs.Prelude.{Result, Ok, Err, if◌then◌else◌}
+use Rattle.std.specs.List.{list_any}
+use Rattle.std.specs.Str.{bytes_eq}
+use Rattle.numerals.specs.Numbers.{number_between}
+use Rattle.launch_keeper.specs.Words.{Word}
+use Rattle.run_plan.specs.declared.symbol.NumberOption.{NumberOption}
+use Rattle.run_plan.specs.declared.symbol.NumberOption.TheVariants.{Job, BasePort, Restart, Patience}
+use Rattle.run_plan.specs.declared.symbol.Symbol.{Symbol}
+use Rattle.run_plan.specs.declared.symbol.Symbol.TheVariants as symbols
+use Rattle.run_plan.specs.declared.options.RunOptions.{RunOptions}
+use Rattle.run_plan.specs.declared.fault.Wanted.{Wanted}
+use Rattle.run_plan.specs.declared.fault.Wanted.TheVariants as wanted
+use Rattle.run_plan.specs.declared.fault.RunFault.{RunFault}
+use Rattle.run_plan.specs.declared.reading.RunRequest.{RunRequest}
+use Rattle.run_plan.specs.declared.reading.Stage.{Stage}
+use Rattle.run_plan.specs.declared.reading.Stage.TheVariants as stages
+use Rattle.run_plan.specs.declared.reading.Reading.{Reading}
+use Rattle.run_plan.specs.Symbols.{symbol_of, least_of, greatest_of}
+
+-- no option was given
+abbrev pub nothing_given : RunOptions
+nothing_given = record {
+  job = None;
+  base_port = None;
+  restarts = None;
+  patience = None;
+  marks_lines = false;
+  keeps_going = false;
+  folder = None;
+}
+
+-- the number that was given of an option
+abbrev pub given_of : NumberOption → RunOptions → Option ℕ
+given_of Job given = given.job
+given_of BasePort given = given.base_port
+given_of Restart given = given.restarts
+given_of Patience given = given.patience
+
+-- whether the option was given before
+abbrev pub is_given : NumberOption → RunOptions → Bool
+is_given option given = is_some (given_of option given)
+
+-- the option's number is this one from now on
+abbrev pub with_number : NumberOption → RunOptions → ℕ → RunOptions
+with_number Job given n = record given { job = Some n }
+with_number BasePort given n = record given { base_port = Some n }
+with_number Restart given n = record given { restarts = Some n }
+with_number Patience given n = record given { patience = Some n }
+
+-- a name of a variable isn't empty, has no `=`, and doesn't begin as those of a rank's place do
+abbrev pub is_name : Word → Bool
+is_name word =
+    not (length word == 0) && (not (bytes_eq (take (min (length word) 10) word) (codes "KOMBAZILY_")) &&
+    not (list_any (λ byte. byte == 61) word))
+
+-- nothing was read
+abbrev pub start : Reading
+start = record { options = nothing_given; stage = stages.Option }
+
+-- the same options, with this due
+abbrev pub due : Reading → Stage → Reading
+due reading stage = record reading { stage = stage }
+
+-- these options, with an option or a set due
+abbrev pub with_options : RunOptions → Reading
+with_options options = record { options = options; stage = stages.Option }
+
+-- an option that may stand once
+abbrev pub unless : Bool → Reading → Result Reading Wanted
+unless given next = if given then Err wanted.OptionOrSet else Ok next
+
+-- where an option may stand
+abbrev pub at_option : Reading → ℕ → Symbol → Result Reading Wanted
+at_option reading place (symbols.Number option) =
+    unless (is_given option reading.options) (due reading (stages.Number option))
+at_option reading place symbols.Prefix =
+    unless reading.options.marks_lines (with_options (record reading.options { marks_lines = true }))
+at_option reading place symbols.KeepGoing =
+    unless reading.options.keeps_going (with_options (record reading.options { keeps_going = true }))
+at_option reading place symbols.Folder = unless (is_some reading.options.folder) (due reading stages.Folder)
+at_option reading place symbols.Variable = Ok (due reading stages.Name)
+at_option reading place symbols.Set = Ok (due reading (stages.Sets place))
+at_option reading place symbols.Other = Err wanted.OptionOrSet
+
+-- a number that was read, or not
+abbrev pub number_read : Option ℕ → Reading → NumberOption → Result Reading Wanted
+number_read (Some number) reading option = Ok (with_options (with_number option reading.options number))
+number_read None reading option = Err (wanted.Number (least_of option) (greatest_of option))
+
+-- where an option's number is due
+unfoldable pub at_number : Reading → NumberOption → Word → Result Reading Wanted
+at_number reading option word = number_read (number_between word (least_of option) (greatest_of option)) reading option
+
+-- where a folder is due
+abbrev pub at_folder : Reading → ℕ → Word → Result Reading Wanted
+at_folder reading place word =
+    if length word == 0 then Err wanted.Folder
+    else Ok (with_options (record reading.options { folder = Some place }))
+
+-- one more word, by what is due; behind the first word of the sets all words are theirs
+abbrev pub after_at : Stage → Reading → ℕ → Word → Result Reading Wanted
+after_at stages.Option reading place word = at_option reading place (symbol_of word)
+after_at (stages.Number option) reading place word = at_number reading option word
+after_at stages.Folder reading place word = at_folder reading place word
+after_at stages.Name reading place word = if is_name word then Ok (due reading stages.Value) else Err wanted.Name
+after_at stages.Value reading place word = Ok (due reading stages.Option)
+after_at (stages.Sets sets) reading place word = Ok reading
+
+-- one more word, which stands at this place
+unfoldable pub after : Reading → ℕ → Word → Result Reading Wanted
+after reading place word = after_at reading.stage reading place word
+
+-- the words from this place on, where one is at fault that may not stand where it does
+abbrev pub read_on : ℕ → Result Reading Wanted → (Reading → Result RunRequest RunFault) → Result RunRequest RunFault
+read_on place (Ok next) rest = rest next
+read_on place (Err due) rest = Err (record { place = place; wanted = due })
+
+-- what is missing, or what the words ask for
+abbrev pub ended_at : Stage → Reading → ℕ → Result RunRequest RunFault
+ended_at (stages.Sets sets) reading place = Ok (record { options = reading.options; sets = sets })
+ended_at stages.Option reading place = Err (record { place = place; wanted = wanted.OptionOrSet })
+ended_at (stages.Number option) reading place =
+    Err (record { place = place; wanted = wanted.Number (least_of option) (greatest_of option) })
+ended_at stages.Folder reading place = Err (record { place = place; wanted = wanted.Folder })
+ended_at stages.Name reading place = Err (record { place = place; wanted = wanted.Name })
+ended_at stages.Value reading place = Err (record { place = place; wanted = wanted.Value })
+
+abbrev pub ended : Reading → ℕ → Result RunRequest RunFault
+ended reading place = ended_at reading.stage reading place
+
+-- what the words from this place on ask for, behind what was read
+abbrev pub read : Reading → ℕ → List Word → Result RunRequest RunFault
+read reading place [] = ended reading place
+read reading place (word ∷ words) = read_on place (after reading place word) (λ next. read next (place + 1) words)
+
+-- what all words ask for, or the first fault from the left
+abbrev pub request_of : List Word → Result RunRequest RunFault
+request_of words = read start 0 words
+
+-- the last word names a variable: its value is due
+abbrev pub is_value : Stage → Bool
+is_value stages.Value = true
+is_value stages.Option = false
+is_value (stages.Number option) = false
+is_value stages.Folder = false
+is_value stages.Name = false
+is_value (stages.Sets sets) = false
+
+abbrev pub has_named : Reading → Bool
+has_named reading = is_value reading.stage
+
+-- a place of a name, and those behind it
+abbrev pub named_on : ℕ → Result Reading Wanted → (Reading → List ℕ) → List ℕ
+named_on place (Ok next) rest = if has_named next then place ∷ rest next else rest next
+named_on place (Err due) rest = []
+
+-- the places of the words from this one on that name variables
+abbrev pub places_from : Reading → ℕ → List Word → List ℕ
+places_from reading place [] = []
+places_from reading place (word ∷ words) = named_on place (after reading place word) (λ next. places_from next (place + 1) words)
+
+-- the places of all words that name variables
+abbrev pub setting_places : List Word → List ℕ
+setting_places words = places_from start 0 words

@@ -1,0 +1,50 @@
+-- What a word is where an option may stand.
+use Rattle.std.specs.Prelude.{ℕ, ◌||◌, codes, Option, Some, None, if◌then◌else◌}
+use Rattle.std.specs.Str.{bytes_eq}
+use Rattle.launch_keeper.specs.Words.{Word}
+use Rattle.run_plan.specs.declared.symbol.NumberOption.{NumberOption}
+use Rattle.run_plan.specs.declared.symbol.NumberOption.TheVariants.{Job, BasePort, Restart, Patience}
+use Rattle.run_plan.specs.declared.symbol.Symbol.{Symbol}
+use Rattle.run_plan.specs.declared.symbol.Symbol.TheVariants as symbols
+
+-- the option of this name whose value is a number
+unfoldable pub number_option : Word → Option NumberOption
+number_option word =
+    if bytes_eq word (codes "-job") then Some Job
+    else (if bytes_eq word (codes "-baseport") then Some BasePort
+    else (if bytes_eq word (codes "-restart") then Some Restart
+    else (if bytes_eq word (codes "-patience") then Some Patience
+    else None)))
+
+-- any other word where an option may stand
+abbrev pub other_symbol : Word → Symbol
+other_symbol word =
+    if bytes_eq word (codes "-prefix") then symbols.Prefix
+    else (if bytes_eq word (codes "-keep-going") then symbols.KeepGoing
+    else (if bytes_eq word (codes "-wdir") then symbols.Folder
+    else (if bytes_eq word (codes "-env") then symbols.Variable
+    else (if bytes_eq word (codes "-n") || bytes_eq word (codes "-np") then symbols.Set
+    else symbols.Other))))
+
+-- an option whose value is a number, or any other word
+abbrev pub symbol_by : Option NumberOption → Word → Symbol
+symbol_by (Some option) word = symbols.Number option
+symbol_by None word = other_symbol word
+
+-- what the word is where an option may stand
+unfoldable pub symbol_of : Word → Symbol
+symbol_of word = symbol_by (number_option word) word
+
+-- the least value of an option
+abbrev pub least_of : NumberOption → ℕ
+least_of Job = 0
+least_of BasePort = 1
+least_of Restart = 0
+least_of Patience = 1
+
+-- the greatest value of an option
+abbrev pub greatest_of : NumberOption → ℕ
+greatest_of Job = 18446744073709551615
+greatest_of BasePort = 65535
+greatest_of Restart = 65535
+greatest_of Patience = 3600000

@@ -1,0 +1,14 @@
+-- What is told of a fault.
+use Rattle.std.specs.Prelude.{ℕ, List, ◌++◌, codes}
+use Rattle.std.specs.Fmt.{decimal}
+use Rattle.run_plan.specs.declared.fault.Wanted.{Wanted}
+use Rattle.run_plan.specs.declared.fault.Wanted.TheVariants as wanted
+
+-- what may stand at a place
+abbrev pub wanted_text : Wanted → List ℕ
+wanted_text wanted.OptionOrSet = codes "an option not yet given, or a set (-n N PROGRAM ..) behind all options"
+wanted_text (wanted.Number least greatest) =
+    codes "a number from " ++ decimal least ++ codes " to " ++ decimal greatest
+wanted_text wanted.Folder = codes "the name of a folder"
+wanted_text wanted.Name = codes "the name of a variable, without = and not KOMBAZILY_.."
+wanted_text wanted.Value = codes "the value of a variable"

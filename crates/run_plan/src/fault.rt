@@ -1,0 +1,46 @@
+//! Why the words of `mpirun` can't be followed.
+
+use std::fmt;
+
+/// What may stand at a place of the words.
+#[derive(Clone, Copy, Debug, PartialEq, Eq)]
+pub enum Wanted {
+    /// An option that wasn't given yet, or the first set.
+    OptionOrSet,
+    /// A number between these two, themselves included.
+    Number(u64, u64),
+    /// The name of a folder.
+    Folder,
+    /// The name of a variable.
+    Name,
+    /// The value of a variable.
+    Value,
+}
+
+/// The first word, from the left, that may not stand where it does, or that is missing.
+#[derive(Clone, Copy, Debug, PartialEq, Eq)]
+pub struct RunFault {
+    /// How many words stand in front of it: all of them where it is missing.
+    pub place: usize,
+    /// What may stand there.
+    pub wanted: Wanted,
+}
+
+impl fmt::Display for Wanted {
+    ghost use Rattle.std.specs.Prelude.{Some};
+    ghost use Rattle.run_plan.specs.Texts.{wanted_text};
+
+    ghost output = { λ w. Some (wanted_text w) };
+
+    fn fmt<W: fmt::Write>(&self, f: &mut fmt::Formatter<W>) -> fmt::Result {
+        match self {
+            Wanted::OptionOrSet => f.write_str(
+                "an option not yet given, or a set (-n N PROGRAM ..) behind all options",
+            ),
+            Wanted::Number(least, greatest) => write!(f, "a number from {least} to {greatest}"),
+            Wanted::Folder => f.write_str("the name of a folder"),
+            Wanted::Name => f.write_str("the name of a variable, without = and not KOMBAZILY_.."),
+            Wanted::Value => f.write_str("the value of a variable"),
+        }
+    }
+}

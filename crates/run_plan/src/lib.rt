@@ -1,0 +1,21 @@
+//! What the words of `mpirun` ask for, and what it decides as its ranks run and end.
+#![tactic(auto)]
+
+mod commands;
+mod fault;
+mod lines;
+mod options;
+mod ports;
+mod reading;
+mod sets;
+mod status;
+mod symbol;
+
+pub use commands::rank_command;
+pub use fault::{RunFault, Wanted};
+pub use lines::LineBuffer;
+pub use options::RunOptions;
+pub use ports::{BLOCK, FIRST_PORT, PORT_BLOCKS, block_port, blocks_for};
+pub use reading::{RunRequest, request_of};
+pub use sets::plan_words;
+pub use status::{Consequence, ConsequenceText, run_status};

@@ -1,0 +1,80 @@
+//! The options of `mpirun`, as far as they were given.
+
+ghost use Rattle.std.specs.Prelude.{◌≡◌, ◌≤◌};
+ghost use Rattle.run_plan.specs.Symbols.{greatest_of};
+ghost use Rattle.run_plan.specs.Readings.{nothing_given, is_given, with_number};
+
+use crate::symbol::NumberOption;
+
+/// The options that were given.
+#[derive(Clone, Copy, Debug)]
+pub struct RunOptions {
+    /// The number of the job, of `-job`.
+    pub job: Option<u64>,
+    /// The port of rank 0, of `-baseport`; that of rank r is r above it.
+    pub base_port: Option<u16>,
+    /// How often a rank may be started again, of `-restart`.
+    pub restarts: Option<u16>,
+    /// How long the ranks wait, in milliseconds, of `-patience`.
+    pub patience: Option<u32>,
+    /// Whether `[r] ` stands before each line of rank r: `-prefix`.
+    pub marks_lines: bool,
+    /// Whether the other ranks go on once one has failed: `-keep-going`.
+    pub keeps_going: bool,
+    /// The place of the word, among all words, that names the folder in which the ranks start: of `-wdir`.
+    pub folder: Option<usize>,
+}
+
+impl RunOptions {
+    /// No option was given.
+    pub(crate) fn none() -> RunOptions
+        ensures { result ≡ nothing_given }
+    {
+        RunOptions {
+            job: None,
+            base_port: None,
+            restarts: None,
+            patience: None,
+            marks_lines: false,
+            keeps_going: false,
+            folder: None,
+        }
+    }
+
+    /// Whether this option was given.
+    pub(crate) fn has(&self, option: NumberOption) -> bool
+        ensures { result ≡ is_given option self.now }
+    {
+        match option {
+            NumberOption::Job => self.job.is_some(),
+            NumberOption::BasePort => self.base_port.is_some(),
+            NumberOption::Restart => self.restarts.is_some(),
+            NumberOption::Patience => self.patience.is_some(),
+        }
+    }
+
+    /// With this value of the option, which lies in its range.
+    pub(crate) fn with(self, option: NumberOption, number: u64) -> RunOptions
+        requires { number ≤ greatest_of option }
+        ensures { result ≡ with_number option self number }
+    {
+        match option {
+            NumberOption::Job => RunOptions {
+                job: Some(number),
+                ..self
+            },
+            NumberOption::BasePort => RunOptions {
+                base_port: Some(number as u16),
+                ..self
+            },
+            NumberOption::Restart => RunOptions {
+                restarts: Some(number as u16),
+                ..self
+            },
+            NumberOption::Patience => RunOptions {
+                patience: Some(number as u32),
+                ..self
+            },
+        }
+    }
+}

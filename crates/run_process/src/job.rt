@@ -1,0 +1,345 @@
+//! A job while its ranks run: it prints what they write, starts them again, and ends them.
+
+use crate::guard::Guard;
+use crate::printing::{Stream, asked};
+use crate::rank::Rank;
+use crate::setup::Setup;
+use crate::shell::terminate;
+use launch_decisions::{Failure, Next, Start, ending_by, first_failure};
+use launch_keeper::{EndingLine, ProgramEnding};
+use launch_plan::Plan;
+use libc::net::poll;
+use libc::types::pollfd;
+use run_plan::{Consequence, ConsequenceText, run_status};
+use std::alloc::AllocError;
+use std::io;
+use std::os::fd::AsRawFd;
+use std::os::unix::process::ExitStatusExt;
+use std::process::{ExitStatus, OpenProcess, Processes};
+use std::time::{Clock, Instant};
+
+/// How many milliseconds the programs have to end by themselves once they are asked to.
+const GRACE: u128 = 900;
+
+/// The time between two looks at the programs, in milliseconds.
+const LOOK: i32 = 50;
+
+/// The same, for output that never pauses.
+const LATEST_LOOK: u128 = 50;
+
+/// The same, where one has closed what it writes to.
+const SOON: i32 = 2;
+
+/// The status of a job that was interrupted.
+const INTERRUPTED: u8 = 130;
+
+/// The status of a job whose own output failed, or for which memory was wanting.
+pub const FAILED: u8 = 3;
+
+/// A job while its ranks run.
+pub struct Job<'a, R: Processes> {
+    rt: &'a R,
+    setup: &'a Setup<'a>,
+    ranks: Vec<Rank<'a, R::Started>>,
+    guard: Guard<R::Started>,
+    /// The first rank that failed for good.
+    began: Option<Failure>,
+    /// When the programs were asked to end.
+    asked: Option<Instant>,
+    /// Whether the job was interrupted.
+    is_interrupted: bool,
+}
+
+impl<'a, R: Processes> Drop for Job<'a, R> {
+    fn drop(self) {
+        let Self {
+            rt: _,
+            setup: _,
+            ranks,
+            guard,
+            began: _,
+            asked: _,
+            is_interrupted: _,
+        } = self;
+        drop(ranks);
+        drop(guard);
+    }
+}
+
+/// What became of a program that ended so.
+fn ending_of(status: ExitStatus) -> ProgramEnding {
+    let byte = |number: i32| u8::try_from(number).ok();
+    ending_by(status.code().and_then(byte), status.signal().and_then(byte))
+}
+
+impl<
+    'a,
+    R: Eprint
+        + AllocGlobal
+        + Clock
+        + Processes<Started: OpenProcess<Stdout: AsRawFd, Stderr: AsRawFd>>,
+> Job<'a, R> {
+    /// The job of a plan, of which nothing runs yet.
+    pub fn new(rt: &'a R, setup: &'a Setup<'a>, plan: &'a Plan) -> io::Result<Job<'a, R>> {
+        let mut ranks = Vec::new(rt.alloc());
+        for rank in 0..plan.size() {
+            ranks
+                .push(Rank::new(rt.alloc(), Start::first(plan, rank)))
+                .map_err(AllocError::from)?;
+        }
+        Ok(Job {
+            rt,
+            setup,
+            ranks,
+            guard: Guard::new(rt),
+            began: None,
+            asked: None,
+            is_interrupted: false,
+        })
+    }
+
+    /// Starts the program of a rank once. Answers whether it runs.
+    fn spawn(&mut self, rank: usize) -> io::Result<bool> {
+        let Some(one) = self.ranks.get_mut(rank) else {
+            return Ok(true);
+        };
+        let mut command = self.setup.command(self.rt.alloc(), rank, &one.start)?;
+        match command.spawn(self.rt) {
+            Ok(child) => {
+                self.guard.begins(self.rt, child.id());
+                one.runs(child);
+                Ok(true)
+            }
+            Err(_) => Ok(false),
+        }
+    }
+
+    /// Starts the program of a rank, and again where it can't be started and a restart is left.
+    fn start(&mut self, rank: usize) -> io::Result<()> {
+        for _ in 0..u64::MAX {
+            if self.spawn(rank)? || !self.take_in(rank, ProgramEnding::NotStarted)? {
+                break;
+            }
+        }
+        Ok(())
+    }
+
+    /// Starts the programs of all ranks, in rank order, as long as none has failed for which the others end.
+    pub fn start_all(&mut self) -> io::Result<()> {
+        for rank in 0..self.ranks.len() {
+            if self.began.is_none() || self.setup.options.keeps_going {
+                self.start(rank)?;
+            }
+        }
+        Ok(())
+    }
+
+    /// Whether programs of other ranks still run.
+    fn others_run(&self, rank: usize) -> bool {
+        self.ranks
+            .iter()
+            .enumerate()
+            .any(|(other, one)| other != rank && one.child.is_some())
+    }
+
+    /// Asks all programs that run to end.
+    fn ask_all(&mut self) -> io::Result<()> {
+        if self.asked.is_some() {
+            return Ok(());
+        }
+        self.asked = Some(Instant::now(self.rt)?);
+        let mut running = Vec::new(self.rt.alloc());
+        for one in &self.ranks {
+            if let Some(child) = &one.child {
+                running.push(child.id()).map_err(AllocError::from)?;
+            }
+        }
+        terminate(self.rt, &running);
+        Ok(())
+    }
+
+    /// Kills all programs that run.
+    pub fn kill_all(&mut self) {
+        for one in self.ranks.iter_mut() {
+            if let Some(child) = &mut one.child {
+                let _ = child.kill();
+            }
+        }
+    }
+
+    /// Tells that a rank failed, and what follows.
+    fn tell(&self, rank: usize, ending: ProgramEnding, next: &Next, consequence: Consequence) {
+        let Some(one) = self.ranks.get(rank) else {
+            return;
+        };
+        let Ok(Some(words)) = one.start.words(self.rt.alloc()) else {
+            return;
+        };
+        let Some(program) = words.as_slice().first() else {
+            return;
+        };
+        let line = EndingLine {
+            rank: u16::try_from(rank).unwrap_or(u16::MAX),
+            program: program.as_bytes(),
+            ending,
+            after: next.after(),
+        };
+        let behind = ConsequenceText { consequence };
+        if let Ok(text) = format!(in self.rt.alloc(); "{line}{behind}") {
+            self.setup.tell(self.rt, text.as_str());
+        }
+    }
+
+    /// Takes in that a rank has ended for good so. Where it is the first that failed, the others are ended, unless they
+    /// are to go on.
+    fn fail(&mut self, rank: usize, ending: ProgramEnding, next: &Next) -> io::Result<()> {
+        let number = u16::try_from(rank).unwrap_or(u16::MAX);
+        self.began = first_failure(self.began, number, run_status(ending));
+        if !ending.is_failure() {
+            return Ok(());
+        }
+        if self.setup.options.keeps_going || !self.others_run(rank) {
+            self.tell(rank, ending, next, Consequence::Nothing);
+            return Ok(());
+        }
+        self.tell(rank, ending, next, Consequence::OthersEnd);
+        self.ask_all()
+    }
+
+    /// Takes in that a rank's program ended so. Answers whether it is to be started again.
+    fn take_in(&mut self, rank: usize, ending: ProgramEnding) -> io::Result<bool> {
+        let Some(one) = self.ranks.get_mut(rank) else {
+            return Ok(false);
+        };
+        if self.asked.is_some() {
+            return Ok(false);
+        }
+        let next = one.start.next(ending);
+        let Next::Starts(again) = next else {
+            self.fail(rank, ending, &next)?;
+            return Ok(false);
+        };
+        self.tell(rank, ending, &next, Consequence::Nothing);
+        if let Some(one) = self.ranks.get_mut(rank) {
+            one.start = again;
+        }
+        Ok(true)
+    }
+
+    /// Looks whether a rank's program has ended, and takes that in.
+    fn look(&mut self, rank: usize) -> io::Result<()> {
+        let Some(one) = self.ranks.get_mut(rank) else {
+            return Ok(());
+        };
+        let Some(status) = one.look()? else {
+            return Ok(());
+        };
+        one.drain(self.rt.alloc(), rank, self.setup.options.marks_lines)?;
+        if let Some(child) = one.child.take() {
+            self.guard.ends(self.rt, child.id());
+        }
+        if self.take_in(rank, ending_of(status))? {
+            self.start(rank)?;
+        }
+        Ok(())
+    }
+
+    /// What to ask of all streams, those of a rank side by side.
+    fn streams(&self) -> io::Result<Vec<pollfd>> {
+        let mut all = Vec::with_capacity(self.rt.alloc(), self.ranks.len().saturating_mul(2))?;
+        for one in &self.ranks {
+            all.push(asked(one.output_descriptor()))
+                .map_err(AllocError::from)?;
+            all.push(asked(one.error_descriptor()))
+                .map_err(AllocError::from)?;
+        }
+        Ok(all)
+    }
+
+    /// Waits until a rank has written something, or it is time to look at the programs, and prints what came. Answers
+    /// whether something was to be read.
+    fn hear_all(&mut self) -> io::Result<bool> {
+        let mut streams = self.streams()?;
+        let is_soon = self.ranks.iter().any(|one| one.is_closed());
+        if poll(&mut streams, if is_soon { SOON } else { LOOK }) <= 0 {
+            return Ok(false);
+        }
+        let marks = self.setup.options.marks_lines;
+        for (place, asked) in streams.iter().enumerate() {
+            if asked.revents != 0 {
+                let stream = if place % 2 == 0 {
+                    Stream::Output
+                } else {
+                    Stream::Error
+                };
+                if let Some(one) = self.ranks.get_mut(place / 2) {
+                    one.hear(self.rt.alloc(), stream, place / 2, marks)?;
+                }
+            }
+        }
+        Ok(true)
+    }
+
+    /// Ends the job where the process is gone that the user started; kills what was asked to end and had the time to.
+    fn attend(&mut self) -> io::Result<()> {
+        if !self.is_interrupted && libc::getppid() != self.setup.front {
+            self.is_interrupted = true;
+            self.setup
+                .tell(self.rt, "mpiexec: interrupted; the ranks are ended");
+            self.ask_all()?;
+        }
+        if let Some(asked) = self.asked {
+            if asked.elapsed(self.rt)?.as_millis() >= GRACE {
+                self.kill_all();
+            }
+        }
+        Ok(())
+    }
+
+    /// Looks at the programs: at those that closed what they write to, or at all of them.
+    fn look_at(&mut self, all: bool) -> io::Result<()> {
+        for rank in 0..self.ranks.len() {
+            let is_due = match self.ranks.get(rank) {
+                Some(one) => one.child.is_some() && (all || one.is_closed()),
+                None => false,
+            };
+            if is_due {
+                self.look(rank)?;
+            }
+        }
+        Ok(())
+    }
+
+    /// Whether a program runs.
+    fn some_run(&self) -> bool {
+        self.ranks.iter().any(|one| one.child.is_some())
+    }
+
+    /// Follows the ranks until all have ended.
+    pub fn follow(&mut self) -> io::Result<()> {
+        let mut last = Instant::now(self.rt)?;
+        for _ in 0..u64::MAX {
+            if !self.some_run() {
+                break;
+            }
+            let has_heard = self.hear_all()?;
+            let is_time = !has_heard || last.elapsed(self.rt)?.as_millis() >= LATEST_LOOK;
+            if is_time {
+                last = Instant::now(self.rt)?;
+            }
+            self.look_at(is_time)?;
+            self.attend()?;
+        }
+        Ok(())
+    }
+
+    /// The status of the job, whose ranks have all ended: that of the rank whose failure began, or 0.
+    pub fn status(&mut self) -> u8 {
+        self.guard.close();
+        match self.began {
+            Some(failure) => failure.status,
+            None if self.is_interrupted => INTERRUPTED,
+            None => 0,
+        }
+    }
+}

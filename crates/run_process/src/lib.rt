@@ -1,0 +1,18 @@
+//! `mpirun` as processes (docs/LAUNCHING.md): what the program does, apart from its `main`.
+//!
+//! The process that a user starts, the front, waits for another one, which launches: that one ignores what a terminal
+//! sends to all its processes, and sees by its parent that the front is gone. A guard, a shell, is told which programs
+//! run, and kills them where the launching process goes away.
+#![tactic(auto)]
+
+mod claim;
+mod command;
+mod front;
+mod guard;
+mod job;
+mod printing;
+mod rank;
+mod setup;
+mod shell;
+
+pub use crate::command::{run, run_words};
