@@ -123,7 +123,11 @@ void progress_wait(void) {
     learn(device_nanoseconds() - begun);
 }
 
-void progress_begin_wait(void) { heard = told; }
+void progress_begin_wait(void) {
+    /* The program may have computed for long: that isn't waiting. */
+    tell_time();
+    heard = told;
+}
 
 void progress_until_idle(void) {
     progress_begin_wait();
