@@ -1,6 +1,5 @@
 """The kit's own `rt` as a module, and the crates of a checkout as it sees them."""
 
-import functools
 import importlib.machinery
 import importlib.util
 import os
@@ -13,26 +12,46 @@ def folder_of_kit():
     """The folder of the toolchain: /opt/rattle, or where `rt` on PATH stands."""
     on_path = shutil.which("rt")
     places = [Path("/opt/rattle")] + ([Path(on_path).resolve().parent.parent] if on_path else [])
-    return next((it for it in places if (it / "bin" / "rtlib.py").is_file()), None)
-
-
-def load(checkout):
-    """`rt` as a module that works on this checkout; the sums of texts are computed once."""
-    kit = folder_of_kit()
-    if kit is None:
+    found = next((it for it in places if (it / "bin" / "rtlib.py").is_file()), None)
+    if found is None:
         sys.exit("there is no toolchain: no `rt` on PATH and none in /opt/rattle/bin")
+    return found
+
+
+def once(method):
+    """A method of a crate that is asked once for each folder."""
+    answers = {}
+
+    def asked(crate):
+        if crate.folder not in answers:
+            answers[crate.folder] = method(crate)
+        answer = answers[crate.folder]
+        return list(answer) if isinstance(answer, list) else answer
+
+    return asked
+
+
+def module():
+    """`rt` as a module. The sum of a crate's texts and what stands below it are computed once."""
     sys.dont_write_bytecode = True
-    sys.path.insert(0, str(kit / "bin"))
-    loader = importlib.machinery.SourceFileLoader("rt_command", str(kit / "bin" / "rt"))
+    bin_of_kit = folder_of_kit() / "bin"
+    sys.path.insert(0, str(bin_of_kit))
+    loader = importlib.machinery.SourceFileLoader("rt_command", str(bin_of_kit / "rt"))
     rt = importlib.util.module_from_spec(importlib.util.spec_from_loader("rt_command", loader))
     sys.modules["rt_command"] = rt
     loader.exec_module(rt)
+    rt.rtlib.Crate.stamp = once(rt.rtlib.Crate.stamp)
+    rt.rtlib.Crate.below = once(rt.rtlib.Crate.below)
+    return rt
+
+
+def load(checkout):
+    """`rt` as a module that works on this checkout."""
+    rt = module()
     os.chdir(checkout)
     rt.rtlib.Crate = rt.Crate
     line = Path("HANDLES").read_text().strip()
     rt.Crate.allowed = tuple(line.removeprefix("Handles allowed: ").removesuffix(".").split(", "))
-    rt.Crate.stamp = functools.lru_cache(maxsize=None)(rt.Crate.stamp)
-    rt.Crate.below = functools.lru_cache(maxsize=None)(rt.Crate.below)
     return rt
 
 
@@ -43,15 +62,9 @@ def libraries(rt, checkout, wanted):
     if unknown:
         sys.exit("no such crate: " + " ".join(unknown))
     found = {}
-
-    def add(crate):
-        if crate.name not in found:
-            for low in crate.deps:
-                add(low)
-            found[crate.name] = crate
-
     for name in wanted or crates:
-        add(crates[name])
+        for crate in [*crates[name].below(), crates[name]]:
+            found.setdefault(crate.name, crate)
     return [it for it in found.values() if not it.is_program]
 
 
