@@ -8,10 +8,10 @@
 enum {
     MILLISECOND = 1000000,   /* the following are in nanoseconds but where it is said */
     LONGEST_SPIN = 100000,   /* so long a rank that waits asks again and again before it sleeps */
-    SHORTEST_SPIN = 5000,    /* so long in any case */
+    SHORTEST_SPIN = 12000,   /* so long in any case */
     LONG_WAIT = 20000,       /* behind a wait of so long it looks whether others had the processor */
     MODEST_WAITS = 100,      /* for so many waits it then asks as short as it may */
-    CROWDED_SPIN = 10000,    /* the longest where there are more ranks than processors */
+    CROWDED_SPIN = 12000,    /* the longest where there are more ranks than processors */
     LONGEST_SLEEP = 5,       /* milliseconds; the engine sends again what it sent 20 ms ago */
     LAST_WORDS = 2000000000, /* so long a rank that ends waits for the last acknowledgements at most */
     COPIES_OF_LAST = 3       /* so often a rank that ends says what it says: it may be gone before it is asked again */
