@@ -1,0 +1,9 @@
+pub mod Kinds
+pub mod Elements
+pub mod Runs
+pub mod Meanings
+pub mod Answers
+pub mod Clocks
+pub mod State
+pub mod Calls
+pub mod Taking

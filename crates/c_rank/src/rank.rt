@@ -1,0 +1,367 @@
+//! One rank: its engine, the data of its last answer, and what it sends.
+
+ghost use Rattle.std.specs.Prelude.{◌≡◌, ◌⊎◌, ◌↔◌, All, IfErr, IfOk, IsTrue, Result};
+ghost use Rattle.engine.specs.Looks.{type_probed};
+ghost use Rattle.engine.specs.Datagrams.{DatagramGives};
+ghost use Rattle.engine_calls.specs.Calls.{CallGives};
+ghost use Rattle.engine_calls.specs.EngineState.{completion_of, without_completion, without_out};
+ghost use Rattle.engine_calls.specs.declared.call.Call.TheVariants as calls;
+ghost use Rattle.engine_calls.specs.declared.reply.Reply.{Reply};
+ghost use Rattle.point_to_point_calls.specs.declared.refusal.Refusal.{Refusal};
+ghost use Rattle.requests.specs.Table.{finished_at};
+ghost use Rattle.sessions.specs.Peers.{IsIdlePeer};
+ghost use Rattle.c_rank.specs.Calls.{Answers, AnswersMeant, Finishes, Tells, TellsReply, look_told, type_out};
+ghost use Rattle.c_rank.specs.State.{IsNoPlace, IsOpening, TellsTime, Ticks, number_of_result, place_said};
+ghost use Rattle.c_rank.specs.Taking.{Takes, TakesOf};
+ghost use Rattle.c_rank.specs.declared.meaning.Meant.TheVariants as meant;
+
+use crate::answers::{Told, answer_of_kind, fact_answer, refusal, reply_told, told_by_completion};
+use crate::clock::RankClock;
+use crate::elements::turn_elements;
+use crate::meaning::{Meant, meaning_of};
+use crate::records::{AnswerRecord, CallRecord, OutgoingRecord, PlaceRecord};
+use crate::sending::Sending;
+use datagram::LONGEST_DATAGRAM;
+use datatypes::Buffer;
+use engine::{Call, Engine, Place, Probe, Refusal, Reply, Request};
+use std::alloc::Global;
+use std::marker::Model;
+use vocabulary::{BasicType, Endpoint};
+
+/// The message limit that the engine has, in bytes.
+const MESSAGE_LIMIT: u64 = 1_048_576;
+
+/// The number of another message limit.
+const OTHER_LIMIT: u8 = 84;
+
+/// The number of a look at a request that there isn't.
+const NO_SUCH_REQUEST: u8 = 6;
+
+/// The kind of the answer that nothing is finished.
+const PENDING: u32 = 3;
+
+/// So many nanoseconds are a millisecond.
+const MILLISECOND: u64 = 1_000_000;
+
+/// The data of an answer: the first elements of a buffer.
+#[derive(Drop)]
+pub struct ReceivedData {
+    /// The buffer.
+    pub buffer: Buffer,
+    /// How many of its elements they are.
+    pub count: u64,
+}
+
+/// One rank of a job.
+#[derive(Drop)]
+pub struct Rank {
+    alloc: Global,
+    engine: Engine,
+    received: Option<ReceivedData>,
+    sending: Sending,
+    /// What the engine was told of the time.
+    clock: RankClock,
+}
+
+impl Model for Rank {
+    ghost use Rattle.c_rank.specs.State.{RankState};
+
+    ghost Value = { RankState };
+
+    ghost view = { λ r. record { engine = r.engine; received = r.received; sending = r.sending; clock = r.clock } };
+}
+
+impl ReceivedData {
+    /// Copies elements out, from one on, in the byte order of the machine: as many whole ones as are there and fit.
+    /// Answers how many bytes it put.
+    pub fn take(&self, first: u64, into: &mut [u8]) -> usize
+        ensures { Takes self.now first into.old into.new result }
+    {
+        let basic = self.buffer.basic();
+        let size = u64::from(basic.size());
+        let bytes = self.buffer.as_bytes();
+        let total = bytes.len().min(self.count.saturating_mul(size) as usize);
+        let from = total.min(first.saturating_mul(size) as usize);
+        let most = (total - from).min(into.len());
+        turn_elements(basic, &bytes[from..from + most], into)
+    }
+}
+
+/// The place that the numbers say; 84 for a message limit that the engine hasn't.
+fn place_of(told: &PlaceRecord) -> Result<Place, u8>
+    ensures ok { IfOk result (λ p. (p ≡ place_said told.now) × (told.now.message_limit ≡ 1048576)) }
+    ensures err { IfErr result (λ n. (n ≡ 84) × (told.now.message_limit ≡ 1048576 → ⊥)) }
+{
+    if told.message_limit != MESSAGE_LIMIT {
+        return Err(OTHER_LIMIT);
+    }
+    Ok(Place {
+        endpoint: Endpoint {
+            rank: told.rank,
+            incarnation: told.incarnation,
+        },
+        size: told.size,
+        job: told.job,
+    })
+}
+
+/// Whether something began with this reply, or ended.
+fn is_beginning(reply: &Reply) -> bool {
+    match reply {
+        Reply::Started(_) | Reply::Blocked | Reply::Left(_) => true,
+        Reply::Done(_)
+        | Reply::Pending
+        | Reply::Accepted
+        | Reply::Fact(_)
+        | Reply::Probed(_)
+        | Reply::Matched(_)
+        | Reply::Refused(..) => false,
+    }
+}
+
+/// The number of how an event went: 0, or that of the refusal.
+fn number_of(gone: Result<(), Refusal>) -> u8
+    ensures { result ≡ number_of_result gone }
+{
+    match gone {
+        Ok(()) => 0,
+        Err(refused) => refused.number(),
+    }
+}
+
+impl Rank {
+    /// The rank at this place, at its start. Refused with 84 for another message limit than 1,048,576, with 5 where the
+    /// rank isn't below the size, with 13 where the size is above 1,024, and with 14.
+    pub fn new(alloc: Global, place: &PlaceRecord) -> Result<Rank, u8>
+        ensures opening { IfOk result (IsOpening place.now) }
+        ensures refused { IfErr result (IsNoPlace place.now) }
+    {
+        let place = match place_of(place) {
+            Ok(place) => place,
+            Err(number) => return Err(number),
+        };
+        match Engine::new(alloc, place) {
+            Ok(engine) => Ok(Rank {
+                alloc,
+                engine,
+                received: None,
+                sending: Sending::new(alloc),
+                clock: RankClock::new(),
+            }),
+            Err(refused) => Err(refused.number()),
+        }
+    }
+
+    /// What is told, whose data take the place of what was there.
+    fn tell(&mut self, told: Told) -> AnswerRecord
+        ensures tells { Tells self.old told result self.new }
+        ensures engine { self.new.engine ≡ self.old.engine }
+        ensures sending { self.new.sending ≡ self.old.sending }
+    {
+        let Told { answer, received } = told;
+        if let Some(received) = received {
+            drop(self.received.replace(received));
+        }
+        answer
+    }
+
+    /// What is told of a reply, and of a message that a probe found by this type.
+    fn tell_reply(&mut self, reply: Reply, basic: Option<BasicType>) -> AnswerRecord
+        ensures tells { TellsReply self.old reply basic result self.new }
+        ensures engine { self.new.engine ≡ self.old.engine }
+        ensures sending { self.new.sending ≡ self.old.sending }
+    {
+        match reply_told(self.alloc, reply, basic) {
+            Ok(told) => self.tell(told),
+            Err(number) => refusal(number),
+        }
+    }
+
+    /// The basic type of the message that a matching probe took out, if it did.
+    fn type_taken_out(&self, reply: &Reply) -> Option<BasicType>
+        ensures { result ≡ type_out self.now.engine reply.now }
+    {
+        match reply {
+            Reply::Matched(Some((Some(message), _))) => self.engine.type_of_message(*message),
+            _ => None,
+        }
+    }
+
+    /// The basic type of the message that such a probe finds, if it finds one.
+    fn type_found(&self, probe: Probe) -> Option<BasicType>
+        ensures { result ≡ type_probed self.now.engine probe }
+    {
+        self.engine.type_of_probed(probe)
+    }
+
+    /// Where something began with a reply, or ended, the engine is told the time soon.
+    fn note(&mut self, reply: &Reply)
+        ensures engine { self.new.engine ≡ self.old.engine }
+        ensures received { self.new.received ≡ self.old.received }
+        ensures sending { self.new.sending ≡ self.old.sending }
+    {
+        if is_beginning(reply) {
+            self.clock.stir();
+        }
+    }
+
+    /// The engine's answer to a call.
+    fn answer(&mut self, call: Call) -> AnswerRecord
+        ensures answers { AnswersMeant (meant.Call call) self.old result self.new }
+        ensures sending { self.new.sending ≡ self.old.sending }
+    {
+        let reply = self.engine.call(call);
+        self.note(&reply);
+        let basic = self.type_taken_out(&reply);
+        self.tell_reply(reply, basic)
+    }
+
+    /// The engine's answer to a probe.
+    fn answer_probe(&mut self, probe: Probe) -> AnswerRecord
+        ensures answers { AnswersMeant (meant.Probe probe) self.old result self.new }
+        ensures sending { self.new.sending ≡ self.old.sending }
+    {
+        let reply = self.engine.call(Call::Iprobe(probe));
+        self.note(&reply);
+        let basic = self.type_found(probe);
+        self.tell_reply(reply, basic)
+    }
+
+    /// Whether a request is finished (1) or not (0).
+    fn look(&self, request: Request) -> AnswerRecord
+        ensures { result ≡ look_told (finished_at self.now.engine.core.slots request) }
+    {
+        match self.engine.is_finished(request) {
+            Some(true) => fact_answer(1),
+            Some(false) => fact_answer(0),
+            None => refusal(NO_SUCH_REQUEST),
+        }
+    }
+
+    /// The answer of the call that was blocked, if it is there.
+    fn finish(&mut self) -> AnswerRecord
+        ensures answers { AnswersMeant meant.Finish self.old result self.new }
+        ensures sending { self.new.sending ≡ self.old.sending }
+    {
+        match self.engine.take_completion() {
+            Some(completion) => self.tell(told_by_completion(completion)),
+            None => answer_of_kind(PENDING),
+        }
+    }
+
+    /// Answers the call that the numbers mean, and the data.
+    pub fn call(&mut self, asked: &CallRecord, bytes: &[u8]) -> AnswerRecord
+        ensures answers { Answers self.old asked.now bytes.now result self.new }
+        ensures sending { self.new.sending ≡ self.old.sending }
+    {
+        match meaning_of(self.alloc, asked, bytes) {
+            Ok(Meant::Call(call)) => self.answer(call),
+            Ok(Meant::Probe(probe)) => self.answer_probe(probe),
+            Ok(Meant::Look(request)) => self.look(request),
+            Ok(Meant::Finish) => self.finish(),
+            Err(number) => refusal(number),
+        }
+    }
+
+    /// Copies data of the last answer out that brought any.
+    pub fn take(&self, first: u64, into: &mut [u8]) -> usize
+        ensures { TakesOf self.now.received first into.old into.new result }
+    {
+        match &self.received {
+            Some(received) => received.take(first, into),
+            None => 0,
+        }
+    }
+
+    /// Takes a datagram in: 0, or the number of the refusal.
+    pub fn on_datagram(&mut self, bytes: &[u8]) -> u8
+        ensures takes { (gone : Result (Unit {0}) Refusal) ×
+            (DatagramGives self.old.engine bytes.now gone self.new.engine × (result ≡ number_of_result gone)) }
+        ensures received { self.new.received ≡ self.old.received }
+        ensures sending { self.new.sending ≡ self.old.sending }
+    {
+        let gone = self.engine.on_datagram(bytes);
+        if gone.is_ok() {
+            self.clock.stir();
+        }
+        number_of(gone)
+    }
+
+    /// Tells the engine the time.
+    fn tell_time(&mut self, millisecond: u64) -> u8
+        ensures tells { TellsTime self.old millisecond result self.new }
+        ensures received { self.new.received ≡ self.old.received }
+        ensures sending { self.new.sending ≡ self.old.sending }
+    {
+        match self.engine.tick(millisecond) {
+            Ok(()) => {
+                self.clock.tell(millisecond);
+                0
+            }
+            Err(refused) => refused.number(),
+        }
+    }
+
+    /// The clock says `now`, in nanoseconds. The engine is told it in milliseconds, unless it is to wait
+    /// (`RankClock::waits`): 0, or the number of its refusal (41 where the time is below what it was told, 14).
+    pub fn tick(&mut self, now: u64) -> u8
+        ensures { Ticks self.old now result self.new }
+    {
+        self.sending.tick(now);
+        let millisecond = now / MILLISECOND;
+        if self.clock.waits(millisecond) {
+            return 0;
+        }
+        self.tell_time(millisecond)
+    }
+
+    /// What the engine emitted takes the place of what was handed out.
+    fn refill(&mut self)
+        ensures engine { (self.new.engine ≡ self.old.engine) ⊎ (self.new.engine ≡ without_out self.old.engine) }
+        ensures received { self.new.received ≡ self.old.received }
+    {
+        if self.sending.is_through() {
+            let emitted = self.engine.take_out();
+            let former = self.sending.refill(emitted);
+            self.engine.give_back(former);
+        }
+    }
+
+    /// Hands out what goes next, but for what is kept back.
+    fn hand_out(&mut self, most: u32, outgoing: &mut OutgoingRecord, into: &mut [u8]) -> usize {
+        self.refill();
+        let len = self.sending.hand_out(most, outgoing, into);
+        if len > 0 {
+            return len;
+        }
+        self.refill();
+        self.sending.hand_out(most, outgoing, into)
+    }
+
+    /// Hands out what goes next.
+    pub fn next(
+        &mut self,
+        most: u32,
+        kept_too: bool,
+        outgoing: &mut OutgoingRecord,
+        into: &mut [u8],
+    ) -> usize {
+        outgoing.count = 0;
+        if into.len() < LONGEST_DATAGRAM {
+            return 0;
+        }
+        let mut len = self.hand_out(most, outgoing, into);
+        if len == 0 {
+            len = self.sending.hand_out_kept(kept_too, outgoing, into);
+        }
+        outgoing.kept_until = self.sending.kept_until();
+        len
+    }
+
+    /// Whether no frame of any session waits or is unacknowledged.
+    pub fn is_idle(&self) -> bool
+        ensures { IsTrue result ↔ All IsIdlePeer self.now.engine.sessions.peers }
+    {
+        self.engine.is_idle()
+    }
+}
