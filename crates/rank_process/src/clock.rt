@@ -1,8 +1,18 @@
 //! The clock of the host.
 
+ghost use Rattle.std.specs.Prelude.{◌≡◌};
+ghost use Rattle.rank_process.specs.Times.{millis_of};
+
 use event_loop::Clock;
 use std::io;
-use std::time::{Clock as Host, Instant};
+use std::time::{Clock as Host, Duration, Instant};
+
+/// The whole milliseconds of a time, as far as 64 bits hold them.
+pub fn millis_of(passed: Duration) -> u64
+    ensures { result ≡ millis_of passed }
+{
+    u64::try_from(passed.as_millis()).unwrap_or(u64::MAX)
+}
 
 /// The milliseconds since it was made.
 pub struct HostClock<'a, R: Host> {
@@ -34,11 +44,11 @@ impl<'a, R: Host> HostClock<'a, R> {
 }
 
 impl<'a, R: Host> Clock for HostClock<'a, R> {
-    ghost told = { λ _ _ _. Unit {0} };
+    ghost told = { λ _ now clock. now ≡ clock.last };
 
     fn now(&mut self) -> u64 {
         if let Ok(passed) = self.start.elapsed(self.rt) {
-            self.last = u64::try_from(passed.as_millis()).unwrap_or(u64::MAX);
+            self.last = millis_of(passed);
         }
         self.last
     }

@@ -3,14 +3,21 @@
 ghost use Rattle.std.specs.Prelude.{◌≡◌};
 
 use crate::clock::HostClock;
-use crate::error_lines::{
-    ErrorReport, tell, tell_of, tell_port, tell_unread, tell_usage, tell_words,
-};
+use crate::environment::found_place;
 use crate::exit_status::ExitStatus;
-use crate::udp::Udp;
-use engine::{Engine, Place};
+use crate::farewell::take_leave;
+use crate::judging::{forewarn, judged};
+use crate::places::{first_port, new_engine};
+use crate::rank_transport::RankTransport;
+use crate::telling::{
+    ErrorReport, print_help, print_version, tell, tell_of, tell_port, tell_unread, tell_usage,
+    tell_words,
+};
+use crate::told_runner::ToldRunner;
+use crate::udp_wire::UdpWire;
+use engine::Engine;
 use event_loop::{Ended, TransportFault, drive};
-use rank_settings::{Settings, SettingsRefusal, settings_of};
+use rank_settings::{Settings, SettingsRefusal, settings_in};
 use script_files::{ParseError, Script, parse};
 use script_runner::ScriptRunner;
 use std::io::ErrorKind;
@@ -19,7 +26,14 @@ use std::rt::{Env, Files};
 use std::sync::Wait;
 use std::time::Clock;
 use std::{env, fs, io};
-use vocabulary::Endpoint;
+
+fn is_help(word: &str) -> bool {
+    word == "--help" || word == "-h"
+}
+
+fn is_version(word: &str) -> bool {
+    word == "--version" || word == "-V"
+}
 
 /// The status with which a runner ends at a line that can't be followed.
 const FAULTY_LINE: u8 = 1;
@@ -61,34 +75,19 @@ fn read_script<R: Eprint + AllocGlobal>(rt: &R, told: &ErrorReport) -> Result<Sc
     }
 }
 
-/// The engine of the rank.
-fn new_engine<R: AllocGlobal>(rt: &R, settings: &Settings) -> Result<Engine, ExitStatus> {
-    let place = Place {
-        endpoint: Endpoint {
-            rank: settings.rank,
-            incarnation: settings.incarnation,
-        },
-        size: settings.size,
-        job: settings.job,
-    };
-    match Engine::new(rt.alloc(), place) {
-        Ok(engine) => Ok(engine),
-        Err(_) => Err(ExitStatus::OutOfMemory),
-    }
-}
-
 /// Tells why a rank ended so, where its script doesn't say so itself.
 fn tell_end<R: Print + Eprint + AllocGlobal + Clock>(
     rt: &R,
     told: &ErrorReport,
     runner: &ScriptRunner,
-    udp: &Udp<'_, R>,
+    udp: &RankTransport<UdpWire<'_, R>>,
     ended: Result<Ended, TransportFault>,
 ) {
     match ended {
         Ok(Ended::Runner(FAULTY_LINE, line)) => told.tell_stopped(rt, runner, line),
         Ok(Ended::Runner(_, _)) => {}
         Ok(Ended::Patience) => told.tell_patience(rt, runner),
+        Err(_) if udp.wire().is_stopped() => told.tell_stop(rt, runner),
         Err(_) if udp.has_lost_line() => tell_of(rt, told.settings.rank, "its output failed"),
         Err(_) => tell_of(rt, told.settings.rank, "its socket failed"),
     }
@@ -99,28 +98,24 @@ fn end<R: Print + Eprint + AllocGlobal + Clock>(
     rt: &R,
     told: &ErrorReport,
     runner: &ScriptRunner,
-    udp: &mut Udp<'_, R>,
+    udp: &mut RankTransport<UdpWire<'_, R>>,
     ended: Result<Ended, TransportFault>,
 ) -> ExitStatus {
     let last = udp.finish();
     tell_end(rt, told, runner, udp, ended);
-    match (ended, last) {
-        (Ok(ended), Ok(_)) => ExitStatus::Ended(ended.status()),
-        (Ok(_), Err(_)) => {
-            tell_of(rt, told.settings.rank, "its socket failed");
-            ExitStatus::TransportFailed
-        }
-        (Err(_), _) => ExitStatus::TransportFailed,
+    if ended.is_ok() && last.is_err() {
+        tell_of(rt, told.settings.rank, "its socket failed");
     }
+    ExitStatus::of_ending(ended, last, udp.wire().is_stopped())
 }
 
 /// Drives the rank over its socket until it ends, and answers its status.
 fn meet<R: Wait + Print + Eprint + AllocGlobal + Clock>(
     rt: &R,
     told: &ErrorReport,
-    runner: &mut ScriptRunner,
+    runner: &mut ToldRunner<'_, R>,
     engine: &mut Engine,
-    udp: &mut Udp<'_, R>,
+    udp: &mut RankTransport<UdpWire<'_, R>>,
 ) -> ExitStatus
     requires { udp.old.failures ≡ 0 }
 {
@@ -129,18 +124,25 @@ fn meet<R: Wait + Print + Eprint + AllocGlobal + Clock>(
         Err(error) => return status_of(&error),
     };
     let ended = drive(rt, engine, runner, told.settings.patience, udp, &mut clock);
-    end(rt, told, runner, udp, ended)
+    if let Ok(Ended::Runner(0, _)) = ended {
+        take_leave(rt, engine, udp, told.settings.size);
+    }
+    end(rt, told, runner.runner(), udp, ended)
 }
 
 /// Opens the rank's socket, and meets the others over it.
-fn open<R: Net + Wait + Print + Eprint + AllocGlobal + Clock>(
+fn open<R: Net + Env + Wait + Print + Eprint + AllocGlobal + Clock>(
     rt: &R,
     told: &ErrorReport,
-    runner: &mut ScriptRunner,
+    runner: &mut ToldRunner<'_, R>,
     engine: &mut Engine,
 ) -> ExitStatus {
-    match Udp::new(rt, rt.alloc(), told.settings.rank, told.settings.port) {
-        Ok(mut udp) => meet(rt, told, runner, engine, &mut udp),
+    match UdpWire::new(rt, rt.alloc(), told.settings.port) {
+        Ok(wire) => {
+            let first = first_port(told.settings);
+            let mut udp = RankTransport::new(rt.alloc(), wire, first);
+            meet(rt, told, runner, engine, &mut udp)
+        }
         Err(error) => {
             let status = status_of(&error);
             if let ExitStatus::TransportFailed = status {
@@ -152,19 +154,19 @@ fn open<R: Net + Wait + Print + Eprint + AllocGlobal + Clock>(
 }
 
 /// Makes the rank's engine, and opens its socket.
-fn start<R: Net + Wait + Print + Eprint + AllocGlobal + Clock>(
+fn start<R: Net + Env + Wait + Print + Eprint + AllocGlobal + Clock>(
     rt: &R,
     told: &ErrorReport,
-    runner: &mut ScriptRunner,
+    runner: &mut ToldRunner<'_, R>,
 ) -> ExitStatus {
-    match new_engine(rt, told.settings) {
+    match new_engine(rt.alloc(), told.settings) {
         Ok(mut engine) => open(rt, told, runner, &mut engine),
         Err(status) => status,
     }
 }
 
 /// Runs the rank of these settings, and answers its status.
-fn run_rank<R: Net + Wait + Files + Print + Eprint + AllocGlobal + Clock>(
+fn run_rank<R: Net + Env + Wait + Files + Print + Eprint + AllocGlobal + Clock>(
     rt: &R,
     settings: &Settings,
 ) -> ExitStatus {
@@ -180,20 +182,42 @@ fn run_rank<R: Net + Wait + Files + Print + Eprint + AllocGlobal + Clock>(
         Ok(script) => script,
         Err(status) => return status,
     };
-    match ScriptRunner::new(rt.alloc(), script, settings.rank, settings.incarnation) {
+    if settings.incarnation == 0 {
+        forewarn(rt, &text, &script, settings.rank, settings.size);
+    }
+    match ToldRunner::new(rt, &text, script, settings) {
         Ok(mut runner) => start(rt, &told, &mut runner),
         Err(_) => ExitStatus::OutOfMemory,
     }
 }
 
-/// Runs the rank that these words ask for, the first of which is the program's name, and answers its status: 0 where
-/// the script ended, 1 where it is faulty or can't be read, 2 where the words are wrong, 3 where the socket or the
-/// output failed, 4 where its patience was over, 5 where the script says so, and 6 where memory was wanting.
-pub fn run_words<R: Net + Wait + Files + Print + Eprint + AllocGlobal + Clock>(
+/// The status where the words ask for help, for the version, or for the judging of a script; none where they ask for
+/// something else.
+fn asked_aside<R: Files + Print + Eprint + AllocGlobal>(rt: &R, words: &[String]) -> Option<u8> {
+    let printed = match words {
+        [_, word] if is_help(word.as_str()) => print_help(rt),
+        [_, word] if is_version(word.as_str()) => print_version(rt),
+        _ => return judged(rt, words).map(ExitStatus::number),
+    };
+    if printed {
+        return Some(0);
+    }
+    let _ = eprintln!(rt; "rank_main: the output can't be written");
+    Some(ExitStatus::TransportFailed.number())
+}
+
+/// Runs the rank that these words ask for, the first of which is the program's name, at the place that they tell, or,
+/// where a script stands in them alone, that the environment tells. Answers its status: 0 where the script ended, 1
+/// where it is faulty or can't be read, 2 where the words are wrong, 3 where the socket or the output failed, 4 where
+/// its patience was over, 5 where the script says so, and 6 where memory was wanting.
+pub fn run_words<R: Net + Env + Wait + Files + Print + Eprint + AllocGlobal + Clock>(
     rt: &R,
     words: &[String],
 ) -> u8 {
-    match settings_of(rt.alloc(), words) {
+    if let Some(status) = asked_aside(rt, words) {
+        return status;
+    }
+    match settings_in(rt.alloc(), words, found_place(rt)) {
         Ok(settings) => {
             let status = run_rank(rt, &settings).number();
             if status == ExitStatus::OutOfMemory.number() {

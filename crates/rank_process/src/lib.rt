@@ -4,8 +4,16 @@
 
 mod clock;
 mod command;
-mod error_lines;
+mod environment;
+mod error_kinds;
 mod exit_status;
-mod udp;
+mod farewell;
+mod judging;
+mod places;
+mod rank_transport;
+mod stop;
+mod telling;
+mod told_runner;
+mod udp_wire;
 
 pub use crate::command::{run, run_words};

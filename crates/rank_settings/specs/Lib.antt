@@ -1,3 +1,4 @@
 pub mod Program
 pub mod Settings
 pub mod Faults
+pub mod Places

@@ -1,6 +1,6 @@
 //! Reading the words.
 
-ghost use Rattle.std.specs.Prelude.{◌≡◌, ◌≤◌, ◌↔◌, IfOk, IsTrue, codes, map};
+ghost use Rattle.std.specs.Prelude.{◌≡◌, ◌≤◌, ◌↔◌, Err, IfOk, IsTrue, codes, map};
 ghost use Rattle.clap.specs.Words.{first_of, found_of, kind_of, rows_of};
 ghost use Rattle.rank_settings.specs.Settings.{Answers, ArePorts, Finds, RowsAnswer, number_in, patience_of};
 ghost use Rattle.rank_settings.specs.Settings.{refusal_of};
@@ -15,7 +15,7 @@ use std::alloc::Global;
 use std::convert::AsStr;
 
 /// For how many milliseconds nothing may move until a rank gives up, where the words give no patience.
-const USUAL_PATIENCE: u64 = 10_000;
+pub(crate) const USUAL_PATIENCE: u64 = 10_000;
 
 /// The value of an option that has to be there.
 fn value_of<'a>(matches: &ArgMatches<'a>, name: &str) -> Result<&'a str, SettingsRefusal>
@@ -97,6 +97,13 @@ fn refusal_of(error: &Error) -> SettingsRefusal
     }
 }
 
+/// What words answer that were refused with this error.
+fn refused_with<'a>(error: &Error) -> Result<Settings<'a>, SettingsRefusal>
+    ensures { result ≡ Err (refusal_of (kind_of error.now)) }
+{
+    Err(refusal_of(error))
+}
+
 /// The settings that the words give; the first word is the program's own name.
 ///
 /// `--rank r --size n --inc i --job j --port p [--patience ms] FILE`, the options in any order, each at most once; a
@@ -113,6 +120,6 @@ pub fn settings_of<'a, S: AsStr>(
     let program = rank_program(alloc)?;
     match program.try_get_matches_from(words) {
         Ok(matches) => found_settings(&matches),
-        Err(error) => Err(refusal_of(&error)),
+        Err(error) => refused_with(&error),
     }
 }

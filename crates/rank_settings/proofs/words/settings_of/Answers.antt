@@ -1,4 +1,5 @@
-use Rattle.std.proofs.Common.{◌≡◌, ◌∙◌, ap, sym, map, subst}
+use Rattle.std.proofs.Common.{◌≡◌, ◌∙◌, ap, refl, sym, map, subst}
+use Rattle.rank_settings.specs.Settings.{AnswersBy, refusal_of}
 use Rattle.clap.specs.Words.{App, HasKind, fault_of, found_of, is_simple, is_simple_and_free, kind_of, matches_of}
 use Rattle.clap.specs.Words.{rows_of}
 use Rattle.rank_settings.specs.Program.{rank_program}
@@ -21,6 +22,7 @@ returns-in-Err g c =
     let words = map g.S.AsStr.text c.args.words.now in
     let is_rank = c.in_ok-program.ensures in
     let has = c.in-Err.ensures.kinds (ap is_simple_and_free is_rank ∙ is_free_program) in
-    refused (fault_of rank_program words) (matches_of rank_program words) (kind_of c.in-Err.error) c.refusal_of.result
-    c.refusal_of.ensures
-    (subst (λ (a : App). HasKind (fault_of a words) c.in-Err.error) is_rank has)
+    subst (AnswersBy (fault_of rank_program words) (matches_of rank_program words)) (sym c.refused_with.ensures)
+    (refused (fault_of rank_program words) (matches_of rank_program words) (kind_of c.in-Err.error)
+    (refusal_of (kind_of c.in-Err.error)) refl
+    (subst (λ (a : App). HasKind (fault_of a words) c.in-Err.error) is_rank has))

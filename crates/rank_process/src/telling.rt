@@ -3,13 +3,21 @@
 use line_diagnostics::{explanation, gave_up_at, gave_up_behind, line_at, script_fault};
 use rank_settings::{Settings, asks_for_help, fault_in};
 use script_files::{RankLines, parse};
+use script_judgement::hint_of;
 use script_runner::{ScriptRunner, line_of_number, line_taken_last};
+use shown_words::Shown;
 use std::alloc::Global;
 use std::str;
 
 /// How the program is called.
 const USAGE: &str =
     "usage: rank_main --rank R --size N --inc I --job J --port P [--patience MS] FILE";
+
+/// How the program is called that judges a script and runs nothing.
+const JUDGE_USAGE: &str = "       rank_main --judge N FILE";
+
+/// Which program it is.
+const VERSION: &str = "rank_main (Kombazily) in work";
 
 /// What the words of the program mean.
 const MEANINGS: &str = "  --rank R       the rank, from 0 to N - 1
@@ -18,7 +26,10 @@ const MEANINGS: &str = "  --rank R       the rank, from 0 to N - 1
   --job J        the number of the job, 0 to 18446744073709551615
   --port P       the rank's own port; rank S has port P - R + S, and each is 1 to 65535
   --patience MS  for how many milliseconds nothing may move until the rank gives up, 1 to 3600000; else 10000
-  FILE           the script";
+  FILE           the script
+  --judge N      judges the script for N ranks, 1 to 1024, tells what is wrong with it, and runs nothing
+  --help         prints this
+  --version      prints which program this is";
 
 /// A rank of a job, and the text of its script.
 #[derive(Clone, Copy)]
@@ -35,6 +46,16 @@ pub(crate) fn tell(rt: &impl Eprint, number: u8, line: Option<usize>) {
         Some(line) => eprintln!(rt; "rank_main: refused {number} line {line}"),
         None => eprintln!(rt; "rank_main: refused {number}"),
     };
+}
+
+/// Prints how the program is called, and answers whether that could be written.
+pub(crate) fn print_help(rt: &impl Print) -> bool {
+    println!(rt; "{USAGE}\n{JUDGE_USAGE}\n{MEANINGS}").is_ok()
+}
+
+/// Prints which program it is, and answers whether that could be written.
+pub(crate) fn print_version(rt: &impl Print) -> bool {
+    println!(rt; "{VERSION}").is_ok()
 }
 
 /// Tells that the words are wrong: which one, and how the program is called.
@@ -84,6 +105,38 @@ fn tell_line(rt: &impl Eprint, line: Option<Vec<u8>>) {
     }
 }
 
+/// Why the line of this number is no line of a script.
+fn faulty_line(alloc: Global, speaker: &str, line: &[u8]) -> Option<Vec<u8>> {
+    let fault = script_fault(alloc, line).ok()?;
+    explanation(alloc, speaker.as_bytes(), &fault, line).ok()
+}
+
+/// Which word of the line is wrong, and which form its statement has.
+fn hint_line(alloc: Global, line: &[u8]) -> Option<String> {
+    let fault = script_fault(alloc, line).ok()?;
+    hint_of(alloc, &fault, line).ok()?
+}
+
+/// Tells why the line of this number of a text is no line of a script, and where it `has_hint`, which word is wrong and
+/// which form the statement has.
+pub(crate) fn explained<R: Eprint + AllocGlobal>(
+    rt: &R,
+    speaker: &str,
+    text: &[u8],
+    number: usize,
+    has_hint: bool,
+) {
+    let Ok(Some(line)) = line_at(rt.alloc(), text, number) else {
+        return;
+    };
+    tell_line(rt, faulty_line(rt.alloc(), speaker, line));
+    if has_hint {
+        if let Some(hint) = hint_line(rt.alloc(), line) {
+            let _ = eprintln!(rt; "rank_main: {hint}");
+        }
+    }
+}
+
 impl<'a> ErrorReport<'a> {
     /// Who speaks: the program and the rank.
     fn speaker(&self, alloc: Global) -> Option<String> {
@@ -102,13 +155,6 @@ impl<'a> ErrorReport<'a> {
         script
             .into_lines_for(alloc, self.settings.rank, self.settings.incarnation)
             .ok()
-    }
-
-    /// Why the line of this number is no line of a script.
-    fn faulty_line(&self, alloc: Global, number: usize) -> Option<Vec<u8>> {
-        let line = self.line(alloc, number)?;
-        let fault = script_fault(alloc, line).ok()?;
-        explanation(alloc, self.speaker(alloc)?.as_bytes(), &fault, line).ok()
     }
 
     /// Why the runner of the script can't follow its line of this number.
@@ -130,10 +176,40 @@ impl<'a> ErrorReport<'a> {
         gave_up_at(alloc, speaker.as_bytes(), patience, number, line).ok()
     }
 
+    /// Where the rank stood when it was told to stop.
+    fn stop_line(&self, alloc: Global, runner: &ScriptRunner) -> Option<String> {
+        let rank = self.settings.rank;
+        if !runner.awaits_answer() {
+            return format!(in alloc;
+                "rank_main: rank {rank} was stopped behind the end of its script"
+            ).ok();
+        }
+        let number = line_taken_last(self.rank_lines(alloc)?, runner.lines_left())?.number;
+        let line = Shown {
+            word: self.line(alloc, number)?,
+        };
+        format!(in alloc; "rank_main: rank {rank} was stopped at line {number}: {line}").ok()
+    }
+
+    /// Tells where the rank stood when it was told to stop.
+    pub(crate) fn tell_stop<R: Eprint + AllocGlobal>(&self, rt: &R, runner: &ScriptRunner) {
+        if let Some(line) = self.stop_line(rt.alloc(), runner) {
+            let _ = eprintln!(rt; "{line}");
+        }
+    }
+
     /// Tells that the line of this number is no line of a script, and why.
     pub(crate) fn tell_faulty<R: Eprint + AllocGlobal>(&self, rt: &R, number: usize) {
         tell(rt, 51, Some(number));
-        tell_line(rt, self.faulty_line(rt.alloc(), number));
+        if let Some(speaker) = self.speaker(rt.alloc()) {
+            explained(
+                rt,
+                speaker.as_str(),
+                self.text,
+                number,
+                self.settings.rank == 0,
+            );
+        }
     }
 
     /// Tells that the script ended at its line of this number, and why.
