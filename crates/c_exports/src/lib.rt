@@ -1,0 +1,10 @@
+//! What C calls: one rank of a job, as functions of C.
+//!
+//! C holds a rank by a handle, which is a pointer and whether it holds one. Each export takes the rank out of the handle,
+//! calls it, and puts it back. What is asked and answered is in records of numbers and slices of bytes
+//! (`bindings/c/src/engine.h`).
+#![tactic(auto)]
+
+mod exports;
+mod handle;
+mod held;
