@@ -1,22 +1,23 @@
 //! Draws what a file of events or a script does, as a sequence diagram.
 //!
-//! `mpidraw [--svg | --text] [--width W] [--ranks N] FILE`. Status 0 where the file ran to its end; 1 with `mpidraw:
-//! refused N line L` on standard error where a line is faulty (51), and with `mpidraw: refused N` where the file can't
-//! be read (59) or for want of memory (14); 2 where the words are wrong; 3 where the output fails. What ran before a
-//! line that can't be followed is drawn. With `--ranks N` the file is a script, of which one play is drawn.
+//! `mpidraw [--svg | --text] [--width W] [--ranks N [--datagrams]] FILE`. Status 0 where the file ran to its end; 1 with
+//! `mpidraw: refused N line L` on standard error where a line is faulty (51), and with `mpidraw: refused N` where the
+//! file can't be read (59) or for want of memory (14); 2 where the words are wrong, or an SVG would go to a terminal; 3
+//! where the output fails. What ran before a line that can't be followed is drawn. With `--ranks N` the file is a
+//! script, of which one play is drawn.
 #![tactic(auto)]
 
 mod telling;
 mod words;
 
-use crate::telling::{faulty_events, faulty_script, refused, unread};
+use crate::telling::{faulty_events, faulty_script, is_no_terminals, refused, unread, unwritten};
 use crate::words::{Form, Settings, Source, Words, words_of};
 use run_drawings::{Picture, svg_of, text_of};
 use run_recording::{Recording, record};
-use script_events::{ScriptPlay, Unfollowed, play_of};
+use script_pictures::{ScriptPicture, Shown, Unfollowed, round_picture_of};
 use simulation::{SimulateError, Stopped};
 use std::alloc::{AllocError, Global};
-use std::io::{ErrorKind, Write};
+use std::io::{ErrorKind, IsTerminal, Write};
 use std::process::ExitCode;
 use std::rt::{Env, Files};
 use std::{env, fs, io};
@@ -46,7 +47,7 @@ fn write_drawing(rt: &(impl Print + Eprint), drawing: Result<String, AllocError>
     };
     match io::writer(rt).write_all(drawing.as_bytes()) {
         Ok(()) => 0,
-        Err(_) => 3,
+        Err(error) => unwritten(rt, &error),
     }
 }
 
@@ -80,11 +81,14 @@ fn draw_events(rt: &(impl Print + Eprint + AllocGlobal), text: &[u8], form: Form
 fn draw_play(
     rt: &(impl Print + Eprint + AllocGlobal),
     text: &[u8],
-    play: ScriptPlay,
+    play: ScriptPicture,
     form: Form,
 ) -> u8 {
-    let ScriptPlay { events, unfollowed } = play;
-    let status = draw_events(rt, &events, form);
+    let ScriptPicture {
+        picture,
+        unfollowed,
+    } = play;
+    let status = write_drawing(rt, drawing_of(rt.alloc(), &picture, form));
     match unfollowed {
         Some(Unfollowed { line, fault }) if status == 0 => {
             faulty_script(rt, text, line, Some(fault))
@@ -97,8 +101,14 @@ fn draw_play(
 }
 
 /// Draws one play of a script at so many ranks, and answers the status.
-fn draw_script(rt: &(impl Print + Eprint + AllocGlobal), text: &[u8], size: u16, form: Form) -> u8 {
-    match play_of(rt.alloc(), text, size) {
+fn draw_script(
+    rt: &(impl Print + Eprint + AllocGlobal),
+    text: &[u8],
+    size: u16,
+    shown: Shown,
+    form: Form,
+) -> u8 {
+    match round_picture_of(rt.alloc(), text, size, shown) {
         Ok(play) => draw_play(rt, text, play, form),
         Err(PlayError::Line(line)) => faulty_script(rt, text, line, None),
         Err(PlayError::Size) => refused(rt, 13, None),
@@ -115,12 +125,12 @@ fn run(rt: &(impl Files + Print + Eprint + AllocGlobal), settings: &Settings<'_>
     };
     match settings.source {
         Source::Events => draw_events(rt, &text, settings.form),
-        Source::Script(size) => draw_script(rt, &text, size, settings.form),
+        Source::Script(size, shown) => draw_script(rt, &text, size, shown, settings.form),
     }
 }
 
-/// Follows the words of the program, and answers the status.
-fn run_words(rt: &(impl Env + Files + Print + Eprint + AllocGlobal)) -> u8 {
+/// Follows the words of the program, whose output goes to a terminal or not, and answers the status.
+fn run_words(rt: &(impl Env + Files + Print + Eprint + AllocGlobal), to_terminal: bool) -> u8 {
     let words = match env::args(rt) {
         Ok(words) => words,
         Err(e) if e.kind() == ErrorKind::OutOfMemory => return refused(rt, 14, None),
@@ -130,11 +140,13 @@ fn run_words(rt: &(impl Env + Files + Print + Eprint + AllocGlobal)) -> u8 {
         return refused(rt, 14, None);
     };
     match words_of(rt, &words) {
+        Words::Draw(settings) if to_terminal && settings.form == Form::Svg => is_no_terminals(rt),
         Words::Draw(settings) => run(rt, &settings),
         Words::Over(status) => status,
     }
 }
 
 fn main(rt: HostRuntime) -> ExitCode {
-    ExitCode::from(run_words(&rt))
+    let to_terminal = rt.stdout().is_terminal();
+    ExitCode::from(run_words(&rt, to_terminal))
 }

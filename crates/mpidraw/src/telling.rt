@@ -2,7 +2,7 @@
 
 use line_diagnostics::{LineFault, event_fault, explanation, line_at, script_fault};
 use std::alloc::Global;
-use std::str;
+use std::{io, str};
 
 /// Says why nothing more runs, and answers the status.
 pub fn refused(rt: &impl Eprint, number: u8, line: Option<usize>) -> u8 {
@@ -21,6 +21,20 @@ pub fn unread(rt: &impl Eprint, name: &str) -> u8 {
     let status = refused(rt, 59, None);
     let _told = eprintln!(rt; "mpidraw: {name} can't be read");
     status
+}
+
+/// Says that an SVG isn't written to a terminal, and answers the status.
+pub fn is_no_terminals(rt: &impl Eprint) -> u8 {
+    let _told = eprintln!(rt;
+        "mpidraw: an SVG isn't written to a terminal: name a file behind '>', or take --text"
+    );
+    2
+}
+
+/// Says why the output failed, and answers the status.
+pub fn unwritten(rt: &impl Eprint, error: &io::Error) -> u8 {
+    let _told = eprintln!(rt; "mpidraw: the picture can't be written: {error}");
+    3
 }
 
 /// Why the line of this number is faulty: as it was found when it was reached, or else since it is no line of a file of

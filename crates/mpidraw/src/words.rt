@@ -1,6 +1,7 @@
 //! The words of the program.
 
 use clap::{Arg, ArgAction, ArgMatches, Command, value_parser};
+use script_pictures::Shown;
 use std::alloc::{AllocError, Global};
 
 /// How many characters a row has where the words don't say it.
@@ -20,8 +21,8 @@ pub enum Form {
 pub enum Source {
     /// A file of events.
     Events,
-    /// A script that so many ranks run.
-    Script(u16),
+    /// A script that so many ranks run, and what is drawn of its datagrams.
+    Script(u16, Shown),
 }
 
 /// What the words ask for.
@@ -75,10 +76,14 @@ fn program<'a>(alloc: Global) -> Result<Command<'a>, AllocError> {
         .value_name("N")
         .value_parser(value_parser!(u16).range(1..=1_024))
         .help("FILE is a script: draw one play of it at so many ranks, 1 to 1024");
+    let datagrams = Arg::new(alloc, "datagrams")
+        .long("datagrams")
+        .action(ArgAction::SetTrue)
+        .help("Draw each datagram of a script with its number, acknowledgements too, in place of the messages");
     let file = Arg::new(alloc, "FILE")
         .required(true)
         .help("A file of events, or a script with --ranks");
-    with_forms(alloc)?.arg(ranks)?.arg(file)
+    with_forms(alloc)?.arg(ranks)?.arg(datagrams)?.arg(file)
 }
 
 /// What the matches ask for.
@@ -93,8 +98,13 @@ fn settings_in<'a>(matches: &ArgMatches<'a>) -> Option<Settings<'a>> {
     } else {
         Form::Svg
     };
+    let shown = if matches.get_flag("datagrams") {
+        Shown::Datagrams
+    } else {
+        Shown::Messages
+    };
     let source = match matches.get_one::<u16>("ranks") {
-        Some(size) => Source::Script(size),
+        Some(size) => Source::Script(size, shown),
         None => Source::Events,
     };
     Some(Settings { form, source, file })

@@ -4,19 +4,19 @@
 //! Status 0 where each file could be read, drawn and printed, else 1.
 #![tactic(auto)]
 
-use run_drawings::{svg_of, text_of};
-use run_recording::{Recording, record};
-use script_events::{ScriptPlay, play_of};
+use run_drawings::{Picture, svg_of, text_of};
+use run_recording::record;
+use script_pictures::{Shown, round_picture_of};
 use std::alloc::Global;
 use std::io::{BufWriter, Write};
 use std::process::ExitCode;
 use std::rt::{Env, Files};
 use std::{env, fs, io};
 
-/// Draws what a file did, in both forms.
-fn draw<W: Write>(alloc: Global, recording: &Recording, out: &mut W) -> io::Result<()> {
-    let rows = text_of(alloc, &recording.picture, 80)?;
-    let svg = svg_of(alloc, &recording.picture)?;
+/// Draws a picture, in both forms.
+fn draw<W: Write>(alloc: Global, picture: &Picture, out: &mut W) -> io::Result<()> {
+    let rows = text_of(alloc, picture, 80)?;
+    let svg = svg_of(alloc, picture)?;
     out.write_all(rows.as_bytes())?;
     out.write_all(svg.as_bytes())
 }
@@ -25,7 +25,7 @@ fn draw<W: Write>(alloc: Global, recording: &Recording, out: &mut W) -> io::Resu
 fn draw_events<W: Write>(alloc: Global, text: &[u8], out: &mut W) -> io::Result<()> {
     match record(alloc, text) {
         Ok(recording) => {
-            draw(alloc, &recording, out)?;
+            draw(alloc, &recording.picture, out)?;
             match recording.stopped {
                 Some(_) => writeln!(out, "stopped"),
                 None => writeln!(out, "ended"),
@@ -37,12 +37,11 @@ fn draw_events<W: Write>(alloc: Global, text: &[u8], out: &mut W) -> io::Result<
 
 /// Draws one play of a script at so many ranks.
 fn draw_script<W: Write>(alloc: Global, text: &[u8], size: u16, out: &mut W) -> io::Result<()> {
-    let Ok(play) = play_of(alloc, text, size) else {
+    let Ok(play) = round_picture_of(alloc, text, size, Shown::Messages) else {
         return writeln!(out, "not played");
     };
-    let ScriptPlay { events, unfollowed } = play;
-    draw_events(alloc, &events, out)?;
-    match unfollowed {
+    draw(alloc, &play.picture, out)?;
+    match play.unfollowed {
         Some(at) => {
             let line = at.line;
             writeln!(out, "line {line} wasn't followed")

@@ -14,6 +14,8 @@ use Rattle.run_drawings.specs.declared.elements.Side.TheVariants as sides
 use Rattle.run_drawings.specs.declared.elements.Stroke.{Stroke}
 use Rattle.run_drawings.specs.declared.elements.Text.{Text}
 use Rattle.run_drawings.specs.declared.layout.Point.{Point}
+use Rattle.run_drawings.specs.declared.picture.Tone.{Tone}
+use Rattle.run_drawings.specs.declared.picture.Tone.TheVariants as tones
 
 -- `X,Y`
 abbrev pub point_text : Point → List ℕ
@@ -21,9 +23,13 @@ point_text p = decimal p.x ++ codes "," ++ decimal p.y
 
 abbrev pub ink_class : Ink → List ℕ
 ink_class inks.Life = codes "life"
+ink_class inks.Over = codes "over"
 ink_class inks.Blocked = codes "blocked"
+ink_class inks.Stuck = codes "stuck"
 ink_class inks.Break = codes "break"
 ink_class inks.Event = codes "event"
+ink_class inks.Failure = codes "fault"
+ink_class inks.End = codes "end"
 ink_class inks.Taken = codes "taken"
 ink_class inks.Refused = codes "refused"
 ink_class inks.Lost = codes "lost"
@@ -38,23 +44,38 @@ stroke_text s =
 abbrev pub most_shown : ℕ
 most_shown = 64
 
+-- the class of a call that stands alone
+abbrev pub call_class : Tone → List ℕ
+call_class tones.Plain = codes "call"
+call_class tones.Prints = codes "printed"
+call_class tones.Fails = codes "failure"
+
+-- the class of an answer
+abbrev pub answer_class : Tone → List ℕ
+answer_class tones.Plain = codes "answer"
+answer_class tones.Prints = codes "printed"
+answer_class tones.Fails = codes "failure"
+
 -- what stands behind an arrow
-abbrev pub answer_span : List ℕ → List ℕ
-answer_span answer = codes "<tspan class=\"answer\">&#8594; " ++ shortened answer most_shown ++ codes "</tspan>"
+abbrev pub answer_span : (answer : List ℕ) (tone : Tone) → List ℕ
+answer_span answer tone =
+    codes "<tspan class=\"" ++ answer_class tone ++ codes "\">&#8594; " ++ shortened answer most_shown ++
+    codes "</tspan>"
 
 abbrev pub label_text : Label → List ℕ
 label_text (labels.Rank rank) = codes "rank " ++ decimal rank
-label_text (labels.Call bytes) = shortened bytes.now most_shown
-label_text (labels.Answered call answer) = shortened call.now most_shown ++ codes " " ++ answer_span answer.now
-label_text (labels.Answer bytes) = answer_span bytes.now
-label_text (labels.Arrow arrow) = arrow_label_text arrow.number arrow.load arrow.is_resent
+label_text (labels.Call bytes tone) = shortened bytes.now most_shown
+label_text (labels.Answered call answer tone) =
+    shortened call.now most_shown ++ codes " " ++ answer_span answer.now tone
+label_text (labels.Answer bytes tone) = answer_span bytes.now tone
+label_text (labels.Arrow arrow) = arrow_label_text arrow.number arrow.load arrow.words.now arrow.is_resent
 label_text (labels.Refusal bytes) = shortened bytes.now most_shown
 
 abbrev pub label_class : Label → List ℕ
 label_class (labels.Rank rank) = codes "rank"
-label_class (labels.Call bytes) = codes "call"
-label_class (labels.Answered call answer) = codes "call"
-label_class (labels.Answer bytes) = codes "call"
+label_class (labels.Call bytes tone) = call_class tone
+label_class (labels.Answered call answer tone) = codes "call"
+label_class (labels.Answer bytes tone) = codes "call"
 label_class (labels.Arrow arrow) = codes "datagram"
 label_class (labels.Refusal bytes) = codes "refusal"
 

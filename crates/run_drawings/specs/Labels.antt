@@ -26,11 +26,20 @@ abbrev pub again_text : Bool → List ℕ
 again_text true = codes " again"
 again_text false = []
 
--- `D: KIND SEQ`
-abbrev pub arrow_label_text : (number : ℕ) (load : LoadText) (is_resent : Bool) → List ℕ
-arrow_label_text number load is_resent = decimal number ++ codes ": " ++ load_text load ++ again_text is_resent
+-- the words of an arrow, or where there are none `D: KIND SEQ`
+abbrev pub arrow_front : (number : ℕ) (load : LoadText) (words : List ℕ) → List ℕ
+arrow_front number load [] = decimal number ++ codes ": " ++ load_text load
+arrow_front number load (byte ∷ bytes) = escaped (byte ∷ bytes)
 
--- `D`, and with what it was refused
-abbrev pub refusal_label_text : (number : ℕ) (answer : List ℕ) → List ℕ
-refusal_label_text number [] = decimal number
-refusal_label_text number (byte ∷ bytes) = decimal number ++ codes ": " ++ escaped (byte ∷ bytes)
+abbrev pub arrow_label_text : (number : ℕ) (load : LoadText) (words : List ℕ) (is_resent : Bool) → List ℕ
+arrow_label_text number load words is_resent = arrow_front number load words ++ again_text is_resent
+
+-- the words of an arrow, or where there are none `D`
+abbrev pub arrival_front : (number : ℕ) (words : List ℕ) → List ℕ
+arrival_front number [] = decimal number
+arrival_front number (byte ∷ bytes) = escaped (byte ∷ bytes)
+
+-- with what it was refused stands behind that
+abbrev pub refusal_label_text : (number : ℕ) (words answer : List ℕ) → List ℕ
+refusal_label_text number words [] = arrival_front number words
+refusal_label_text number words (byte ∷ bytes) = arrival_front number words ++ codes ": " ++ escaped (byte ∷ bytes)

@@ -1,17 +1,17 @@
 -- What happens to the arrows of a picture.
 use Rattle.std.specs.Prelude.{◌≡◌, ◌≤◌, ℕ, List, [], ◌∷◌, ◌++◌, length, Some, slice_get, slice_set}
-use Rattle.printed_lines.specs.declared.emissions.LoadText.{LoadText}
-use Rattle.vocabulary.specs.declared.endpoint.Endpoint.{Endpoint}
 use Rattle.run_drawings.specs.declared.picture.Arrival.{Arrival}
 use Rattle.run_drawings.specs.declared.picture.Arrow.{Arrow}
+use Rattle.run_drawings.specs.declared.picture.Emission.{Emission}
 
 -- a datagram goes out in this row: its arrow is the next one, and it came nowhere yet
-pub record IsEmitted (source target : Endpoint) (load : LoadText) (row : ℕ) (old new : List Arrow) : Type 0 where
+pub record IsEmitted (emission : Emission) (row : ℕ) (old new : List Arrow) : Type 0 where
   pub arrow : Arrow
   pub added : new ≡ old ++ arrow ∷ []
-  pub from : arrow.source ≡ source
-  pub to : arrow.target ≡ target
-  pub carries : arrow.load ≡ load
+  pub from : arrow.source ≡ emission.source
+  pub to : arrow.target ≡ emission.target
+  pub carries : arrow.load ≡ emission.load
+  pub says : arrow.words ≡ emission.words
   pub begins : arrow.row ≡ row
   pub comes : arrow.arrivals.items ≡ []
 
@@ -20,6 +20,7 @@ pub record HasComeAgain (arrival : Arrival) (old new : Arrow) : Type 0 where
   pub from : new.source ≡ old.source
   pub to : new.target ≡ old.target
   pub carries : new.load ≡ old.load
+  pub says : new.words ≡ old.words
   pub resent : new.is_resent ≡ old.is_resent
   pub begins : new.row ≡ old.row
   pub comes : new.arrivals.items ≡ old.arrivals.items ++ arrival ∷ []

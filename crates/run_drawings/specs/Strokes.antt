@@ -5,11 +5,11 @@ use Rattle.run_drawings.specs.declared.elements.Element.{Element}
 use Rattle.run_drawings.specs.declared.elements.Element.TheVariants as elements
 use Rattle.run_drawings.specs.declared.elements.Ink.{Ink}
 use Rattle.run_drawings.specs.declared.elements.Ink.TheVariants as inks
-use Rattle.run_drawings.specs.declared.elements.Label.TheVariants as labels
+use Rattle.run_drawings.specs.declared.elements.Side.{Side}
 use Rattle.run_drawings.specs.declared.elements.Side.TheVariants as sides
 use Rattle.run_drawings.specs.declared.elements.Stroke.{Stroke}
-use Rattle.run_drawings.specs.declared.elements.Text.{Text}
 use Rattle.run_drawings.specs.declared.layout.Layout.{Layout}
+use Rattle.run_drawings.specs.declared.layout.Point.{Point}
 use Rattle.run_drawings.specs.declared.picture.Arrival.{Arrival}
 use Rattle.run_drawings.specs.declared.picture.Arrow.{Arrow}
 
@@ -41,11 +41,11 @@ strokes_of l arrow =
     if length arrow.arrivals.items == 0 then elements.Stroke (lost_stroke l arrow) ∷ []
     else map (λ arrival. elements.Stroke (stroke_to l arrow arrival)) arrow.arrivals.items
 
--- what an arrow carries stands where it was emitted, on the side to which it goes
-abbrev pub datagram_text : Layout → (number : ℕ) → Arrow → Text
-datagram_text l number arrow =
+-- what stands on an arrow begins where it was emitted, on the side to which it goes
+abbrev pub datagram_side : Arrow → Side
+datagram_side arrow = if nat_lt arrow.source.rank arrow.target.rank then sides.Right else sides.Left
+
+abbrev pub datagram_place : Layout → Arrow → Point
+datagram_place l arrow =
     let here = above (at l arrow.source.rank arrow.row) 4 in
-    let label = labels.Arrow (record { number = number; load = arrow.load; is_resent = arrow.is_resent }) in
-    if nat_lt arrow.source.rank arrow.target.rank
-    then record { side = sides.Right; at = right_of here 8; label = label }
-    else record { side = sides.Left; at = left_of here 8; label = label }
+    if nat_lt arrow.source.rank arrow.target.rank then right_of here 8 else left_of here 8

@@ -1,7 +1,9 @@
 //! The arrows of an SVG.
 
-ghost use Rattle.std.specs.Prelude.{◌≡◌, ◌++◌, OnOk};
-ghost use Rattle.run_drawings.specs.Strokes.{datagram_text, lost_stroke, stroke_to, strokes_of};
+ghost use Rattle.std.specs.Prelude.{◌≡◌, ◌++◌, OnOk, codes};
+ghost use Rattle.run_drawings.specs.Elements.{label_class, label_text};
+ghost use Rattle.run_drawings.specs.Labels.{arrow_label_text};
+ghost use Rattle.run_drawings.specs.Strokes.{datagram_place, datagram_side, lost_stroke, stroke_to, strokes_of};
 
 use crate::elements::{Element, Ink, Label, Side, Stroke, Text};
 use crate::labels::ArrowLabel;
@@ -55,13 +57,18 @@ fn add_strokes<'a>(
 }
 
 /// What stands where a datagram was emitted, on the side to which it goes.
-fn label_of<'a>(layout: &Layout, number: usize, arrow: &Arrow) -> Text<'a>
-    ensures { result ≡ datagram_text layout.now number arrow.now }
+fn label_of<'a>(layout: &Layout, number: usize, arrow: &'a Arrow) -> Text<'a>
+    ensures side { result.side ≡ datagram_side arrow.now }
+    ensures place { result.at ≡ datagram_place layout.now arrow.now }
+    ensures text { label_text result.label ≡
+        arrow_label_text number arrow.now.load arrow.now.words.items arrow.now.is_resent }
+    ensures class { label_class result.label ≡ codes "datagram" }
 {
     let at = layout.at(arrow.source.rank, arrow.row).above(4);
     let label = Label::Arrow(ArrowLabel {
         number,
         load: arrow.load,
+        words: &arrow.words,
         is_resent: arrow.is_resent,
     });
     if arrow.source.rank < arrow.target.rank {

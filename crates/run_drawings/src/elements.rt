@@ -1,10 +1,11 @@
 //! The elements of an SVG, one a line.
 
 ghost use Rattle.std.specs.Prelude.{◌≡◌};
-ghost use Rattle.run_drawings.specs.Elements.{anchor, ink_class, label_class};
+ghost use Rattle.run_drawings.specs.Elements.{anchor, answer_class, call_class, ink_class, label_class};
 
 use crate::labels::{ArrowLabel, Shortened};
 use crate::layout::{MOST_SHOWN, Point};
+use crate::picture::Tone;
 use std::fmt;
 
 impl fmt::Display for Point {
@@ -25,12 +26,20 @@ impl fmt::Display for Point {
 pub(crate) enum Ink {
     /// A rank that is there.
     Life,
+    /// A rank that has ended.
+    Over,
     /// A rank that is blocked.
     Blocked,
+    /// A rank that waits for ever.
+    Stuck,
     /// The line of life breaks off.
     Break,
     /// Something happens at a rank.
     Event,
+    /// Something fails at a rank.
+    Failure,
+    /// A rank ends.
+    End,
     /// A datagram comes and is taken.
     Taken,
     /// A datagram comes and is refused.
@@ -46,9 +55,13 @@ impl Ink {
     {
         match self {
             Ink::Life => "life",
+            Ink::Over => "over",
             Ink::Blocked => "blocked",
+            Ink::Stuck => "stuck",
             Ink::Break => "break",
             Ink::Event => "event",
+            Ink::Failure => "fault",
+            Ink::End => "end",
             Ink::Taken => "taken",
             Ink::Refused => "refused",
             Ink::Lost => "lost",
@@ -78,24 +91,50 @@ impl fmt::Display for Stroke {
     }
 }
 
+impl Tone {
+    /// The name of the class of a call that stands alone.
+    fn call_class(self) -> &'static str
+        ensures { result.now ≡ call_class self }
+    {
+        match self {
+            Tone::Plain => "call",
+            Tone::Prints => "printed",
+            Tone::Fails => "failure",
+        }
+    }
+
+    /// The name of the class of an answer.
+    fn answer_class(self) -> &'static str
+        ensures { result.now ≡ answer_class self }
+    {
+        match self {
+            Tone::Plain => "answer",
+            Tone::Prints => "printed",
+            Tone::Fails => "failure",
+        }
+    }
+}
+
 /// An answer behind an arrow.
 #[derive(Clone, Copy)]
 struct AnswerSpan<'a> {
     answer: &'a [u8],
+    tone: Tone,
 }
 
 impl<'a> fmt::Display for AnswerSpan<'a> {
     ghost use Rattle.std.specs.Prelude.{Some};
     ghost use Rattle.run_drawings.specs.Elements.{answer_span};
 
-    ghost output = { λ a. Some (answer_span a.answer.now) };
+    ghost output = { λ a. Some (answer_span a.answer.now a.tone) };
 
     fn fmt<W: fmt::Write>(&self, f: &mut fmt::Formatter<W>) -> fmt::Result {
+        let class = self.tone.answer_class();
         let answer = Shortened {
             bytes: self.answer,
             most: MOST_SHOWN,
         };
-        write!(f, "<tspan class=\"answer\">&#8594; {answer}</tspan>")
+        write!(f, "<tspan class=\"{class}\">&#8594; {answer}</tspan>")
     }
 }
 
@@ -104,14 +143,14 @@ impl<'a> fmt::Display for AnswerSpan<'a> {
 pub(crate) enum Label<'a> {
     /// The name of a rank.
     Rank(usize),
-    /// What was called.
-    Call(&'a [u8]),
+    /// What was called or what happened.
+    Call(&'a [u8], Tone),
     /// What was called, and what it answered.
-    Answered(&'a [u8], &'a [u8]),
+    Answered(&'a [u8], &'a [u8], Tone),
     /// What an earlier call answered.
-    Answer(&'a [u8]),
+    Answer(&'a [u8], Tone),
     /// What an arrow stands for.
-    Arrow(ArrowLabel),
+    Arrow(ArrowLabel<'a>),
     /// With what a datagram was refused.
     Refusal(&'a [u8]),
 }
@@ -125,22 +164,31 @@ impl<'a> fmt::Display for Label<'a> {
     fn fmt<W: fmt::Write>(&self, f: &mut fmt::Formatter<W>) -> fmt::Result {
         match self {
             Label::Rank(rank) => write!(f, "rank {rank}"),
-            Label::Call(bytes) | Label::Refusal(bytes) => {
+            Label::Call(bytes, _) | Label::Refusal(bytes) => {
                 let text = Shortened {
                     bytes,
                     most: MOST_SHOWN,
                 };
                 text.fmt(f)
             }
-            Label::Answered(call, answer) => {
+            Label::Answered(call, answer, tone) => {
                 let call = Shortened {
                     bytes: call,
                     most: MOST_SHOWN,
                 };
-                let answer = AnswerSpan { answer };
+                let answer = AnswerSpan {
+                    answer,
+                    tone: *tone,
+                };
                 write!(f, "{call} {answer}")
             }
-            Label::Answer(answer) => AnswerSpan { answer }.fmt(f),
+            Label::Answer(answer, tone) => {
+                let answer = AnswerSpan {
+                    answer,
+                    tone: *tone,
+                };
+                answer.fmt(f)
+            }
             Label::Arrow(arrow) => arrow.fmt(f),
         }
     }
@@ -243,7 +291,8 @@ impl<'a> Label<'a> {
     {
         match self {
             Label::Rank(_) => "rank",
-            Label::Call(_) | Label::Answered(_, _) | Label::Answer(_) => "call",
+            Label::Call(_, tone) => tone.call_class(),
+            Label::Answered(_, _, _) | Label::Answer(_, _) => "call",
             Label::Arrow(_) => "datagram",
             Label::Refusal(_) => "refusal",
         }

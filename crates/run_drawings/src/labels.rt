@@ -73,34 +73,85 @@ impl<'a> fmt::Display for Shortened<'a> {
     }
 }
 
-/// `D: KIND SEQ`, and ` again` where it is a frame that went out before.
+/// What stands on an arrow: its words, or where there are none `D: KIND SEQ`.
 #[derive(Clone, Copy)]
-pub(crate) struct ArrowLabel {
-    pub number: usize,
-    pub load: LoadText,
-    pub is_resent: bool,
+struct ArrowFront<'a> {
+    number: usize,
+    load: LoadText,
+    words: &'a [u8],
 }
 
-impl fmt::Display for ArrowLabel {
+impl<'a> fmt::Display for ArrowFront<'a> {
     ghost use Rattle.std.specs.Prelude.{Some};
-    ghost use Rattle.run_drawings.specs.Labels.{arrow_label_text};
+    ghost use Rattle.run_drawings.specs.Labels.{arrow_front};
 
-    ghost output = { λ a. Some (arrow_label_text a.number a.load a.is_resent) };
+    ghost output = { λ a. Some (arrow_front a.number a.load a.words.now) };
 
     fn fmt<W: fmt::Write>(&self, f: &mut fmt::Formatter<W>) -> fmt::Result {
+        if !self.words.is_empty() {
+            return Escaped { bytes: self.words }.fmt(f);
+        }
         let number = self.number;
         let load = &self.load;
-        if self.is_resent {
-            return write!(f, "{number}: {load} again");
-        }
         write!(f, "{number}: {load}")
     }
 }
 
-/// `D`, and with what datagram D was refused behind it.
+/// The words of an arrow or `D: KIND SEQ`, and ` again` where it is a frame that went out before.
+#[derive(Clone, Copy)]
+pub(crate) struct ArrowLabel<'a> {
+    pub number: usize,
+    pub load: LoadText,
+    pub words: &'a [u8],
+    pub is_resent: bool,
+}
+
+impl<'a> fmt::Display for ArrowLabel<'a> {
+    ghost use Rattle.std.specs.Prelude.{Some};
+    ghost use Rattle.run_drawings.specs.Labels.{arrow_label_text};
+
+    ghost output = { λ a. Some (arrow_label_text a.number a.load a.words.now a.is_resent) };
+
+    fn fmt<W: fmt::Write>(&self, f: &mut fmt::Formatter<W>) -> fmt::Result {
+        let front = ArrowFront {
+            number: self.number,
+            load: self.load,
+            words: self.words,
+        };
+        if self.is_resent {
+            return write!(f, "{front} again");
+        }
+        front.fmt(f)
+    }
+}
+
+/// What stands where datagram D comes: the words of its arrow, or where there are none `D`.
+#[derive(Clone, Copy)]
+struct ArrivalFront<'a> {
+    number: usize,
+    words: &'a [u8],
+}
+
+impl<'a> fmt::Display for ArrivalFront<'a> {
+    ghost use Rattle.std.specs.Prelude.{Some};
+    ghost use Rattle.run_drawings.specs.Labels.{arrival_front};
+
+    ghost output = { λ a. Some (arrival_front a.number a.words.now) };
+
+    fn fmt<W: fmt::Write>(&self, f: &mut fmt::Formatter<W>) -> fmt::Result {
+        if !self.words.is_empty() {
+            return Escaped { bytes: self.words }.fmt(f);
+        }
+        let number = self.number;
+        write!(f, "{number}")
+    }
+}
+
+/// The words of an arrow or `D`, and with what datagram D was refused behind it.
 #[derive(Clone, Copy)]
 pub(crate) struct RefusalLabel<'a> {
     pub number: usize,
+    pub words: &'a [u8],
     pub answer: &'a [u8],
 }
 
@@ -108,14 +159,17 @@ impl<'a> fmt::Display for RefusalLabel<'a> {
     ghost use Rattle.std.specs.Prelude.{Some};
     ghost use Rattle.run_drawings.specs.Labels.{refusal_label_text};
 
-    ghost output = { λ r. Some (refusal_label_text r.number r.answer.now) };
+    ghost output = { λ r. Some (refusal_label_text r.number r.words.now r.answer.now) };
 
     fn fmt<W: fmt::Write>(&self, f: &mut fmt::Formatter<W>) -> fmt::Result {
-        let number = self.number;
+        let front = ArrivalFront {
+            number: self.number,
+            words: self.words,
+        };
         if self.answer.is_empty() {
-            return write!(f, "{number}");
+            return front.fmt(f);
         }
         let answer = Escaped { bytes: self.answer };
-        write!(f, "{number}: {answer}")
+        write!(f, "{front}: {answer}")
     }
 }

@@ -16,6 +16,6 @@ mod picture;
 mod svg;
 mod terminal;
 
-pub use picture::{Arrival, Arrow, Change, Delivery, Note, Picture, Row};
+pub use picture::{Arrival, Arrow, Change, Delivery, Emission, Note, Picture, Row, Tone};
 pub use svg::svg_of;
 pub use terminal::text_of;

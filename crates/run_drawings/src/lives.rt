@@ -10,6 +10,10 @@ use std::alloc::{AllocError, Global};
 struct Life {
     /// Where what isn't drawn yet begins.
     since: Point,
+    /// What is drawn there: a rank that is there, or one that has ended.
+    line: Ink,
+    /// What is drawn where it is blocked: that, or that it waits for ever.
+    bar: Ink,
     /// Where the rank was blocked, while it is.
     blocked: Option<Point>,
 }
@@ -33,7 +37,7 @@ impl Life {
         elements: &mut Vec<Element<'a>>,
     ) -> Result<(), AllocError> {
         match self.blocked.take() {
-            Some(since) => add_stroke(elements, Ink::Blocked, since, here),
+            Some(since) => add_stroke(elements, self.bar, since, here),
             None => Ok(()),
         }
     }
@@ -41,7 +45,7 @@ impl Life {
     /// Nothing comes behind this place.
     fn end<'a>(&mut self, here: Point, elements: &mut Vec<Element<'a>>) -> Result<(), AllocError> {
         self.resume(here, elements)?;
-        add_stroke(elements, Ink::Life, self.since, here)
+        add_stroke(elements, self.line, self.since, here)
     }
 
     /// The line breaks off, and goes on below.
@@ -56,6 +60,15 @@ impl Life {
         add_stroke(elements, Ink::Break, end.left(7), end.right(7))?;
         add_stroke(elements, Ink::Break, start.left(7), start.right(7))?;
         self.since = start;
+        self.line = Ink::Life;
+        Ok(())
+    }
+
+    /// The rank ends.
+    fn stop<'a>(&mut self, here: Point, elements: &mut Vec<Element<'a>>) -> Result<(), AllocError> {
+        self.end(here, elements)?;
+        self.since = here;
+        self.line = Ink::Over;
         Ok(())
     }
 
@@ -74,6 +87,11 @@ impl Life {
             }
             Change::Resumes => self.resume(here, elements),
             Change::StartsAnew(_) => self.start_anew(here, elements),
+            Change::Ends => self.stop(here, elements),
+            Change::WaitsForEver => {
+                self.bar = Ink::Stuck;
+                Ok(())
+            }
         }
     }
 }
@@ -84,6 +102,8 @@ fn begun_lives(alloc: Global, layout: &Layout, size: u16) -> Result<Vec<Life>, A
     for rank in 0..size {
         lives.push(Life {
             since: layout.top(rank),
+            line: Ink::Life,
+            bar: Ink::Blocked,
             blocked: None,
         })?;
     }

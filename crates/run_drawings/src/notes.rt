@@ -1,27 +1,27 @@
 //! What stands beside the lines of life of an SVG.
 
-ghost use Rattle.std.specs.Prelude.{◌≡◌, codes};
+ghost use Rattle.std.specs.Prelude.{◌≡◌};
 ghost use Rattle.run_drawings.specs.Elements.{label_class, label_text};
 ghost use Rattle.run_drawings.specs.Layout.{below, right_of};
-ghost use Rattle.run_drawings.specs.Notes.{mark, note_label};
+ghost use Rattle.run_drawings.specs.Notes.{mark, mark_ink, note_class, note_label};
 ghost use Rattle.run_drawings.specs.declared.elements.Side.TheVariants as sides;
 
 use crate::elements::{Element, Ink, Label, Side, Stroke, Text};
 use crate::layout::{Layout, Point};
-use crate::picture::{Arrow, Change, Delivery, Note, Picture, Row};
+use crate::picture::{Arrow, Change, Delivery, Note, Picture, Row, Tone};
 use std::alloc::AllocError;
 
 /// The text of a note.
 fn label_of<'a>(note: &'a Note) -> Label<'a>
-    ensures text { label_text result ≡ note_label note.now.call.items note.now.answer.items }
-    ensures class { label_class result ≡ codes "call" }
+    ensures text { label_text result ≡ note_label note.now.call.items note.now.answer.items note.now.tone }
+    ensures class { label_class result ≡ note_class note.now.answer.items note.now.tone }
 {
     if note.answer.is_empty() {
-        Label::Call(&note.call)
+        Label::Call(&note.call, note.tone)
     } else if note.call.is_empty() {
-        Label::Answer(&note.answer)
+        Label::Answer(&note.answer, note.tone)
     } else {
-        Label::Answered(&note.call, &note.answer)
+        Label::Answered(&note.call, &note.answer, note.tone)
     }
 }
 
@@ -29,8 +29,8 @@ fn label_of<'a>(note: &'a Note) -> Label<'a>
 fn text_of<'a>(here: Point, note: &'a Note) -> Text<'a>
     ensures side { result.side ≡ sides.Right }
     ensures place { result.at ≡ below (right_of here 10) 4 }
-    ensures text { label_text result.label ≡ note_label note.now.call.items note.now.answer.items }
-    ensures class { label_class result.label ≡ codes "call" }
+    ensures text { label_text result.label ≡ note_label note.now.call.items note.now.answer.items note.now.tone }
+    ensures class { label_class result.label ≡ note_class note.now.answer.items note.now.tone }
 {
     Text {
         side: Side::Right,
@@ -39,12 +39,23 @@ fn text_of<'a>(here: Point, note: &'a Note) -> Text<'a>
     }
 }
 
+/// What the mark of a note shows.
+fn mark_ink(note: &Note) -> Ink
+    ensures { result ≡ mark_ink note.now.tone note.now.change }
+{
+    match (note.tone, note.change) {
+        (Tone::Fails, _) => Ink::Failure,
+        (_, Change::Ends) => Ink::End,
+        _ => Ink::Event,
+    }
+}
+
 /// The mark of a note, across its rank's line of life.
-fn mark_of(here: Point) -> Stroke
-    ensures { result ≡ mark here }
+fn mark_of(here: Point, note: &Note) -> Stroke
+    ensures { result ≡ mark here note.now.tone note.now.change }
 {
     Stroke {
-        ink: Ink::Event,
+        ink: mark_ink(note),
         from: here.left(5),
         to: here.right(5),
     }
@@ -56,7 +67,7 @@ fn add_note<'a>(
     note: &'a Note,
     elements: &mut Vec<Element<'a>>,
 ) -> Result<(), AllocError> {
-    elements.push(Element::Stroke(mark_of(here)))?;
+    elements.push(Element::Stroke(mark_of(here, note)))?;
     elements
         .push(Element::Text(text_of(here, note)))
         .map_err(AllocError::from)

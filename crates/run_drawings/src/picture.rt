@@ -19,6 +19,21 @@ pub enum Change {
     Resumes,
     /// The rank was started anew, and is at this incarnation now.
     StartsAnew(u16),
+    /// The rank has ended.
+    Ends,
+    /// The blocked call is never answered.
+    WaitsForEver,
+}
+
+/// What a note is about, which says how it looks.
+#[derive(Clone, Copy, Debug, PartialEq, Eq)]
+pub enum Tone {
+    /// A call and its answer, or what happened.
+    Plain,
+    /// What a rank printed.
+    Prints,
+    /// Something failed.
+    Fails,
 }
 
 /// What a rank did, or what happened to it.
@@ -30,8 +45,23 @@ pub struct Note {
     pub call: Vec<u8>,
     /// What it answered; nothing where there is nothing to tell.
     pub answer: Vec<u8>,
+    /// What it is about.
+    pub tone: Tone,
     /// What becomes of the rank's line of life.
     pub change: Change,
+}
+
+/// A datagram that goes out.
+#[derive(Drop)]
+pub struct Emission {
+    /// From whom.
+    pub source: Endpoint,
+    /// For whom.
+    pub target: Endpoint,
+    /// What it carries.
+    pub load: LoadText,
+    /// The words that stand on its arrow. Where there are none, its number and what it carries stand there.
+    pub words: Vec<u8>,
 }
 
 /// A datagram that comes.
@@ -74,6 +104,8 @@ pub struct Arrow {
     pub target: Endpoint,
     /// What it carries.
     pub load: LoadText,
+    /// The words that stand on it. Where there are none, its number and what it carries stand there.
+    pub words: Vec<u8>,
     /// Whether it is a frame that went out before.
     pub is_resent: bool,
     /// The row in which it was emitted.
@@ -188,24 +220,25 @@ impl Picture {
     }
 
     /// Adds a row in which the next datagram goes out. The only error is want of memory.
-    pub fn emit(
-        &mut self,
-        alloc: Global,
-        source: Endpoint,
-        target: Endpoint,
-        load: LoadText,
-    ) -> Result<(), AllocError>
+    pub fn emit(&mut self, alloc: Global, emission: Emission) -> Result<(), AllocError>
         ensures row { OnOk result
             (self.new.rows.items ≡ self.old.rows.items ++ rows.Emitted (vec_len self.old.arrows) ∷ []) }
         ensures arrow { OnOk result
-            (IsEmitted source target load (vec_len self.old.rows) self.old.arrows.items self.new.arrows.items) }
+            (IsEmitted emission (vec_len self.old.rows) self.old.arrows.items self.new.arrows.items) }
     {
+        let Emission {
+            source,
+            target,
+            load,
+            words,
+        } = emission;
         let is_resent = is_frame(load.kind) && self.has_frame(source, target, load.sequence);
         let number = self.arrows.len();
         let arrow = Arrow {
             source,
             target,
             load,
+            words,
             is_resent,
             row: self.rows.len(),
             arrivals: Vec::new(alloc),

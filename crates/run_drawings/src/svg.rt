@@ -16,9 +16,11 @@ use std::fmt;
 const STYLE: &str = "<style>
 text{font:12px monospace;fill:#222;paint-order:stroke;stroke:#fff;stroke-width:3px;stroke-linejoin:round}
 .rank{font-weight:bold}.answer{fill:#15803d}.datagram{font-size:11px;fill:#1d4ed8}.refusal{fill:#b91c1c}
+.printed{font-weight:bold}.failure{font-weight:bold;fill:#b91c1c}
 path{fill:none;stroke:#222}
-.life{stroke:#94a3b8;stroke-width:2}.blocked{stroke:#fbbf24;stroke-width:10;stroke-opacity:.55}
-.event{stroke-width:3}.break{stroke-width:2}
+.life{stroke:#94a3b8;stroke-width:2}.over{stroke:#cbd5e1;stroke-dasharray:2 4}
+.blocked{stroke:#fbbf24;stroke-width:10;stroke-opacity:.55}.stuck{stroke:#ef4444;stroke-width:10;stroke-opacity:.45}
+.event{stroke-width:3}.fault{stroke:#b91c1c;stroke-width:5}.end{stroke-width:8}.break{stroke-width:2}
 .taken{stroke:#1d4ed8;marker-end:url(#taken)}.refused{stroke:#b91c1c;marker-end:url(#refused)}
 .lost{stroke:#b91c1c;stroke-dasharray:5 3;marker-end:url(#lost)}
 marker path{stroke-width:1.5}

@@ -3,7 +3,7 @@
 use crate::cells::{blanks, fill, push_row, put, put_text};
 use crate::columns::{Columns, Span};
 use crate::labels::{ArrowLabel, RefusalLabel};
-use crate::picture::{Arrow, Change, Delivery, Note, Picture, Row};
+use crate::picture::{Arrow, Change, Delivery, Note, Picture, Row, Tone};
 use std::alloc::{AllocError, Global};
 
 /// The rows of a picture that are written so far.
@@ -11,8 +11,8 @@ use std::alloc::{AllocError, Global};
 struct Writer {
     alloc: Global,
     columns: Columns,
-    /// Which ranks are blocked.
-    blocked: Vec<bool>,
+    /// What each line of life looks like: that of a rank that is there, is blocked, or has ended.
+    lives: Vec<char>,
     out: String,
 }
 
@@ -67,6 +67,16 @@ fn put_label(columns: Columns, row: &mut Vec<char>, span: Span, is_right: bool, 
     }
 }
 
+/// The mark of a note on the line of life, where it has one of its own.
+fn own_mark(note: &Note) -> Option<char> {
+    match (note.change, note.tone) {
+        (Change::StartsAnew(_), _) => Some('╳'),
+        (_, Tone::Fails) => Some('✗'),
+        (Change::Ends, _) => Some('■'),
+        _ => None,
+    }
+}
+
 /// A call and what it answered.
 fn note_text(alloc: Global, call: &[u8], answer: &[u8]) -> Result<Vec<u8>, AllocError> {
     let mut text = Vec::from_slice(alloc, call)?;
@@ -86,7 +96,7 @@ impl Writer {
         Ok(Writer {
             alloc,
             columns: Columns::of(size, width),
-            blocked: vec![in alloc; false; usize::from(size)]?,
+            lives: vec![in alloc; '│'; usize::from(size)]?,
             out: String::new(alloc),
         })
     }
@@ -94,9 +104,8 @@ impl Writer {
     /// A row with nothing in it but the lines of life.
     fn blank_row(&self) -> Result<Vec<char>, AllocError> {
         let mut row = blanks(self.alloc, self.columns.width)?;
-        for (rank, is_blocked) in self.blocked.iter().enumerate() {
-            let line = if *is_blocked { '┃' } else { '│' };
-            put(&mut row, rank.saturating_mul(self.columns.column), line);
+        for (rank, line) in self.lives.iter().enumerate() {
+            put(&mut row, rank.saturating_mul(self.columns.column), *line);
         }
         Ok(row)
     }
@@ -115,13 +124,14 @@ impl Writer {
         self.push(&row)
     }
 
-    /// Whether a rank is blocked is this now.
+    /// What a rank's line of life looks like is this now.
     fn change(&mut self, note: &Note) {
-        if let Some(cell) = self.blocked.get_mut(usize::from(note.rank)) {
+        if let Some(cell) = self.lives.get_mut(usize::from(note.rank)) {
             match note.change {
-                Change::Stays => {}
-                Change::Blocks => *cell = true,
-                Change::Resumes | Change::StartsAnew(_) => *cell = false,
+                Change::Stays | Change::WaitsForEver => {}
+                Change::Blocks => *cell = '┃',
+                Change::Resumes | Change::StartsAnew(_) => *cell = '│',
+                Change::Ends => *cell = '┊',
             }
         }
     }
@@ -146,10 +156,7 @@ impl Writer {
     /// it.
     fn write_note(&mut self, note: &Note) -> Result<(), AllocError> {
         self.change(note);
-        let own = match note.change {
-            Change::StartsAnew(_) => Some('╳'),
-            _ => None,
-        };
+        let own = own_mark(note);
         let whole = note_text(self.alloc, &note.call, &note.answer)?;
         let room = self.columns.right_of(note.rank).len();
         if whole.len() <= room || note.call.is_empty() || note.call.len() > room {
@@ -178,6 +185,7 @@ impl Writer {
         let label = ArrowLabel {
             number,
             load: arrow.load,
+            words: &arrow.words,
             is_resent: arrow.is_resent,
         };
         let text = format!(in self.alloc; "{label}")?;
@@ -194,6 +202,7 @@ impl Writer {
         put_arrow(&mut row, span, is_right, '┄', head);
         let label = RefusalLabel {
             number: delivery.datagram,
+            words: &arrow.words,
             answer: &delivery.answer,
         };
         let text = format!(in self.alloc; "{label}")?;

@@ -9,7 +9,7 @@ use datagram::{Content, Frame};
 use engine::Reply;
 use event_files::{EventLine, parse};
 use printed_lines::{FrameKind, LoadText};
-use run_drawings::{Change, Delivery, Note, Picture};
+use run_drawings::{Change, Delivery, Emission, Note, Picture, Tone};
 use simulation::{SimulateError, Simulation, Stopped};
 use statements::ParseError;
 use std::alloc::{AllocError, Global};
@@ -53,6 +53,15 @@ fn blocks(entry: &HistoryEntry) -> bool {
     matches!(entry.reply, Some(Reply::Blocked))
 }
 
+/// How an answer is drawn: what was refused, or ended with an error, as a failure.
+fn tone_of(answer: &[u8]) -> Tone {
+    if answer.starts_with(b"refused ") || answer.starts_with(b"error ") {
+        Tone::Fails
+    } else {
+        Tone::Plain
+    }
+}
+
 /// The answer of an event, where it was refused.
 fn refusal_in<'a>(printed: Printed<'a>) -> &'a [u8] {
     if printed.answer == b"ok".as_slice() {
@@ -83,12 +92,14 @@ impl<'a> Follower<'a> {
         answer: &[u8],
         change: Change,
     ) -> Result<(), AllocError> {
+        let tone = tone_of(answer);
         let call = kept(self.alloc, call)?;
         let answer = kept(self.alloc, answer)?;
         self.picture.tell(Note {
             rank,
             call,
             answer,
+            tone,
             change,
         })
     }
@@ -195,8 +206,13 @@ impl<'a> Follower<'a> {
                 kind: kind_of(&datagram.content),
                 sequence: header.sequence,
             };
-            self.picture
-                .emit(self.alloc, header.source, header.target, load)?;
+            let emission = Emission {
+                source: header.source,
+                target: header.target,
+                load,
+                words: Vec::new(self.alloc),
+            };
+            self.picture.emit(self.alloc, emission)?;
         }
         Ok(())
     }

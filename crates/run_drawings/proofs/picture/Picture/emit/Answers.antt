@@ -6,9 +6,10 @@ pub returns-clause-arrow : goal.returns-clause-arrow
 returns-clause-arrow c =
     on_ok c.push_row.result (λ _. record {
       arrow = record {
-        source = c.args.source;
-        target = c.args.target;
-        load = c.args.load;
+        source = c.args.emission.source;
+        target = c.args.emission.target;
+        load = c.args.emission.load;
+        words = c.args.emission.words;
         is_resent = c.if-is_frame.is_resent;
         row = c.len.result;
         arrivals = c.new.result;
@@ -17,6 +18,7 @@ returns-clause-arrow c =
       from = refl;
       to = refl;
       carries = refl;
+      says = refl;
       begins = c.len.ensures;
       comes = c.new.ensures.items;
     }) c.push_row.ensures.added
