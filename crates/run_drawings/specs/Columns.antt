@@ -38,3 +38,7 @@ lost c from to = without (between c from to) (half (between c from to)) (nat_lt 
 -- an arrow that comes: without the half at its source
 abbrev pub arrival : Columns → (from to : ℕ) → Span
 arrival c from to = without (between c from to) (half (between c from to)) (nat_lt to from)
+
+-- an arrow that comes and has words: without three places at its source
+abbrev pub approach : Columns → (from to : ℕ) → Span
+approach c from to = without (between c from to) 3 (nat_lt to from)

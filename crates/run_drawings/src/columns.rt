@@ -1,7 +1,7 @@
 //! Where things stand in a row of characters.
 
 ghost use Rattle.std.specs.Prelude.{◌≡◌, ◌-◌};
-ghost use Rattle.run_drawings.specs.Columns.{between, departure, lost, arrival, place_of, tip, without};
+ghost use Rattle.run_drawings.specs.Columns.{approach, between, departure, lost, arrival, place_of, tip, without};
 
 /// How many characters lie between two lines of life at least and at most, with one of the lines.
 const LEAST_COLUMN: usize = 10;
@@ -117,6 +117,13 @@ impl Columns {
     {
         let whole = self.between(from, to);
         whole.without(whole.len() / 2, to < from)
+    }
+
+    /// The places of an arrow that comes and has words: all but some of its way.
+    pub fn approach(&self, from: u16, to: u16) -> Span
+        ensures { result ≡ approach self.now from to }
+    {
+        self.between(from, to).without(GAP, to < from)
     }
 
     /// The places to the right of a line of life, but for the one that is next to it.

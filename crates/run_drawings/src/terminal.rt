@@ -197,7 +197,11 @@ impl Writer {
         let mut row = self.blank_row()?;
         let (from, to) = (arrow.source.rank, arrow.target.rank);
         let is_right = from < to;
-        let span = self.columns.arrival(from, to);
+        let span = if arrow.words.is_empty() {
+            self.columns.arrival(from, to)
+        } else {
+            self.columns.approach(from, to)
+        };
         let head = if is_right { '►' } else { '◄' };
         put_arrow(&mut row, span, is_right, '┄', head);
         let label = RefusalLabel {

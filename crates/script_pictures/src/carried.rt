@@ -59,7 +59,7 @@ fn add_collective(page: &mut Page, elements: &[u8]) -> Result<(), AllocError> {
     };
     page.add(collective_of(payload.entered))?;
     if matches!(payload.part, PayloadContent::RecordsDiffer) {
-        return page.add(": entered differently");
+        return page.add(": differs");
     }
     if let Some(elements) = payload.entered.elements() {
         page.add(": ")?;
