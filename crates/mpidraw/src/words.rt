@@ -79,7 +79,9 @@ fn program<'a>(alloc: Global) -> Result<Command<'a>, AllocError> {
     let datagrams = Arg::new(alloc, "datagrams")
         .long("datagrams")
         .action(ArgAction::SetTrue)
-        .help("Draw each datagram of a script with its number, acknowledgements too, in place of the messages");
+        .help(
+            "Draw each datagram of a script with its number, acknowledgements too, in place of the messages",
+        );
     let file = Arg::new(alloc, "FILE")
         .required(true)
         .help("A file of events, or a script with --ranks");

@@ -81,11 +81,7 @@ fn is_failure(outcome: &Outcome) -> bool {
     matches!(outcome, Outcome::Ended(_, _, _) | Outcome::Replaced(_))
 }
 
-fn outcome_words(
-    alloc: Global,
-    outcome: &Outcome,
-    manner: Manner,
-) -> Result<Worded, AllocError> {
+fn outcome_words(alloc: Global, outcome: &Outcome, manner: Manner) -> Result<Worded, AllocError> {
     let mut page = Page::new(alloc);
     add_outcome(alloc, &mut page, outcome, manner)?;
     Ok(Worded {

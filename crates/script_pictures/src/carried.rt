@@ -28,12 +28,7 @@ fn add_count(page: &mut Page, count: u32, basic: BasicType) -> Result<(), AllocE
 }
 
 /// Adds `tag T: C TYPE`.
-fn add_message(
-    page: &mut Page,
-    tag: u32,
-    count: u32,
-    basic: BasicType,
-) -> Result<(), AllocError> {
+fn add_message(page: &mut Page, tag: u32, count: u32, basic: BasicType) -> Result<(), AllocError> {
     add_tag(page, Some(tag))?;
     page.add(": ")?;
     add_count(page, count, basic)

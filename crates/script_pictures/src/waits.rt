@@ -2,7 +2,7 @@
 
 use engine::{Call, Request};
 use play_waits::{
-    Waiter, Waiting, blocked_in, communicators_of, left_of, requests_in, waiting_of, waits_alone,
+    Waiter, blocked_in, communicators_of, left_of, requests_in, waiting_of, waits_alone,
 };
 use script_plays::{Move, Played, Stage, play};
 use std::alloc::{AllocError, Global};
@@ -152,12 +152,9 @@ impl EndedPlay<'_> {
                     communicators: &communicators,
                 };
                 let waiting = waiting_of(waiter, call, &left)?;
-                let Waiting { words, whom } = waiting;
-                drop(whom);
-                stuck.push(StuckRank {
-                    rank,
-                    words: words.into_text(),
-                })?;
+                let words = Vec::from_slice(self.alloc, waiting.words.as_slice())?;
+                drop(waiting);
+                stuck.push(StuckRank { rank, words })?;
             }
         }
         Ok(stuck)

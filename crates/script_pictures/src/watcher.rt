@@ -424,7 +424,11 @@ impl<'t, 's> Watcher<'t, 's> {
         let is_taken = self.play.world().history().len() > before;
         self.tell_delivery(number, is_taken)?;
         self.tell_emitted()?;
-        if is_taken { self.tell_outcome() } else { Ok(()) }
+        if is_taken {
+            self.tell_outcome()
+        } else {
+            Ok(())
+        }
     }
 
     fn tick(&mut self, rank: u16, now: u64) -> Result<(), PlayError> {
