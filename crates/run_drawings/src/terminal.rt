@@ -162,9 +162,9 @@ impl Writer {
         if whole.len() <= room || note.call.is_empty() || note.call.len() > room {
             return self.write_beside(note.rank, &whole, own);
         }
-        self.write_beside(note.rank, &note.call, own)?;
+        self.write_beside(note.rank, &note.call, None)?;
         let answer = note_text(self.alloc, b"", &note.answer)?;
-        self.write_beside(note.rank, &answer, None)
+        self.write_beside(note.rank, &answer, own)
     }
 
     fn write_emitted(&mut self, number: usize, arrow: &Arrow) -> Result<(), AllocError> {
