@@ -2,7 +2,7 @@
 
 use crate::rank_lines::Manner;
 use datatypes::Element;
-use engine::{Answer, Buffer, Completion, Ending, Outcome, Reply, Status};
+use engine::{Answer, Buffer, Completion, Ending, Outcome, Reply, Source, Status};
 use play_waits::{Page, add_source, add_tag};
 use run_drawings::Tone;
 use std::alloc::{AllocError, Global};
@@ -42,8 +42,11 @@ fn add_elements(alloc: Global, page: &mut Page, buffer: &Buffer) -> Result<(), A
     Ok(())
 }
 
-/// Adds `rank R tag T: `.
+/// Adds `rank R tag T: `, or `null: ` of the null process.
 fn add_sender(page: &mut Page, status: &Status) -> Result<(), AllocError> {
+    if status.source == Source::Null {
+        return page.add("null: ");
+    }
     add_source(page, status.source)?;
     page.add(" ")?;
     add_tag(page, status.tag)?;
