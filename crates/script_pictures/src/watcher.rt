@@ -147,6 +147,11 @@ impl<'t, 's> Watcher<'t, 's> {
         self.lines.get(usize::from(rank))?.taken_last(now.left)
     }
 
+    /// The text of the line of this number.
+    fn text_of(&self, number: usize) -> Result<Vec<u8>, AllocError> {
+        Vec::from_slice(self.alloc, self.texts.line(number))
+    }
+
     /// Adds the statement that a rank took last.
     fn open(&mut self, rank: u16, line: &'s ScriptLine, has_failed: bool) -> Result<(), PlayError> {
         let Some(statement) = statement_in(line) else {
@@ -161,7 +166,8 @@ impl<'t, 's> Watcher<'t, 's> {
         } else {
             Tone::Plain
         };
-        let place = self.tell_alone(rank, self.texts.line(line.number), tone, Change::Stays)?;
+        let text = self.text_of(line.number)?;
+        let place = self.tell_alone(rank, &text, tone, Change::Stays)?;
         self.set_last(
             rank,
             LastStatement {
