@@ -6,7 +6,7 @@
 
 use run_drawings::{Picture, svg_of, text_of};
 use run_recording::record;
-use script_pictures::{Shown, round_picture_of};
+use script_pictures::{ScriptPicture, Shown, round_picture_of};
 use std::alloc::Global;
 use std::io::{BufWriter, Write};
 use std::process::ExitCode;
@@ -40,8 +40,12 @@ fn draw_script<W: Write>(alloc: Global, text: &[u8], size: u16, out: &mut W) -> 
     let Ok(play) = round_picture_of(alloc, text, size, Shown::Messages) else {
         return writeln!(out, "not played");
     };
-    draw(alloc, &play.picture, out)?;
-    match play.unfollowed {
+    let ScriptPicture {
+        picture,
+        unfollowed,
+    } = play;
+    draw(alloc, &picture, out)?;
+    match unfollowed {
         Some(at) => {
             let line = at.line;
             writeln!(out, "line {line} wasn't followed")
