@@ -54,7 +54,7 @@ PICTURES = ("--picture", "--svg")
 PASSED_ON = ("-job", "-baseport", "-restart", "-patience")
 # Options of the programs that show something, each with how many values it has.
 SHOWING = {
-    "--explore": {"--most": 1, "--seed": 1, "--events": 1, "--out": 1, "--results": 1, "--synchronous": 0, "--both": 0},
+    "--explore": {"--most": 1, "--seed": 1, "--events": 1, "--out": 1, "--results": 1, "--findings": 0, "--synchronous": 0, "--both": 0},
     "--picture": {"--width": 1, "--datagrams": 0},
     "--svg": {"--datagrams": 0},
 }
@@ -254,7 +254,9 @@ def command(request):
     if request.view in PICTURES:
         return [*drawing(request), "--ranks", str(ranks), short(request.file)]
     if request.view:
-        return [short(find(["mpiexplore"], request.is_proved)["mpiexplore"]), *request.shown, "-n", str(ranks), short(request.file)]
+        # Unless other sends or one result are asked for, the script is explored as it is and with synchronous sends.
+        both = [] if {"--synchronous", "--both", "--events"} & set(request.shown) else ["--both"]
+        return [short(find(["mpiexplore"], request.is_proved)["mpiexplore"]), *request.shown, "-n", str(ranks), *both, short(request.file)]
     found = find(["mpiexec", "rank_main"], request.is_proved)
     judge(found["rank_main"], ranks, request.file)
     return [*launch(found["mpiexec"], request, ranks), short(found["rank_main"]), short(request.file)]

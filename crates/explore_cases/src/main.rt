@@ -1,10 +1,14 @@
 //! Explores the scripts that it is given one after the other, each behind its number of ranks, and prints what is
-//! told of each: worked rows as data.
+//! told of each: worked rows as data. Behind the word `both` each is explored with synchronous sends too.
 //!
 //! Status 0 where each script could be read and explored, else 1.
 #![tactic(auto)]
 
-use explore_process::{Progress, Settings, explore, summary_of};
+use explore_process::{
+    Explored, Extent, PlayedText, Progress, explore, summary_of, summary_of_synchronous,
+};
+use play_findings::Report;
+use std::alloc::{AllocError, Global};
 use std::io::{BufWriter, Write};
 use std::process::ExitCode;
 use std::rt::{Env, Files};
@@ -16,6 +20,36 @@ struct Silent {}
 
 impl Progress for Silent {
     fn tell(&mut self, _plays: u64, _results: usize) {}
+
+    fn listens(&self) -> bool {
+        false
+    }
+
+    fn found(&mut self, _number: usize, _plays: u64, _report: &Report) {}
+}
+
+/// What is explored of a script at so many ranks; none where it can't be.
+fn explored_of(alloc: Global, size: u16, script: &PlayedText<'_>) -> Option<Explored> {
+    let extent = Extent {
+        size,
+        most: 1_000,
+        seed: 1,
+        results: 4,
+        findings: false,
+    };
+    explore(alloc, script, extent, &mut Silent {}).ok()
+}
+
+/// Prints this page, or that there is none.
+fn print<W: Write>(
+    out: &mut W,
+    page: Option<Result<Vec<u8>, AllocError>>,
+) -> Result<(), io::Error> {
+    match page {
+        Some(Ok(page)) => out.write_all(page.as_slice()),
+        Some(Err(_)) => writeln!(out, "refused 14"),
+        None => writeln!(out, "it was not explored"),
+    }
 }
 
 /// Explores one script, and prints its name and what is told of it.
@@ -24,36 +58,41 @@ fn run<W: Write>(
     out: &mut W,
     size: u16,
     name: &str,
+    is_both: bool,
 ) -> Result<(), io::Error> {
+    let alloc = rt.alloc();
     let text = fs::read(rt, name)?;
     writeln!(out, "== {name}")?;
-    let settings = Settings {
-        size,
-        most: 1_000,
-        seed: 1,
-        events: None,
-        folder: None,
-        file: name,
-    };
-    match explore(rt.alloc(), &text, &settings, &mut Silent {}) {
-        Ok(explored) => match summary_of(rt.alloc(), &settings, &explored) {
-            Ok(page) => out.write_all(page.as_slice()),
-            Err(_) => writeln!(out, "refused 14"),
-        },
-        Err(_) => writeln!(out, "it was not explored"),
+    let explored = explored_of(alloc, size, &PlayedText::as_written(&text));
+    print(
+        out,
+        explored.map(|explored| summary_of(alloc, size, &explored)),
+    )?;
+    if is_both {
+        let script = PlayedText::with_synchronous_sends(alloc, &text)?;
+        let explored = explored_of(alloc, size, &script);
+        print(
+            out,
+            explored.map(|explored| summary_of_synchronous(alloc, size, &explored)),
+        )?;
     }
+    Ok(())
 }
 
 fn run_all(rt: &(impl Env + Files + Print + AllocGlobal)) -> Result<(), io::Error> {
     let mut out = BufWriter::new(rt.alloc(), io::writer(rt))?;
     let mut size = None;
+    let mut is_both = false;
     for word in env::args(rt)?.skip(1) {
         match size {
             Some(count) => {
-                run(rt, &mut out, count, word.as_str())?;
+                run(rt, &mut out, count, word.as_str(), is_both)?;
                 size = None;
             }
-            None => size = word.as_str().parse::<u16>().ok(),
+            None => {
+                is_both = is_both || word.as_str() == "both";
+                size = word.as_str().parse::<u16>().ok();
+            }
         }
     }
     out.flush()

@@ -5,9 +5,11 @@ mod exploring;
 mod faults;
 mod running;
 mod summary;
+mod synchronous;
 mod words;
 
-pub use exploring::{DistinctResult, Explored, Progress, explore};
+pub use exploring::{Explored, Extent, Progress, ToldResult, explore};
 pub use running::{run, run_words};
-pub use summary::summary_of;
-pub use words::{Settings, explore_program, settings_in};
+pub use summary::{summary_of, summary_of_synchronous};
+pub use synchronous::PlayedText;
+pub use words::{Sends, Settings, explore_program, settings_in};

@@ -2,9 +2,11 @@
 
 use crate::exploring::{Explored, Progress, explore};
 use crate::faults::{tell, tell_faulty, tell_file};
-use crate::summary::summary_of;
-use crate::words::{Settings, explore_program, settings_in};
+use crate::summary::{summary_of, summary_of_synchronous, told_at_once};
+use crate::synchronous::PlayedText;
+use crate::words::{Sends, Settings, explore_program, settings_in};
 use clap::error::ErrorKind as Mistake;
+use play_findings::Report;
 use std::io::{ErrorKind, Write};
 use std::rt::{Env, Files};
 use std::time::{Clock, Instant};
@@ -26,24 +28,29 @@ const MEMORY: u8 = 6;
 /// After how many seconds it is told how far the search has come.
 const PATIENCE: u64 = 1;
 
-/// Who tells a terminal how far a search has come, about once a second.
-struct Teller<'a, R: Eprint + Clock> {
+/// Who tells a terminal how far a search has come, about once a second, and standard output what it found, where it
+/// takes long.
+struct Teller<'a, R: Print + Eprint + AllocGlobal + Clock> {
     rt: &'a R,
     start: Option<Instant>,
     told: u64,
+    listens: bool,
+    failed: Option<u8>,
 }
 
-impl<'a, R: Eprint + Clock> Drop for Teller<'a, R> {
+impl<'a, R: Print + Eprint + AllocGlobal + Clock> Drop for Teller<'a, R> {
     fn drop(self) {
         let Self {
             rt: _,
             start: _,
             told: _,
+            listens: _,
+            failed: _,
         } = self;
     }
 }
 
-impl<'a, R: Eprint + Clock> Progress for Teller<'a, R> {
+impl<'a, R: Print + Eprint + AllocGlobal + Clock> Progress for Teller<'a, R> {
     fn tell(&mut self, plays: u64, results: usize) {
         if let Some(start) = &self.start {
             if let Ok(passed) = start.elapsed(self.rt) {
@@ -53,6 +60,20 @@ impl<'a, R: Eprint + Clock> Progress for Teller<'a, R> {
                     let _ = eprintln!(self.rt; "mpiexplore: {plays} plays, {results} different");
                 }
             }
+        }
+    }
+
+    fn listens(&self) -> bool {
+        self.listens
+    }
+
+    fn found(&mut self, number: usize, plays: u64, report: &Report) {
+        let printed = match told_at_once(self.rt.alloc(), number, plays, report) {
+            Ok(text) => print(self.rt, text.as_slice()),
+            Err(_) => Err(MEMORY),
+        };
+        if let Err(status) = printed {
+            self.failed = Some(status);
         }
     }
 }
@@ -110,7 +131,7 @@ fn print_found<R: Files + Print + Eprint + AllocGlobal>(
     if let Some(number) = settings.events {
         return print_events(rt, explored, number);
     }
-    match summary_of(rt.alloc(), settings, explored) {
+    match summary_of(rt.alloc(), settings.size, explored) {
         Ok(text) => print(rt, text.as_slice()),
         Err(_) => Err(MEMORY),
     }
@@ -132,22 +153,51 @@ fn read_text<R: Files + Eprint + AllocGlobal>(
     }
 }
 
-fn explored_of<R: Eprint + AllocGlobal + Clock>(
+fn explored_of<R: Print + Eprint + AllocGlobal + Clock>(
     rt: &R,
     settings: &Settings<'_>,
-    text: &[u8],
+    script: &PlayedText<'_>,
     tells: bool,
+    listens: bool,
 ) -> Result<Explored, u8> {
     let start = if tells { Instant::now(rt).ok() } else { None };
-    let mut teller = Teller { rt, start, told: 0 };
-    match explore(rt.alloc(), text, settings, &mut teller) {
-        Ok(explored) => Ok(explored),
+    let mut teller = Teller {
+        rt,
+        start,
+        told: 0,
+        listens,
+        failed: None,
+    };
+    match explore(rt.alloc(), script, settings.extent(), &mut teller) {
+        Ok(explored) => match teller.failed {
+            Some(status) => Err(status),
+            None => Ok(explored),
+        },
         Err(PlayError::Line(line)) => {
-            tell_faulty(rt, text, line);
+            tell_faulty(rt, script.written(), script.line(line));
             Err(FOUND)
         }
         Err(_) => Err(MEMORY),
     }
+}
+
+/// Explores a script with synchronous sends that ends otherwise, prints what waits for ever then, and answers whether
+/// nothing does.
+fn is_safe<R: Print + Eprint + AllocGlobal + Clock>(
+    rt: &R,
+    settings: &Settings<'_>,
+    text: &[u8],
+    tells: bool,
+) -> Result<bool, u8> {
+    let Ok(script) = PlayedText::with_synchronous_sends(rt.alloc(), text) else {
+        return Err(MEMORY);
+    };
+    let explored = explored_of(rt, settings, &script, tells, false)?;
+    match summary_of_synchronous(rt.alloc(), settings.size, &explored) {
+        Ok(page) => print(rt, page.as_slice())?,
+        Err(_) => return Err(MEMORY),
+    }
+    Ok(!explored.has_deadlock())
 }
 
 /// Explores what these settings ask for, and answers the status.
@@ -157,9 +207,23 @@ fn run_settings<R: Files + Print + Eprint + AllocGlobal + Clock>(
     tells: bool,
 ) -> Result<u8, u8> {
     let text = read_text(rt, settings)?;
-    let explored = explored_of(rt, settings, &text, tells)?;
+    let script = if settings.sends == Sends::Synchronous {
+        match PlayedText::with_synchronous_sends(rt.alloc(), &text) {
+            Ok(script) => script,
+            Err(_) => return Err(MEMORY),
+        }
+    } else {
+        PlayedText::as_written(&text)
+    };
+    let explored = explored_of(rt, settings, &script, tells, settings.events.is_none())?;
     print_found(rt, settings, &explored)?;
-    Ok(if explored.is_well() { 0 } else { FOUND })
+    let goes_on = settings.sends == Sends::Both && settings.events.is_none();
+    let is_safe = !goes_on || explored.has_deadlock() || is_safe(rt, settings, &text, tells)?;
+    Ok(if is_safe && explored.is_well() {
+        0
+    } else {
+        FOUND
+    })
 }
 
 /// Tells that the words are wrong, or how the program is called where they ask for that.

@@ -1,7 +1,6 @@
 //! What is printed of what was found.
 
-use crate::exploring::{DistinctResult, Explored};
-use crate::words::Settings;
+use crate::exploring::{Explored, ToldResult};
 use play_findings::Verdict;
 use std::alloc::{AllocError, Global};
 
@@ -16,29 +15,39 @@ fn plural(count: u64) -> &'static str {
     if count == 1 { "" } else { "s" }
 }
 
+fn add_plays(alloc: Global, page: &mut Vec<u8>, explored: &Explored) -> Result<(), AllocError> {
+    let (plays, random) = (explored.plays, explored.random_plays);
+    if explored.tried_findings {
+        add(
+            page,
+            "not every choice was tried, but each that can lead to another finding.\n",
+        )
+    } else if !explored.tried_all {
+        let text = format!(in alloc;
+            "not every choice was tried, {random} of them are at random.\n"
+        )?;
+        add(page, text.as_str())
+    } else if plays == 1 {
+        add(
+            page,
+            "nothing that comes first changes anything, so one schedule stands for all.\n",
+        )
+    } else {
+        add(page, "every choice was tried.\n")
+    }
+}
+
 fn add_head(
     alloc: Global,
     page: &mut Vec<u8>,
     size: u16,
     explored: &Explored,
 ) -> Result<(), AllocError> {
-    let (plays, random) = (explored.plays, explored.random_plays);
+    let plays = explored.plays;
     let (ranks, many) = (plural(u64::from(size)), plural(plays));
     let front = format!(in alloc; "{size} rank{ranks}, {plays} play{many}: ")?;
     add(page, front.as_str())?;
-    if !explored.tried_all {
-        let text = format!(in alloc;
-            "not every choice was tried, {random} of them are at random.\n"
-        )?;
-        add(page, text.as_str())?;
-    } else if plays == 1 {
-        add(
-            page,
-            "nothing that comes first changes anything, so one schedule stands for all.\n",
-        )?;
-    } else {
-        add(page, "every choice was tried.\n")?;
-    }
+    add_plays(alloc, page, explored)?;
     if explored.strict {
         add(
             page,
@@ -57,76 +66,128 @@ fn verdict_text(verdict: Verdict) -> &'static str {
     }
 }
 
+/// Adds how many plays came to a result, and how many results it stands for.
+fn add_front(
+    alloc: Global,
+    page: &mut Vec<u8>,
+    number: usize,
+    explored: &Explored,
+    found: &ToldResult,
+) -> Result<(), AllocError> {
+    let (count, plays, times) = (explored.count(), explored.plays, found.plays);
+    let many = plural(plays);
+    let front = format!(in alloc;
+        "\nresult {number} of {count}, in {times} of {plays} play{many}: "
+    )?;
+    add(page, front.as_str())
+}
+
+fn add_alike(alloc: Global, page: &mut Vec<u8>, alike: u64) -> Result<(), AllocError> {
+    if alike == 1 {
+        return Ok(());
+    }
+    let text = format!(in alloc;
+        "one of {alike}, which differ in nothing but the order in which a rank printed its lines:\n"
+    )?;
+    add(page, text.as_str())
+}
+
 fn add_result(
     alloc: Global,
     page: &mut Vec<u8>,
     number: usize,
     explored: &Explored,
-    found: &DistinctResult,
+    found: &ToldResult,
 ) -> Result<(), AllocError> {
-    let (count, plays) = (explored.results.len(), explored.plays);
-    let (times, verdict) = (found.times, verdict_text(found.report.verdict));
-    let many = plural(plays);
-    let head = format!(in alloc;
-        "\nresult {number} of {count}, in {times} of {plays} play{many}: {verdict}\n"
-    )?;
-    add(page, head.as_str())?;
+    add_front(alloc, page, number, explored, found)?;
+    add(page, verdict_text(found.report.verdict))?;
+    if number <= explored.told {
+        return add(page, ", as was told when it was found\n");
+    }
+    add(page, "\n")?;
+    add_alike(alloc, page, found.alike)?;
     page.extend_from_slice(&found.report.text)?;
     Ok(())
 }
 
-/// Adds in which results an error comes that doesn't come in all of them.
-fn add_error(
-    alloc: Global,
-    page: &mut Vec<u8>,
-    explored: &Explored,
-    error: u8,
-) -> Result<(), AllocError> {
-    let all = explored
-        .results
-        .iter()
-        .all(|found| found.report.errors.contains(&error));
-    if all {
-        return Ok(());
+/// Adds how many results aren't told.
+fn add_rest(alloc: Global, page: &mut Vec<u8>, explored: &Explored) -> Result<(), AllocError> {
+    let (wrong, well) = (explored.more_findings, explored.more_well);
+    if wrong > 0 {
+        let many = plural(wrong);
+        let text = format!(in alloc;
+            "\n{wrong} more result{many} in which something is wrong (--results K tells K)\n"
+        )?;
+        add(page, text.as_str())?;
     }
-    let front = format!(in alloc;
-        "error {error} comes in some schedules and not in others: in result"
-    )?;
-    add(page, front.as_str())?;
-    for (place, found) in explored.results.iter().enumerate() {
-        if found.report.errors.contains(&error) {
-            let number = place + 1;
-            let text = format!(in alloc; " {number}")?;
-            add(page, text.as_str())?;
-        }
-    }
-    add(page, "\n")
-}
-
-/// Adds the errors that come in some results and not in others.
-fn add_errors(alloc: Global, page: &mut Vec<u8>, explored: &Explored) -> Result<(), AllocError> {
-    let mut errors = Vec::new(alloc);
-    for error in explored.errors(alloc)?.as_slice() {
-        add_error(alloc, &mut errors, explored, *error)?;
-    }
-    if !errors.is_empty() {
-        add(page, "\n")?;
-        page.extend_from_slice(&errors)?;
+    if well > 0 {
+        let many = plural(well);
+        let text = format!(in alloc;
+            "\n{well} more result{many} in which all ranks end well (--results K tells K)\n"
+        )?;
+        add(page, text.as_str())?;
     }
     Ok(())
 }
 
-/// What is printed of what was found.
-pub fn summary_of(
-    alloc: Global,
-    settings: &Settings<'_>,
-    explored: &Explored,
-) -> Result<Vec<u8>, AllocError> {
+/// What is printed of what was found of a script at so many ranks.
+pub fn summary_of(alloc: Global, size: u16, explored: &Explored) -> Result<Vec<u8>, AllocError> {
     let mut page = Vec::new(alloc);
-    add_head(alloc, &mut page, settings.size, explored)?;
+    if explored.told > 0 {
+        add(&mut page, "\n")?;
+    }
+    add_head(alloc, &mut page, size, explored)?;
     for (place, found) in explored.results.iter().enumerate() {
         add_result(alloc, &mut page, place + 1, explored, found)?;
     }
-    add_errors(alloc, &mut page, explored)?;
+    add_rest(alloc, &mut page, explored)?;
+    Ok(page)
+}
+
+/// What is printed of a result when it is found, as the last by this play.
+pub(crate) fn told_at_once(
+    alloc: Global,
+    number: usize,
+    plays: u64,
+    report: &play_findings::Report,
+) -> Result<Vec<u8>, AllocError> {
+    let verdict = verdict_text(report.verdict);
+    let mut page = Vec::new(alloc);
+    if number > 1 {
+        add(&mut page, "\n")?;
+    }
+    let front = format!(in alloc;
+        "result {number}, found in the first {plays} plays: {verdict}\n"
+    )?;
+    add(&mut page, front.as_str())?;
+    page.extend_from_slice(&report.text)?;
+    Ok(page)
+}
+
+/// What is printed of a script whose sends are synchronous, where it ends well otherwise: what waits for ever then.
+pub fn summary_of_synchronous(
+    alloc: Global,
+    size: u16,
+    explored: &Explored,
+) -> Result<Vec<u8>, AllocError> {
+    let mut page = Vec::new(alloc);
+    add(&mut page, "\nWith every send synchronous: ")?;
+    add_head(alloc, &mut page, size, explored)?;
+    if !explored.has_deadlock() {
+        add(
+            &mut page,
+            "No rank waits for ever: nothing rests on messages that are buffered.\n",
+        )?;
+        return Ok(page);
+    }
+    add(
+        &mut page,
+        "The script works only because messages are buffered.\n",
+    )?;
+    for (place, found) in explored.results.iter().enumerate() {
+        if found.report.verdict == Verdict::Deadlock {
+            add_result(alloc, &mut page, place + 1, explored, found)?;
+        }
+    }
     Ok(page)
 }

@@ -2,6 +2,7 @@
 
 ghost use Rattle.std.specs.Prelude.{◌≤◌, IfSome};
 
+use crate::exploring::Extent;
 use clap::builder::ValueParser;
 use clap::{Arg, ArgAction, ArgMatches, Command};
 use numerals::number_between;
@@ -13,8 +14,20 @@ const ABOUT: &str =
 
 /// What its statuses mean.
 const STATUSES: &str = "\
-Status: 0 where every schedule that was played ends well with one result, 1 where something was found or the script is
-faulty, 2 where the words are wrong, 3 where the output fails, 6 for want of memory.";
+Status: 0 where no schedule that was played has an error, a request or a message that is left over, or a rank that isn't
+through; 1 where one has, or the script is faulty; 2 where the words are wrong, 3 where the output fails, 6 for want of
+memory.";
+
+/// How sends are played.
+#[derive(Clone, Copy, Debug, PartialEq, Eq)]
+pub enum Sends {
+    /// As the script has them.
+    AsWritten,
+    /// Each as a synchronous one.
+    Synchronous,
+    /// First as the script has them, and where no rank waits for ever then each as a synchronous one.
+    Both,
+}
 
 /// What the words ask for.
 #[derive(Clone, Copy, Debug)]
@@ -25,12 +38,31 @@ pub struct Settings<'a> {
     pub most: u64,
     /// From what the random ones begin.
     pub seed: u64,
+    /// How many results are told at most.
+    pub results: u64,
+    /// Whether only what can go wrong is searched for, and not each result.
+    pub findings: bool,
+    /// How sends are played.
+    pub sends: Sends,
     /// Of which result the events are printed, and nothing else; none: the report is printed.
     pub events: Option<u64>,
     /// The folder into which the events of each result are written, if they are.
     pub folder: Option<&'a str>,
     /// The name of the script's file.
     pub file: &'a str,
+}
+
+impl Settings<'_> {
+    /// How far the script is explored.
+    pub fn extent(&self) -> Extent {
+        Extent {
+            size: self.size,
+            most: self.most,
+            seed: self.seed,
+            results: self.results,
+            findings: self.findings,
+        }
+    }
 }
 
 fn number_option<'a>(
@@ -79,10 +111,51 @@ fn with_numbers<'a>(command: Command<'a>, alloc: Global) -> Result<Command<'a>, 
         1_000_000_000,
         "Print nothing but result R as a file of events, which mpisim runs and mpidraw draws",
     );
-    command.arg(size)?.arg(most)?.arg(seed)?.arg(events)
+    let results = number_option(
+        alloc,
+        "results",
+        "K",
+        1,
+        1_000_000_000,
+        "How many results are told at most, first those in which something is wrong",
+    )
+    .default_value("10");
+    command
+        .arg(size)?
+        .arg(most)?
+        .arg(seed)?
+        .arg(results)?
+        .arg(events)
 }
 
-/// `mpiexplore -n N [--most K] [--seed S] [--events R] [--out FOLDER] SCRIPT`
+fn flag<'a>(alloc: Global, name: &'a str, help: &'a str) -> Arg<'a> {
+    Arg::new(alloc, name)
+        .long(name)
+        .action(ArgAction::SetTrue)
+        .help(help)
+}
+
+fn with_sends<'a>(command: Command<'a>, alloc: Global) -> Result<Command<'a>, AllocError> {
+    let synchronous = flag(
+        alloc,
+        "synchronous",
+        "Play every send and isend as a synchronous one, which ends once its message is received",
+    );
+    let both = flag(
+        alloc,
+        "both",
+        "Play the script as it is, and where no rank waits for ever then with synchronous sends too",
+    );
+    let findings = flag(
+        alloc,
+        "findings",
+        "Search for what can go wrong alone, and not for each result: far fewer plays",
+    );
+    command.arg(synchronous)?.arg(both)?.arg(findings)
+}
+
+/// `mpiexplore -n N [--most K] [--seed S] [--results K] [--findings] [--synchronous|--both] [--events R]
+/// [--out FOLDER] SCRIPT`
 pub fn explore_program<'a>(alloc: Global) -> Result<Command<'a>, AllocError> {
     let command = Command::new(alloc, "mpiexplore")
         .about(
@@ -90,6 +163,7 @@ pub fn explore_program<'a>(alloc: Global) -> Result<Command<'a>, AllocError> {
         )
         .after_help(STATUSES);
     let command = with_numbers(command, alloc)?;
+    let command = with_sends(command, alloc)?;
     let folder = Arg::new(alloc, "out")
         .long("out")
         .value_name("FOLDER")
@@ -107,6 +181,16 @@ fn number(matches: &ArgMatches<'_>, name: &str, high: u64) -> Option<u64>
     number_between(matches.get_str(name)?.as_bytes(), 0, high)
 }
 
+fn sends_in(matches: &ArgMatches<'_>) -> Sends {
+    if matches.get_flag("both") {
+        Sends::Both
+    } else if matches.get_flag("synchronous") {
+        Sends::Synchronous
+    } else {
+        Sends::AsWritten
+    }
+}
+
 /// What the words that were taken ask for; none where a number has a zero in front.
 pub fn settings_in<'a>(matches: &ArgMatches<'a>) -> Option<Settings<'a>> {
     let events = match matches.get_str("events") {
@@ -117,6 +201,9 @@ pub fn settings_in<'a>(matches: &ArgMatches<'a>) -> Option<Settings<'a>> {
         size: number(matches, "ranks", 1_024)? as u16,
         most: number(matches, "most", 1_000_000_000)?,
         seed: number(matches, "seed", u64::MAX)?,
+        results: number(matches, "results", 1_000_000_000)?,
+        findings: matches.get_flag("findings"),
+        sends: sends_in(matches),
         events,
         folder: matches.get_str("out"),
         file: matches.get_str("SCRIPT")?,

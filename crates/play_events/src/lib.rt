@@ -2,8 +2,10 @@
 #![tactic(auto)]
 
 mod account;
+mod errors;
 mod lines;
 mod writing;
 
 pub use account::{Account, CallAt, account_of};
-pub use lines::ScriptLines;
+pub use errors::ErrorAt;
+pub use lines::{ScriptLines, ShownLines};

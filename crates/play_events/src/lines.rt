@@ -62,3 +62,30 @@ fn is_in(line: &[u8], word: &[u8]) -> bool {
     }
     false
 }
+
+/// The lines of a script as they are told of, where so many lines of the text that is played stand for each.
+#[derive(Drop)]
+pub struct ShownLines<'a> {
+    lines: ScriptLines<'a>,
+    each: usize,
+}
+
+impl<'a> ShownLines<'a> {
+    /// The lines of this text, each of which is played as so many, at least one. The only error is want of memory.
+    pub fn new(alloc: Global, text: &'a [u8], each: usize) -> Result<ShownLines<'a>, AllocError> {
+        Ok(ShownLines {
+            lines: ScriptLines::new(alloc, text)?,
+            each,
+        })
+    }
+
+    /// The number of the line for which this line of the text that is played stands.
+    pub fn number(&self, played: usize) -> usize {
+        played.div_ceil(self.each.max(1))
+    }
+
+    /// The line for which this line of the text that is played stands, without the spaces in front.
+    pub fn line(&self, played: usize) -> &'a [u8] {
+        self.lines.line(self.number(played))
+    }
+}

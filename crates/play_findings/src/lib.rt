@@ -3,6 +3,7 @@
 #![tactic(auto)]
 
 mod ending;
+mod faults;
 mod outcome;
 mod printed;
 mod report;

@@ -1,81 +1,53 @@
 //! What is to be told of a play.
 
-use crate::outcome::{Outcome, outcome_of};
+use crate::outcome::Outcome;
 use crate::printed::add_printed;
-use engine::Request;
 use line_diagnostics::explanation;
-use play_events::{Account, ScriptLines};
+use play_events::{Account, ShownLines};
+use play_faults::{Asked, Operations};
 use play_waits::{
-    Communicators, Entered, Group, Leftover, Page, Waiter, Waiting, add_elements, add_source,
-    add_tag, blocked_in, cycle_in, left_of, leftovers_of, requests_in, waiting_of, waits_alone,
+    Communicators, Entered, Group, Page, Wait, Waiter, Waiting, add_elements, add_knot, blocked_in,
+    cycle_in, knot_in, waiting_of,
 };
 use script_files::parse;
-use script_plays::{Move, Played, Stage};
+use script_plays::{Played, Stage};
 use script_runner::line_of_number;
 use std::alloc::{AllocError, Global};
-use stepped_plays::{PlayError, scripts_of};
-use world::World;
+use stepped_plays::PlayError;
 
 /// A play that is told of.
 #[derive(Drop)]
-pub(crate) struct Teller<'t, 's> {
+pub(crate) struct Teller<'t, 's, 'o> {
     /// The allocator.
     pub alloc: Global,
-    /// The script's text.
+    /// The text that was played.
     pub text: &'t [u8],
-    /// The same by lines.
-    pub lines: ScriptLines<'t>,
+    /// The script's lines, as they are told of.
+    pub lines: &'s ShownLines<'o>,
     /// How many ranks there are.
     pub size: u16,
-    /// The schedule by which it was played.
-    pub schedule: &'s [Move],
     /// Its account.
     pub account: Account,
     /// What came of it.
     pub outcome: Outcome,
     /// The communicators that its ranks made.
     pub communicators: Communicators,
+    /// What its ranks started.
+    pub operations: Operations,
+    /// What they answered behind its end.
+    pub asked: Asked,
 }
 
-/// The schedule without the last step of this rank.
-fn without_last(alloc: Global, schedule: &[Move], rank: u16) -> Result<Vec<Move>, AllocError> {
-    let last = schedule.iter().rposition(|one| *one == Move::Go(rank));
-    let mut shorter = Vec::new(alloc);
-    for (place, one) in schedule.iter().enumerate() {
-        if last != Some(place) {
-            shorter.push(*one)?;
-        }
-    }
-    Ok(shorter)
-}
-
-/// The world behind a play of this schedule.
-fn world_behind(
-    alloc: Global,
-    text: &[u8],
-    size: u16,
-    schedule: &[Move],
-) -> Result<World, PlayError> {
-    let outcome = outcome_of(alloc, scripts_of(alloc, text, size)?, schedule)?;
-    let Outcome {
-        world,
-        players,
-        verdict: _,
-    } = outcome;
-    drop(players);
-    Ok(world)
-}
-
-impl Teller<'_, '_> {
-    /// The number of the line that a rank took last.
+impl Teller<'_, '_, '_> {
+    /// The number of the line that a rank took last, in the text that was played.
     fn line(&self, rank: u16) -> usize {
         self.account.lines.get(rank as usize).copied().unwrap_or(0)
     }
 
     /// Adds ` at line L: TEXT`.
-    fn add_line(&self, page: &mut Page, number: usize) -> Result<(), AllocError> {
+    pub(crate) fn add_line(&self, page: &mut Page, number: usize) -> Result<(), AllocError> {
         page.add(" at line ")?;
-        page.add_number(number)?;
+        page.add_number(self.lines.number(number))?;
         page.add(": ")?;
         page.add_bytes(self.lines.line(number))
     }
@@ -90,9 +62,8 @@ impl Teller<'_, '_> {
             .runner()
             .lack_of(self.alloc, &reached.statement)
             .ok()??;
-        let front = format!(in self.alloc;
-            "rank {rank} ended with status 1 at line {number}"
-        ).ok()?;
+        let shown = self.lines.number(number);
+        let front = format!(in self.alloc; "rank {rank} ended with status 1 at line {shown}").ok()?;
         explanation(
             self.alloc,
             front.as_bytes(),
@@ -136,22 +107,6 @@ impl Teller<'_, '_> {
         Ok(())
     }
 
-    /// Those requests of a rank that are unfinished, of a call that waits for all of several.
-    fn left(&self, rank: u16, player: &Played) -> Result<Vec<Option<Request>>, PlayError> {
-        let Some(call) = blocked_in(player) else {
-            return Ok(Vec::new(self.alloc));
-        };
-        let requests = requests_in(call);
-        if requests.is_empty() {
-            return Ok(Vec::new(self.alloc));
-        }
-        let shorter = without_last(self.alloc, self.schedule, rank)?;
-        let mut world = world_behind(self.alloc, self.text, self.size, &shorter)?;
-        let left = left_of(self.alloc, &mut world, rank, requests)?;
-        drop(world);
-        Ok(left)
-    }
-
     /// Whom a rank waits for; none where it doesn't wait.
     fn waiting(&self, rank: u16) -> Result<Option<Waiting>, PlayError> {
         let Some(player) = self.outcome.players.get(rank as usize) else {
@@ -160,14 +115,17 @@ impl Teller<'_, '_> {
         let Some(call) = blocked_in(player) else {
             return Ok(None);
         };
-        let left = self.left(rank, player)?;
+        let left = match self.asked.left.get(rank as usize) {
+            Some(left) => left.as_slice(),
+            None => &[],
+        };
         let waiter = Waiter {
             alloc: self.alloc,
             rank,
             history: self.outcome.world.history(),
             communicators: &self.communicators,
         };
-        Ok(Some(waiting_of(waiter, call, &left)?))
+        Ok(Some(waiting_of(waiter, call, left)?))
     }
 
     fn has_ended(&self, rank: u16) -> bool {
@@ -191,31 +149,40 @@ impl Teller<'_, '_> {
                 page.add(" has ended\n")?;
             }
         }
+        let any_of = waiting.any_of.as_slice();
+        if !any_of.is_empty() && any_of.iter().all(|other| self.has_ended(*other)) {
+            page.add("  all that could do that have ended\n")?;
+        }
         Ok(())
     }
 
     /// Adds whom each rank waits for that can't go on.
     fn add_waits(&self, page: &mut Page) -> Result<(), PlayError> {
         let mut waits = Vec::new(self.alloc);
+        let mut direct = Vec::new(self.alloc);
         for rank in 0..self.size {
-            match self.waiting(rank)? {
-                Some(waiting) => {
-                    self.add_waiting(page, rank, &waiting)?;
-                    let Waiting { words, whom } = waiting;
-                    drop(words);
-                    waits.push(whom)?;
-                }
-                None => waits.push(Vec::new(self.alloc))?,
+            let mut wait = Wait {
+                whom: Vec::new(self.alloc),
+                any_of: Vec::new(self.alloc),
+            };
+            if let Some(waiting) = self.waiting(rank)? {
+                self.add_waiting(page, rank, &waiting)?;
+                wait.whom.extend_from_slice(&waiting.whom)?;
+                wait.any_of.extend_from_slice(&waiting.any_of)?;
             }
+            direct.push(Vec::from_slice(self.alloc, &wait.whom)?)?;
+            waits.push(wait)?;
         }
-        self.add_cycle(page, &cycle_in(self.alloc, &waits)?)?;
+        let cycle = cycle_in(self.alloc, &direct)?;
+        if !cycle.is_empty() {
+            self.add_cycle(page, &cycle)?;
+        } else if let Some(knot) = knot_in(self.alloc, &waits)? {
+            add_knot(page, &waits, &knot)?;
+        }
         Ok(())
     }
 
     fn add_cycle(&self, page: &mut Page, cycle: &[u16]) -> Result<(), AllocError> {
-        if cycle.is_empty() {
-            return Ok(());
-        }
         page.add("a cycle: ")?;
         for (place, rank) in cycle.iter().enumerate() {
             page.add(match place {
@@ -229,7 +196,12 @@ impl Teller<'_, '_> {
     }
 
     /// Adds which communicator it is.
-    fn add_group(&self, page: &mut Page, place: usize, group: &Group) -> Result<(), AllocError> {
+    pub(crate) fn add_group(
+        &self,
+        page: &mut Page,
+        place: usize,
+        group: &Group,
+    ) -> Result<(), AllocError> {
         if place == 0 {
             return page.add("world");
         }
@@ -237,7 +209,7 @@ impl Teller<'_, '_> {
             return page.add("self");
         }
         page.add("the communicator that line ")?;
-        page.add_number(group.line)?;
+        page.add_number(self.lines.number(group.line))?;
         page.add(" made")
     }
 
@@ -349,65 +321,6 @@ impl Teller<'_, '_> {
         Ok(any)
     }
 
-    fn add_leftover(&self, page: &mut Page, rank: u16, one: Leftover) -> Result<(), AllocError> {
-        page.add_rank(rank)?;
-        page.add(" never received a message of ")?;
-        add_source(page, one.status.source)?;
-        page.add(" with ")?;
-        add_tag(page, one.status.tag)?;
-        if one.comm != 0 {
-            page.add(" on ")?;
-            if let (Some(place), Some(group)) = (
-                self.communicators.group_at(rank, one.comm),
-                self.communicators.held_by(rank, one.comm),
-            ) {
-                self.add_group(page, place, group)?;
-            }
-        }
-        page.add("\n")
-    }
-
-    /// The world in which this rank can be asked for its messages; none where it can't be.
-    fn world_to_ask(&self, rank: u16, player: &Played) -> Result<Option<World>, PlayError> {
-        match blocked_in(player) {
-            None => Ok(Some(world_behind(self.alloc, self.text, self.size, self.schedule)?)),
-            Some(call) => {
-                if !waits_alone(call) {
-                    return Ok(None);
-                }
-                let shorter = without_last(self.alloc, self.schedule, rank)?;
-                Ok(Some(world_behind(self.alloc, self.text, self.size, &shorter)?))
-            }
-        }
-    }
-
-    fn add_leftovers_of(
-        &self,
-        page: &mut Page,
-        rank: u16,
-        player: &Played,
-    ) -> Result<(), PlayError> {
-        if let Some(mut world) = self.world_to_ask(rank, player)? {
-            let count = self.communicators.count(rank);
-            let leftovers = leftovers_of(self.alloc, &mut world, rank, count)?;
-            drop(world);
-            for one in leftovers.as_slice() {
-                self.add_leftover(page, rank, *one)?;
-            }
-        }
-        Ok(())
-    }
-
-    /// Adds the messages that nobody received.
-    fn add_leftovers(&self, page: &mut Page) -> Result<(), PlayError> {
-        for rank in 0..self.size {
-            if let Some(player) = self.outcome.players.get(rank as usize) {
-                self.add_leftovers_of(page, rank, player)?;
-            }
-        }
-        Ok(())
-    }
-
     /// Adds what each rank printed.
     pub(crate) fn add_all_printed(&self, page: &mut Page) -> Result<(), AllocError> {
         for rank in 0..self.size {
@@ -420,9 +333,11 @@ impl Teller<'_, '_> {
 
     /// What is to be told but what each rank printed. Answers whether a collective was entered differently.
     pub(crate) fn add_findings(&self, page: &mut Page) -> Result<bool, PlayError> {
+        self.add_errors(page)?;
         self.add_ends(page)?;
         self.add_waits(page)?;
         let differ = self.add_collectives(page)?;
+        self.add_unended(page)?;
         self.add_leftovers(page)?;
         Ok(differ)
     }

@@ -1,5 +1,8 @@
 //! The communicators of a play and the collectives that were entered on them, as the history of its world has them.
 
+ghost use Rattle.std.specs.Prelude.{◌≡◌};
+ghost use Rattle.play_waits.specs.Entering.{entered_by};
+
 use crate::entered::{Entered, choice_in};
 use crate::one_communicator::{Group, first_groups};
 use collectives::Ending;
@@ -103,7 +106,9 @@ impl Communicators {
     }
 
     /// How many collectives a rank has entered on a communicator.
-    pub fn count_of(&self, rank: u16, group: usize) -> usize {
+    pub fn count_of(&self, rank: u16, group: usize) -> usize
+        ensures { result ≡ entered_by rank group self.now.entered.items }
+    {
         self.entered
             .iter()
             .filter(|one| one.rank == rank && one.group == group)

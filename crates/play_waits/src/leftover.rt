@@ -14,8 +14,17 @@ pub struct Leftover {
     pub status: Status,
 }
 
-/// What a call answers; none where it is refused.
-fn answer_of(world: &mut World, rank: u16, call: Call) -> Option<&Reply> {
+impl Leftover {
+    /// Whether both are of one source, with one tag, on one communicator.
+    pub fn is_like(&self, other: &Leftover) -> bool {
+        self.comm == other.comm
+            && self.status.source == other.status.source
+            && self.status.tag == other.status.tag
+    }
+}
+
+/// What a call of this rank answers; none where it is refused.
+pub fn answer_of(world: &mut World, rank: u16, call: Call) -> Option<&Reply> {
     match world.step(Event::Call(rank, call)) {
         Ok(stepped) => match world.history().get(stepped.place) {
             Some(entry) => entry.reply.as_ref(),

@@ -5,6 +5,7 @@
 mod all_communicators;
 mod cycle;
 mod entered;
+mod knot;
 mod leftover;
 mod one_communicator;
 mod page;
@@ -14,7 +15,8 @@ mod words;
 pub use all_communicators::{Communicators, communicators_of, line_at};
 pub use cycle::cycle_in;
 pub use entered::Entered;
-pub use leftover::{Leftover, left_of, leftovers_of};
+pub use knot::{Knot, Wait, add_knot, knot_in};
+pub use leftover::{Leftover, answer_of, left_of, leftovers_of};
 pub use one_communicator::Group;
 pub use page::Page;
 pub use waiting::{Waiter, Waiting, blocked_in, requests_in, waiting_of, waits_alone};

@@ -1,6 +1,10 @@
 //! Whom a rank waits for.
 
+ghost use Rattle.std.specs.Prelude.{◌≡◌, ◌++◌, filter, OnOk};
+ghost use Rattle.play_waits.specs.Entering.{is_awaited};
+
 use crate::all_communicators::Communicators;
+use crate::entered::Entered;
 use crate::page::Page;
 use crate::words::{add_source, add_tag};
 use engine::{Call, Receive, Reply, Request, Send};
@@ -16,6 +20,8 @@ pub struct Waiting {
     pub words: Page,
     /// The ranks in `world` without any of which it can't go on.
     pub whom: Vec<u16>,
+    /// Ranks in `world` of which one has to do something before it can go on, whichever it is; none where it isn't so.
+    pub any_of: Vec<u16>,
 }
 
 /// What a rank that waits knows.
@@ -51,6 +57,19 @@ fn call_of(history: &[HistoryEntry], rank: u16, request: Request) -> Option<&Cal
     None
 }
 
+impl Waiting {
+    /// Any of those that it waits for is enough.
+    fn wait_for_any(&mut self) -> Result<(), AllocError> {
+        for rank in self.whom.as_slice() {
+            if !self.any_of.contains(rank) {
+                self.any_of.push(*rank)?;
+            }
+        }
+        self.whom.clear();
+        Ok(())
+    }
+}
+
 impl Waiter<'_, '_> {
     fn world_rank(self, comm: Option<usize>, member: u16) -> Option<u16> {
         self.communicators
@@ -80,6 +99,21 @@ impl Waiter<'_, '_> {
         Ok(())
     }
 
+    /// Adds the members of a communicator but the rank itself.
+    fn add_others(self, any_of: &mut Vec<u16>, comm: Option<usize>) -> Result<(), AllocError> {
+        let Some(place) = comm else {
+            return Ok(());
+        };
+        if let Some(group) = self.communicators.held_by(self.rank, place) {
+            for member in group.members.as_slice() {
+                if *member != self.rank && !any_of.contains(member) {
+                    any_of.push(*member)?;
+                }
+            }
+        }
+        Ok(())
+    }
+
     fn for_message(self, waiting: &mut Waiting, asked: &Receive) -> Result<(), AllocError> {
         let words = &mut waiting.words;
         words.add("a message of ")?;
@@ -87,6 +121,9 @@ impl Waiter<'_, '_> {
         words.add(" with ")?;
         add_tag(words, asked.tag)?;
         self.add_place(words, asked.comm)?;
+        if asked.source == Source::Any {
+            return self.add_others(&mut waiting.any_of, asked.comm);
+        }
         self.add_whom(&mut waiting.whom, asked.comm, asked.source)
     }
 
@@ -125,6 +162,35 @@ impl Waiter<'_, '_> {
         Ok(())
     }
 
+    /// Whether this member has not entered the collective of this entry.
+    fn awaits(self, member: u16, entered: Entered) -> bool
+        ensures { result ≡ is_awaited entered self.entry.communicators.now.entered.items member }
+    {
+        self.communicators.count_of(member, entered.group) <= entered.number
+    }
+
+    /// Adds those of these members that have not entered the collective of this entry.
+    fn add_awaited(
+        self,
+        waiting: &mut Waiting,
+        members: &[u16],
+        entered: Entered,
+    ) -> Result<(), AllocError>
+        ensures { OnOk result (waiting.new.whom.items ≡ waiting.old.whom.items ++
+            filter (is_awaited entered self.entry.communicators.now.entered.items) members.now) }
+    {
+        for member in members {
+            if self.awaits(*member, entered) {
+                if !waiting.words.is_empty() {
+                    waiting.words.add(" and ")?;
+                }
+                waiting.words.add_rank(*member)?;
+                waiting.whom.push(*member)?;
+            }
+        }
+        Ok(())
+    }
+
     /// The members that have not entered the collective in which it is.
     fn for_members(self, waiting: &mut Waiting) -> Result<(), AllocError> {
         let Some(entered) = self.communicators.last_of(self.rank) else {
@@ -133,15 +199,7 @@ impl Waiter<'_, '_> {
         let Some(group) = self.communicators.groups().get(entered.group) else {
             return Ok(());
         };
-        for member in group.members.as_slice() {
-            if self.communicators.count_of(*member, entered.group) <= entered.number {
-                if !waiting.words.is_empty() {
-                    waiting.words.add(" and ")?;
-                }
-                waiting.words.add_rank(*member)?;
-                waiting.whom.push(*member)?;
-            }
-        }
+        self.add_awaited(waiting, group.members.as_slice(), entered)?;
         if waiting.words.is_empty() {
             return waiting
                 .words
@@ -160,8 +218,8 @@ impl Waiter<'_, '_> {
             Call::Wait(Some(request)) => self.for_request(waiting, *request),
             Call::Waitany(list) => {
                 self.for_requests(waiting, list.as_slice(), ", or ")?;
-                if waiting.whom.len() > 1 {
-                    waiting.whom.clear();
+                if list.as_slice().iter().filter(|one| one.is_some()).count() > 1 {
+                    waiting.wait_for_any()?;
                 }
                 Ok(())
             }
@@ -203,6 +261,7 @@ pub fn waiting_of(
     let mut waiting = Waiting {
         words: Page::new(waiter.alloc),
         whom: Vec::new(waiter.alloc),
+        any_of: Vec::new(waiter.alloc),
     };
     waiter.for_call(&mut waiting, call, left)?;
     Ok(waiting)
