@@ -114,7 +114,11 @@ impl<'t> PlayedText<'t> {
 
     /// The number of the line of the script for which this line of the text that is played stands.
     pub fn line(&self, played: usize) -> usize {
-        played.div_ceil(self.lines_each())
+        if self.is_synchronous() {
+            played.div_ceil(2)
+        } else {
+            played
+        }
     }
 
     fn lines_each(&self) -> usize {
