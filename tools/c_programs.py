@@ -8,7 +8,6 @@ import hashlib
 import os
 import shutil
 import subprocess
-import sys
 import tempfile
 from pathlib import Path
 
@@ -66,21 +65,23 @@ def need_kit():
     return programs.kit()
 
 
-def build_unproved(say):
-    """Builds the unproved engine where it isn't current."""
-    with programs.locked(say):
-        if CRATE not in programs.dependencies():
-            raise Fault("crates.txt names no crate %s, which gives the engine to C" % CRATE)
-        if is_built():
-            return
-        need_kit()
-        say("building the engine for C before any proof, once: two to four minutes on a quiet machine")
-        wanted, new = sum_of_unproved(), UNPROVED.with_suffix(".new")
-        made = subprocess.run([sys.executable, BUILDER, CRATE, new], stdin=subprocess.DEVNULL, stdout=subprocess.PIPE, stderr=subprocess.STDOUT)
-        if made.returncode != 0:
-            raise Fault("the engine wasn't built:\n%s" % made.stdout.decode(errors="replace"))
-        os.replace(new, UNPROVED)
-        UNPROVED.with_suffix(".sum").write_text(wanted)
+def begin_build():
+    """Begins to build the unproved engine."""
+    return programs.Build(CRATE, BUILDER, UNPROVED, sum_of_unproved())
+
+
+def build_unproved(say, names=()):
+    """Builds the unproved engine where it isn't current, and these programs beside it."""
+    if CRATE not in programs.dependencies():
+        raise Fault("crates.txt names no crate %s, which gives the engine to C" % CRATE)
+    programs.build_unproved(say, names, (), [("the engine for C", is_built, begin_build)])
+
+
+def build_with(say, names):
+    """Builds these programs and the engine side by side, where neither proved nor unproved ones are current."""
+    lacking = [it for it in names if not programs.is_proved(it)]
+    if not is_proved() and (lacking and programs.unproved_folders(lacking) is None or not is_built()):
+        build_unproved(say, lacking)
 
 
 def prove(say):

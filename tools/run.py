@@ -286,6 +286,8 @@ def command_of_c(request):
         raise Fault("'%s' shows scripts and files of events: a C program can only be run" % request.view)
     if not request.file.is_file():
         raise Fault("%s can't be read" % request.file)
+    if not request.is_proved and not {"RUN_PROGRAMS", "RUN_ENGINE"} & set(os.environ):
+        c_programs.build_with(say, ["mpiexec"])
     mpiexec = find(["mpiexec"], request.is_proved)["mpiexec"]
     program = c_programs.compiled(say, request.file, request.is_proved)
     words = launch(mpiexec, request, request.ranks or 2)

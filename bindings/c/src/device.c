@@ -1,4 +1,4 @@
-/* The device: one UDP socket at 127.0.0.1 and the clock. See device.h. */
+/* The device: one UDP socket and the clock. See device.h. */
 #define _GNU_SOURCE
 #include "device.h"
 
@@ -46,7 +46,8 @@ union control {
     struct cmsghdr aligned;
 };
 
-static int own_socket = -1, first_port_of_job;
+static int own_socket = -1, error_of_socket;
+static const struct addresses *addresses;
 static bool can_segment;
 
 static unsigned char out_room[OUT_ROOM];
@@ -57,12 +58,13 @@ static int group_count;
 static unsigned char heard_room[MOST_HEARD][HEARD_ROOM];
 static struct mmsghdr heard[MOST_HEARD];
 static struct iovec heard_parts[MOST_HEARD];
+static struct sockaddr_in heard_from[MOST_HEARD];
 static union control heard_controls[MOST_HEARD];
 
 static struct sockaddr_in address_of(int rank) {
     return (struct sockaddr_in){.sin_family = AF_INET,
-                                .sin_port = htons((uint16_t)(first_port_of_job + rank)),
-                                .sin_addr.s_addr = htonl(INADDR_LOOPBACK)};
+                                .sin_port = htons((uint16_t)(addresses->first_port + rank)),
+                                .sin_addr.s_addr = htonl(addresses->of_rank[rank])};
 }
 
 /* Asks for large rooms, and for datagrams that are cut and joined by the system where it can. */
@@ -76,8 +78,9 @@ static void set_options(void) {
     (void)setsockopt(own_socket, IPPROTO_UDP, UDP_GRO, &on, sizeof on);
 }
 
-bool device_open(int rank, int first_port) {
-    first_port_of_job = first_port;
+bool device_open(int rank, const struct addresses *job) {
+    addresses = job;
+    error_of_socket = 0;
     own_socket = socket(AF_INET, SOCK_DGRAM | SOCK_NONBLOCK | SOCK_CLOEXEC, 0);
     if (own_socket < 0) return false;
     struct sockaddr_in own = address_of(rank);
@@ -131,19 +134,31 @@ static void describe(const struct group *group, struct msghdr *message, struct s
     memcpy(CMSG_DATA(length), &group->each, sizeof group->each);
 }
 
-/* Hands so many messages to the system. What it doesn't take is lost, as any datagram may be, and goes out again. */
+/* Whether an error is one by which a system or a network says that it can't take a datagram now. */
+static bool is_loss(int error) {
+    static const int losses[] = {EAGAIN,   EWOULDBLOCK, ENOBUFS,      ENOMEM, ENETUNREACH,  EHOSTUNREACH,
+                                 ENETDOWN, EHOSTDOWN,   ECONNREFUSED, EPERM,  EADDRNOTAVAIL};
+    for (size_t at = 0; at < sizeof losses / sizeof *losses; at++)
+        if (losses[at] == error) return true;
+    return false;
+}
+
+/* Notes why the system didn't take a group. What is lost goes out again, as any datagram that is. */
+static void note_error(const struct group *group, int error) {
+    if (group->count > 1 && (error == EINVAL || error == EIO || error == EMSGSIZE)) can_segment = false;
+    else if (!is_loss(error)) error_of_socket = error;
+}
+
+/* Hands so many messages to the system. */
 static void hand_over(struct mmsghdr *messages, int count) {
     for (int at = 0; at < count;) {
         int sent = sendmmsg(own_socket, messages + at, (unsigned)(count - at), 0);
-        if (sent > 0) {
-            at += sent;
-            continue;
-        }
-        if (errno == EINTR) continue;
-        if (groups[at].count > 1 && (errno == EINVAL || errno == EIO || errno == EMSGSIZE)) can_segment = false;
-        at++;
+        if (sent > 0) at += sent;
+        else if (errno != EINTR) note_error(&groups[at++], errno);
     }
 }
+
+int device_error(void) { return error_of_socket; }
 
 void device_flush(int copies) {
     static struct mmsghdr messages[MOST_GROUPS];
@@ -172,11 +187,23 @@ static size_t length_of_each(struct msghdr *message, size_t len) {
 static void clear_heard(int count) {
     for (int i = 0; i < count; i++) {
         heard_parts[i] = (struct iovec){heard_room[i], HEARD_ROOM};
-        heard[i].msg_hdr = (struct msghdr){.msg_iov = &heard_parts[i],
+        heard[i].msg_hdr = (struct msghdr){.msg_name = &heard_from[i],
+                                           .msg_namelen = sizeof heard_from[i],
+                                           .msg_iov = &heard_parts[i],
                                            .msg_iovlen = 1,
                                            .msg_control = heard_controls[i].room,
                                            .msg_controllen = sizeof heard_controls[i].room};
     }
+}
+
+/* Hands over a packet, if it has bytes and was sent by a rank of the job: whether it was. */
+static bool hand_on(device_hearer *hearer, int packet) {
+    const struct sockaddr_in *from = &heard_from[packet];
+    int source = rank_at(addresses, ntohl(from->sin_addr.s_addr), ntohs(from->sin_port));
+    size_t len = heard[packet].msg_len;
+    if (source < 0 || len == 0) return false;
+    hearer(source, heard_room[packet], len, length_of_each(&heard[packet].msg_hdr, len));
+    return true;
 }
 
 bool device_hear(device_hearer *hearer) {
@@ -185,11 +212,9 @@ bool device_hear(device_hearer *hearer) {
     clear_heard(wanted);
     int count = recvmmsg(own_socket, heard, (unsigned)wanted, MSG_DONTWAIT, NULL);
     wanted = count == wanted ? MOST_HEARD : 1;
-    for (int i = 0; i < count; i++) {
-        size_t len = heard[i].msg_len;
-        if (len > 0) hearer(heard_room[i], len, length_of_each(&heard[i].msg_hdr, len));
-    }
-    return count > 0;
+    bool has_come = false;
+    for (int i = 0; i < count; i++) has_come |= hand_on(hearer, i);
+    return has_come;
 }
 
 void device_sleep(int milliseconds) {

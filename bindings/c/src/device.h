@@ -3,13 +3,15 @@
 #ifndef KOMBAZILY_DEVICE_H
 #define KOMBAZILY_DEVICE_H
 
+#include "addresses.h"
+
 #include <stdbool.h>
 #include <stddef.h>
 #include <stdint.h>
 
-/* Opens the socket of a rank, at the port `first_port + rank` of this machine: whether it could. `errno` says why it
- * couldn't. */
-bool device_open(int rank, int first_port);
+/* Opens the socket of a rank, at its address and port alone: whether it could. `errno` says why it couldn't. The
+ * addresses stay where they are while the device is open. */
+bool device_open(int rank, const struct addresses *job);
 void device_close(void);
 bool device_is_open(void);
 
@@ -20,12 +22,14 @@ uint32_t device_most(void);
 /* What stands in the room goes to this rank, at the next device_flush at the latest: so many datagrams behind one
  * another, each of so many bytes but for the last, which may have fewer; `len` bytes in all. */
 void device_put(uint16_t target, uint32_t count, uint32_t each, size_t len);
-/* Hands all that goes out to the system, so many times. */
+/* Hands all that goes out to the system, so many times. What the system or the network can't take now is lost. */
 void device_flush(int copies);
+/* The system's number of an error of the socket that no network makes, or 0. */
+int device_error(void);
 
 /* Who is handed what came: some bytes, in which datagrams of `each` bytes stand behind one another, of which the last
- * may be shorter. */
-typedef void device_hearer(const unsigned char *bytes, size_t len, size_t each);
+ * may be shorter; and the rank at whose address and port they were sent. What comes from elsewhere is dropped. */
+typedef void device_hearer(int source, const unsigned char *bytes, size_t len, size_t each);
 /* Hands over what has come, if anything has, and doesn't wait: whether anything had. */
 bool device_hear(device_hearer *hearer);
 /* Waits until something comes, or so many milliseconds. */

@@ -16,13 +16,13 @@
 #include <unistd.h>
 
 enum {
-    STATUS_PLACE = 2, /* what the launcher tells of the place is wrong */
-    STATUS_SOCKET = 3,
+    STATUS_PLACE = 2,       /* what the launcher tells of the place is wrong */
     MESSAGE_LIMIT = 1 << 20 /* bytes of a message */
 };
 
 struct process process = {.size = 1, .call = "MPI_Init"};
 struct engine_rank engine;
+static struct addresses addresses;
 static thrd_t main_thread;
 
 _Noreturn void end_job(int status) {
@@ -45,6 +45,16 @@ static void drop_words(int taken, int *argc, char ***argv) {
     *argc -= taken;
 }
 
+/* Where the ranks are: all on this machine, unless KOMBAZILY_HOSTS says otherwise. */
+static void find_addresses(const struct place *place) {
+    const char *hosts = getenv("KOMBAZILY_HOSTS");
+    addresses.size = (int)place->size;
+    addresses.first_port = (int)place->port;
+    put_loopback(&addresses);
+    if (hosts != NULL && !read_addresses(hosts, &addresses))
+        refuse_start(STATUS_PLACE, "its place is told wrongly: ", "KOMBAZILY_HOSTS");
+}
+
 /* The place of this process: from words, else from the environment, else a job of it alone. */
 static void find_place(int *argc, char ***argv) {
     struct place place = {.size = 1, .port = 1};
@@ -59,8 +69,8 @@ static void find_place(int *argc, char ***argv) {
     process.size = (int)place.size;
     process.incarnation = (int)place.incarnation;
     process.job = place.job;
-    process.first_port = (int)place.port;
     process.patience = (long)place.patience;
+    if (source == PLACE_TOLD) find_addresses(&place);
 }
 
 static void open_engine(void) {
@@ -75,10 +85,12 @@ static void open_engine(void) {
 
 /* A job of one process needs no socket. */
 static void open_device(void) {
-    if (process.size == 1 || device_open(process.rank, process.first_port)) return;
-    char port[64];
-    snprintf(port, sizeof port, "%d: %s", process.first_port + process.rank, strerror(errno));
-    refuse_start(STATUS_SOCKET, "no socket at port ", port);
+    if (process.size == 1 || device_open(process.rank, &addresses)) return;
+    char cause[128];
+    uint32_t own = addresses.of_rank[process.rank];
+    snprintf(cause, sizeof cause, "%u.%u.%u.%u port %d: %s", own >> 24, own >> 16 & 255, own >> 8 & 255, own & 255,
+             addresses.first_port + process.rank, strerror(errno));
+    refuse_start(STATUS_SOCKET, "no socket at ", cause);
 }
 
 static int begin(const char *call, int *argc, char ***argv, int required) {

@@ -23,8 +23,7 @@ struct process {
     int size;
     int incarnation;
     uint64_t job;
-    int first_port; /* that of rank 0 */
-    long patience;  /* milliseconds; 0: there is no time after which a rank gives up */
+    long patience; /* milliseconds; 0: there is no time after which a rank gives up */
     int thread_level;
     const char *call; /* the call of MPI that the program made last */
 };
@@ -33,8 +32,8 @@ extern struct process process;
 /* The engine of this rank. */
 extern struct engine_rank engine;
 
-/* The status of a rank that gave up, as of every program here. */
-enum { STATUS_PATIENCE = 4 };
+/* The statuses of a rank whose socket fails, and of one that gave up, as of every program here. */
+enum { STATUS_SOCKET = 3, STATUS_PATIENCE = 4 };
 
 /* Ends this process with this status, and so the job: the launcher ends the others. */
 _Noreturn void end_job(int status);

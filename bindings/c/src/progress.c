@@ -4,6 +4,7 @@
 #include "internal.h"
 
 #include <stdio.h>
+#include <string.h>
 
 enum {
     MILLISECOND = 1000000,   /* the following are in nanoseconds but where it is said */
@@ -45,6 +46,13 @@ static bool tell_time(void) {
     return true;
 }
 
+/* Without its socket a rank can't go on. */
+static _Noreturn void refuse_device(int error) {
+    fflush(stdout);
+    fprintf(stderr, "rank %d: %s: its socket sends nothing: %s\n", process.rank, process.call, strerror(error));
+    end_job(STATUS_SOCKET);
+}
+
 /* Sends what is to go out; what is kept back too, if it is told so. */
 static void send_out(bool kept_too) {
     if (!device_is_open()) return;
@@ -58,15 +66,17 @@ static void send_out(bool kept_too) {
     }
     kept_until = out.kept_until;
     device_flush(copies);
+    if (device_error() != 0) refuse_device(device_error());
 }
 
 void progress_out(void) { send_out(false); }
 
-/* Takes in some datagrams. One that the engine refuses is dropped: it is none of this job's, or comes again. */
-static void hear(const unsigned char *bytes, size_t len, size_t each) {
+/* Takes in some datagrams of a rank. One that names another rank is dropped; so is one that the engine refuses: it is
+ * none of this job's, or comes again. */
+static void hear(int source, const unsigned char *bytes, size_t len, size_t each) {
     for (size_t at = 0; at < len; at += each) {
-        size_t rest = len - at;
-        (void)kombazily_datagram(&engine, bytes + at, rest < each ? rest : each);
+        size_t rest = len - at, own = rest < each ? rest : each;
+        if (sender_of(bytes + at, own) == source) (void)kombazily_datagram(&engine, bytes + at, own);
     }
     send_out(false);
 }
