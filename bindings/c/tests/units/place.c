@@ -1,17 +1,6 @@
 /* Tests src/place.c: a process's place in words and in the environment. */
 #include "../../src/place.h"
-
-#include <stdio.h>
-#include <string.h>
-
-static int errors;
-
-static void check(bool is_so, const char *text, int line) {
-    if (is_so) return;
-    errors++;
-    fprintf(stderr, "%s:%d: not so: %s\n", __FILE__, line, text);
-}
-#define CHECK(condition) check((condition), #condition, __LINE__)
+#include "unit.h"
 
 /* An environment of so many names and values. */
 static const char *const *environment;
@@ -97,6 +86,5 @@ int main(void) {
     test_numbers();
     test_environment();
     test_words();
-    if (errors == 0) printf("No Errors\n");
-    return errors != 0;
+    return unit_end();
 }

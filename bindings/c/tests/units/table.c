@@ -1,18 +1,8 @@
 /* Tests src/table.c: tables of objects by number. */
 #include "../../src/table.h"
-
-#include <stdio.h>
+#include "unit.h"
 
 enum { MANY = 1000 };
-
-static int errors;
-
-static void check(bool is_so, const char *text, int line) {
-    if (is_so) return;
-    errors++;
-    fprintf(stderr, "%s:%d: not so: %s\n", __FILE__, line, text);
-}
-#define CHECK(condition) check((condition), #condition, __LINE__)
 
 static int objects[MANY];
 
@@ -48,6 +38,5 @@ static void test_removal(void) {
 int main(void) {
     test_numbers();
     test_removal();
-    if (errors == 0) printf("No Errors\n");
-    return errors != 0;
+    return unit_end();
 }
