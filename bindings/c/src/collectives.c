@@ -68,6 +68,12 @@ static int check_own_block(MPI_Comm comm, const char *call, struct items sent, s
     return MPI_SUCCESS;
 }
 
+/* Checks that what the root sends is none of what it receives (2.3): its own block stays only by MPI_IN_PLACE. */
+static int check_apart(MPI_Comm comm, const char *call, const void *sendbuf, const void *recvbuf, struct items items) {
+    if (sendbuf != recvbuf || length_of(items) == 0) return MPI_SUCCESS;
+    return raise_on(comm, call, MPI_ERR_BUFFER, "sendbuf is recvbuf: MPI_IN_PLACE says so");
+}
+
 int MPI_Barrier(MPI_Comm comm) {
     struct communicator *own;
     check_running("MPI_Barrier");
@@ -132,6 +138,7 @@ int MPI_Gather(const void *sendbuf, int sendcount, MPI_Datatype sendtype, void *
     if (sendbuf == MPI_IN_PLACE) sent = block;
     else class = check_items(comm, call, sendbuf, sendcount, sendtype, &sent);
     if (class == MPI_SUCCESS) class = check_own_block(comm, call, sent, received);
+    if (class == MPI_SUCCESS) class = check_apart(comm, call, sendbuf, recvbuf, sent);
     if (class != MPI_SUCCESS) return class;
     received.count *= (size_t)own->size;
     return gather_items(comm, own, root, sent, received);
@@ -173,6 +180,7 @@ int MPI_Scatter(const void *sendbuf, int sendcount, MPI_Datatype sendtype, void 
     if (class == MPI_SUCCESS && stays) received = sent;
     else if (class == MPI_SUCCESS) class = check_items(comm, call, recvbuf, recvcount, recvtype, &received);
     if (class == MPI_SUCCESS) class = check_own_block(comm, call, sent, received);
+    if (class == MPI_SUCCESS) class = check_apart(comm, call, sendbuf, recvbuf, received);
     if (class != MPI_SUCCESS) return class;
     sent.count *= (size_t)own->size;
     return scatter_items(comm, own, root, sent, received, stays);

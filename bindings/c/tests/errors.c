@@ -66,6 +66,11 @@ static void check_collectives(void) {
     ANSWERS(MPI_Reduce(all, &number, 1, MPI_INT, MPI_OP_NULL, 0, MPI_COMM_WORLD), MPI_ERR_OP);
     ANSWERS(MPI_Allreduce(all, &number, 1, MPI_DOUBLE, MPI_BAND, MPI_COMM_WORLD), MPI_ERR_OP);
     ANSWERS_HERE(MPI_Allreduce(all, all, 1, MPI_INT, MPI_SUM, MPI_COMM_WORLD), MPI_ERR_BUFFER);
+    MPI_Comm_set_errhandler(MPI_COMM_SELF, MPI_ERRORS_RETURN);
+    ANSWERS_HERE(MPI_Gather(all, 1, MPI_INT, all, 1, MPI_INT, 0, MPI_COMM_SELF), MPI_ERR_BUFFER);
+    ANSWERS_HERE(MPI_Scatter(all, 1, MPI_INT, all, 1, MPI_INT, 0, MPI_COMM_SELF), MPI_ERR_BUFFER);
+    CHECK(MPI_Gather(all, 0, MPI_INT, all, 0, MPI_INT, 0, MPI_COMM_SELF) == MPI_SUCCESS);
+    MPI_Comm_set_errhandler(MPI_COMM_SELF, MPI_ERRORS_ARE_FATAL);
 }
 
 static void check_communicators(void) {
