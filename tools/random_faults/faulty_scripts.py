@@ -239,6 +239,52 @@ def race(script):
     return f"rank {master} line {script.number(master, place)}: error 10: "
 
 
+def wrong_tag(script):
+    one, other = script.pair()
+    sent, into = script.buffer(one, "int32", 1), script.buffer(other, "int32", 1)
+    script.add(one, f"send world {other} 36 {sent}")
+    place = script.add(other, f"recv world {one} 37 {into}")
+    return f"DEADLOCK\n(.*\n)*rank {other} waits at line {script.number(other, place)}: (.*\n)*rank {other} never received a message of rank {one} with tag 36\n"
+
+
+def wrong_communicator(script):
+    """Sent on world, received on a copy of it."""
+    one, other = script.pair()
+    copy = script.name("c")
+    made = [script.add(rank, f"dup {copy} world") for rank in range(script.size)]
+    sent, into = script.buffer(one, "int32", 1), script.buffer(other, "int32", 1)
+    on_copy = script.source.random() < 0.5
+    script.add(one, f"send {copy if on_copy else 'world'} {other} 38 {sent}")
+    place = script.add(other, f"recv {'world' if on_copy else copy} {one} 38 {into}")
+    where = f" on the communicator that line {script.number(0, made[0])} made" if on_copy else ""
+    return f"rank {other} waits at line {script.number(other, place)}: (.*\n)*rank {other} never received a message of rank {one} with tag 38{where}\n"
+
+
+def overwritten_request(script):
+    """Two sends under one name: nobody can wait for the first one."""
+    one, other = script.pair()
+    request = script.name("q")
+    first, second = script.buffer(one, "int32", 1), script.buffer(one, "int32", 1)
+    into = script.buffer(other, "int32", 1)
+    place = script.add(one, f"isend {request} world {other} 39 {first}")
+    script.add(one, f"isend {request} world {other} 39 {second}", f"wait {request}")
+    script.add(other, f"recv world {one} 39 {into}", f"recv world {one} 39 {into}")
+    return f"rank {one} ended with request {request} \\(line {script.number(one, place)}\\) "
+
+
+def race_to_a_deadlock(script):
+    """A receive of any rank may take the message for which the next one waits by name."""
+    if script.size < 3:
+        return never_sent(script)
+    master, one, other = script.source.sample(range(script.size), 3)
+    into = script.buffer(master, "int32", 1)
+    for rank in (one, other):
+        script.add(rank, f"send world {master} 40 {script.buffer(rank, 'int32', 1)}")
+    script.add(master, f"recv world any 40 {into}")
+    place = script.add(master, f"recv world {one} 40 {into}")
+    return f"DEADLOCK\n(.*\n)*rank {master} waits at line {script.number(master, place)}: "
+
+
 def other_refusal(script):
     rank = script.source.randrange(script.size)
     kind = script.source.choice(("tag", "root", "operation", "cancel"))
@@ -255,9 +301,12 @@ def other_refusal(script):
     return f"rank {rank} line {script.number(rank, place)}: error 3: "
 
 
-FAULTS = (too_long, wrong_type, no_such_rank, never_waited, never_received, never_sent, sends_head_on, entered_differently, not_entered, not_taken, not_set, race, other_refusal)
+FAULTS = (
+    too_long, wrong_type, no_such_rank, never_waited, never_received, never_sent, sends_head_on, entered_differently, not_entered, not_taken,
+    not_set, race, other_refusal, wrong_tag, wrong_communicator, overwritten_request, race_to_a_deadlock,
+)
 # Behind these others can't go on, so that a fault of theirs comes last.
-LAST = (never_sent, entered_differently, not_entered, not_set)
+LAST = (never_sent, entered_differently, not_entered, not_set, wrong_tag, wrong_communicator, race_to_a_deadlock)
 
 
 def right_script(source):

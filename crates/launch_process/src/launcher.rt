@@ -64,10 +64,20 @@ fn hold_port<R: Net + Eprint>(rt: &R, base_port: u16) -> Option<R::Listener> {
     }
 }
 
-/// Prints what a rank wrote.
-fn print_output<R: Print + AllocGlobal>(rt: &R, rank: usize, output: &[u8]) -> io::Result<()> {
+/// Prints what a rank wrote. Where that fails it is told.
+fn print_output<R: Print + Eprint + AllocGlobal>(
+    rt: &R,
+    rank: usize,
+    output: &[u8],
+) -> io::Result<()> {
     let text = join_from(rt.alloc(), rank, output)?;
-    io::writer(rt).write_all(&text)
+    match io::writer(rt).write_all(&text) {
+        Ok(()) => Ok(()),
+        Err(error) => {
+            let _ = eprintln!(rt; "mpiexec: the output can't be written: {error}");
+            Err(error)
+        }
+    }
 }
 
 /// Prints what a rank wrote, once its keeper has ended. Answers the rank's last status.
