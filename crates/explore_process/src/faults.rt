@@ -2,7 +2,7 @@
 
 use line_diagnostics::{explanation, line_at, script_fault};
 use std::alloc::Global;
-use std::str;
+use std::{io, str};
 
 /// Tells a refusal, with the line of the script that it is about.
 pub(crate) fn tell(rt: &impl Eprint, number: u8, line: Option<usize>) {
@@ -16,6 +16,11 @@ pub(crate) fn tell(rt: &impl Eprint, number: u8, line: Option<usize>) {
 pub(crate) fn tell_file(rt: &impl Eprint, number: u8, file: &str, what: &str) {
     tell(rt, number, None);
     let _ = eprintln!(rt; "mpiexplore: {file} can't be {what}");
+}
+
+/// Tells that the output failed, and why.
+pub(crate) fn tell_unwritten(rt: &impl Eprint, error: &io::Error) {
+    let _ = eprintln!(rt; "mpiexplore: the output can't be written: {error}");
 }
 
 /// Why the line of this number is no line of a script.

@@ -7,6 +7,7 @@ mod running;
 mod summary;
 mod synchronous;
 mod words;
+mod writing;
 
 pub use exploring::{Explored, Extent, Progress, ToldResult, explore};
 pub use running::{run, run_words};

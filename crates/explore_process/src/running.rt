@@ -1,16 +1,17 @@
 //! Running the program.
 
 use crate::exploring::{Explored, Progress, explore};
-use crate::faults::{tell, tell_faulty, tell_file};
+use crate::faults::{tell, tell_faulty, tell_file, tell_unwritten};
 use crate::summary::{summary_of, summary_of_synchronous, told_at_once};
 use crate::synchronous::PlayedText;
-use crate::words::{Sends, Settings, explore_program, settings_in};
+use crate::words::{Sends, Settings, asks_version, explore_program, settings_in};
+use crate::writing::{print, write_results};
 use clap::error::ErrorKind as Mistake;
 use play_findings::Report;
-use std::io::{ErrorKind, Write};
+use std::io::ErrorKind;
 use std::rt::{Env, Files};
 use std::time::{Clock, Instant};
-use std::{env, fs, io};
+use std::{env, fs};
 use stepped_plays::PlayError;
 
 /// Something was found, or the script is faulty or can't be read.
@@ -20,10 +21,10 @@ const FOUND: u8 = 1;
 const WORDS: u8 = 2;
 
 /// The output failed.
-const OUTPUT: u8 = 3;
+pub(crate) const OUTPUT: u8 = 3;
 
 /// Memory was refused.
-const MEMORY: u8 = 6;
+pub(crate) const MEMORY: u8 = 6;
 
 /// After how many seconds it is told how far the search has come.
 const PATIENCE: u64 = 1;
@@ -78,33 +79,6 @@ impl<'a, R: Print + Eprint + AllocGlobal + Clock> Progress for Teller<'a, R> {
     }
 }
 
-/// Writes the events of each result into the folder.
-fn write_results<R: Files + Eprint + AllocGlobal>(
-    rt: &R,
-    folder: &str,
-    explored: &Explored,
-) -> Result<(), u8> {
-    for (place, found) in explored.results.iter().enumerate() {
-        let number = place + 1;
-        let Ok(name) = format!(in rt.alloc(); "{folder}/result{number}.txt") else {
-            return Err(MEMORY);
-        };
-        if fs::write(rt, name.as_str(), found.report.events.as_slice()).is_err() {
-            tell_file(rt, 59, name.as_str(), "written");
-            return Err(OUTPUT);
-        }
-    }
-    Ok(())
-}
-
-fn print<R: Print>(rt: &R, text: &[u8]) -> Result<(), u8> {
-    let mut out = io::writer(rt);
-    match out.write_all(text) {
-        Ok(()) => Ok(()),
-        Err(_) => Err(OUTPUT),
-    }
-}
-
 /// Prints the events of one result alone.
 fn print_events<R: Print + Eprint>(rt: &R, explored: &Explored, number: u64) -> Result<(), u8> {
     let count = explored.results.len();
@@ -123,10 +97,11 @@ fn print_events<R: Print + Eprint>(rt: &R, explored: &Explored, number: u64) -> 
 fn print_found<R: Files + Print + Eprint + AllocGlobal>(
     rt: &R,
     settings: &Settings<'_>,
+    script: &PlayedText<'_>,
     explored: &Explored,
 ) -> Result<(), u8> {
     if let Some(folder) = settings.folder {
-        write_results(rt, folder, explored)?;
+        write_results(rt, folder, settings.size, script, explored)?;
     }
     if let Some(number) = settings.events {
         return print_events(rt, explored, number);
@@ -197,7 +172,7 @@ fn is_safe<R: Print + Eprint + AllocGlobal + Clock>(
         Ok(page) => print(rt, page.as_slice())?,
         Err(_) => return Err(MEMORY),
     }
-    Ok(!explored.has_deadlock())
+    Ok(!explored.has_deadlock)
 }
 
 /// Explores what these settings ask for, and answers the status.
@@ -216,14 +191,22 @@ fn run_settings<R: Files + Print + Eprint + AllocGlobal + Clock>(
         PlayedText::as_written(&text)
     };
     let explored = explored_of(rt, settings, &script, tells, settings.events.is_none())?;
-    print_found(rt, settings, &explored)?;
+    print_found(rt, settings, &script, &explored)?;
     let goes_on = settings.sends == Sends::Both && settings.events.is_none();
-    let is_safe = !goes_on || explored.has_deadlock() || is_safe(rt, settings, &text, tells)?;
+    let is_safe = !goes_on || explored.has_deadlock || is_safe(rt, settings, &text, tells)?;
     Ok(if is_safe && explored.is_well() {
         0
     } else {
         FOUND
     })
+}
+
+/// Prints which program it is, and answers the status.
+fn print_version<R: Print + Eprint>(rt: &R) -> u8 {
+    match print(rt, b"mpiexplore (Kombazily) in work\n") {
+        Ok(()) => 0,
+        Err(status) => status,
+    }
 }
 
 /// Tells that the words are wrong, or how the program is called where they ask for that.
@@ -236,7 +219,10 @@ fn misused<R: Print + Eprint>(rt: &R, error: &clap::Error) -> u8 {
             }
             match error.print(rt) {
                 Ok(()) => { if error.use_stderr() { WORDS } else { 0 } }
-                Err(_) => OUTPUT,
+                Err(lost) => {
+                    tell_unwritten(rt, &lost);
+                    OUTPUT
+                }
             }
         }
     }
@@ -249,6 +235,9 @@ pub fn run_words<R: Files + Print + Eprint + AllocGlobal + Clock>(
     words: &[String],
     tells: bool,
 ) -> u8 {
+    if asks_version(words) {
+        return print_version(rt);
+    }
     let Ok(program) = explore_program(rt.alloc()) else {
         return MEMORY;
     };

@@ -173,7 +173,7 @@ pub fn summary_of_synchronous(
     let mut page = Vec::new(alloc);
     add(&mut page, "\nWith every send synchronous: ")?;
     add_head(alloc, &mut page, size, explored)?;
-    if !explored.has_deadlock() {
+    if !explored.has_deadlock {
         add(
             &mut page,
             "No rank waits for ever: nothing rests on messages that are buffered.\n",
@@ -188,6 +188,9 @@ pub fn summary_of_synchronous(
         if found.report.verdict == Verdict::Deadlock {
             add_result(alloc, &mut page, place + 1, explored, found)?;
         }
+    }
+    if !explored.tells_deadlock() {
+        add_rest(alloc, &mut page, explored)?;
     }
     Ok(page)
 }

@@ -14,6 +14,7 @@ const ABOUT: &str =
 
 /// What its statuses mean.
 const STATUSES: &str = "\
+mpiexplore --version says which program it is.
 Status: 0 where no schedule that was played has an error, a request or a message that is left over, or a rank that isn't
 through; 1 where one has, or the script is faulty; 2 where the words are wrong, 3 where the output fails, 6 for want of
 memory.";
@@ -81,7 +82,8 @@ fn number_option<'a>(
         .help(help)
 }
 
-fn with_numbers<'a>(command: Command<'a>, alloc: Global) -> Result<Command<'a>, AllocError> {
+/// The options that say how far the search goes.
+fn with_search<'a>(command: Command<'a>, alloc: Global) -> Result<Command<'a>, AllocError> {
     let size = number_option(alloc, "ranks", "N", 1, 1_024, "How many ranks there are")
         .short('n')
         .required(true);
@@ -103,14 +105,11 @@ fn with_numbers<'a>(command: Command<'a>, alloc: Global) -> Result<Command<'a>, 
         "From what random choices begin; the same number gives the same",
     )
     .default_value("1");
-    let events = number_option(
-        alloc,
-        "events",
-        "R",
-        1,
-        1_000_000_000,
-        "Print nothing but result R as a file of events, which mpisim runs and mpidraw draws",
-    );
+    command.arg(size)?.arg(most)?.arg(seed)
+}
+
+/// The options that say which results are told.
+fn with_results<'a>(command: Command<'a>, alloc: Global) -> Result<Command<'a>, AllocError> {
     let results = number_option(
         alloc,
         "results",
@@ -120,12 +119,15 @@ fn with_numbers<'a>(command: Command<'a>, alloc: Global) -> Result<Command<'a>, 
         "How many results are told at most, first those in which something is wrong",
     )
     .default_value("10");
-    command
-        .arg(size)?
-        .arg(most)?
-        .arg(seed)?
-        .arg(results)?
-        .arg(events)
+    let events = number_option(
+        alloc,
+        "events",
+        "R",
+        1,
+        1_000_000_000,
+        "Print nothing but result R as a file of events, which mpisim runs and mpidraw draws",
+    );
+    command.arg(results)?.arg(events)
 }
 
 fn flag<'a>(alloc: Global, name: &'a str, help: &'a str) -> Arg<'a> {
@@ -158,21 +160,30 @@ fn with_sends<'a>(command: Command<'a>, alloc: Global) -> Result<Command<'a>, Al
 /// [--out FOLDER] SCRIPT`
 pub fn explore_program<'a>(alloc: Global) -> Result<Command<'a>, AllocError> {
     let command = Command::new(alloc, "mpiexplore")
-        .about(
-            "Plays a script under many schedules, and tells the results, the deadlocks and what else can go wrong",
-        )
+        .about(ABOUT)
         .after_help(STATUSES);
-    let command = with_numbers(command, alloc)?;
+    let command = with_search(command, alloc)?;
+    let command = with_results(command, alloc)?;
     let command = with_sends(command, alloc)?;
     let folder = Arg::new(alloc, "out")
         .long("out")
         .value_name("FOLDER")
         .action(ArgAction::Set)
-        .help("Write each result as a file of events, result1.txt and so on, into this folder");
+        .help(
+            "Write each result into this folder, as a file of events, result1.txt and so on, and as a picture, result1.svg",
+        );
     let file = Arg::new(alloc, "SCRIPT")
         .required(true)
         .help("The script that all ranks run");
     command.arg(folder)?.arg(file)
+}
+
+/// Whether the words, of which the first is the program's name, ask for nothing but which program it is.
+pub(crate) fn asks_version(words: &[String]) -> bool {
+    match words.get(1) {
+        Some(word) => words.len() == 2 && matches!(word.as_str(), "--version" | "-V"),
+        None => false,
+    }
 }
 
 fn number(matches: &ArgMatches<'_>, name: &str, high: u64) -> Option<u64>

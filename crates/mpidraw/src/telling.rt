@@ -31,9 +31,9 @@ pub fn is_no_terminals(rt: &impl Eprint) -> u8 {
     2
 }
 
-/// Says why the output failed, and answers the status.
+/// Says that the output failed, and why, and answers the status.
 pub fn unwritten(rt: &impl Eprint, error: &io::Error) -> u8 {
-    let _told = eprintln!(rt; "mpidraw: the picture can't be written: {error}");
+    let _told = eprintln!(rt; "mpidraw: the output can't be written: {error}");
     3
 }
 

@@ -1,8 +1,12 @@
 //! The words of the program.
 
+use crate::telling::{refused, unwritten};
 use clap::{Arg, ArgAction, ArgMatches, Command, value_parser};
 use script_pictures::Shown;
 use std::alloc::{AllocError, Global};
+
+/// Which program it is.
+const VERSION: &str = "mpidraw (Kombazily) in work";
 
 /// How many characters a row has where the words don't say it.
 const USUAL_WIDTH: usize = 80;
@@ -63,6 +67,7 @@ fn with_forms<'a>(alloc: Global) -> Result<Command<'a>, AllocError> {
         .help("How many characters a row has with --text, 20 to 10000; usually 80");
     Command::new(alloc, "mpidraw")
         .about("Draws what a file of events or a script does, as a sequence diagram")
+        .after_help("mpidraw --version says which program it is.")
         .arg(svg)?
         .arg(text)?
         .arg(width)
@@ -114,11 +119,25 @@ fn settings_in<'a>(matches: &ArgMatches<'a>) -> Option<Settings<'a>> {
 
 /// Says that memory is wanting, and answers the status.
 fn out_of_memory<'a>(rt: &impl Eprint) -> Words<'a> {
-    Words::Over(crate::telling::refused(rt, 14, None))
+    Words::Over(refused(rt, 14, None))
 }
 
-/// What the words ask for. Help is printed, and what is wrong is told.
+/// Whether the words, of which the first is the program's name, ask for nothing but which program it is.
+fn asks_version(words: &[String]) -> bool {
+    match words.get(1) {
+        Some(word) => words.len() == 2 && matches!(word.as_str(), "--version" | "-V"),
+        None => false,
+    }
+}
+
+/// What the words ask for. Help and the version are printed, and what is wrong is told.
 pub fn words_of<'a>(rt: &(impl Print + Eprint + AllocGlobal), words: &'a [String]) -> Words<'a> {
+    if asks_version(words) {
+        return match println!(rt; "{VERSION}") {
+            Ok(()) => Words::Over(0),
+            Err(error) => Words::Over(unwritten(rt, &error)),
+        };
+    }
     let Ok(program) = program(rt.alloc()) else {
         return out_of_memory(rt);
     };
@@ -131,7 +150,7 @@ pub fn words_of<'a>(rt: &(impl Print + Eprint + AllocGlobal), words: &'a [String
             let told = error.print(rt);
             let status = error.exit_code();
             match (told, status) {
-                (Err(_), _) => Words::Over(3),
+                (Err(lost), _) => Words::Over(unwritten(rt, &lost)),
                 (Ok(()), 0) => Words::Over(0),
                 (Ok(()), _) => Words::Over(2),
             }

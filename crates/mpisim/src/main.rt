@@ -1,9 +1,10 @@
 //! Runs a world of ranks from a file of events, and prints what each event answers.
 //!
 //! `mpisim FILE`. Status 0 at the end; 1 with `mpisim: refused N line L` on standard error where a line is faulty (51),
-//! and with `mpisim: refused N` where the file can't be read (59) or for want of memory (14); 2 with
-//! `usage: mpisim FILE` on standard error where the words aren't one FILE; 3 where the output fails. Behind a refusal
-//! stands why: the fault and the text of the line, or the name of the file.
+//! and with `mpisim: refused N` where the file can't be read (59) or for want of memory (14); 2 with `usage: mpisim
+//! FILE` on standard error where the words aren't one FILE; 3 where the output fails. Behind a refusal stands why: the
+//! fault and the text of the line, or the name of the file. `mpisim --help` and `mpisim --version` print what they say;
+//! a file of such a name is named with its folder, as ./--help.
 #![tactic(auto)]
 
 use line_diagnostics::{LineFault, event_fault, explanation, line_at};
@@ -18,8 +19,12 @@ use std::{env, fs, io, str};
 /// How the program is called.
 const USAGE: &str = "\
 usage: mpisim FILE
+       mpisim --help, mpisim --version
   FILE  a file of events: its first line is `world N`, N from 1 to 1024, and each other line is what a rank does, `deliver D`,
         `tick R NOW`, `restart R` or `stray R HEX`. What each line answers is printed.";
+
+/// Which program it is.
+const VERSION: &str = "mpisim (Kombazily) in work";
 
 /// Says why nothing more runs, and answers the status.
 fn tell_refusal(rt: &impl Eprint, number: u8, line: Option<usize>) -> u8 {
@@ -43,10 +48,21 @@ fn tell_misuse(rt: &impl Eprint) -> u8 {
 fn tell_unread(rt: &impl Eprint, name: &str) -> u8 {
     let status = tell_refusal(rt, 59, None);
     let _told = eprintln!(rt; "mpisim: {name} can't be read");
-    if matches!(name, "--help" | "-h" | "--version") {
-        let _told = tell_misuse(rt);
-    }
     status
+}
+
+/// Says that the output failed, and answers the status.
+fn tell_output(rt: &impl Eprint) -> u8 {
+    let _told = eprintln!(rt; "mpisim: the output can't be written");
+    3
+}
+
+/// Prints a text that was asked for in place of a run, and answers the status.
+fn show(rt: &(impl Print + Eprint), text: &str) -> u8 {
+    match println!(rt; "{text}") {
+        Ok(()) => 0,
+        Err(_) => tell_output(rt),
+    }
 }
 
 /// Why the line of this number is faulty: as it was found when it was reached, or else since it is no line of a file of
@@ -102,14 +118,14 @@ fn run(rt: &(impl Files + Print + Eprint + AllocGlobal), name: &str) -> u8 {
     };
     let ended = simulate_or_tell(rt.alloc(), &text, &mut out);
     if out.flush().is_err() {
-        return 3;
+        return tell_output(rt);
     }
     match ended {
         Ok(()) => 0,
         Err(Stopped { error, fault }) => match error {
             SimulateError::Script(line) => tell_fault(rt, &text, line, fault),
             SimulateError::OutOfMemory => tell_refusal(rt, 14, None),
-            SimulateError::Output => 3,
+            SimulateError::Output => tell_output(rt),
         },
     }
 }
@@ -122,7 +138,11 @@ fn run_word(rt: &(impl Env + Files + Print + Eprint + AllocGlobal)) -> u8 {
         Err(_) => return tell_refusal(rt, 59, None),
     };
     match words.nth(1) {
-        Some(name) => run(rt, name.as_str()),
+        Some(word) => match word.as_str() {
+            "--help" | "-h" => show(rt, USAGE),
+            "--version" | "-V" => show(rt, VERSION),
+            name => run(rt, name),
+        },
         None => tell_misuse(rt),
     }
 }
