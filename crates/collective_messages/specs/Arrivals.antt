@@ -1,5 +1,6 @@
 -- A message that came, as what is kept of it.
-use Rattle.std.specs.Prelude.{◌≡◌, ℕ, Option, Some, None, Result, Ok, Err, List, option_map}
+use Rattle.std.specs.Prelude.{◌≡◌, ℕ, Bool, false, Option, Some, None, Result, Ok, Err, List, nat_le, option_map}
+use Rattle.std.specs.List.{list_any}
 use Rattle.collective_messages.specs.declared.note.Note.{Note}
 use Rattle.collective_messages.specs.declared.note.NoteContent.{NoteContent}
 use Rattle.collective_messages.specs.declared.note.NoteContent.TheVariants as said
@@ -39,6 +40,11 @@ note_of sender c k p =
 abbrev pub NamesOnce : PartText → Type 0
 NamesOnce (GroupText c bytes) = HasNoRepeats (ranks_in bytes)
 NamesOnce _ = Unit {0}
+
+-- whether what a message carries names a rank that a job of so many ranks lacks: one of the group that it tells of
+abbrev pub names_beyond : (size : ℕ) → PartText → Bool
+names_beyond size (GroupText c bytes) = list_any (λ r. nat_le size r) (ranks_in bytes)
+names_beyond size _ = false
 
 -- whether a message brings what has to be copied: elements or a group
 abbrev pub BringsACopy : PartText → Type 0

@@ -1,14 +1,15 @@
 -- What a rank is in a collective: whose word it waits for, whom it tells that it and those below it have entered,
 -- whether it leaves without being told, and whom it tells a result. Barrier, broadcast and reduction go over binomial
--- trees, all else over a star, whose middle is the root, or member 0 where there is none (own). Ranks are those of
--- `world`.
-use Rattle.std.specs.Prelude.{ℕ, Bool, true, ◌==◌, ◌&&◌, ◌||◌, not, List, [], ◌∷◌, ◌++◌, length, map, Option, Some}
+-- trees, all else over a star, whose middle is the root, or member 0 where there is none (own). So does a reduction to a
+-- root whose operation isn't associative. Ranks are those of `world`.
+use Rattle.std.specs.Prelude.{ℕ, Bool, true, false, ◌==◌, ◌&&◌, ◌||◌, not, List, [], ◌∷◌, ◌++◌, length, map, Option, Some}
 use Rattle.std.specs.Prelude.{None, position, slice_get, nat_lt, if◌then◌else◌}
 use Rattle.std.specs.Option.{option_to_list}
 use Rattle.collective_messages.specs.Members.{is_at}
 use Rattle.binomial_trees.specs.Trees.{children, parent, rotate, rotate_back}
 use Rattle.payload.specs.declared.record.Record.{Record}
 use Rattle.payload.specs.declared.record.Record.TheVariants as records
+use Rattle.vocabulary.specs.Operations.{is_associative}
 use Rattle.vocabulary.specs.declared.endpoint.Endpoint.{Endpoint}
 
 -- what a rank is: whether it decides; whom it tells its word; whose word it waits for, in the order of the
@@ -65,6 +66,29 @@ both_role middle own ranks =
           all_or_none middle ranks;
     }
 
+-- the root of a gather, or one around it
+abbrev pub gather_role : Endpoint → (incarnation : ℕ) → (ranks : List ℕ) → (root : ℕ) → RoleState
+gather_role own inc ranks root =
+    record {
+      decides = true;
+      above = slice_get ranks root;
+      feeders = all_or_own (is_at own inc ranks root) own ranks;
+      onward = [];
+    }
+
+-- a member of a reduction to a root: in the tree by rank, where the operation is associative; else each part goes to the
+-- root, as in a gather
+abbrev pub reduce_role : (associative : Bool) → Option ℕ → Endpoint → (incarnation : ℕ) → (ranks : List ℕ) →
+    (root : ℕ) → RoleState
+reduce_role true i own inc ranks root =
+    record {
+      decides = is_at own inc ranks 0 || not (is_at own inc ranks root);
+      above = above_place ranks i;
+      feeders = own.rank ∷ below_place ranks i;
+      onward = if is_at own inc ranks 0 then option_to_list (slice_get ranks root) else [];
+    }
+reduce_role false i own inc ranks root = gather_role own inc ranks root
+
 -- what a rank is in a collective with this record, by its place
 abbrev pub role_at : Option ℕ → Endpoint → (incarnation : ℕ) → (ranks : List ℕ) → Record → RoleState
 role_at i own inc ranks records.Barrier =
@@ -82,14 +106,7 @@ role_at i own inc ranks (records.Bcast r) =
       onward =
           onward_place r.root ranks i;
     }
-role_at i own inc ranks (records.Gather r) =
-    record {
-      decides = true;
-      above = slice_get ranks r.root;
-      feeders =
-          all_or_own (is_at own inc ranks r.root) own ranks;
-      onward = [];
-    }
+role_at i own inc ranks (records.Gather r) = gather_role own inc ranks r.root
 role_at i own inc ranks (records.Scatter r) =
     record {
       decides = is_at own inc ranks r.root;
@@ -99,12 +116,7 @@ role_at i own inc ranks (records.Scatter r) =
           all_or_none (is_at own inc ranks r.root) ranks;
     }
 role_at i own inc ranks (records.Reduce o r) =
-    record {
-      decides = is_at own inc ranks 0 || not (is_at own inc ranks r.root);
-      above = above_place ranks i;
-      feeders = own.rank ∷ below_place ranks i;
-      onward = if is_at own inc ranks 0 then option_to_list (slice_get ranks r.root) else [];
-    }
+    reduce_role (is_associative o r.elements.basic) i own inc ranks r.root
 role_at i own inc ranks (records.Allreduce o e) = both_role (is_at own inc ranks 0) own ranks
 role_at i own inc ranks records.Dup = both_role (is_at own inc ranks 0) own ranks
 role_at i own inc ranks records.Split = both_role (is_at own inc ranks 0) own ranks

@@ -1,7 +1,9 @@
 //! A message that came, as a note that outlives its bytes.
 
-ghost use Rattle.std.specs.Prelude.{◌≡◌, ◌*◌, length, IfOk};
-ghost use Rattle.collective_messages.specs.Arrivals.{ArrivalGives, SaidGives, ranks_in};
+ghost use Rattle.std.specs.Prelude.{◌≡◌, ◌*◌, ◌/◌, ◌<◌, length, nat_le, IfOk};
+ghost use Rattle.std.specs.List.{list_any};
+ghost use Rattle.datatypes.specs.Contents.{element_at};
+ghost use Rattle.collective_messages.specs.Arrivals.{ArrivalGives, SaidGives, names_beyond, ranks_in};
 ghost use Rattle.payload.specs.Spelling.{AreElements, ElementsText, GroupText, PartFits, elements_of, part_text};
 ghost use Rattle.payload.specs.Spelling.{payload_text};
 
@@ -25,6 +27,42 @@ fn ranks_of(alloc: Global, group: NewGroup<'_>) -> Result<Vec<u16>, AllocError>
         }
     }
     Ok(ranks)
+}
+
+/// Whether the member at a place of a group that came is a rank that a job of so many ranks lacks.
+#[tactic(auto, unfolding(datatypes::specs::Contents::values_of))]
+fn is_beyond_at(group: NewGroup<'_>, place: usize, size: u16) -> bool
+    requires { place < length group.ranks.now / 2 }
+    ensures { result ≡ nat_le size (element_at 2 group.entry.ranks.now place) }
+{
+    match group.rank(place) {
+        Some(rank) => rank >= size,
+        None => false,
+    }
+}
+
+/// Whether a group that came names a rank that a job of so many ranks lacks.
+#[tactic(auto, using(crate::proofs::Values::any_more), unfolding(datatypes::specs::Contents::values_of))]
+fn is_beyond(group: NewGroup<'_>, size: u16) -> bool
+    ensures { result ≡ list_any (λ r. nat_le size r) (ranks_in group.entry.ranks.now) }
+{
+    let mut beyond = false;
+    for place in 0..group.len() {
+        let there = is_beyond_at(group, place, size);
+        beyond = beyond || there;
+    }
+    beyond
+}
+
+/// Whether a message names a rank that a job of so many ranks lacks: one of the group that it tells of. Then it is no
+/// message of the job.
+pub fn names_beyond(payload: Payload<'_>, size: u16) -> bool
+    ensures { result ≡ names_beyond size (part_text payload.entry.part) }
+{
+    match payload.part {
+        PayloadContent::NewGroup(group) => is_beyond(group, size),
+        _ => false,
+    }
 }
 
 /// The communicator that a message tells of; nothing where it names a rank twice.

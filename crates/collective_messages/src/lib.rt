@@ -19,7 +19,7 @@ mod tally;
 mod verdict;
 
 pub use address::Address;
-pub use arrival::note_of;
+pub use arrival::{names_beyond, note_of};
 pub use block::Block;
 pub use entry::{Entry, Inside};
 pub use message::{CollectiveMessage, MessageContent};

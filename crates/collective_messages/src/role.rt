@@ -1,10 +1,11 @@
 //! What a rank is in a collective: whose word it waits for, and whom it tells what.
 
-ghost use Rattle.std.specs.Prelude.{◌≡◌, ◌<◌, ◌≤◌, All, ◌++◌, IfOk, OnOk, IfSome, Some, ◌∷◌, [], length, map};
+ghost use Rattle.std.specs.Prelude.{◌≡◌, ◌<◌, ◌≤◌, true, All, ◌++◌, IfOk, OnOk, IfSome, Some, ◌∷◌, [], length, map};
 ghost use Rattle.std.specs.Prelude.{slice_get, if◌then◌else◌};
 ghost use Rattle.std.specs.Option.{option_copied, option_to_list};
 ghost use Rattle.collective_messages.specs.Roles.{above_place, all_or_none, all_or_own, below_place, both_role};
-ghost use Rattle.collective_messages.specs.Roles.{onward_place, own_place, ranks_at, role_at, role_of};
+ghost use Rattle.collective_messages.specs.Roles.{gather_role, onward_place, own_place, ranks_at, reduce_role, role_at};
+ghost use Rattle.collective_messages.specs.Roles.{role_of};
 ghost use Rattle.payload.specs.declared.record.Record.TheVariants as records;
 ghost use Rattle.binomial_trees.specs.Trees.{children, rotate, rotate_back};
 
@@ -304,6 +305,30 @@ fn barrier_role(
 }
 
 /// In the tree by rank, in a reduction to a root.
+fn tree_role(
+    alloc: Global,
+    own: Endpoint,
+    incarnation: u16,
+    ranks: &[u16],
+    place: Option<usize>,
+    root: u32,
+) -> Result<Role, AllocError>
+    requires few { length ranks.now ≤ 65536 }
+    requires there { IfSome place (λ i. i < length ranks.now) }
+    ensures { IfOk result (λ role. role ≡ reduce_role true place own incarnation ranks.now root) }
+{
+    let below = below_place(alloc, ranks, place)?;
+    let first = is_at(own, incarnation, ranks, 0);
+    Ok(Role {
+        decides: first || !is_at(own, incarnation, ranks, root),
+        above: above_place(ranks, place),
+        feeders: with_first(alloc, own.rank, &below)?,
+        onward: one_or_none(alloc, first, ranks, root)?,
+    })
+}
+
+/// In a reduction to a root: in the tree by rank, where the operation is associative; else each part goes to the root,
+/// as in a gather.
 fn reduce_role(
     alloc: Global,
     own: Endpoint,
@@ -317,14 +342,11 @@ fn reduce_role(
     requires there { IfSome place (λ i. i < length ranks.now) }
     ensures { IfOk result (λ role. role ≡ role_at place own incarnation ranks.now (records.Reduce operation rooted)) }
 {
-    let below = below_place(alloc, ranks, place)?;
-    let first = is_at(own, incarnation, ranks, 0);
-    Ok(Role {
-        decides: first || !is_at(own, incarnation, ranks, rooted.root),
-        above: above_place(ranks, place),
-        feeders: with_first(alloc, own.rank, &below)?,
-        onward: one_or_none(alloc, first, ranks, rooted.root)?,
-    })
+    if operation.is_associative_on(rooted.elements.basic) {
+        tree_role(alloc, own, incarnation, ranks, place, rooted.root)
+    } else {
+        gather_role(alloc, own, incarnation, ranks, rooted.root)
+    }
 }
 
 /// In the tree whose top is the root of a broadcast.
@@ -354,15 +376,14 @@ fn gather_role(
     own: Endpoint,
     incarnation: u16,
     ranks: &[u16],
-    place: Option<usize>,
-    rooted: Rooted,
+    root: u32,
 ) -> Result<Role, AllocError>
-    ensures { IfOk result (λ role. role ≡ role_at place own incarnation ranks.now (records.Gather rooted)) }
+    ensures { IfOk result (λ role. role ≡ gather_role own incarnation ranks.now root) }
 {
-    let middle = is_at(own, incarnation, ranks, rooted.root);
+    let middle = is_at(own, incarnation, ranks, root);
     Ok(Role {
         decides: true,
-        above: rank_at(ranks, rooted.root),
+        above: rank_at(ranks, root),
         feeders: all_or_own(alloc, middle, own, ranks)?,
         onward: Vec::new(alloc),
     })
@@ -403,7 +424,7 @@ fn role_in(
     match entered {
         Record::Barrier => barrier_role(alloc, own, incarnation, ranks, place),
         Record::Bcast(rooted) => bcast_role(alloc, own, incarnation, ranks, place, rooted),
-        Record::Gather(rooted) => gather_role(alloc, own, incarnation, ranks, place, rooted),
+        Record::Gather(rooted) => gather_role(alloc, own, incarnation, ranks, rooted.root),
         Record::Scatter(rooted) => scatter_role(alloc, own, incarnation, ranks, place, rooted),
         Record::Reduce(operation, rooted) => reduce_role(
             alloc,

@@ -21,7 +21,7 @@ use Rattle.vocabulary.specs.BasicTypes.{code_of, size_of, type_at}
 use Rattle.vocabulary.specs.Endpoints.{is_same}
 use Rattle.vocabulary.specs.declared.basic_type.BasicType.{BasicType}
 use Rattle.vocabulary.specs.declared.basic_type.BasicType.TheVariants.{Int8, Int16, Int32, Int64, Uint8, Uint16, Uint32}
-use Rattle.vocabulary.specs.declared.basic_type.BasicType.TheVariants.{Uint64, Byte}
+use Rattle.vocabulary.specs.declared.basic_type.BasicType.TheVariants.{Uint64, Byte, Float32, Float64}
 use Rattle.vocabulary.specs.declared.endpoint.Endpoint.{Endpoint}
 
 -- ---- the bytes of blocks
@@ -112,6 +112,8 @@ code_back Uint16 = refl
 code_back Uint32 = refl
 code_back Uint64 = refl
 code_back Byte = refl
+code_back Float32 = refl
+code_back Float64 = refl
 
 -- the type that is there
 abbrev type_in : Option BasicType → BasicType

@@ -1,5 +1,5 @@
 -- The rules on what a rank enters a collective with (MPI 3.1, 5.4 to 5.9).
-use Rattle.std.specs.Prelude.{ℕ, Bool, true, false, ◌*◌, ◌==◌, ◌&&◌, ◌||◌, not, length, Option, Some, None, nat_le}
+use Rattle.std.specs.Prelude.{ℕ, Bool, true, false, ◌*◌, ◌-◌, ◌==◌, ◌&&◌, ◌||◌, not, length, Option, Some, None, nat_le}
 use Rattle.std.specs.Prelude.{nat_lt, if◌then◌else◌}
 use Rattle.collective_progress.specs.declared.rules.Rule.{Rule}
 use Rattle.collective_progress.specs.declared.rules.Rule.TheVariants.{WrongType, WrongCount, NoRoot, NotDefined}
@@ -14,9 +14,9 @@ use Rattle.payload.specs.declared.record.Elements.{Elements}
 use Rattle.reductions.specs.Operations.{is_defined}
 use Rattle.vocabulary.specs.BasicTypes.{size_of}
 
--- the most bytes of a member's block (own)
-abbrev pub block_limit : ℕ
-block_limit = 1048560
+-- the most bytes of a member's block in a job whose messages have at most so many (own)
+abbrev pub block_limit : (limit : ℕ) → ℕ
+block_limit limit = limit - 16
 
 -- how many bytes one member's block has
 abbrev pub block_bytes : Option Elements → ℕ
@@ -60,10 +60,10 @@ number_of_rule NoRoot = 7
 number_of_rule NotDefined = 9
 
 -- the first rule of 2, 1, 7 and 9 that what is entered breaks. Those on a scatter's elements hold of its root alone
-abbrev pub rule_broken : (is_root : Bool) → (size : ℕ) → Entry → Option Rule
-rule_broken is_root size e =
+abbrev pub rule_broken : (limit : ℕ) → (is_root : Bool) → (size : ℕ) → Entry → Option Rule
+rule_broken limit is_root size e =
     if is_root && is_other_type e then Some WrongType else
-    (if nat_lt block_limit (block_bytes (elements_of (record_of e))) || (is_root && is_wrong_total size e) then
+    (if nat_lt (block_limit limit) (block_bytes (elements_of (record_of e))) || (is_root && is_wrong_total size e) then
     Some WrongCount else
     (if is_rooted e && nat_le size (root_of (record_of e)) then Some NoRoot else
     (if is_undefined e then Some NotDefined else None)))

@@ -1,16 +1,14 @@
 //! The rules on what a rank enters a collective with.
 
 ghost use Rattle.std.specs.Prelude.{◌≡◌};
-ghost use Rattle.collective_progress.specs.Rules.{block_bytes, is_other_type, is_rooted, is_undefined, is_wrong_total};
+ghost use Rattle.vocabulary.specs.MessageLimits.{limit_of};
+ghost use Rattle.collective_progress.specs.Rules.{block_bytes, block_limit, is_other_type, is_rooted, is_undefined, is_wrong_total};
 ghost use Rattle.collective_progress.specs.Rules.{number_of_rule, rule_broken};
 ghost use Rattle.payload.specs.Spelling.{elements_of};
 
 use collective_messages::{Entry, root_of};
 use payload::{RECORD_BYTES, Record};
-use vocabulary::SEND_LIMIT;
-
-/// So many bytes a member's block has at most (our own): with its record it goes in one message.
-const BLOCK_LIMIT: u64 = (SEND_LIMIT - RECORD_BYTES) as u64;
+use vocabulary::MessageLimit;
 
 /// A rule that what a rank enters with breaks.
 #[derive(Clone, Copy, Debug, PartialEq, Eq)]
@@ -60,6 +58,13 @@ fn block_bytes(entered: Record) -> u64
     }
 }
 
+/// How many bytes a member's block has at most (our own): with its record it goes in one message.
+fn block_limit(limit: MessageLimit) -> u64
+    ensures { result ≡ block_limit (limit_of limit) }
+{
+    u64::from(limit.bytes()) - RECORD_BYTES as u64
+}
+
 /// Whether the elements of a scatter are another number than a block for each of so many members has.
 fn is_wrong_total(entry: &Entry, size: u32) -> bool
     ensures { result ≡ is_wrong_total size entry.now }
@@ -95,19 +100,20 @@ fn is_undefined(entry: &Entry) -> bool
     }
 }
 
-/// The first rule that what a rank enters a communicator of so many members with breaks, of 2, 1, 7 and 9. The rules on
-/// a scatter's elements hold of its root alone: `is_root` says whether the rank is the member with the root's rank.
+/// The first rule that what a rank enters a communicator of so many members with breaks, of 2, 1, 7 and 9, in a job
+/// whose messages have at most so many bytes. The rules on a scatter's elements hold of its root alone: `is_root` says
+/// whether the rank is the member with the root's rank.
 ///
 /// That an earlier call is blocked (6) and that there is no such communicator (4) come before these, that a member is
 /// known at another incarnation (11) and the limits (13) behind them.
-pub fn rule_broken(entry: &Entry, is_root: bool, size: u32) -> Option<Rule>
-    ensures { result ≡ rule_broken is_root size entry.now }
+pub fn rule_broken(entry: &Entry, is_root: bool, size: u32, limit: MessageLimit) -> Option<Rule>
+    ensures { result ≡ rule_broken (limit_of limit) is_root size entry.now }
 {
     if is_root && is_other_type(entry) {
         return Some(Rule::WrongType);
     }
     let entered = entry.record();
-    if block_bytes(entered) > BLOCK_LIMIT || (is_root && is_wrong_total(entry, size)) {
+    if block_bytes(entered) > block_limit(limit) || (is_root && is_wrong_total(entry, size)) {
         return Some(Rule::WrongCount);
     }
     if is_rooted(entry) && root_of(entered) >= size {

@@ -6,7 +6,7 @@ ghost use Rattle.collective_steps.specs.Steps.{GetsNumbered, HasHeard, IsCarried
 ghost use Rattle.collective_steps.specs.Steps.{IsSplit, LacksFor, Prepared, barrier_step, copy_step};
 ghost use Rattle.collective_steps.specs.Steps.{difference_messages, made_step, mine, outcome_of, to_others, passed_on};
 ghost use Rattle.collective_steps.specs.Steps.{warned, word_messages, words_given};
-ghost use Rattle.collective_messages.specs.Verdicts.{verdict};
+ghost use Rattle.collective_messages.specs.Verdicts.{is_at, verdict};
 ghost use Rattle.collective_steps.specs.declared.step.StepOutcome.TheVariants as outcomes;
 ghost use Rattle.collective_messages.specs.declared.message.MessageContent.TheVariants as given;
 ghost use Rattle.collective_messages.specs.declared.verdict.Verdict.TheVariants as verdicts;
@@ -309,8 +309,27 @@ fn warn_all(
     same_to_others(alloc, own, inside, ranks, ToAll::RecordsDiffer)
 }
 
+/// That records differ, in a reduction over the tree by rank: to the one right above, or by member 0 to the root.
+fn warn_upwards(
+    alloc: Global,
+    own: Endpoint,
+    inside: &Inside,
+    ranks: &[u16],
+) -> Result<Vec<CollectiveMessage>, AllocError>
+    ensures { IfOk result (λ messages. messages.items ≡
+        to_others own inside.now (λ r. given.RecordsDiffer)
+        (if is_at own inside.now.incarnation ranks.now 0 then inside.now.role.onward else
+        option_to_list inside.now.role.above)) }
+{
+    if !is_at(own, inside.incarnation, ranks, 0) {
+        return warn_above(alloc, own, inside, inside.role.above());
+    }
+    let onward = inside.role.onward();
+    same_to_others(alloc, own, inside, onward, ToAll::RecordsDiffer)
+}
+
 /// What a rank tells of a difference: all others, where it found it and all wait for all; in a broadcast those right
-/// below it, and in a reduction the one right above it, or by member 0 the root.
+/// below it, and in a reduction over a tree the one right above it, or by member 0 the root.
 fn warnings(
     alloc: Global,
     own: Endpoint,
@@ -333,12 +352,11 @@ fn warnings(
             ToAll::RecordsDiffer,
         ),
         Entry::Gather(..) | Entry::Scatter(..) => Ok(Vec::new(alloc)),
-        Entry::Reduce(..) => {
-            if !is_at(own, inside.incarnation, ranks, 0) {
-                return warn_above(alloc, own, inside, inside.role.above());
+        Entry::Reduce(operation, _, block) => {
+            if !operation.is_associative_on(block.buffer().basic()) {
+                return Ok(Vec::new(alloc));
             }
-            let onward = inside.role.onward();
-            same_to_others(alloc, own, inside, onward, ToAll::RecordsDiffer)
+            warn_upwards(alloc, own, inside, ranks)
         }
     }
 }

@@ -1,7 +1,7 @@
 //! A payload that was announced, one that comes in pieces, and one that has come whole.
 
 ghost use Rattle.std.specs.Prelude.{◌≡◌, ◌+◌, ◌≤◌, ◌++◌, [], length, IfOk};
-ghost use Rattle.vocabulary.specs.Limits.{send_limit};
+ghost use Rattle.vocabulary.specs.Limits.{greatest_limit};
 ghost use Rattle.collective_transfers.specs.Payloads.{cut_to, is_from, is_to, is_whole, is_next_data, whole_of};
 ghost use Rattle.collective_transfers.specs.Payloads.{with_piece};
 
@@ -20,20 +20,20 @@ pub struct AnnouncedPayload {
 
 impl Model for AnnouncedPayload {
     ghost use Rattle.std.specs.Prelude.{◌≤◌, length};
-    ghost use Rattle.vocabulary.specs.Limits.{send_limit};
+    ghost use Rattle.vocabulary.specs.Limits.{greatest_limit};
     ghost use Rattle.collective_transfers.specs.Payloads.{Announced};
 
     ghost Value = { Announced };
 
     ghost view = { λ p. record { target = p.target; transfer = p.transfer; bytes = p.bytes.items } };
 
-    ghost invariant = { λ p. length p.bytes.items ≤ send_limit };
+    ghost invariant = { λ p. length p.bytes.items ≤ greatest_limit };
 }
 
 impl AnnouncedPayload {
-    /// A payload of at most 1,048,576 bytes for a rank, under the number of its transfer.
+    /// A payload of at most 2,147,483,647 bytes for a rank, under the number of its transfer.
     pub fn new(target: u16, transfer: u32, bytes: Vec<u8>) -> Self
-        requires { length bytes.items ≤ send_limit }
+        requires { length bytes.items ≤ greatest_limit }
         ensures { result ≡ record { target = target; transfer = transfer; bytes = bytes.items } }
     {
         AnnouncedPayload {
@@ -57,10 +57,10 @@ impl AnnouncedPayload {
         self.target
     }
 
-    /// Its bytes: at most 1,048,576.
+    /// Its bytes: at most 2,147,483,647.
     pub fn bytes(&self) -> &[u8]
         ensures bytes { result.now ≡ self.now.bytes }
-        ensures limit { length self.now.bytes ≤ send_limit }
+        ensures limit { length self.now.bytes ≤ greatest_limit }
     {
         &self.bytes
     }

@@ -5,6 +5,10 @@
 #[cfg(test)]
 mod datatypes_tests;
 #[cfg(test)]
+mod float_texts_tests;
+#[cfg(test)]
+mod floats_tests;
+#[cfg(test)]
 mod payload_tests;
 #[cfg(test)]
 mod pieces_tests;

@@ -130,4 +130,5 @@ basic_back code y e =
     (λ e3. row code_of code _ _ y _ e3 refl
     (λ e4. row code_of code _ _ y _ e4 refl (λ e5. row code_of code _ _ y _ e5 refl
     (λ e6. row code_of code _ _ y _ e6 refl
-    (λ e7. row code_of code _ _ y _ e7 refl (λ e8. row code_of code _ _ y _ e8 refl (none y)))))))))
+    (λ e7. row code_of code _ _ y _ e7 refl (λ e8. row code_of code _ _ y _ e8 refl
+    (λ e9. row code_of code _ _ y _ e9 refl (λ e10. row code_of code _ _ y _ e10 refl (none y)))))))))))

@@ -457,6 +457,8 @@ basic_again basics.Uint16 = refl
 basic_again basics.Uint32 = refl
 basic_again basics.Uint64 = refl
 basic_again basics.Byte = refl
+basic_again basics.Float32 = refl
+basic_again basics.Float64 = refl
 
 operation_again : (o : Operation) → operation_at (operation_code o) ≡ Some o
 operation_again operations.Max = refl

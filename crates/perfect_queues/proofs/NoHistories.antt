@@ -56,8 +56,8 @@ pub kept : (b : Option Unanswered) → IsNoProbe b → (rs : List Request) (ms :
     AllByRecursion (IsStill ms) rs → IsKept (Holds b rs ms)
 kept b idle rs ms all = still_kept b rs ms idle (all_still rs ms all)
 
-pub opens : Stands opening (Holds None [] [])
-opens =
+pub opens : (limit : ℕ) → Stands (opening limit) (Holds None [] [])
+opens limit =
     record {
       now = λ r. refl;
       knows = refl;
@@ -260,9 +260,9 @@ other_sent o differs n s steps vs h are tells run q =
 
 -- one message comes, and its receive ends as it doesn't end with it
 other_end : (o : Outcome) → (outcome three_from_0 (three 1 2 3) ≡ o → ⊥) → IsNoHistory (one_message o)
-other_end o differs n h =
+other_end o differs n limit h =
     follow n (Holds None [] []) (kept None tt [] [] tt) (receives 0 ∷ waits 0 o ∷ []) (Started 0) rank_0 (send_of 1 2 3)
-    (other_sent o differs n) h.0 opening opens
+    (other_sent o differs n) h.0 (opening limit) (opens limit)
     h.1 h.2
 
 pub none_is_invented : IsNoHistory other_data
@@ -306,10 +306,10 @@ first_sent n s steps vs h are tells run q =
     (after_send [] [] 1 2 3 (kept None tt [] (three 1 2 3 ∷ []) tt) s steps h are) run q
 
 pub none_is_overtaken : IsNoHistory overtaken
-none_is_overtaken n h =
+none_is_overtaken n limit h =
     follow n (Holds None [] []) (kept None tt [] [] tt) (sends 1 (4 ∷ 5 ∷ 6 ∷ []) ∷ after_overtaking) (Started 0) rank_0
     (send_of 1 2 3)
-    (first_sent n) h.0 opening opens h.1 h.2
+    (first_sent n) h.0 (opening limit) (opens limit) h.1 h.2
 
 -- A RECEIVE WHOSE MESSAGE NEVER CAME
 
@@ -336,10 +336,10 @@ then_waits n k rs serial o still none s steps vs h are tells run q =
     (kept None tt (rs ++ Posted three_from_0 ∷ []) [] still) (λ l u. u) (λ l u. u.blocked) s steps h are) run q
 
 pub none_is_replaced_by_nobody : IsNoHistory replaced_by_nobody
-none_is_replaced_by_nobody n h =
+none_is_replaced_by_nobody n limit h =
     follow n (Holds None [] []) (kept None tt [] [] tt) (waits 0 (Replaced (Some (holds (0 ∷ 0 ∷ 0 ∷ [])))) ∷ [])
     (Started 0) rank_1 (Irecv three_from_0)
-    (then_waits n 0 [] 0 (Replaced (Some (holds (0 ∷ 0 ∷ 0 ∷ [])))) (refl, tt) refl) h.0 opening opens h.1 h.2
+    (then_waits n 0 [] 0 (Replaced (Some (holds (0 ∷ 0 ∷ 0 ∷ [])))) (refl, tt) refl) h.0 (opening limit) (opens limit) h.1 h.2
 
 -- A MESSAGE THAT IS RECEIVED TWICE
 
@@ -407,7 +407,7 @@ sent_once n s steps vs h are tells run q =
     (after_send [] [] 1 2 3 (kept None tt [] (three 1 2 3 ∷ []) tt) s steps h are) run q
 
 pub none_is_received_twice : IsNoHistory received_twice
-none_is_received_twice n h =
+none_is_received_twice n limit h =
     follow n (Holds None [] []) (kept None tt [] [] tt) (receives 0 ∷ waits 0 (arrives (1 ∷ 2 ∷ 3 ∷ [])) ∷ again)
     (Started 0) rank_0 (send_of 1 2 3)
-    (sent_once n) h.0 opening opens h.1 h.2
+    (sent_once n) h.0 (opening limit) (opens limit) h.1 h.2

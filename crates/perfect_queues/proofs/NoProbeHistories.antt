@@ -209,10 +209,10 @@ taken_sent n s steps vs h are tells run q =
     (after_send [] [] 1 2 3 (kept None tt [] (three 1 2 3 ∷ []) tt) s steps h are) run q
 
 pub none_is_taken_and_received : IsNoHistory taken_and_received
-none_is_taken_and_received n h =
+none_is_taken_and_received n limit h =
     follow n (Holds None [] []) (kept None tt [] [] tt) (takes_out 0 ∷ receives 1 ∷ waits 1 (arrives (1 ∷ 2 ∷ 3 ∷ [])) ∷
     []) (Started 0) rank_0 (send_of 1 2 3)
-    (taken_sent n) h.0 opening opens h.1 h.2
+    (taken_sent n) h.0 (opening limit) (opens limit) h.1 h.2
 
 -- A PROBE FOR ANOTHER TAG
 
@@ -288,10 +288,10 @@ looked_sent n s steps vs h are tells run q =
     (after_send [] [] 1 2 3 (kept None tt [] (three 1 2 3 ∷ []) tt) s steps h are) run q
 
 pub none_is_seen_by_another_tag : IsNoHistory (sees_by_tag 8)
-none_is_seen_by_another_tag n h =
+none_is_seen_by_another_tag n limit h =
     follow n (Holds None [] []) (kept None tt [] [] tt)
     (Called rank_1 (look_for (Some 8)) (Done (ForProbe (Some three_came))) ∷ []) (Started 0) rank_0 (send_of 1 2 3)
-    (looked_sent n) h.0 opening opens h.1 h.2
+    (looked_sent n) h.0 (opening limit) (opens limit) h.1 h.2
 
 -- A PROBE BEHIND A POSTED RECEIVE
 
@@ -377,11 +377,11 @@ posted_sent n s steps vs h are tells run q =
     (after_send [] [] 1 2 3 (kept None tt [] (three 1 2 3 ∷ []) tt) s steps h are) run q
 
 pub none_is_seen_behind_a_receive : IsNoHistory (looks_after_posting (Some three_came))
-none_is_seen_behind_a_receive n h =
+none_is_seen_behind_a_receive n limit h =
     follow n (Holds None [] []) (kept None tt [] [] tt)
     (receives 0 ∷ Called rank_1 (look_for None) (Done (ForProbe (Some three_came))) ∷ []) (Started 0) rank_0
     (send_of 1 2 3)
-    (posted_sent n) h.0 opening opens h.1 h.2
+    (posted_sent n) h.0 (opening limit) (opens limit) h.1 h.2
 
 -- A SYNCHRONOUS SEND THAT IS FINISHED THOUGH NOBODY HAS ITS MESSAGE
 
@@ -612,8 +612,8 @@ never_sent n P fixed keeps s steps vs h are tells run q =
     after : State
     after = steps_at (start s rank_0 (Some (Wait (One (Some 0))))) rank_0 steps
 
-opens_both : Both opening None [] (Holds None [] [])
-opens_both = record { stands = opens; sender = (refl, refl) }
+opens_both : (limit : ℕ) → Both (opening limit) None [] (Holds None [] [])
+opens_both limit = record { stands = opens limit; sender = (refl, refl) }
 
 alone_sent : (n : ℕ) →
     NextOfBoth n [] (Holds None [] []) (send_answers (Done (ForOne Sent)) ∷ []) (Started 0) rank_0 issend
@@ -624,10 +624,10 @@ alone_sent n s steps vs h are tells run q =
     (after_event s (At rank_0 (Some issend) steps)) (after_issend s steps h are) run q
 
 pub none_is_finished_alone : IsNoHistory finished_alone
-none_is_finished_alone n h =
+none_is_finished_alone n limit h =
     follow_both n [] (Holds None [] []) nothing_fixed (kept None tt [] [] tt) (send_answers (Done (ForOne Sent)) ∷ [])
     (Started 0) rank_0 issend
-    (alone_sent n) h.0 opening opens_both h.1 h.2
+    (alone_sent n) h.0 (opening limit) (opens_both limit) h.1 h.2
 
 -- nor is it where rank 1 has only taken the message out
 taken_by_1 : (n : ℕ) → NextOfBoth n unfinished (Holds None [] (awaited ∷ [])) (send_answers (Done (ForOne Sent)) ∷ [])
@@ -680,7 +680,7 @@ taken_issend n s steps vs h are tells run q =
     (after_event s (At rank_0 (Some issend) steps)) (after_issend s steps h are) run q
 
 pub none_is_finished_when_taken : IsNoHistory finished_when_taken
-none_is_finished_when_taken n h =
+none_is_finished_when_taken n limit h =
     follow_both n [] (Holds None [] []) nothing_fixed (kept None tt [] [] tt)
     (takes_out 0 ∷ send_answers (Done (ForOne Sent)) ∷ []) (Started 0) rank_0 issend
-    (taken_issend n) h.0 opening opens_both h.1 h.2
+    (taken_issend n) h.0 (opening limit) (opens_both limit) h.1 h.2

@@ -8,14 +8,19 @@ use Rattle.std.proofs.lemmas.Nat.{mul-mod_first, mul-mod_second, and_assoc, or_s
 use Rattle.std.proofs.lemmas.Nat.{or_lt, xor_lt, and_le_l}
 use lib.Bits.{xor_assoc}
 use lib.Arith.{bin_ind}
+use lib.Ieee.Bits.{to_bits-lt}
+use lib.Ieee.Fits.{add-fits, mul-fits}
+use Rattle.std.specs.Float.Ieee.{binary32, binary64, add, mul}
+use Rattle.std.proofs.Common.{from_bits}
 use Rattle.vocabulary.specs.declared.basic_type.BasicType.{BasicType}
 use Rattle.vocabulary.specs.declared.basic_type.BasicType.TheVariants.{Int8, Int16, Int32, Int64, Uint8, Uint16, Uint32}
-use Rattle.vocabulary.specs.declared.basic_type.BasicType.TheVariants.{Uint64, Byte}
+use Rattle.vocabulary.specs.declared.basic_type.BasicType.TheVariants.{Uint64, Byte, Float32, Float64}
 use Rattle.vocabulary.specs.declared.operation.Operation.{Operation}
 use Rattle.vocabulary.specs.declared.operation.Operation.TheVariants.{Max, Min, Sum, Prod, Land, Lor, Lxor, Band, Bor, Bxor}
 use Rattle.vocabulary.specs.declared.operation.Operation.TheVariants.{Affine}
 use Rattle.datatypes.specs.Elements.{numbers_of}
-use Rattle.reductions.specs.Operations.{order_of, greater_by, lesser_by, map_after, is_defined, combined}
+use Rattle.reductions.specs.Operations.{combined, greater_by, is_associative, is_defined, lesser_by, map_after}
+use Rattle.reductions.specs.Operations.{order_above, order_below}
 
 -- ---- the greater and the lesser
 
@@ -213,21 +218,51 @@ maps_associate a b c =
 
 -- ---- all of them
 
--- each operation is associative on the numbers of each type (MPI 3.1, 5.9.1)
-pub combined-associates : (op : Operation) (basic : BasicType) (a b c : ℕ) → combined op basic (combined op basic a b) c ≡
-    combined op basic a (combined op basic b c)
+sums_associate : (basic : BasicType) (a b c : ℕ) → is_associative Sum basic ≡ true →
+    combined Sum basic (combined Sum basic a b) c ≡ combined Sum basic a (combined Sum basic b c)
 unfolding combined
-combined-associates Max basic a b c = greater_associates (order_of basic) a b c
-combined-associates Min basic a b c = lesser_associates (order_of basic) a b c
-combined-associates Sum basic a b c = sum_associates (numbers_of basic) a b c
-combined-associates Prod basic a b c = product_associates (numbers_of basic) a b c
-combined-associates Land basic a b c = and_associates (eqb a 0) (eqb b 0) (eqb c 0)
-combined-associates Lor basic a b c = or_associates (eqb a 0) (eqb b 0) (eqb c 0)
-combined-associates Lxor basic a b c = xor_associates (eqb a 0) (eqb b 0) (eqb c 0)
-combined-associates Band basic a b c = and_assoc c a b
-combined-associates Bor basic a b c = or_assoc a b c
-combined-associates Bxor basic a b c = xor_assoc a b c
-combined-associates Affine basic a b c = maps_associate a b c
+sums_associate Int8 a b c h = sum_associates (numbers_of Int8) a b c
+sums_associate Int16 a b c h = sum_associates (numbers_of Int16) a b c
+sums_associate Int32 a b c h = sum_associates (numbers_of Int32) a b c
+sums_associate Int64 a b c h = sum_associates (numbers_of Int64) a b c
+sums_associate Uint8 a b c h = sum_associates (numbers_of Uint8) a b c
+sums_associate Uint16 a b c h = sum_associates (numbers_of Uint16) a b c
+sums_associate Uint32 a b c h = sum_associates (numbers_of Uint32) a b c
+sums_associate Uint64 a b c h = sum_associates (numbers_of Uint64) a b c
+sums_associate Byte a b c h = sum_associates (numbers_of Byte) a b c
+sums_associate Float32 a b c h = absurd cc
+sums_associate Float64 a b c h = absurd cc
+
+products_associate : (basic : BasicType) (a b c : ℕ) → is_associative Prod basic ≡ true →
+    combined Prod basic (combined Prod basic a b) c ≡ combined Prod basic a (combined Prod basic b c)
+unfolding combined
+products_associate Int8 a b c h = product_associates (numbers_of Int8) a b c
+products_associate Int16 a b c h = product_associates (numbers_of Int16) a b c
+products_associate Int32 a b c h = product_associates (numbers_of Int32) a b c
+products_associate Int64 a b c h = product_associates (numbers_of Int64) a b c
+products_associate Uint8 a b c h = product_associates (numbers_of Uint8) a b c
+products_associate Uint16 a b c h = product_associates (numbers_of Uint16) a b c
+products_associate Uint32 a b c h = product_associates (numbers_of Uint32) a b c
+products_associate Uint64 a b c h = product_associates (numbers_of Uint64) a b c
+products_associate Byte a b c h = product_associates (numbers_of Byte) a b c
+products_associate Float32 a b c h = absurd cc
+products_associate Float64 a b c h = absurd cc
+
+-- each operation is associative on the numbers of each type, but for the sum and the product of floats (MPI 3.1, 5.9.1)
+pub combined-associates : (op : Operation) (basic : BasicType) (a b c : ℕ) → is_associative op basic ≡ true →
+    combined op basic (combined op basic a b) c ≡ combined op basic a (combined op basic b c)
+unfolding combined
+combined-associates Max basic a b c h = greater_associates (order_above basic) a b c
+combined-associates Min basic a b c h = lesser_associates (order_below basic) a b c
+combined-associates Sum basic a b c h = sums_associate basic a b c h
+combined-associates Prod basic a b c h = products_associate basic a b c h
+combined-associates Land basic a b c h = and_associates (eqb a 0) (eqb b 0) (eqb c 0)
+combined-associates Lor basic a b c h = or_associates (eqb a 0) (eqb b 0) (eqb c 0)
+combined-associates Lxor basic a b c h = xor_associates (eqb a 0) (eqb b 0) (eqb c 0)
+combined-associates Band basic a b c h = and_assoc c a b
+combined-associates Bor basic a b c h = or_assoc a b c
+combined-associates Bxor basic a b c h = xor_assoc a b c
+combined-associates Affine basic a b c h = maps_associate a b c
 
 -- ---- the results are elements
 
@@ -242,6 +277,8 @@ mod_mod Uint16 x = omega arith
 mod_mod Uint32 x = omega arith
 mod_mod Uint64 x = mod-mod x (2 ^ 64)
 mod_mod Byte x = omega arith
+mod_mod Float32 x = omega arith
+mod_mod Float64 x = mod-mod x (2 ^ 64)
 
 -- each type has more than 255 numbers
 many : (basic : BasicType) → 255 < numbers_of basic
@@ -254,6 +291,8 @@ many Uint16 = omega arith
 many Uint32 = omega arith
 many Uint64 = omega arith
 many Byte = omega arith
+many Float32 = omega arith
+many Float64 = omega arith
 
 -- `or` of two elements is an element
 or_within : (basic : BasicType) (a b : ℕ) → a < numbers_of basic → b < numbers_of basic → bit_or a b < numbers_of basic
@@ -266,6 +305,8 @@ or_within Uint16 a b p q = or_lt 16 a b p q
 or_within Uint32 a b p q = or_lt 32 a b p q
 or_within Uint64 a b p q = or_lt 64 a b p q
 or_within Byte a b p q = or_lt 8 a b p q
+or_within Float32 a b p q = or_lt 32 a b p q
+or_within Float64 a b p q = or_lt 64 a b p q
 
 -- exclusive `or` of two elements is an element
 xor_within : (basic : BasicType) (a b : ℕ) → a < numbers_of basic → b < numbers_of basic →
@@ -279,6 +320,8 @@ xor_within Uint16 a b p q = xor_lt 16 a b p q
 xor_within Uint32 a b p q = xor_lt 32 a b p q
 xor_within Uint64 a b p q = xor_lt 64 a b p q
 xor_within Byte a b p q = xor_lt 8 a b p q
+xor_within Float32 a b p q = xor_lt 32 a b p q
+xor_within Float64 a b p q = xor_lt 64 a b p q
 
 -- one of two numbers below n is below n
 either : (t : Bool) (a b n : ℕ) → a < n → b < n → cond t b a < n
@@ -314,15 +357,47 @@ maps_within Uint8 a b d = absurd cc
 maps_within Uint16 a b d = absurd cc
 maps_within Uint32 a b d = absurd cc
 maps_within Byte a b d = absurd cc
+maps_within Float32 a b d = absurd cc
+maps_within Float64 a b d = absurd cc
 
 -- what an operation makes of two elements, where it is defined, is an element of the same type
-pub combined-within : (op : Operation) (basic : BasicType) (a b : ℕ) → is_defined op basic ≡ true → a < numbers_of basic →
-    b < numbers_of basic → combined op basic a b < numbers_of basic
+pub combined-within : (op : Operation) (basic : BasicType) (a b : ℕ) → is_defined op basic ≡ true →
+    a < numbers_of basic → b < numbers_of basic → combined op basic a b < numbers_of basic
 unfolding combined
-combined-within Max basic a b d p q = either (ltb (order_of basic a) (order_of basic b)) a b (numbers_of basic) p q
-combined-within Min basic a b d p q = either (ltb (order_of basic b) (order_of basic a)) a b (numbers_of basic) p q
-combined-within Sum basic a b d p q = mod-lt (a + b) (omega (arith, many basic))
-combined-within Prod basic a b d p q = mod-lt (a * b) (omega (arith, many basic))
+combined-within Max basic a b d p q =
+    either (ltb (order_above basic a) (order_above basic b)) a b (numbers_of basic) p q
+combined-within Min basic a b d p q =
+    either (ltb (order_below basic b) (order_below basic a)) a b (numbers_of basic) p q
+combined-within Sum Int8 a b d p q = mod-lt (a + b) (omega arith)
+combined-within Sum Int16 a b d p q = mod-lt (a + b) (omega arith)
+combined-within Sum Int32 a b d p q = mod-lt (a + b) (omega arith)
+combined-within Sum Int64 a b d p q = mod-lt (a + b) (omega arith)
+combined-within Sum Uint8 a b d p q = mod-lt (a + b) (omega arith)
+combined-within Sum Uint16 a b d p q = mod-lt (a + b) (omega arith)
+combined-within Sum Uint32 a b d p q = mod-lt (a + b) (omega arith)
+combined-within Sum Uint64 a b d p q = mod-lt (a + b) (omega arith)
+combined-within Sum Byte a b d p q = mod-lt (a + b) (omega arith)
+combined-within Sum Float32 a b d p q =
+    to_bits-lt binary32 (add binary32 (from_bits binary32 a) (from_bits binary32 b))
+    (add-fits binary32 (from_bits binary32 a) (from_bits binary32 b))
+combined-within Sum Float64 a b d p q =
+    to_bits-lt binary64 (add binary64 (from_bits binary64 a) (from_bits binary64 b))
+    (add-fits binary64 (from_bits binary64 a) (from_bits binary64 b))
+combined-within Prod Int8 a b d p q = mod-lt (a * b) (omega arith)
+combined-within Prod Int16 a b d p q = mod-lt (a * b) (omega arith)
+combined-within Prod Int32 a b d p q = mod-lt (a * b) (omega arith)
+combined-within Prod Int64 a b d p q = mod-lt (a * b) (omega arith)
+combined-within Prod Uint8 a b d p q = mod-lt (a * b) (omega arith)
+combined-within Prod Uint16 a b d p q = mod-lt (a * b) (omega arith)
+combined-within Prod Uint32 a b d p q = mod-lt (a * b) (omega arith)
+combined-within Prod Uint64 a b d p q = mod-lt (a * b) (omega arith)
+combined-within Prod Byte a b d p q = mod-lt (a * b) (omega arith)
+combined-within Prod Float32 a b d p q =
+    to_bits-lt binary32 (mul binary32 (from_bits binary32 a) (from_bits binary32 b))
+    (mul-fits binary32 (from_bits binary32 a) (from_bits binary32 b))
+combined-within Prod Float64 a b d p q =
+    to_bits-lt binary64 (mul binary64 (from_bits binary64 a) (from_bits binary64 b))
+    (mul-fits binary64 (from_bits binary64 a) (from_bits binary64 b))
 combined-within Land basic a b d p q =
     let m = many basic in
     either (eqb a 0) (cond (eqb b 0) 0 1) 0 (numbers_of basic)

@@ -1,6 +1,7 @@
 //! The operations of reductions, and the fold of members' elements by one of them.
 #![tactic(auto)]
 
+mod floats;
 mod folding;
 mod operation;
 

@@ -4,12 +4,16 @@ ghost use Rattle.std.specs.Prelude.{◌≡◌, ◌<◌, ◌%◌, ◌+◌, ◌*�
 ghost use Rattle.datatypes.specs.Elements.{numbers_of};
 ghost use Rattle.datatypes.specs.Combinations.{combined_values, IsLike};
 ghost use Rattle.reductions.specs.Operations.{order_of, greater_by, lesser_by, logical_and, logical_or, logical_xor};
-ghost use Rattle.reductions.specs.Operations.{map_after, is_defined, operation_of, combined};
+ghost use Rattle.reductions.specs.Operations.{map_after, is_defined, operation_of, combined, order_above, order_below};
+ghost use Rattle.reductions.specs.Operations.{product_in, sum_in};
 
+use crate::floats::{
+    greater_32, greater_64, lesser_32, lesser_64, product_32, product_64, sum_32, sum_64,
+};
 use datatypes::{Buffer, LayoutRefusal, PairOp, is_signed, largest_number};
 use vocabulary::{BasicType, Operation};
 
-/// What combines two elements of one basic type, associatively.
+/// What combines two elements of one basic type.
 pub trait ReduceOp {
     ghost use Rattle.std.specs.Prelude.{◌≡◌, ◌<◌, ℕ};
     ghost use Rattle.vocabulary.specs.declared.basic_type.BasicType.{BasicType};
@@ -39,8 +43,6 @@ pub trait ReduceOp {
             record all.old {
               values = combined_values (combines self.now) all.old.values next.now.values;
             } };
-
-    ghost associates: { (op : Self) (a b c : ℕ) → combines op (combines op a b) c ≡ combines op a (combines op b c) };
 }
 
 /// An operation on a type on which it is defined.
@@ -206,6 +208,62 @@ fn just_one_true(first: u64, second: u64) -> u64
     }
 }
 
+/// The greater of two elements of the type; of floats a NaN, where one is a NaN.
+#[inline(always)]
+fn greatest(basic: BasicType, first: u64, second: u64) -> u64
+    requires first { first < numbers_of basic }
+    requires second { second < numbers_of basic }
+    ensures { result ≡ greater_by (order_above basic) first second }
+{
+    match basic {
+        BasicType::Float32 => greater_32(first, second),
+        BasicType::Float64 => greater_64(first, second),
+        _ => greater(basic, first, second),
+    }
+}
+
+/// The lesser of two elements of the type; of floats a NaN, where one is a NaN.
+#[inline(always)]
+fn least(basic: BasicType, first: u64, second: u64) -> u64
+    requires first { first < numbers_of basic }
+    requires second { second < numbers_of basic }
+    ensures { result ≡ lesser_by (order_below basic) first second }
+{
+    match basic {
+        BasicType::Float32 => lesser_32(first, second),
+        BasicType::Float64 => lesser_64(first, second),
+        _ => lesser(basic, first, second),
+    }
+}
+
+/// The sum of two elements of the type.
+#[inline(always)]
+fn sum_in(basic: BasicType, first: u64, second: u64) -> u64
+    requires first { first < numbers_of basic }
+    requires second { second < numbers_of basic }
+    ensures { result ≡ sum_in basic first second }
+{
+    match basic {
+        BasicType::Float32 => sum_32(first, second),
+        BasicType::Float64 => sum_64(first, second),
+        _ => wrapped_sum(basic, first, second),
+    }
+}
+
+/// The product of two elements of the type.
+#[inline(always)]
+fn product_in(basic: BasicType, first: u64, second: u64) -> u64
+    requires first { first < numbers_of basic }
+    requires second { second < numbers_of basic }
+    ensures { result ≡ product_in basic first second }
+{
+    match basic {
+        BasicType::Float32 => product_32(first, second),
+        BasicType::Float64 => product_64(first, second),
+        _ => wrapped_product(basic, first, second),
+    }
+}
+
 /// What the operation makes of two elements of the type.
 #[inline(always)]
 #[tactic(auto, unfolding(crate::specs::Operations::combined))]
@@ -215,10 +273,10 @@ fn combine_numbers(operation: Operation, basic: BasicType, first: u64, second: u
     ensures { result ≡ combined operation basic first second }
 {
     match operation {
-        Operation::Max => greater(basic, first, second),
-        Operation::Min => lesser(basic, first, second),
-        Operation::Sum => wrapped_sum(basic, first, second),
-        Operation::Prod => wrapped_product(basic, first, second),
+        Operation::Max => greatest(basic, first, second),
+        Operation::Min => least(basic, first, second),
+        Operation::Sum => sum_in(basic, first, second),
+        Operation::Prod => product_in(basic, first, second),
         Operation::Land => both_true(first, second),
         Operation::Lor => one_true(first, second),
         Operation::Lxor => just_one_true(first, second),
@@ -272,6 +330,8 @@ fn combine_by<const NUMBER: u8>(basic: BasicType, all: &mut Buffer, next: &Buffe
         BasicType::Uint32 => combine_typed(operation, BasicType::Uint32, all, next),
         BasicType::Uint64 => combine_typed(operation, BasicType::Uint64, all, next),
         BasicType::Byte => combine_typed(operation, BasicType::Byte, all, next),
+        BasicType::Float32 => combine_typed(operation, BasicType::Float32, all, next),
+        BasicType::Float64 => combine_typed(operation, BasicType::Float64, all, next),
     }
 }
 
@@ -308,7 +368,6 @@ impl PairOp for Reduction {
 
 impl ReduceOp for Reduction {
     ghost use Rattle.reductions.specs.Operations.{combined};
-    ghost use Rattle.reductions.specs.OperationLaws.{combined-associates};
 
     ghost basic_of = { λ r. r.basic };
 
@@ -338,6 +397,4 @@ impl ReduceOp for Reduction {
             Operation::Affine => combine_by::<11>(basic, all, next),
         }
     }
-
-    ghost associates = { λ r a b c. combined-associates r.operation r.basic a b c };
 }

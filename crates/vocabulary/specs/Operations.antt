@@ -1,7 +1,8 @@
 -- The operations of reductions, the codes that stand for them, and on which types they are defined (MPI 3.1, 5.9.2).
-use Rattle.std.specs.Prelude.{ℕ, ◌==◌, Bool, true, false, Option, Some, None, if◌then◌else◌}
+use Rattle.std.specs.Prelude.{ℕ, ◌==◌, Bool, true, false, not, Option, Some, None, if◌then◌else◌}
 use Rattle.vocabulary.specs.declared.basic_type.BasicType.{BasicType}
 use Rattle.vocabulary.specs.declared.basic_type.BasicType.TheVariants.{Uint64, Byte}
+use Rattle.vocabulary.specs.BasicTypes.{is_float, is_integer}
 use Rattle.vocabulary.specs.declared.operation.Operation.{Operation}
 use Rattle.vocabulary.specs.declared.operation.Operation.TheVariants.{Max, Min, Sum, Prod, Land, Lor, Lxor, Band, Bor}
 use Rattle.vocabulary.specs.declared.operation.Operation.TheVariants.{Bxor, Affine}
@@ -31,12 +32,22 @@ operation_at code =
     (if code == 8 then Some Band else (if code == 9 then Some Bor else
     (if code == 10 then Some Bxor else (if code == 11 then Some Affine else None))))))))))
 
--- whether the operation is defined on the type: bit by bit on each, the maps on numbers of 64 bits, others on integers
+-- Whether the operation is defined on the type: the logical ones on integers; bit by bit on integers and bytes; the maps
+-- on numbers of 64 bits; MAX, MIN, SUM and PROD on integers and floats
 abbrev pub is_defined : Operation → BasicType → Bool
-is_defined Band basic = true
-is_defined Bor basic = true
-is_defined Bxor basic = true
+is_defined Land basic = is_integer basic
+is_defined Lor basic = is_integer basic
+is_defined Lxor basic = is_integer basic
+is_defined Band basic = not (is_float basic)
+is_defined Bor basic = not (is_float basic)
+is_defined Bxor basic = not (is_float basic)
 is_defined Affine Uint64 = true
 is_defined Affine basic = false
 is_defined op Byte = false
 is_defined op basic = true
+
+-- Whether the operation is associative on the type: each is, but for the sum and the product of floats, which are rounded
+abbrev pub is_associative : Operation → BasicType → Bool
+is_associative Sum basic = not (is_float basic)
+is_associative Prod basic = not (is_float basic)
+is_associative op basic = true

@@ -1,20 +1,20 @@
 //! The operations of reductions.
 
 ghost use Rattle.std.specs.Prelude.{◌≡◌};
-ghost use Rattle.vocabulary.specs.Operations.{is_defined, operation_at, operation_code};
+ghost use Rattle.vocabulary.specs.Operations.{is_associative, is_defined, operation_at, operation_code};
 
 use crate::basic_type::BasicType;
 
 /// The operation of a reduction (MPI 3.1, 5.9.2).
 #[derive(Clone, Copy, Debug, PartialEq, Eq)]
 pub enum Operation {
-    /// The greater (MPI_MAX).
+    /// The greater (MPI_MAX); of floats a NaN, where one is a NaN.
     Max,
-    /// The lesser (MPI_MIN).
+    /// The lesser (MPI_MIN); of floats a NaN, where one is a NaN.
     Min,
-    /// The sum in two's complement, which wraps (MPI_SUM).
+    /// The sum (MPI_SUM): in two's complement, which wraps; of floats rounded to the nearest.
     Sum,
-    /// The product in two's complement, which wraps (MPI_PROD).
+    /// The product (MPI_PROD): in two's complement, which wraps; of floats rounded to the nearest.
     Prod,
     /// 1 where both are true, else 0; all but 0 is true (MPI_LAND).
     Land,
@@ -73,21 +73,30 @@ impl Operation {
         }
     }
 
-    /// Whether the operation is defined on the type: bit by bit on each, `Affine` on `Uint64`, each
-    /// other one on the integers.
+    /// Whether the operation is defined on the type (MPI 3.1, 5.9.2): the logical ones on integers,
+    /// those bit by bit on integers and bytes, `Affine` on `Uint64`, and `Max`, `Min`, `Sum` and
+    /// `Prod` on integers and floats.
     pub fn is_defined_on(self, basic: BasicType) -> bool
         ensures { result ≡ is_defined self basic }
     {
         match self {
-            Operation::Band | Operation::Bor | Operation::Bxor => true,
+            Operation::Max | Operation::Min | Operation::Sum | Operation::Prod => {
+                basic != BasicType::Byte
+            }
+            Operation::Land | Operation::Lor | Operation::Lxor => basic.is_integer(),
+            Operation::Band | Operation::Bor | Operation::Bxor => !basic.is_float(),
             Operation::Affine => basic == BasicType::Uint64,
-            Operation::Max
-            | Operation::Min
-            | Operation::Sum
-            | Operation::Prod
-            | Operation::Land
-            | Operation::Lor
-            | Operation::Lxor => basic != BasicType::Byte,
+        }
+    }
+
+    /// Whether the operation is associative on the type: each is, but for `Sum` and `Prod` on floats,
+    /// which are rounded.
+    pub fn is_associative_on(self, basic: BasicType) -> bool
+        ensures { result ≡ is_associative self basic }
+    {
+        match self {
+            Operation::Sum | Operation::Prod => !basic.is_float(),
+            _ => true,
         }
     }
 }

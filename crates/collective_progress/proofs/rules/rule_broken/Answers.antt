@@ -17,9 +17,6 @@ block_bytes-requires c = search rules
 pub is_wrong_total-requires : goal.is_wrong_total-requires
 is_wrong_total-requires c = search rules
 
-pub returns-then-block_bytes-gt-BLOCK_LIMIT : goal.returns-then-block_bytes-gt-BLOCK_LIMIT
-returns-then-block_bytes-gt-BLOCK_LIMIT c = search rules
-
 pub is_rooted-requires : goal.is_rooted-requires
 is_rooted-requires c = search rules
 

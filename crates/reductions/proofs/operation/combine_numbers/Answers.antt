@@ -2,23 +2,23 @@
 use Rattle.std.proofs.Common.{rules}
 use Rattle.reductions.proofs.operation.combine_numbers.Goals as goal
 
-pub greater-requires-clause-first : goal.greater-requires-clause-first
-greater-requires-clause-first c = search rules
+pub greatest-requires-clause-first : goal.greatest-requires-clause-first
+greatest-requires-clause-first c = search rules
 
-pub greater-requires-clause-second : goal.greater-requires-clause-second
-greater-requires-clause-second c = search rules
+pub greatest-requires-clause-second : goal.greatest-requires-clause-second
+greatest-requires-clause-second c = search rules
 
-pub lesser-requires-clause-first : goal.lesser-requires-clause-first
-lesser-requires-clause-first c = search rules
+pub least-requires-clause-first : goal.least-requires-clause-first
+least-requires-clause-first c = search rules
 
-pub lesser-requires-clause-second : goal.lesser-requires-clause-second
-lesser-requires-clause-second c = search rules
+pub least-requires-clause-second : goal.least-requires-clause-second
+least-requires-clause-second c = search rules
 
-pub wrapped_sum-requires : goal.wrapped_sum-requires
-wrapped_sum-requires c = search rules
+pub sum_in-requires : goal.sum_in-requires
+sum_in-requires c = search rules
 
-pub wrapped_product-requires : goal.wrapped_product-requires
-wrapped_product-requires c = search rules
+pub product_in-requires : goal.product_in-requires
+product_in-requires c = search rules
 
 pub both_true-requires : goal.both_true-requires
 both_true-requires c = search rules

@@ -1,0 +1,2 @@
+pub mod Dependence
+pub mod ReadingBack
