@@ -8,7 +8,7 @@ ghost use Rattle.std.specs.Prelude.{◌≡◌, ◌↔◌, IsTrue};
 ghost use Rattle.datagram.specs.Reading.{datagram_of};
 ghost use Rattle.delayed_acknowledgements.specs.Acknowledgements.{Covers, IsUrgent, acknowledgement};
 
-use datagram::{Content, Datagram, Header, read};
+use datagram::{Content, Datagram, Header, read_form};
 
 /// What an acknowledgement says.
 #[derive(Clone, Copy)]
@@ -24,7 +24,7 @@ pub struct Acknowledgement {
 pub fn acknowledgement_in(bytes: &[u8]) -> Option<Acknowledgement>
     ensures { result ≡ acknowledgement (datagram_of bytes.now) }
 {
-    match read(bytes) {
+    match read_form(bytes) {
         Ok(
             Datagram {
                 header,

@@ -35,14 +35,14 @@ tells_more told [] a b now c is next = (c, subst (λ x. told x now c) is next, r
 tells_more told (n ∷ nows) a b now c is next = (is.0, is.1, tells_more told nows is.0 b now c is.2 next)
 
 pub rounds_more : {P T : Type 0} (does : P → Option Reply → RunnerStep → P → Type 0) (passed : T → List Exchange → T →
-    Type 0) (patience : ℕ)
-    (nows : List ℕ) (a b : Course P T) (now : ℕ) (c : Course P T) → Rounds does passed patience a nows b →
-    RoundGives does passed patience b now (Ok None) c.engine c.runner c.standing c.transport →
-    Rounds does passed patience a (nows ++ now ∷ []) c
-rounds_more does passed patience [] a b now c is next = (
+    Type 0) (waits : T → List ℕ) (patience : ℕ)
+    (nows : List ℕ) (a b : Course P T) (now : ℕ) (c : Course P T) → Rounds does passed waits patience a nows b →
+    RoundGives does passed waits patience b now (Ok None) c.engine c.runner c.standing c.transport →
+    Rounds does passed waits patience a (nows ++ now ∷ []) c
+rounds_more does passed waits patience [] a b now c is next = (
   c,
-  subst (λ x. RoundGives does passed patience x now (Ok None) c.engine c.runner c.standing c.transport) is next,
+  subst (λ x. RoundGives does passed waits patience x now (Ok None) c.engine c.runner c.standing c.transport) is next,
   refl,
 )
-rounds_more does passed patience (n ∷ nows) a b now c is next =
-    (is.0, is.1, rounds_more does passed patience nows is.0 b now c is.2 next)
+rounds_more does passed waits patience (n ∷ nows) a b now c is next =
+    (is.0, is.1, rounds_more does passed waits patience nows is.0 b now c is.2 next)

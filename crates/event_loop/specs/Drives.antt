@@ -65,9 +65,9 @@ pub record Course (P T : Type 0) : Type 0 where
 -- a rank makes a turn at this time
 pub record MakesTurn {P T : Type 0} (does : P → Option Reply → RunnerStep → P → Type 0) (passed : T → List Exchange →
     T → Type 0)
-    (a : Course P T) (now : ℕ) (b : Course P T) : Type 0 where
+    (waits : T → List ℕ) (a : Course P T) (now : ℕ) (b : Course P T) : Type 0 where
   pub turned : TurnResult
-  pub turn : IsTurn does passed a.engine a.runner a.standing.stage a.transport now turned b.engine b.runner
+  pub turn : IsTurn does passed waits a.engine a.runner a.standing.stage a.transport now turned b.engine b.runner
       b.standing.stage b.transport
   pub heard : b.standing.heard ≡ (if turned.came then now else a.standing.heard)
   pub moved : b.standing.moved ≡ (if turned.moved then now else a.standing.moved)
@@ -86,18 +86,18 @@ pub record Rests {T : Type 0} (passed : T → List Exchange → T → Type 0) (p
 -- A turn, after which the rank ends, or goes on. A fault of the transport stops the turn short, or comes in the wait
 -- behind it.
 abbrev pub RoundGives : {P T : Type 0} → (P → Option Reply → RunnerStep → P → Type 0) → (T → List Exchange → T → Type 0)
-    → (patience : ℕ) → Course P T → (now : ℕ) → Result (Option Ended) TransportFault → EngineState → P → LoopState → T →
-    Type 0
-RoundGives {T = T} does passed patience a now (Ok None) e p s t =
-    (mid : T) × MakesTurn does passed a now (record { engine = e; runner = p; standing = s; transport = mid })
+    → (T → List ℕ) → (patience : ℕ) → Course P T → (now : ℕ) → Result (Option Ended) TransportFault → EngineState → P →
+    LoopState → T → Type 0
+RoundGives {T = T} does passed waits patience a now (Ok None) e p s t =
+    (mid : T) × MakesTurn does passed waits a now (record { engine = e; runner = p; standing = s; transport = mid })
     × Rests passed patience e s now mid (Ok tt) t
-RoundGives does passed patience a now (Ok (Some ended)) e p s t =
-    MakesTurn does passed a now (record { engine = e; runner = p; standing = s; transport = t }) ×
+RoundGives does passed waits patience a now (Ok (Some ended)) e p s t =
+    MakesTurn does passed waits a now (record { engine = e; runner = p; standing = s; transport = t }) ×
     EndsAs patience e s now (Some ended)
-RoundGives {T = T} does passed patience a now (Err f) e p s t =
-    (TurnGives does passed a.engine a.runner a.standing.stage a.transport now (Err f) e p s.stage t
+RoundGives {T = T} does passed waits patience a now (Err f) e p s t =
+    (TurnGives does passed waits a.engine a.runner a.standing.stage a.transport now (Err f) e p s.stage t
     × (s.heard ≡ a.standing.heard) × (s.moved ≡ a.standing.moved)) ⊎
-    ((mid : T) × MakesTurn does passed a now (record { engine = e; runner = p; standing = s; transport = mid })
+    ((mid : T) × MakesTurn does passed waits a now (record { engine = e; runner = p; standing = s; transport = mid })
     × Rests passed patience e s now mid (Err f) t)
 
 -- a clock told these times, in order
@@ -107,12 +107,12 @@ Tells {C = C} told a (now ∷ nows) b = (mid : C) × told a now mid × Tells tol
 
 -- rounds at these times, one after the other
 abbrev pub Rounds : {P T : Type 0} → (P → Option Reply → RunnerStep → P → Type 0) → (T → List Exchange → T → Type 0)
-    → ℕ → Course P T → List ℕ → Course P T → Type 0
-Rounds does passed patience a [] b = b ≡ a
-Rounds {P = P} {T = T} does passed patience a (now ∷ nows) b =
+    → (T → List ℕ) → ℕ → Course P T → List ℕ → Course P T → Type 0
+Rounds does passed waits patience a [] b = b ≡ a
+Rounds {P = P} {T = T} does passed waits patience a (now ∷ nows) b =
     (mid : Course P T) ×
-    RoundGives does passed patience a now (Ok None) mid.engine mid.runner mid.standing mid.transport
-    × Rounds does passed patience mid nows b
+    RoundGives does passed waits patience a now (Ok None) mid.engine mid.runner mid.standing mid.transport
+    × Rounds does passed waits patience mid nows b
 
 -- a rank at its start, at this time
 abbrev pub course_at : {P T : Type 0} → ℕ → EngineState → P → T → Course P T
@@ -127,19 +127,20 @@ last_of (Err f) = Err f
 -- From this course on the clock tells the time of each round; there are rounds that go on, and a last one.
 pub record DrivesOn {P T C : Type 0} (does : P → Option Reply → RunnerStep → P → Type 0) (passed : T → List Exchange →
     T → Type 0)
-    (told : C → ℕ → C → Type 0) (patience : ℕ) (from : Course P T) (c : C) (result : Result Ended TransportFault)
+    (waits : T → List ℕ) (told : C → ℕ → C → Type 0) (patience : ℕ)
+    (from : Course P T) (c : C) (result : Result Ended TransportFault)
     (e' : EngineState) (p' : P) (s' : LoopState) (t' : T) (c' : C) : Type 0 where
   pub times : List ℕ
   pub now : ℕ
   pub course : Course P T
   pub clock : Tells told c (times ++ now ∷ []) c'
-  pub rounds_on : Rounds does passed patience from times course
-  pub last : RoundGives does passed patience course now (last_of result) e' p' s' t'
+  pub rounds_on : Rounds does passed waits patience from times course
+  pub last : RoundGives does passed waits patience course now (last_of result) e' p' s' t'
 
 -- The clock tells the time of the start and of each round; there are rounds that go on, and a last one.
 pub record Drives {P T C : Type 0} (does : P → Option Reply → RunnerStep → P → Type 0) (passed : T → List Exchange → T →
     Type 0)
-    (told : C → ℕ → C → Type 0) (patience : ℕ) (e : EngineState) (p : P) (t : T) (c : C)
+    (waits : T → List ℕ) (told : C → ℕ → C → Type 0) (patience : ℕ) (e : EngineState) (p : P) (t : T) (c : C)
     (result : Result Ended TransportFault)
     (e' : EngineState) (p' : P) (t' : T) (c' : C) : Type 0 where
   pub start : ℕ
@@ -148,5 +149,5 @@ pub record Drives {P T C : Type 0} (does : P → Option Reply → RunnerStep →
   pub course : Course P T
   pub standing : LoopState
   pub clock : Tells told c ((start ∷ times) ++ now ∷ []) c'
-  pub rounds_on : Rounds does passed patience (course_at start e p t) times course
-  pub last : RoundGives does passed patience course now (last_of result) e' p' standing t'
+  pub rounds_on : Rounds does passed waits patience (course_at start e p t) times course
+  pub last : RoundGives does passed waits patience course now (last_of result) e' p' standing t'

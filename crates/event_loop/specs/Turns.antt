@@ -1,12 +1,12 @@
 -- What a turn of a rank is.
-use Rattle.std.specs.Prelude.{◌≡◌, ℕ, ◌<◌, ◌⊎◌, List, [], ◌∷◌, ◌++◌, map, take, length, Bool, true, false, ◌||◌}
+use Rattle.std.specs.Prelude.{◌≡◌, ℕ, suc, ◌<◌, ◌⊎◌, List, [], ◌∷◌, ◌++◌, map, take, length, Bool, true, false, ◌||◌}
 use Rattle.std.specs.Prelude.{is_some, Option, Some, None, Result, Ok, Err}
 use Rattle.point_to_point_calls.specs.declared.refusal.Refusal.{Refusal}
 use Rattle.engine_calls.specs.declared.reply.Reply.{Reply}
 use Rattle.engine_calls.specs.declared.reply.Reply.TheVariants as replies
 use Rattle.engine_calls.specs.EngineState.{EngineState, completion_of, without_completion, without_out}
 use Rattle.engine_calls.specs.Calls.{CallGives}
-use Rattle.engine.specs.Ticks.{TickGives}
+use Rattle.engine.specs.Ticks.{TickGives, after_wait}
 use Rattle.engine_calls.specs.declared.reply.Completion.{Completion}
 use Rattle.engine_calls.specs.declared.reply.Completion.TheVariants as completions
 use Rattle.event_loop.specs.declared.exchange.Exchange.{Exchange}
@@ -20,6 +20,15 @@ use Rattle.event_loop.specs.declared.transport.TransportFault.{TransportFault}
 use Rattle.event_loop.specs.Listening.{TakesIn, Word, after_all, nothing_heard, received}
 use Rattle.event_loop.specs.Speaking.{Speaks}
 use Rattle.event_loop.specs.Sending.{sent}
+
+-- the engine whose frames to each rank, from this one on, wait so long for their acknowledgements
+abbrev pub with_waits : EngineState → (rank : ℕ) → List ℕ → EngineState
+with_waits e rank [] = e
+with_waits e rank (wait ∷ waits) = with_waits (after_wait e rank wait) (suc rank) waits
+
+-- the same where these waits were told, of which those of the ranks of its job count
+abbrev pub told_waits : EngineState → List ℕ → EngineState
+told_waits e waits = with_waits e 0 (take e.sessions.place.size waits)
 
 -- the clock of the engine ticks; a tick that is refused is dropped
 abbrev pub TickLeaves : EngineState → ℕ → EngineState → Type 0
@@ -83,23 +92,24 @@ GoesOnTo does passed e p stage t (Err f) e' p' stage' t' =
     (lines : List (List ℕ)) × StopsAtLine does p stage lines p' × (e' ≡ e) × (stage' ≡ Ready None) ×
     passed t (map Printed lines ++ Failed ∷ []) t'
 
--- The engine up to its next call: its clock ticked, and it took in these datagrams.
-pub record Listened (e : EngineState) (now : ℕ) (words : List Word) (e' : EngineState) : Type 0 where
+-- The engine up to its next call: it was told how long frames wait, its clock ticked, and it took in these datagrams.
+pub record Listened (waits : List ℕ) (e : EngineState) (now : ℕ) (words : List Word) (e' : EngineState) : Type 0 where
   pub ticked : EngineState
-  pub tick : TickLeaves e now ticked
+  pub tick : TickLeaves (told_waits e waits) now ticked
   pub takes : TakesIn ticked words e'
 
--- A turn: the clock ticks; the datagrams that are there are taken in; the runner goes on, unless its call is blocked;
--- what the engine emitted is sent.
+-- A turn: how long frames wait is told, and the clock ticks; the datagrams that are there are taken in; the runner goes
+-- on, unless its call is blocked; what the engine emitted is sent.
 pub record IsTurn {P T : Type 0} (does : P → Option Reply → RunnerStep → P → Type 0) (passed : T → List Exchange → T →
     Type 0)
+    (waits : T → List ℕ)
     (e : EngineState) (p : P) (stage : RunnerState) (t : T) (now : ℕ) (turned : TurnResult) (e' : EngineState) (p' : P)
     (stage' : RunnerState) (t' : T) : Type 0 where
   pub words : List Word
   pub heard : EngineState
   pub lines : List (List ℕ)
   pub called : EngineState
-  pub listened : Listened e now words heard
+  pub listened : Listened (waits t) e now words heard
   pub goes : GoesOn does p (stage_with stage (completion_of heard)) lines (without_completion heard) stage' p' called
   pub state : e' ≡ without_out called
   pub passes : passed t ((map received words ++ Nothing ∷ []) ++ map Printed lines ++ map sent called.sessions.out) t'
@@ -109,23 +119,25 @@ pub record IsTurn {P T : Type 0} (does : P → Option Reply → RunnerStep → P
 
 -- a turn that stops short: a receive failed
 pub record StopsListening {P T : Type 0} (passed : T → List Exchange → T → Type 0)
+    (waits : T → List ℕ)
     (e : EngineState) (p : P) (stage : RunnerState) (t : T) (now : ℕ) (e' : EngineState) (p' : P) (stage' : RunnerState)
     (t' : T) : Type 0 where
   pub words : List Word
-  pub listened : Listened e now words e'
+  pub listened : Listened (waits t) e now words e'
   pub runner : p' ≡ p
-  pub waits : stage' ≡ stage
+  pub stays : stage' ≡ stage
   pub passes : passed t (map received words ++ Failed ∷ []) t'
 
 -- a line can't be printed; its runner was told what it waited for
 pub record StopsSpeaking {P T : Type 0} (does : P → Option Reply → RunnerStep → P → Type 0) (passed : T →
     List Exchange → T → Type 0)
+    (waits : T → List ℕ)
     (e : EngineState) (p : P) (stage : RunnerState) (t : T) (now : ℕ) (e' : EngineState) (p' : P) (stage' : RunnerState)
     (t' : T) : Type 0 where
   pub words : List Word
   pub heard : EngineState
   pub lines : List (List ℕ)
-  pub listened : Listened e now words heard
+  pub listened : Listened (waits t) e now words heard
   pub speaks : StopsAtLine does p (stage_with stage (completion_of heard)) lines p'
   pub state : e' ≡ without_completion heard
   pub told : stage' ≡ Ready None
@@ -134,6 +146,7 @@ pub record StopsSpeaking {P T : Type 0} (does : P → Option Reply → RunnerSte
 -- a datagram can't be sent
 pub record StopsSending {P T : Type 0} (does : P → Option Reply → RunnerStep → P → Type 0) (passed : T → List Exchange →
     T → Type 0)
+    (waits : T → List ℕ)
     (e : EngineState) (p : P) (stage : RunnerState) (t : T) (now : ℕ) (e' : EngineState) (p' : P) (stage' : RunnerState)
     (t' : T) : Type 0 where
   pub words : List Word
@@ -141,7 +154,7 @@ pub record StopsSending {P T : Type 0} (does : P → Option Reply → RunnerStep
   pub lines : List (List ℕ)
   pub called : EngineState
   pub gone : ℕ
-  pub listened : Listened e now words heard
+  pub listened : Listened (waits t) e now words heard
   pub goes : GoesOn does p (stage_with stage (completion_of heard)) lines (without_completion heard) stage' p' called
   pub state : e' ≡ without_out called
   pub rest : gone < length called.sessions.out
@@ -150,11 +163,11 @@ pub record StopsSending {P T : Type 0} (does : P → Option Reply → RunnerStep
 
 -- what a turn gives: a whole one, or one that a fault stops short
 abbrev pub TurnGives : {P T : Type 0} → (P → Option Reply → RunnerStep → P → Type 0) → (T → List Exchange → T → Type 0)
-    → EngineState → P → RunnerState → T → ℕ → Result TurnResult TransportFault → EngineState → P → RunnerState → T →
-    Type 0
-TurnGives does passed e p stage t now (Ok turned) e' p' stage' t' =
-    IsTurn does passed e p stage t now turned e' p' stage' t'
-TurnGives does passed e p stage t now (Err f) e' p' stage' t' =
-    StopsListening passed e p stage t now e' p' stage' t' ⊎
-    (StopsSpeaking does passed e p stage t now e' p' stage' t' ⊎
-    StopsSending does passed e p stage t now e' p' stage' t')
+    → (T → List ℕ) → EngineState → P → RunnerState → T → ℕ → Result TurnResult TransportFault → EngineState → P →
+    RunnerState → T → Type 0
+TurnGives does passed waits e p stage t now (Ok turned) e' p' stage' t' =
+    IsTurn does passed waits e p stage t now turned e' p' stage' t'
+TurnGives does passed waits e p stage t now (Err f) e' p' stage' t' =
+    StopsListening passed waits e p stage t now e' p' stage' t' ⊎
+    (StopsSpeaking does passed waits e p stage t now e' p' stage' t' ⊎
+    StopsSending does passed waits e p stage t now e' p' stage' t')

@@ -24,7 +24,7 @@ fn make_rounds<R: Wait, P: Runner, T: Transport, C: Clock>(
     clock: &mut C,
 ) -> Result<Ended, TransportFault>
     requires { T.failed transport.old + 1 < 2 ^ 64 }
-    ensures exact { DrivesOn P.does T.passed C.told patience
+    ensures exact { DrivesOn P.does T.passed T.waits C.told patience
         (record { engine = engine.old; runner = runner.old; standing = standing.old; transport = transport.old })
         clock.old result engine.new runner.new standing.new transport.new clock.new }
     ensures failures { FailsWith result (T.failed transport.old) (T.failed transport.new) }
@@ -70,7 +70,7 @@ pub fn drive<R: Wait, P: Runner, T: Transport, C: Clock>(
     clock: &mut C,
 ) -> Result<Ended, TransportFault>
     requires { T.failed transport.old + 1 < 2 ^ 64 }
-    ensures exact { Drives P.does T.passed C.told patience engine.old runner.old transport.old clock.old result
+    ensures exact { Drives P.does T.passed T.waits C.told patience engine.old runner.old transport.old clock.old result
         engine.new runner.new transport.new clock.new }
     ensures failures { FailsWith result (T.failed transport.old) (T.failed transport.new) }
 {

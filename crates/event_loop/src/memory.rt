@@ -115,13 +115,15 @@ impl Memory {
 }
 
 impl Transport for Memory {
-    ghost use Rattle.std.specs.Prelude.{◌≡◌, ◌++◌};
+    ghost use Rattle.std.specs.Prelude.{◌≡◌, ◌++◌, []};
     ghost use Rattle.event_loop.specs.Memories.{Comes};
     ghost use Rattle.event_loop.specs.MemoryLaws.{comes_joined, none_came, nothing_more, two_steps};
 
     ghost passed = { λ s xs t. (t.log ≡ s.log ++ xs) × Comes s.waiting xs t.waiting };
 
     ghost failed = { λ m. m.failed };
+
+    ghost waits = { λ _. [] };
 
     fn receive(&mut self, buffer: &mut [u8]) -> Result<Option<usize>, TransportFault> {
         let Some(bytes) = self.waiting.front() else {
@@ -156,6 +158,10 @@ impl Transport for Memory {
 
     fn wait(&mut self, most: u64) -> Result<(), TransportFault> {
         self.pass(Exchange::Waited(most))
+    }
+
+    fn wait_of(&self, _rank: u16) -> Option<u64> {
+        None
     }
 
     fn failures(&self) -> u64 {

@@ -124,7 +124,7 @@ pub(crate) fn make_round<R: Wait, P: Runner, T: Transport>(
     now: u64,
 ) -> Result<Option<Ended>, TransportFault>
     requires { T.failed transport.old + 1 < 2 ^ 64 }
-    ensures exact { RoundGives P.does T.passed patience
+    ensures exact { RoundGives P.does T.passed T.waits patience
         (record { engine = engine.old; runner = runner.old; standing = standing.old; transport = transport.old })
         now result engine.new runner.new standing.new transport.new }
     ensures failures { FailsWith result (T.failed transport.old) (T.failed transport.new) }

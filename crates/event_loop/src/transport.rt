@@ -1,6 +1,6 @@
 //! The transport of a rank.
 
-ghost use Rattle.std.specs.Prelude.{◌≡◌, ℕ, ◌+◌, ◌<◌, ◌≤◌, ◌^◌, List, [], ◌∷◌, ◌++◌, length, IfOk, IfSome};
+ghost use Rattle.std.specs.Prelude.{◌≡◌, ℕ, ◌+◌, ◌<◌, ◌≤◌, ◌^◌, List, [], ◌∷◌, ◌++◌, length, slice_get, IfOk, IfSome};
 
 /// The transport failed.
 #[derive(Clone, Copy, Debug, PartialEq, Eq)]
@@ -20,6 +20,10 @@ pub trait Transport {
 
     /// How often it has failed.
     ghost failed: { Self → ℕ };
+
+    /// How long frames to each rank, from 0 on, are to wait for their acknowledgements, in milliseconds, as far as it
+    /// measures that; none where they wait as long as they do of themselves.
+    ghost waits: { Self → List ℕ };
 
     /// Puts the next datagram that is there into the buffer, and answers how many bytes it has there; none where no
     /// datagram is there now.
@@ -46,6 +50,11 @@ pub trait Transport {
         requires { failed self.old + 1 < 2 ^ 64 }
         ensures passed { passed self.old (parcel result (Waited most) ∷ []) self.new }
         ensures failures { FailsWith result (failed self.old) (failed self.new) };
+
+    /// How long frames to this rank are to wait for their acknowledgements now, in milliseconds, where it measures
+    /// that. What was sent longer before is sent again.
+    fn wait_of(&self, rank: u16) -> Option<u64>
+        ensures { result ≡ slice_get (waits self.now) rank };
 
     /// How often it has failed.
     fn failures(&self) -> u64

@@ -4,6 +4,7 @@ ghost use Rattle.std.specs.Prelude.{◌≡◌, ◌+◌, ◌<◌, ◌^◌, Option
 ghost use Rattle.event_loop.specs.Exchanges.{FailsWith};
 ghost use Rattle.event_loop.specs.Speaking.{IsNoLine};
 ghost use Rattle.event_loop.specs.Turns.{TakesStep, GoesOnTo, TurnGives, stage_after, stage_with, reply_of, is_ready};
+ghost use Rattle.event_loop.specs.Turns.{told_waits};
 
 use crate::input::listen;
 use crate::loop_state::{RunnerState, TurnResult};
@@ -100,8 +101,8 @@ fn go_on<R: Wait, P: Runner, T: Transport>(
     transport: &mut T,
 ) -> Result<(), TransportFault>
     requires { T.failed transport.old + 1 < 2 ^ 64 }
-    ensures exact { GoesOnTo P.does T.passed engine.old runner.old stage.old transport.old result engine.new runner.new stage.new
-        transport.new }
+    ensures exact { GoesOnTo P.does T.passed engine.old runner.old stage.old transport.old result engine.new runner.new
+        stage.new transport.new }
     ensures failures { FailsWith result (T.failed transport.old) (T.failed transport.new) }
 {
     let reply = match stage {
@@ -118,8 +119,21 @@ fn go_on<R: Wait, P: Runner, T: Transport>(
     Ok(())
 }
 
-/// One turn: the clock ticks, all datagrams that are there are taken in, the runner's lines are written and its next
-/// call goes to the engine, unless one is blocked, and what the engine emitted is sent.
+/// The engine is told how long frames to the ranks of its job wait, as far as the transport measures it.
+fn tell_waits<T: Transport>(engine: &mut Engine, transport: &T)
+    ensures { engine.new ≡ told_waits engine.old (T.waits transport.now) }
+{
+    for rank in 0..engine.place().size {
+        let Some(wait) = transport.wait_of(rank) else {
+            return;
+        };
+        engine.set_wait(rank, wait);
+    }
+}
+
+/// One turn: the engine is told how long frames wait, the clock ticks, all datagrams that are there are taken in, the
+/// runner's lines are written and its next call goes to the engine, unless one is blocked, and what the engine emitted
+/// is sent.
 pub(crate) fn turn<R: Wait, P: Runner, T: Transport>(
     rt: &R,
     engine: &mut Engine,
@@ -130,10 +144,11 @@ pub(crate) fn turn<R: Wait, P: Runner, T: Transport>(
     now: u64,
 ) -> Result<TurnResult, TransportFault>
     requires { T.failed transport.old + 1 < 2 ^ 64 }
-    ensures exact { TurnGives P.does T.passed engine.old runner.old stage.old transport.old now result
+    ensures exact { TurnGives P.does T.passed T.waits engine.old runner.old stage.old transport.old now result
         engine.new runner.new stage.new transport.new }
     ensures failures { FailsWith result (T.failed transport.old) (T.failed transport.new) }
 {
+    tell_waits(engine, transport);
     let _ = engine.tick(now);
     let Ok(heard) = listen(rt, engine, transport, buffer) else {
         return Err(TransportFault);

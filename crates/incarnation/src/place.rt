@@ -1,6 +1,6 @@
 //! Where a process stands.
 
-use vocabulary::Endpoint;
+use vocabulary::{Endpoint, MessageLimit};
 
 /// Which process of which job this is.
 #[derive(Clone, Copy, Debug, PartialEq, Eq)]
@@ -11,4 +11,6 @@ pub struct Place {
     pub size: u16,
     /// The job's number.
     pub job: u64,
+    /// How many bytes of data a message of the job may have.
+    pub message_limit: MessageLimit,
 }

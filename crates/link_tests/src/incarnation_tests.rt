@@ -1,11 +1,12 @@
 //! Who a datagram is from, and whom it is meant for, in the order of the rules.
 
 ghost use Rattle.std.specs.Prelude.{◌≡◌};
+ghost use Rattle.vocabulary.specs.MessageLimits.{least};
 
 use datagram::Header;
 use incarnation::*;
 use std::alloc::Global;
-use vocabulary::Endpoint;
+use vocabulary::{Endpoint, MessageLimit};
 
 fn endpoint(rank: u16, incarnation: u16) -> Endpoint
     ensures { result ≡ record { rank = rank; incarnation = incarnation } }
@@ -25,12 +26,13 @@ fn header(source: Endpoint, target: Endpoint) -> Header {
 
 /// A process of job 1, which has two ranks.
 fn place(endpoint: Endpoint) -> Place
-    ensures { result ≡ record { endpoint = endpoint; size = 2; job = 1 } }
+    ensures { result ≡ record { endpoint = endpoint; size = 2; job = 1; message_limit = least } }
 {
     Place {
         endpoint,
         size: 2,
         job: 1,
+        message_limit: MessageLimit::least(),
     }
 }
 

@@ -8,4 +8,6 @@ mod incarnation_tests;
 #[cfg(test)]
 mod reliable_link_tests;
 #[cfg(test)]
+mod round_trip_tests;
+#[cfg(test)]
 mod sessions_tests;

@@ -4,7 +4,7 @@ ghost use Rattle.datagram.specs.Spelling.{frame_text, FrameFits};
 use datagram::{ClearToSend, Clearance, Data, Eager, Frame, Outgoing, Plane, RequestToSend};
 use sessions::*;
 use std::alloc::Global;
-use vocabulary::{BasicType, Endpoint, Mode};
+use vocabulary::{BasicType, Endpoint, MessageLimit, Mode};
 
 /// The sessions of a rank of job 1, which has three ranks.
 fn sessions_of(alloc: Global, rank: u16, incarnation: u16) -> Option<Sessions> {
@@ -13,6 +13,7 @@ fn sessions_of(alloc: Global, rank: u16, incarnation: u16) -> Option<Sessions> {
         endpoint,
         size: 3,
         job: 1,
+        message_limit: MessageLimit::least(),
     };
     Sessions::new(alloc, place).ok()
 }

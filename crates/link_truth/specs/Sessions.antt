@@ -11,7 +11,7 @@ use Rattle.sessions.specs.declared.peers.Peer.{Peer}
 use Rattle.sessions.specs.SessionsState.{SessionsState}
 use Rattle.sessions.specs.Peers.{peer_at}
 use Rattle.link_truth.specs.Links.{Link, Links}
-use Rattle.link_truth.specs.Wire.{CanBeSent, at, place_of, wire, wires}
+use Rattle.link_truth.specs.Wire.{CanBeSent, at, in_job, place_of, wire, wires}
 
 -- no more is handed up than was accepted, each frame can be spelled, and each number has 64 bits
 pub record IsLink (link : Link) : Type 0 where
@@ -53,7 +53,7 @@ pub record PeerTells (n : ℕ) (current : ℕ → ℕ) (own : Endpoint) (x k : �
 
 -- the sessions of rank r, which is at its current incarnation
 pub record SessionsTell (n : ℕ) (current : ℕ → ℕ) (r : ℕ) (own : SessionsState) (links : Links) : Type 0 where
-  pub place : own.place ≡ place_of n (at r (current r))
+  pub place : own.place ≡ in_job own.place.message_limit (place_of n (at r (current r)))
   pub each : length own.peers ≡ n
   pub width : length own.known ≡ n
   pub peers :

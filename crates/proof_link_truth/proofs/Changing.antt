@@ -15,7 +15,8 @@ use Rattle.link_truth.specs.Links.{Links}
 use Rattle.link_truth.specs.Sessions.{SessionsTell, PeerTells}
 use Rattle.link_truth.specs.Told.{IsTold}
 use Rattle.link_truth.specs.Truth.{AreTrue}
-use Rattle.link_truth.specs.Wire.{at, place_of, wires}
+use Rattle.link_truth.specs.Wire.{at, in_job, place_of, wires}
+use Rattle.incarnation.specs.declared.place.Place.{Place}
 use Rattle.link_truth.specs.Witness.{AreHeldEmitted, IsWitnessed}
 use Rattle.proof_link_truth.proofs.Growing.{Grows, LinksFit, told_more}
 use Rattle.proof_link_truth.proofs.Lists.{All_append, All_more, false_sym, set_each}
@@ -56,7 +57,7 @@ pub sessions_later : (n y : ℕ) (current later : ℕ → ℕ) (links : Links) (
     ((x : ℕ) → current x ≤ later x) → later y ≡ current y
     → SessionsTell n current y e links → SessionsTell n later y e links
 sessions_later n y current later links e up same tells = record {
-  place = tells.place ∙ ap (λ (i : ℕ). place_of n (at y i)) (sym same);
+  place = tells.place ∙ ap (λ (i : ℕ). in_job e.place.message_limit (place_of n (at y i))) (sym same);
   each = tells.each;
   width = tells.width;
   peers = λ x x_is apart.
@@ -96,7 +97,7 @@ pub sessions_know : (n r x k : ℕ) (current : ℕ → ℕ) (a b : Links) (e new
     → new.place ≡ e.place → IsKnown e.known new.known x k → new.peers ≡ slice_set e.peers x p →
     SessionsTell n current r new b
 sessions_know n r x k current a b e new p tells x_is apart here beside place_is known peers_are = record {
-  place = place_is ∙ tells.place;
+  place = subst (λ (p : Place). p ≡ in_job p.message_limit (place_of n (at r (current r)))) (sym place_is) tells.place;
   each = ap length peers_are ∙ length-set e.peers x p ∙ tells.each;
   width = known.width ∙ tells.width;
   peers = λ y y_is other. subst
@@ -143,7 +144,7 @@ sessions_with n r x current a b e new p tells x_is apart here beside place_is kn
 pub sessions_stay : (n r : ℕ) (current : ℕ → ℕ) (a : Links) (e new : SessionsState) → SessionsTell n current r e a
     → new.place ≡ e.place → new.known ≡ e.known → new.peers ≡ e.peers → SessionsTell n current r new a
 sessions_stay n r current a e new tells place_is known_is peers_are = record {
-  place = place_is ∙ tells.place;
+  place = subst (λ (p : Place). p ≡ in_job p.message_limit (place_of n (at r (current r)))) (sym place_is) tells.place;
   each = ap length peers_are ∙ tells.each;
   width = ap length known_is ∙ tells.width;
   peers = λ x x_is apart.

@@ -6,7 +6,10 @@ use Rattle.std.proofs.lemmas.Bool.{cases_lt, eqb-false, eqb-true, leb-false, ltb
 use Rattle.vocabulary.specs.declared.endpoint.Endpoint.{Endpoint}
 use Rattle.datagram.specs.declared.datagram.Header.{Header}
 use Rattle.datagram.specs.declared.refusal.DatagramRefusal as lower
-use Rattle.datagram.specs.Reading.{datagram_of}
+use Rattle.datagram.specs.Reading.{bounded, datagram_of, datagram_within, guard}
+use Rattle.datagram.specs.declared.refusal.DatagramRefusal.TheVariants as readings
+use Rattle.datagram.specs.Spelling.{body_is_within}
+use Rattle.vocabulary.specs.MessageLimits.{limit_of}
 use Rattle.datagram.specs.Spelling.{AckBody, BodyText, DatagramText, FrameBody, FrameText, ResetBody}
 use Rattle.incarnation.specs.declared.judgement.Judgement.{Judgement}
 use Rattle.incarnation.specs.declared.judgement.Judgement.TheVariants.{Current, Learn}
@@ -82,11 +85,25 @@ is_coming n r number bytes sessions datagrams links current true_now there =
           (record { place = number; there = there ∙ ap (λ (x : ℕ). Some (x, bytes)) (sym told.to) });
     }
 
--- what is heard in bytes that are read so
+-- a datagram that was read, where it is within the limit
+abbrev pub within_or_not : Bool → DatagramText → Result DatagramText lower.DatagramRefusal
+within_or_not test d = guard test readings.BadFrame (Ok d)
+
+-- what is heard in bytes that are read so: it depends on whether they speak of a message above the limit
 pub heard_read : (old : SessionsState) (bytes : List ℕ) (d : DatagramText) → datagram_of bytes ≡ Ok d
-    → heard_of old bytes ≡ heard_by (judgement (knowledge old) d.header) old d bytes
-unfolding heard_of
-heard_read old bytes d is = ap (λ (r : Result DatagramText lower.DatagramRefusal). heard_in old r bytes) is
+    → heard_of old bytes ≡
+    heard_in old (within_or_not (body_is_within (limit_of old.place.message_limit) d.body) d) bytes
+unfolding heard_of datagram_within
+heard_read old bytes d is =
+    ap (λ (r : Result DatagramText lower.DatagramRefusal).
+    heard_in old (bounded (limit_of old.place.message_limit) r) bytes) is
+
+-- where anything is heard, it is by what they say
+pub heard_within : (old : SessionsState) (bytes : List ℕ) (d : DatagramText) (h : HeardText) (test : Bool) →
+    heard_in old (within_or_not test d) bytes ≡ Ok h →
+    heard_by (judgement (knowledge old) d.header) old d bytes ≡ Ok h
+heard_within old bytes d h true is = is
+heard_within old bytes d h false is = absurd cc
 
 -- ---- what the link makes of it
 
@@ -296,7 +313,9 @@ is_clear n r sessions datagrams links current old h true_now stands f =
 
     i : IsSaid old s c.target c.says.number c.says.body f.bytes h
     i = judged_says n old s c.target c.says.number c.says.body f.bytes h (judgement (knowledge old) header) refl
-        (sym (heard_read old f.bytes (word n s c.target c.says.number c.says.body) c.says.read) ∙ f.hears)
+        (heard_within old f.bytes (word n s c.target c.says.number c.says.body) h
+        (body_is_within (limit_of old.place.message_limit) c.says.body)
+        (sym (heard_read old f.bytes (word n s c.target c.says.number c.says.body) c.says.read) ∙ f.hears))
 
     tells : SessionsTell n current r old links
     tells = true_now.tells r old stands.there

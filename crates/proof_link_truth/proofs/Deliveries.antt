@@ -42,6 +42,7 @@ use Rattle.proof_link_truth.proofs.Sendings.{events_are_true, sends_leave}
 use Rattle.proof_link_truth.proofs.Sent.{acknowledged_beside, emitting, sends_keep_known, sends_keep_out}
 use Rattle.proof_link_truth.proofs.Sent.{sends_keep_place, sends_keep_receiver}
 use Rattle.proof_link_truth.proofs.Witnesses.{all_witnessed}
+use Rattle.proof_link_truth.proofs.InJob.{ack_is}
 
 -- ---- the acknowledgement of a delivery
 
@@ -300,7 +301,7 @@ module _ (n r place : ℕ) (sessions : List SessionsState) (datagrams : List (�
     stood : slice_get (datagrams ++ mid.out) (length datagrams + place) ≡
         Some (source.rank, ack_bytes (place_of n (at r (current r))) source receiver.next (held_bits receiver))
     stood = get_behind datagrams mid.out place ∙ c.acknowledged ∙
-        ap (λ (p : Place). Some (source.rank, ack_of p source receiver)) tells.place
+        ap (λ (sent : List ℕ). Some (source.rank, sent)) (ack_is _ _ source receiver tells.place)
 
     read : IsReadAck n (at r (current r)) source receiver.next (held_bits receiver)
     read = record {

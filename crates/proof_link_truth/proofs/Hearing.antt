@@ -32,6 +32,7 @@ use Rattle.proof_link_truth.proofs.Lists.{false_sym}
 use Rattle.proof_link_truth.proofs.Receivers.{bits_even, bits_small, held_on, held_or, is_holding, receiver_advanced}
 use Rattle.proof_link_truth.proofs.Receivers.{receiver_holds, receiver_more}
 use Rattle.proof_link_truth.proofs.Senders.{AreBegun, ack_tells, frames_are_told, is_told}
+use Rattle.proof_link_truth.proofs.InJob.{ack_is}
 
 -- sessions that stay as they are, know what they knew, and emit what is told
 pub stays : (n r : ℕ) (sessions : List SessionsState) (datagrams : List (ℕ × List ℕ)) (links : Links) (current : ℕ →
@@ -116,7 +117,7 @@ module _ (n r : ℕ) (s : Endpoint) (sessions : List SessionsState) (datagrams :
   ack_is_told after t receiver =
       is_told n own s after current (ack_of e.place s t) back
       (TellsAck t.next (held_bits t) (omega (arith, receiver.next)) (bits_even t)
-      (bits_small n s own t (after s own) receiver) (ap (λ (p : Place). ack_of p s t) c.tells.place))
+      (bits_small n s own t (after s own) receiver) (ack_is _ _ s t c.tells.place))
 
   -- ---- what changes no link
 
@@ -327,7 +328,7 @@ taken n r s sessions datagrams links current e frame c n_e =
     gave =
         let one : receiver.next + 1 ≡ suc link.handed = omega (arith, peer.receiver.next) in
         ap (λ (out : List (ℕ × List ℕ)). out ++ (s.rank, ack_of e.place s (advanced receiver)) ∷ []) c.out
-        ∙ ap (λ (p : Place). (s.rank, ack_of p s (advanced receiver)) ∷ []) c.tells.place
+        ∙ ap (λ (sent : List ℕ). (s.rank, sent) ∷ []) (ack_is _ _ s (advanced receiver) c.tells.place)
         ∙ ap (λ (k : ℕ). (s.rank, ack_bytes (place_of n own) s k (held_bits (advanced receiver))) ∷ []) one
 
     witnessed : (a b : Endpoint) → IsWitnessed n (datagrams ++ new.out) a b (after a b)

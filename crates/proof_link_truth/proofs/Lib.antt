@@ -1,3 +1,4 @@
+pub mod InJob
 pub mod Lists
 pub mod Wires
 pub mod Senders

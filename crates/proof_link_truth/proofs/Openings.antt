@@ -13,7 +13,8 @@ use Rattle.sessions.specs.Peers.{new_peer, peer_at}
 use Rattle.proof_link_truth.specs.Events.{OpeningIsTrue, no_links, opening_sessions}
 use Rattle.link_truth.specs.Links.{Links}
 use Rattle.link_truth.specs.Sessions.{SessionsTell, PeerTells}
-use Rattle.link_truth.specs.Wire.{at, place_of, wires}
+use Rattle.link_truth.specs.Wire.{at, in_job, place_of, wires}
+use Rattle.vocabulary.specs.declared.message_limit.MessageLimit.{MessageLimit}
 use Rattle.link_truth.specs.Witness.{AreHeldEmitted}
 use Rattle.proof_link_truth.proofs.Receivers.{none_held, receiver_new}
 
@@ -48,9 +49,10 @@ new_tells n x current own links none = record {
 }
 
 -- new sessions, of which nothing was heard
-pub new_sessions_tell : (n r : ℕ) (current : ℕ → ℕ) (links : Links) → IsUnheard (at r (current r)) links
-    → SessionsTell n current r (opening (place_of n (at r (current r)))) links
-new_sessions_tell n r current links none = record {
+pub new_sessions_tell : (l : MessageLimit) (n r : ℕ) (current : ℕ → ℕ) (links : Links) →
+    IsUnheard (at r (current r)) links
+    → SessionsTell n current r (opening (in_job l (place_of n (at r (current r))))) links
+new_sessions_tell l n r current links none = record {
   place = refl;
   each = length-replicate n new_peer;
   width = length-set (replicate n 0) r (current r) ∙ length-replicate n 0;
@@ -63,35 +65,36 @@ new_sessions_tell n r current links none = record {
 }
 
 -- and hold nothing
-pub new_held : (n r : ℕ) (datagrams : List (ℕ × List ℕ)) (own : Endpoint) →
-    AreHeldEmitted n datagrams r (opening (place_of n own))
-new_held n r datagrams own x place bytes x_is apart there =
+pub new_held : (l : MessageLimit) (n r : ℕ) (datagrams : List (ℕ × List ℕ)) (own : Endpoint) →
+    AreHeldEmitted n datagrams r (opening (in_job l (place_of n own)))
+new_held l n r datagrams own x place bytes x_is apart there =
     absurd (none_held place bytes (ap (λ (p : Peer). held_at p.receiver.held place) (sym (new_at n x)) ∙ there))
 
 -- at each place stand the sessions of its rank
-stands : (n rank k r : ℕ) (e : SessionsState) → slice_get (opening_sessions n rank k) r ≡ Some e →
-    e ≡ opening (place_of n (at (rank + r) 0))
-stands n rank zero r e h = absurd (grind arith)
-stands n rank (suc k) zero e h = sym (same_Some (opening (place_of n (at rank 0))) e h) ∙
-    ap (λ (m : ℕ). opening (place_of n (at m 0))) (omega arith)
-stands n rank (suc k) (suc r) e h = stands n (suc rank) k r e h ∙
-    ap (λ (m : ℕ). opening (place_of n (at m 0))) (omega arith)
+stands : (l : MessageLimit) (n rank k r : ℕ) (e : SessionsState) → slice_get (opening_sessions l n rank k) r ≡ Some e →
+    e ≡ opening (in_job l (place_of n (at (rank + r) 0)))
+stands l n rank zero r e h = absurd (grind arith)
+stands l n rank (suc k) zero e h = sym (same_Some (opening (in_job l (place_of n (at rank 0)))) e h) ∙
+    ap (λ (m : ℕ). opening (in_job l (place_of n (at m 0)))) (omega arith)
+stands l n rank (suc k) (suc r) e h = stands l n (suc rank) k r e h ∙
+    ap (λ (m : ℕ). opening (in_job l (place_of n (at m 0)))) (omega arith)
 
 -- one for each rank
-many : (n rank k : ℕ) → length (opening_sessions n rank k) ≡ k
-many n rank zero = refl
-many n rank (suc k) = ap suc (many n (suc rank) k)
+many : (l : MessageLimit) (n rank k : ℕ) → length (opening_sessions l n rank k) ≡ k
+many l n rank zero = refl
+many l n rank (suc k) = ap suc (many l n (suc rank) k)
 
 -- the law of openings
 pub opening_is_true : OpeningIsTrue
-opening_is_true n few = record {
-  count = many n 0 n;
+opening_is_true l n few = record {
+  count = many l n 0 n;
   few = few;
   last = λ r. omega arith;
   tells = λ r e h.
-      let e_is : e ≡ opening (place_of n (at r 0)) = stands n 0 n r e h ∙ ap (λ (m : ℕ). opening (place_of n (at m 0))) (omega arith) in
+      let e_is : e ≡ opening (in_job l (place_of n (at r 0))) =
+      stands l n 0 n r e h ∙ ap (λ (m : ℕ). opening (in_job l (place_of n (at m 0)))) (omega arith) in
       subst (λ (x : SessionsState). SessionsTell n (λ y. 0) r x no_links) (sym e_is)
-      (new_sessions_tell n r (λ y. 0) no_links (record { accepted = λ d. refl; handed = λ s. refl }));
+      (new_sessions_tell l n r (λ y. 0) no_links (record { accepted = λ d. refl; handed = λ s. refl }));
   sound = λ s d. record { reach = omega arith; sent = tt; numbered = omega arith };
   strangers = λ s d h. refl;
   none_accepted = λ s d h. refl;
@@ -99,6 +102,7 @@ opening_is_true n few = record {
   told = tt;
   witnessed = λ s d. record { acknowledged = inl refl; frames = λ number lt. absurd (omega (arith, lt)) };
   held = λ r e h.
-      let e_is : e ≡ opening (place_of n (at r 0)) = stands n 0 n r e h ∙ ap (λ (m : ℕ). opening (place_of n (at m 0))) (omega arith) in
-      subst (AreHeldEmitted n [] r) (sym e_is) (new_held n r [] (at r 0));
+      let e_is : e ≡ opening (in_job l (place_of n (at r 0))) =
+      stands l n 0 n r e h ∙ ap (λ (m : ℕ). opening (in_job l (place_of n (at m 0)))) (omega arith) in
+      subst (AreHeldEmitted n [] r) (sym e_is) (new_held l n r [] (at r 0));
 }

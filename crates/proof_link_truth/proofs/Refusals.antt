@@ -23,12 +23,16 @@ use Rattle.link_truth.specs.Sessions.{SessionsTell}
 use Rattle.link_truth.specs.Told.{IsTold, TellsReset}
 use Rattle.link_truth.specs.Truth.{AreTrue}
 use Rattle.link_truth.specs.Wire.{at}
-use Rattle.proof_link_truth.proofs.Datagrams.{IsComing, heard_read, is_coming}
+use Rattle.datagram.specs.Spelling.{body_is_within}
+use Rattle.sessions.specs.Heard.{heard_in}
+use Rattle.vocabulary.specs.MessageLimits.{limit_of}
+use Rattle.proof_link_truth.proofs.Datagrams.{IsComing, heard_read, is_coming, within_or_not}
 use Rattle.proof_link_truth.proofs.Hearing.{stays}
 use Rattle.proof_link_truth.proofs.Lists.{false_sym}
 use Rattle.proof_link_truth.proofs.Senders.{AreBegun, is_told}
 use Rattle.proof_link_truth.proofs.Sendings.{rest_is_true}
 use Rattle.proof_link_truth.proofs.Words.{word}
+use Rattle.proof_link_truth.proofs.InJob.{reset_is}
 
 -- ---- to whom a reset goes
 
@@ -81,6 +85,13 @@ judged_back n old s d q b bytes u (Ok (Learn i)) is =
     said_back s true (word_of (session_met true (peer_at old.peers s.rank)) q b bytes) u is
 judged_back n old s d q b bytes u (Err e) is = unmeant_back e s b u is
 
+-- bytes that speak of a message above the limit are refused with no reset
+limit_back : (s : Endpoint) (old : SessionsState) (bytes : List ℕ) (d : DatagramText) (u : Unheard) (test : Bool) →
+    heard_in old (within_or_not test d) bytes ≡ Err u →
+    (heard_by (judgement (knowledge old) d.header) old d bytes ≡ Err u → IsBack s u.reset) → IsBack s u.reset
+limit_back s old bytes d u true is rest = rest is
+limit_back s old bytes d u false is rest = subst (λ (x : Unheard). IsBack s x.reset) (same_unheard _ u is) tt
+
 -- ---- it leaves the links true
 
 module _ (n r : ℕ) (sessions : List SessionsState) (datagrams : List (ℕ × List ℕ)) (links : Links) (current : ℕ →
@@ -104,7 +115,7 @@ module _ (n r : ℕ) (sessions : List SessionsState) (datagrams : List (ℕ × L
   -- a reset is told
   reset_is_told : IsTold n links current (s.rank, reset_bytes old.place s)
   reset_is_told = is_told n (at r (current r)) s links current (reset_bytes old.place s) back
-      (TellsReset (ap (λ (p : Place). reset_bytes p s) tells.place))
+      (TellsReset (reset_is _ _ s tells.place))
 
   -- nothing changes
   stays_true : (new : SessionsState) → new ≡ old → LeavesTrue n sessions datagrams r new links current
@@ -143,5 +154,7 @@ refusals_are_true n r number bytes sessions datagrams links current old new unhe
     let text : DatagramText = word n c.source c.target c.says.number c.says.body in
     turned_away n r sessions datagrams links current old c.source c.target true_now stands c.begun c.to unheard.reset
     unheard.refused why new
-    (judged_back n old c.source c.target c.says.number c.says.body bytes unheard (judgement (knowledge old) text.header)
-    (sym (heard_read old bytes text c.says.read) ∙ hears)) gives
+    (limit_back c.source old bytes text unheard (body_is_within (limit_of old.place.message_limit) c.says.body)
+    (sym (heard_read old bytes text c.says.read) ∙ hears)
+    (judged_back n old c.source c.target c.says.number c.says.body bytes unheard
+    (judgement (knowledge old) text.header))) gives

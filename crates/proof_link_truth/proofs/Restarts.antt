@@ -10,7 +10,8 @@ use Rattle.link_truth.specs.Links.{Links}
 use Rattle.link_truth.specs.Sessions.{SessionsTell}
 use Rattle.link_truth.specs.Told.{IsTold}
 use Rattle.link_truth.specs.Truth.{AreTrue}
-use Rattle.link_truth.specs.Wire.{at, place_of}
+use Rattle.link_truth.specs.Wire.{at, in_job, place_of}
+use Rattle.vocabulary.specs.declared.message_limit.MessageLimit.{MessageLimit}
 use Rattle.link_truth.specs.Witness.{AreHeldEmitted}
 use Rattle.proof_link_truth.proofs.Changing.{sessions_later}
 use Rattle.proof_link_truth.proofs.Growing.{told_later}
@@ -43,10 +44,12 @@ is_same_one : (current : ℕ → ℕ) (r x : ℕ) → (x == r) ≡ false → wit
 is_same_one current r x other = ap (λ (t : Bool). if t then suc (current r) else current x) other
 
 -- the new sessions
-restarted_tells : (n r : ℕ) (sessions : List SessionsState) (datagrams : List (ℕ × List ℕ)) (links : Links)
+restarted_tells : (l : MessageLimit) (n r : ℕ) (sessions : List SessionsState) (datagrams : List (ℕ × List ℕ))
+    (links : Links)
     (current : ℕ → ℕ) → AreTrue n sessions datagrams links current
-    → SessionsTell n (with_number current r (suc (current r))) r (opening (place_of n (at r (suc (current r))))) links
-restarted_tells n r sessions datagrams links current true_now =
+    → SessionsTell n (with_number current r (suc (current r))) r
+    (opening (in_job l (place_of n (at r (suc (current r)))))) links
+restarted_tells l n r sessions datagrams links current true_now =
     let next = is_next current r in
     let none : (i : ℕ) → i ≡ suc (current r) → IsUnheard (at r i) links =
     λ i is. record {
@@ -55,8 +58,8 @@ restarted_tells n r sessions datagrams links current true_now =
           λ s. true_now.none_handed s (at r i) (omega (arith, is));
     } in
     let later : ℕ → ℕ = with_number current r (suc (current r)) in
-    subst (λ (i : ℕ). SessionsTell n later r (opening (place_of n (at r i))) links) next
-    (new_sessions_tell n r later links (none (later r) next))
+    subst (λ (i : ℕ). SessionsTell n later r (opening (in_job l (place_of n (at r i)))) links) next
+    (new_sessions_tell l n r later links (none (later r) next))
 
 -- the law of restarts
 pub restarts_are_true : RestartsAreTrue
@@ -65,7 +68,7 @@ restarts_are_true n r sessions datagrams links current old true_now there room =
   few = true_now.few;
   last = λ x. not_past current r x room (true_now.last x);
   tells = set_each (λ y e. SessionsTell n later y e links) sessions r new
-      (restarted_tells n r sessions datagrams links current true_now)
+      (restarted_tells old.place.message_limit n r sessions datagrams links current true_now)
       (λ y e other h. sessions_later n y current later links e (never_falls current r) (is_same_one current r y other)
       (true_now.tells y e h));
   sound = true_now.sound;
@@ -75,7 +78,8 @@ restarts_are_true n r sessions datagrams links current old true_now there room =
   told = All_more (IsTold n links current) (IsTold n links later) datagrams
       (told_later n links current later (never_falls current r)) true_now.told;
   witnessed = true_now.witnessed;
-  held = set_each (AreHeldEmitted n datagrams) sessions r new (new_held n r datagrams (at r (suc (current r))))
+  held = set_each (AreHeldEmitted n datagrams) sessions r new
+      (new_held old.place.message_limit n r datagrams (at r (suc (current r))))
       (λ y e other h. true_now.held y e h);
 }
   where
@@ -83,4 +87,4 @@ restarts_are_true n r sessions datagrams links current old true_now there room =
     later = with_number current r (suc (current r))
 
     new : SessionsState
-    new = opening (place_of n (at r (suc (current r))))
+    new = opening (in_job old.place.message_limit (place_of n (at r (suc (current r)))))

@@ -38,6 +38,7 @@ use Rattle.proof_link_truth.proofs.Lists.{false_sym}
 use Rattle.proof_link_truth.proofs.Receivers.{receiver_more}
 use Rattle.proof_link_truth.proofs.Senders.{accept_tells, is_told, next_is}
 use Rattle.proof_link_truth.proofs.Witnesses.{all_witnessed}
+use Rattle.proof_link_truth.proofs.InJob.{frame_is}
 
 -- ---- one frame
 
@@ -188,7 +189,7 @@ send_leaves n r sessions datagrams links current old s true_now stands c room =
 
     bytes_are : bytes ≡ wire n own d (length link.accepted) f
     bytes_are =
-        ap (λ (p : Place). frame_bytes p d f (next_number sender)) tells.place
+        frame_is _ _ d f (next_number sender) tells.place
         ∙ sent_bytes_are n own d f (next_number sender) ∙ ap (λ (j : ℕ). wire n own d j f) next_is_length
 
     numbered : length link.accepted + 1 < 2 ^ 64

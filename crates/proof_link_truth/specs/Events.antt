@@ -19,7 +19,8 @@ use Rattle.link_truth.specs.Links.{Links, accept_all, handed_on, in_flight}
 use Rattle.link_truth.specs.Quiet.{AreQuiet}
 use Rattle.link_truth.specs.Sessions.{IsHeldOf}
 use Rattle.link_truth.specs.Truth.{AreTrue}
-use Rattle.link_truth.specs.Wire.{CanBeSent, at, place_of}
+use Rattle.link_truth.specs.Wire.{CanBeSent, at, in_job, place_of}
+use Rattle.vocabulary.specs.declared.message_limit.MessageLimit.{MessageLimit}
 
 -- ---- the sessions of a world, rank by rank
 
@@ -27,10 +28,11 @@ use Rattle.link_truth.specs.Wire.{CanBeSent, at, place_of}
 abbrev pub emptied : SessionsState → SessionsState
 emptied s = record s { out = [] }
 
--- the sessions of k ranks among n, from this rank on, at their first incarnations
-abbrev pub opening_sessions : (n rank : ℕ) → ℕ → List SessionsState
-opening_sessions n rank zero = []
-opening_sessions n rank (suc k) = opening (place_of n (at rank 0)) ∷ opening_sessions n (suc rank) k
+-- the sessions of k ranks among n, from this rank on, at their first incarnations, in a job with this limit
+abbrev pub opening_sessions : MessageLimit → (n rank : ℕ) → ℕ → List SessionsState
+opening_sessions l n rank zero = []
+opening_sessions l n rank (suc k) =
+    opening (in_job l (place_of n (at rank 0))) ∷ opening_sessions l n (suc rank) k
 
 -- links that carried nothing
 abbrev pub no_links : Links
@@ -49,7 +51,8 @@ pub record IsAt (sessions : List SessionsState) (r : ℕ) (s : SessionsState) : 
 
 -- at the start of at most 1,024 ranks no link carried anything, and nothing is on its way
 abbrev pub OpeningIsTrue : Type 0
-OpeningIsTrue = (n : ℕ) → n ≤ 1024 → AreTrue n (opening_sessions n 0 n) [] no_links (λ r. 0)
+OpeningIsTrue =
+    (l : MessageLimit) (n : ℕ) → n ≤ 1024 → AreTrue n (opening_sessions l n 0 n) [] no_links (λ r. 0)
 
 -- ---- what is heard
 
@@ -193,7 +196,8 @@ RestartsAreTrue =
     (n r : ℕ) (sessions : List SessionsState) (datagrams : List (ℕ × List ℕ)) (links : Links) (current : ℕ → ℕ)
     (old : SessionsState) →
     AreTrue n sessions datagrams links current → slice_get sessions r ≡ Some old → current r < last_incarnation →
-    AreTrue n (slice_set sessions r (opening (place_of n (at r (suc (current r)))))) datagrams links
+    AreTrue n (slice_set sessions r (opening (in_job old.place.message_limit (place_of n (at r (suc (current r)))))))
+    datagrams links
     (with_number current r (suc (current r)))
 
 -- ---- the quiet clause

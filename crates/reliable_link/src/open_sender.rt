@@ -6,6 +6,7 @@ ghost use Rattle.std.specs.Option.{option_copied};
 ghost use Rattle.reliable_link.specs.SenderState.{SenderState, next_number, out_count, out_end, after_accept};
 ghost use Rattle.reliable_link.specs.SenderState.{entered_on_accept, passed_to, with_marks, after_ack, IsOfSent};
 ghost use Rattle.reliable_link.specs.SenderState.{IsSomeDue, due_at, after_due, frame_at, after_take_back, StandsAt};
+ghost use Rattle.reliable_link.specs.SenderState.{after_wait};
 ghost use Rattle.reliable_link.specs.Accepting.{AcceptGives};
 ghost use Rattle.std.proofs.Common.{min};
 
@@ -28,7 +29,9 @@ pub(crate) struct OpenSender {
     lowest: u64,
     /// The time of the last tick, in milliseconds.
     clock: u64,
-    /// Where this is true, no frame is due at the time of the last tick.
+    /// How long a frame waits for its acknowledgement before it is sent again, in milliseconds.
+    wait: u64,
+    /// Where this is true, no frame is due at the time of the last tick, nor is one that is sent then.
     settled: bool,
 }
 
@@ -37,9 +40,14 @@ impl Model for OpenSender {
 
     ghost Value = { SenderState };
 
-    ghost view = { λ s. record { lowest = s.lowest; frames = s.frames; clock = s.clock } };
+    ghost view = { λ s. record {
+      lowest = s.lowest;
+      frames = s.frames;
+      clock = s.clock;
+      wait = s.wait;
+    } };
 
-    ghost invariant = { λ s. IsKept s.lowest s.frames s.clock s.settled };
+    ghost invariant = { λ s. IsKept s.lowest s.frames s.clock s.settled s.wait };
 }
 
 /// How many of so many frames are out.
@@ -50,8 +58,8 @@ fn out_of(kept: usize) -> usize
     if kept < WINDOW { kept } else { WINDOW }
 }
 
-/// Whether no frame is due at the time of the last tick, where the first one may lose its mark: it was sent at any
-/// time.
+/// Whether no frame is due at the time of the last tick, where the first one may lose its mark (it was sent at any time)
+/// or frames may be to wait less long than until now.
 fn still_settled(settled: bool, loses: bool) -> bool
     ensures { result ≡ (if loses then false else settled) }
 {
@@ -59,15 +67,16 @@ fn still_settled(settled: bool, loses: bool) -> bool
 }
 
 impl OpenSender {
-    /// No frame came yet, and this is the time of the last tick. It takes no memory.
-    pub(crate) fn new(alloc: Global, clock: u64) -> Self
-        ensures { result ≡ record { lowest = 0; frames = []; clock = clock } }
+    /// No frame came yet, this is the time of the last tick, and frames will wait so long. It takes no memory.
+    pub(crate) fn new(alloc: Global, clock: u64, wait: u64) -> Self
+        ensures { result ≡ record { lowest = 0; frames = []; clock = clock; wait = wait } }
     {
         OpenSender {
             frames: OutFrames::new(alloc),
             lowest: 0,
             clock,
-            settled: true,
+            wait,
+            settled: wait > 0,
         }
     }
 
@@ -193,8 +202,8 @@ impl OpenSender {
         Some(&frame.bytes)
     }
 
-    /// The numbers of the frames that are out, aren't held, and were last sent 20 ms or more before
-    /// now, in order. It is refused with `ClockBack` exactly where `now` is below the last tick, and with
+    /// The numbers of the frames that are out, aren't held, and were last sent as long before
+    /// now as they are to wait, or longer, in order. It is refused with `ClockBack` exactly where `now` is below the last tick, and with
     /// `OutOfMemory`. It changes nothing: `mark_sent` does.
     pub(crate) fn due(&self, now: u64) -> Result<Vec<u64>, LinkRefusal>
         ensures clock { IsErrOf result LinkRefusal.ClockBack ↔ (now < self.now.clock) }
@@ -208,7 +217,7 @@ impl OpenSender {
         if now == self.clock && self.settled {
             return Ok(Vec::new(self.frames.allocator()));
         }
-        self.frames.numbers_due(self.lowest, now)
+        self.frames.numbers_due(self.lowest, self.wait, now)
     }
 
     /// The frames that are out and due count as sent now, and this is the time of the last tick.
@@ -219,9 +228,9 @@ impl OpenSender {
         if now == self.clock && self.settled {
             return;
         }
-        self.frames.mark_due(now);
+        self.frames.mark_due(self.wait, now);
         self.clock = now;
-        self.settled = true;
+        self.settled = self.wait > 0;
     }
 
     /// Whether the last tick was at this time, and no frame has become due since. Then one more tick at this time
@@ -230,6 +239,21 @@ impl OpenSender {
         ensures { IsTrue result → StandsAt self.now now }
     {
         now == self.clock && self.settled
+    }
+
+    /// How long a frame waits for its acknowledgement before it is sent again, in milliseconds.
+    pub(crate) fn wait(&self) -> u64
+        ensures { result ≡ self.now.wait }
+    {
+        self.wait
+    }
+
+    /// Frames wait so long from now on, in milliseconds, also those that are out.
+    pub(crate) fn set_wait(&mut self, wait: u64)
+        ensures { self.new ≡ after_wait self.old wait }
+    {
+        self.settled = still_settled(self.settled, wait < self.wait);
+        self.wait = wait;
     }
 
     /// Whether every frame was acknowledged.
@@ -281,14 +305,15 @@ impl OpenSender {
         self.frames.pop_back();
     }
 
-    /// Begins a new session at this time: no frame is kept, and the next one gets number 0. The places stay. It takes
-    /// no memory.
-    pub(crate) fn restart(&mut self, clock: u64)
-        ensures { self.new ≡ record { lowest = 0; frames = []; clock = clock } }
+    /// Begins a new session at this time, where frames wait so long: no frame is kept, and the next one gets number 0.
+    /// The places stay. It takes no memory.
+    pub(crate) fn restart(&mut self, clock: u64, wait: u64)
+        ensures { self.new ≡ record { lowest = 0; frames = []; clock = clock; wait = wait } }
     {
         self.frames.clear();
         self.lowest = 0;
         self.clock = clock;
-        self.settled = true;
+        self.wait = wait;
+        self.settled = wait > 0;
     }
 }

@@ -14,6 +14,8 @@ use Rattle.sessions.specs.Events.{heeded_by}
 use Rattle.sessions.specs.Heard.{WordText, Acknowledges, Repeats, Hands, Holds, Follows, Nothing}
 use Rattle.sessions.specs.Peers.{IsIdlePeer, after_all_due, due_peer, new_peer, peer_at, with_receiver}
 use Rattle.sessions.specs.declared.peers.Peer.{Peer}
+use Rattle.reliable_link.specs.SenderState.{after_wait}
+use Rattle.sessions.specs.Peers.{with_wait}
 
 -- one session is replaced
 pub busy_set : (peers : List Peer) (rank : ℕ) (p : Peer) → rank < length peers → busy_among (slice_set peers rank p) +
@@ -84,6 +86,13 @@ pub count_of_receiver : (peers : List Peer) (rank : ℕ) (r : ReceiverState) →
     busy_among (with_receiver peers rank r) ≡ busy_among peers
 count_of_receiver peers rank r within =
     let set : busy_among (with_receiver peers rank r) + busy_in (peer_at peers rank) ≡ busy_among peers + busy_in (peer_at peers rank) = busy_set peers rank (record { sender = (peer_at peers rank).sender; receiver = r }) within in
+    omega (arith, set)
+
+-- nor does how long frames wait
+pub count_of_wait : (peers : List Peer) (rank wait : ℕ) → rank < length peers →
+    busy_among (with_wait peers rank wait) ≡ busy_among peers
+count_of_wait peers rank wait within =
+    let set : busy_among (with_wait peers rank wait) + busy_in (peer_at peers rank) ≡ busy_among peers + busy_in (peer_at peers rank) = busy_set peers rank (record { sender = after_wait (peer_at peers rank).sender wait; receiver = (peer_at peers rank).receiver }) within in
     omega (arith, set)
 
 -- one session more

@@ -15,19 +15,21 @@ on_error (Ok x) p = tt
 on_error (Err e) p = p
 
 -- where a number is noted, a frame is due
-pub numbers_some : (now n : ℕ) (fs : List OutFrame) → (numbers_due now n fs ≡ [] → ⊥) → HasDue now fs
-numbers_some now n [] some = absurd (some refl)
-numbers_some now n (f ∷ fs) some = go (is_due now f) refl (numbers_some now (n + 1) fs)
+pub numbers_some : (wait now n : ℕ) (fs : List OutFrame) → (numbers_due wait now n fs ≡ [] → ⊥) →
+    HasDue wait now fs
+numbers_some wait now n [] some = absurd (some refl)
+numbers_some wait now n (f ∷ fs) some = go (is_due wait now f) refl (numbers_some wait now (n + 1) fs)
   where
-    go : (t : Bool) → is_due now f ≡ t → ((numbers_due now (n + 1) fs ≡ [] → ⊥) → HasDue now fs) → HasDue now (f ∷ fs)
+    go : (t : Bool) → is_due wait now f ≡ t →
+        ((numbers_due wait now (n + 1) fs ≡ [] → ⊥) → HasDue wait now fs) → HasDue wait now (f ∷ fs)
     go true due rest = (0, f, refl, due)
     go false due rest =
-        let later : HasDue now fs = rest (λ none. some (rw due none)) in
+        let later : HasDue wait now fs = rest (λ none. some (rw due none)) in
         (suc later.0, later.1, later.2, later.3)
 
 -- where the numbers that are due are some, a frame of the session is due
 pub some_due : (s : SenderState) (now : ℕ) → (due_at s now ≡ [] → ⊥) → IsSomeDue s now
-some_due s now some = numbers_some now s.lowest (take (out_count s) s.frames) some
+some_due s now some = numbers_some s.wait now s.lowest (take (out_count s) s.frames) some
 
 -- where something goes out, a frame is due
 pub out_some : (rank now : ℕ) (ps : List Peer) → (due_out rank ps now ≡ [] → ⊥) → IsAnyDue ps now

@@ -31,7 +31,7 @@ pub fn turn_in<'a>(source: Endpoint, bytes: &'a Bytes) -> Option<Heard<'a>>
     ensures source { IfSome result (λ h. (h.source ≡ source) × (h.lesson ≡ false)) }
     ensures can { IfSome result (λ h. (p : Peer) → CanHeed p (word_text h.word)) }
 {
-    let Ok(datagram) = datagram::read(bytes.as_slice()) else {
+    let Ok(datagram) = datagram::read_form(bytes.as_slice()) else {
         return None;
     };
     match datagram.content {

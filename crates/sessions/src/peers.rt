@@ -10,6 +10,7 @@ ghost use Rattle.std.specs.List.{range_with_len};
 ghost use Rattle.sessions.specs.Carrying.{taken_back};
 ghost use Rattle.sessions.specs.Busy.{busy_among, busy_in};
 ghost use Rattle.sessions.specs.Peers.{new_peers, peer_at, with_sender, with_receiver, with_new_session, frames_out};
+ghost use Rattle.sessions.specs.Peers.{with_wait};
 ghost use Rattle.sessions.specs.Peers.{IsAnyDue, due_out, after_all_due};
 
 use crate::refusal::SessionRefusal;
@@ -157,6 +158,15 @@ pub(crate) fn discard_at(peers: &mut Vec<Peer>, rank: u16)
 {
     let peer = &mut peers[rank as usize];
     peer.receiver.discard();
+}
+
+/// Frames to a rank wait so long for their acknowledgements from now on.
+pub(crate) fn set_wait_at(peers: &mut Vec<Peer>, rank: u16, wait: u64)
+    requires { rank < vec_len peers.old }
+    ensures { peers.new.items ≡ with_wait peers.old.items rank wait }
+{
+    let peer = &mut peers[rank as usize];
+    peer.sender.set_wait(wait);
 }
 
 /// The session with a rank holds a frame that came before its turn.

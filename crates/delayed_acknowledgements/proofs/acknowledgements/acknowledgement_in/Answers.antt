@@ -2,8 +2,8 @@
 use Rattle.std.proofs.Common.{rules}
 use Rattle.delayed_acknowledgements.proofs.acknowledgements.acknowledgement_in.Goals as goal
 
-pub read-requires : goal.read-requires
-read-requires c = search rules
+pub read_form-requires : goal.read_form-requires
+read_form-requires c = search rules
 
 pub returns-in-Ok-Ack : goal.returns-in-Ok-Ack
 returns-in-Ok-Ack c = search rules

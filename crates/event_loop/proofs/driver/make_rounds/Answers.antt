@@ -15,7 +15,8 @@ loop-preserved g c =
       (
         driven.0 ++ c.now-now.result ∷ [],
         tells_more g.C.Clock.told driven.0 _ _ _ _ driven.1 c.now-now.ensures,
-        rounds_more g.P.Runner.does g.T.Transport.passed c.args.patience driven.0 _ _ c.now-now.result
+        rounds_more g.P.Runner.does g.T.Transport.passed g.T.Transport.waits c.args.patience driven.0 _ _
+            c.now-now.result
             (record {
               engine = c.make_round.new.engine;
               runner = c.make_round.new.runner;

@@ -7,6 +7,6 @@ invariant-loop g l =
     (goal.iterator-loop g).can_next l.iterator' × (goal.iterator-loop g).is_finite l.iterator'
     × (g.T.Transport.failed l.transport ≡ g.T.Transport.failed l.fn.transport)
     × ((times : List ℕ) × Tells g.C.Clock.told l.fn.clock times l.clock
-    × Rounds g.P.Runner.does g.T.Transport.passed l.patience
+    × Rounds g.P.Runner.does g.T.Transport.passed g.T.Transport.waits l.patience
     (record { engine = l.fn.engine; runner = l.fn.runner; standing = l.fn.standing; transport = l.fn.transport }) times
     (record { engine = l.engine; runner = l.runner; standing = l.standing; transport = l.transport }))

@@ -5,6 +5,6 @@ use Rattle.reliable_link.proofs.open_sender.OpenSender.accept.Goals as goal
 
 pub invariant_of-self : goal.invariant_of-self
 invariant_of-self c =
-    kept_pushed c.push.result c.self.inside.lowest c.self.inside.clock c.self.inside.settled c.self.inside.frames _
+    kept_pushed c.self.inside.wait c.push.result c.self.inside.lowest c.self.inside.clock c.self.inside.settled c.self.inside.frames _
     (new_frame c.args.bytes c.self.inside.clock) c.push.ensures.ok c.push.ensures.err (omega arith)
-    (new_is_fresh c.args.bytes c.self.inside.clock) c.self.invariant
+    (λ some. new_is_fresh c.self.inside.wait some c.args.bytes c.self.inside.clock) c.self.invariant

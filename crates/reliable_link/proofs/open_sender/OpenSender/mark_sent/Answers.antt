@@ -1,4 +1,5 @@
 use Rattle.std.proofs.Common.{refl, arith}
+use Rattle.std.proofs.lemmas.Bool.{ltb-true}
 use Rattle.reliable_link.proofs.Senders.{ticked}
 use Rattle.reliable_link.proofs.Fresh.{unticked, kept_ticked}
 use Rattle.reliable_link.proofs.open_sender.OpenSender.mark_sent.Goals as goal
@@ -11,4 +12,5 @@ returns-then-self c = unticked _ _ c.args.now c.self.view_is c.if-now-self.true 
 
 pub invariant_of-self : goal.invariant_of-self
 invariant_of-self c =
-    kept_ticked c.self.inside.lowest c.args.now _ c.self.inside.frames _ c.mark_due.ensures refl (omega arith)
+    kept_ticked c.self.inside.wait c.self.inside.lowest c.args.now _ _ c.self.inside.frames _ (λ t. ltb-true _ _ t)
+    c.mark_due.ensures refl (omega arith)

@@ -17,7 +17,7 @@ returns c =
 
 pub invariant_of-self : goal.invariant_of-self
 invariant_of-self c =
-    kept_heeded c.self.inside.lowest c.args.n c.self.inside.clock _ c.out_of-out.result _ c.self.inside.frames _
+    kept_heeded c.self.inside.wait c.self.inside.lowest c.args.n c.self.inside.clock _ c.out_of-out.result _ c.self.inside.frames _
     (omega arith) (omega (arith, ap out_end c.self.view_is)) (omega arith)
     (omega (arith, ap length c.drop_front.ensures, length-drop (c.args.n - c.self.inside.lowest) c.self.inside.frames))
     (rw c.drop_front.ensures at c.mark_between.ensures) c.self.invariant

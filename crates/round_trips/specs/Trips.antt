@@ -1,0 +1,171 @@
+-- What datagrams that go out and come tell of round trips.
+use Rattle.std.specs.Prelude.{ℕ, ◌+◌, ◌-◌, ◌/◌, ◌%◌, ◌^◌, min, max, ◌==◌, nat_le, nat_lt, count_ones, ◌&&◌, ◌||◌, Bool}
+use Rattle.std.specs.Prelude.{true, false, if◌then◌else◌, List, slice_get, slice_set, replicate, Option, Some, None}
+use Rattle.std.specs.Prelude.{is_none, Result, Ok, Err}
+use Rattle.datagram.specs.declared.datagram.Header.{Header}
+use Rattle.datagram.specs.declared.refusal.DatagramRefusal.{DatagramRefusal}
+use Rattle.datagram.specs.Spelling.{DatagramText, BodyText, FrameBody, AckBody, ResetBody}
+use Rattle.round_trips.specs.Estimates.{backed_off, estimate_behind, millis, wait_by}
+use Rattle.round_trips.specs.declared.estimate.Estimate.{Estimate}
+use Rattle.round_trips.specs.declared.round_trip.TimedFrame.{TimedFrame}
+use Rattle.round_trips.specs.declared.round_trip.RoundTrip.{RoundTrip}
+use Rattle.round_trips.specs.declared.round_trip.Gap.{Gap}
+use Rattle.round_trips.specs.declared.round_trip.Gap.TheVariants.{Unseen, Seen, Mended}
+
+-- ---- sessions
+
+-- a session in which no frame went out, with an incarnation of a rank to which frames take so long
+abbrev pub begun : (incarnation : ℕ) → Option Estimate → (repeats : ℕ) → RoundTrip
+begun incarnation estimate repeats = record {
+  incarnation = incarnation;
+  estimate = estimate;
+  repeats = repeats;
+  timed = None;
+  newest = None;
+  awaited = 0;
+  gap = Unseen;
+}
+
+-- what is known where a frame goes to this incarnation: a session with another one has ended
+abbrev pub with_incarnation : RoundTrip → ℕ → RoundTrip
+with_incarnation t incarnation = if t.incarnation == incarnation then t else begun incarnation t.estimate t.repeats
+
+-- ---- frames that go out
+
+-- a frame of this number went out before, where `newest` is the highest number that did
+abbrev pub is_repeat : Option ℕ → (number : ℕ) → Bool
+is_repeat None number = false
+is_repeat (Some newest) number = nat_le number newest
+
+-- a frame goes out the first time: its round trip is measured, unless another one's is
+abbrev pub timed_from : Option TimedFrame → (number now : ℕ) → Option TimedFrame
+timed_from None number now = Some (record { number = number; since = now })
+timed_from (Some f) number now = Some f
+
+-- the round trip of a frame that goes out again isn't measured (Karn's rule, RFC 6298, 3)
+abbrev pub timed_without : Option TimedFrame → (number : ℕ) → Option TimedFrame
+timed_without None number = None
+timed_without (Some f) number = if f.number == number then None else Some f
+
+-- the frame that the rank waits for goes again: soon, since later ones came, or since its time was over: then that is
+-- doubled (RFC 6298, 5.5)
+abbrev pub repeated : RoundTrip → Gap → RoundTrip
+repeated t Seen = record t { gap = Mended }
+repeated t Unseen = record t { repeats = min (t.repeats + 1) 4294967295 }
+repeated t Mended = record t { repeats = min (t.repeats + 1) 4294967295 }
+
+-- a frame goes again
+abbrev pub after_repeat : RoundTrip → (number : ℕ) → RoundTrip
+after_repeat t number =
+    let unmeasured : RoundTrip = record t { timed = timed_without t.timed number } in
+    if t.awaited == number then repeated unmeasured t.gap else unmeasured
+
+-- a frame goes the first time
+abbrev pub after_first : RoundTrip → (number now : ℕ) → RoundTrip
+after_first t number now = record t { timed = timed_from t.timed number now; newest = Some number }
+
+abbrev pub after_number : RoundTrip → (number now : ℕ) → RoundTrip
+after_number t number now = if is_repeat t.newest number then after_repeat t number else after_first t number now
+
+-- a frame of this number goes out to this incarnation
+abbrev pub after_frame : RoundTrip → (incarnation number now : ℕ) → RoundTrip
+after_frame t incarnation number now = after_number (with_incarnation t incarnation) number now
+
+-- ---- acknowledgements that come
+
+-- whether an acknowledgement of all frames below `next` says that a frame came, where the bits of `held` tell of those
+-- behind `next`
+abbrev pub tells_of : (number next held : ℕ) → Bool
+tells_of number next held =
+    nat_lt number next || (nat_lt (number - next) 64 && held / 2 ^ (number - next) % 2 == 1)
+
+-- a round trip was measured: the time to send again is by it alone
+abbrev pub measured : RoundTrip → (round_trip : ℕ) → RoundTrip
+measured t round_trip = record t {
+  estimate = Some (estimate_behind t.estimate round_trip);
+  repeats = 0;
+  timed = None;
+}
+
+-- the round trip of the frame that is measured is over, if an acknowledgement tells of it
+abbrev pub with_sample : RoundTrip → Option TimedFrame → (next held now : ℕ) → RoundTrip
+with_sample t None next held now = t
+with_sample t (Some f) next held now = if tells_of f.number next held then measured t (now - f.since) else t
+
+-- three frames behind the one that a rank waits for came
+abbrev pub gap_by : (held : ℕ) → Gap
+gap_by held = if nat_le 3 (count_ones held) then Seen else Unseen
+
+-- the same where the rank waited for that frame before
+abbrev pub gap_with : Gap → (held : ℕ) → Gap
+gap_with Unseen held = gap_by held
+gap_with Seen held = Seen
+gap_with Mended held = Mended
+
+-- the rank waits for this frame, unless it is known to wait for a later one
+abbrev pub with_awaited : RoundTrip → (next held : ℕ) → RoundTrip
+with_awaited t next held =
+    if nat_lt t.awaited next then record t { awaited = next; gap = gap_by held } else
+    (if t.awaited == next then record t { gap = gap_with t.gap held } else t)
+
+-- an acknowledgement of this incarnation comes; one of another incarnation says nothing of this session
+abbrev pub after_acknowledgement : RoundTrip → (incarnation next held now : ℕ) → RoundTrip
+after_acknowledgement t incarnation next held now =
+    if t.incarnation == incarnation then with_awaited (with_sample t t.timed next held now) next held else t
+
+-- ---- how long frames wait
+
+-- where a frame is missing below three that came: no longer than a round trip
+abbrev pub hasty : (wait : ℕ) → Option Estimate → ℕ
+hasty wait None = wait
+hasty wait (Some e) = min wait (max (millis e.smoothed) 1)
+
+abbrev pub wait_with : (wait : ℕ) → Gap → Option Estimate → ℕ
+wait_with wait Unseen estimate = wait
+wait_with wait Seen estimate = hasty wait estimate
+wait_with wait Mended estimate = wait
+
+-- how long frames wait for their acknowledgements now
+abbrev pub wait_now : RoundTrip → ℕ
+wait_now t = wait_with (backed_off (wait_by t.estimate) t.repeats) t.gap t.estimate
+
+-- ---- all ranks
+
+-- one rank's round trips change so, if there is such a rank
+abbrev pub changed : List RoundTrip → (rank : ℕ) → (RoundTrip → RoundTrip) → List RoundTrip
+changed trips rank f = changed_at trips rank f (slice_get trips rank)
+  where
+    changed_at : List RoundTrip → ℕ → (RoundTrip → RoundTrip) → Option RoundTrip → List RoundTrip
+    changed_at trips rank f None = trips
+    changed_at trips rank f (Some t) = slice_set trips rank (f t)
+
+-- how long frames to a rank wait, if there is one and a round trip to it was measured
+abbrev pub measured_wait : Option RoundTrip → Option ℕ
+measured_wait None = None
+measured_wait (Some t) = if is_none t.estimate then None else Some (wait_now t)
+
+-- a datagram goes out: a frame alone tells something
+abbrev pub sent_with : List RoundTrip → Header → BodyText → (now : ℕ) → List RoundTrip
+sent_with trips h (FrameBody f) now =
+    changed trips h.target.rank (λ t. after_frame t h.target.incarnation h.sequence now)
+sent_with trips h (AckBody held) now = trips
+sent_with trips h ResetBody now = trips
+
+abbrev pub after_sent : List RoundTrip → Result DatagramText DatagramRefusal → (now : ℕ) → List RoundTrip
+after_sent trips (Ok d) now = sent_with trips d.header d.body now
+after_sent trips (Err e) now = trips
+
+-- a datagram comes: an acknowledgement alone tells something
+abbrev pub came_with : List RoundTrip → Header → BodyText → (now : ℕ) → List RoundTrip
+came_with trips h (FrameBody f) now = trips
+came_with trips h (AckBody held) now =
+    changed trips h.source.rank (λ t. after_acknowledgement t h.source.incarnation h.sequence held now)
+came_with trips h ResetBody now = trips
+
+abbrev pub after_came : List RoundTrip → Result DatagramText DatagramRefusal → (now : ℕ) → List RoundTrip
+after_came trips (Ok d) now = came_with trips d.header d.body now
+after_came trips (Err e) now = trips
+
+-- at first nothing is known of so many ranks
+abbrev pub unknown : (size : ℕ) → List RoundTrip
+unknown size = replicate size (begun 0 None 0)

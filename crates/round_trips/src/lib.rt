@@ -1,0 +1,11 @@
+//! How long frames take to their ranks and back, and how long a frame is to wait for its acknowledgement by that (RFC
+//! 6298): learned from the datagrams that go out and come alone.
+#![tactic(auto)]
+
+mod estimate;
+mod round_trip;
+mod round_trips;
+
+pub use crate::estimate::{Estimate, FIRST_WAIT, LEAST_WAIT, MOST_WAIT, stay_for, wait_by};
+pub use crate::round_trip::{Gap, RoundTrip, TimedFrame};
+pub use crate::round_trips::RoundTrips;

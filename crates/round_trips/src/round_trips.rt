@@ -1,0 +1,118 @@
+//! The round trips to all ranks of a job.
+
+ghost use Rattle.std.specs.Prelude.{◌≡◌, ◌≤◌, length, slice_get, IfOk, IfSome, IfNone, Some};
+ghost use Rattle.std.specs.Option.{option_map};
+ghost use Rattle.datagram.specs.Reading.{datagram_of};
+ghost use Rattle.round_trips.specs.Trips.{after_acknowledgement, after_came, after_frame, after_sent, changed, unknown};
+ghost use Rattle.round_trips.specs.Trips.{measured_wait, wait_now};
+
+use crate::round_trip::RoundTrip;
+use datagram::{Content, Datagram, read_form};
+use std::alloc::{AllocError, Global};
+use std::marker::Model;
+
+/// What is known of the round trips to each rank of a job, rank by rank. It learns from the datagrams that a rank sends
+/// and takes in.
+#[derive(Drop)]
+pub struct RoundTrips {
+    trips: Vec<RoundTrip>,
+}
+
+impl Model for RoundTrips {
+    ghost use Rattle.std.specs.Prelude.{List};
+    ghost use Rattle.round_trips.specs.declared.round_trip.RoundTrip.{RoundTrip};
+
+    ghost Value = { List RoundTrip };
+
+    ghost view = { λ r. r.trips.items };
+}
+
+impl RoundTrips {
+    /// Nothing is known of the ranks of a job of this size. The only error is want of memory.
+    pub fn new(alloc: Global, size: u16) -> Result<RoundTrips, AllocError>
+        ensures { IfOk result (λ trips. trips ≡ unknown size) }
+    {
+        let mut trips = Vec::new(alloc);
+        trips.resize(usize::from(size), RoundTrip::begun(0, None, 0))?;
+        Ok(RoundTrips { trips })
+    }
+
+    /// A frame of this number goes out to this incarnation of a rank.
+    fn on_frame(&mut self, rank: u16, incarnation: u16, number: u64, now: u64)
+        ensures { self.new ≡ changed self.old rank (λ t. after_frame t incarnation number now) }
+    {
+        if let Some(trip) = self.trips.get_mut(usize::from(rank)) {
+            *trip = trip.after_frame(incarnation, number, now);
+        }
+    }
+
+    /// An acknowledgement comes from this incarnation of a rank.
+    fn on_acknowledgement(&mut self, rank: u16, incarnation: u16, next: u64, held: u64, now: u64)
+        ensures { self.new ≡ changed self.old rank (λ t. after_acknowledgement t incarnation next held now) }
+    {
+        if let Some(trip) = self.trips.get_mut(usize::from(rank)) {
+            *trip = trip.after_acknowledgement(incarnation, next, held, now);
+        }
+    }
+
+    /// A datagram goes out, at this time in microseconds. Only a frame tells something, of the rank that it is for.
+    pub fn on_sent(&mut self, bytes: &[u8], now: u64)
+        ensures { self.new ≡ after_sent self.old (datagram_of bytes.now) now }
+    {
+        if let Ok(
+            Datagram {
+                header,
+                content: Content::Frame(_),
+            },
+        ) = read_form(bytes)
+        {
+            self.on_frame(
+                header.target.rank,
+                header.target.incarnation,
+                header.sequence,
+                now,
+            );
+        }
+    }
+
+    /// A datagram comes, at this time in microseconds. Only an acknowledgement tells something, of the rank that it is
+    /// from.
+    pub fn on_came(&mut self, bytes: &[u8], now: u64)
+        ensures { self.new ≡ after_came self.old (datagram_of bytes.now) now }
+    {
+        if let Ok(
+            Datagram {
+                header,
+                content: Content::Ack(held),
+            },
+        ) = read_form(bytes)
+        {
+            self.on_acknowledgement(
+                header.source.rank,
+                header.source.incarnation,
+                header.sequence,
+                held,
+                now,
+            );
+        }
+    }
+
+    /// How many milliseconds frames to a rank of the job wait for their acknowledgements now.
+    pub fn wait_of(&self, rank: u16) -> Option<u64>
+        ensures { result ≡ option_map wait_now (slice_get self.now rank) }
+    {
+        let trip = self.trips.get(usize::from(rank))?;
+        Some(trip.wait_now())
+    }
+
+    /// The same of a rank to which a round trip was measured.
+    pub fn measured_wait(&self, rank: u16) -> Option<u64>
+        ensures { result ≡ measured_wait (slice_get self.now rank) }
+    {
+        let trip = self.trips.get(usize::from(rank))?;
+        if trip.estimate.is_none() {
+            return None;
+        }
+        Some(trip.wait_now())
+    }
+}
