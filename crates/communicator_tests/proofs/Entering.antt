@@ -11,13 +11,13 @@ use Rattle.perfect_groups.specs.Calls.{Enter}
 use Rattle.perfect_groups.specs.Faults.{fault_by, is_within}
 
 pub entry_allowed : EntriesAreAllowed →
-    (s : State) (h : ContextsState) (is_blocked : Bool) (known : List ℕ) (place : ℕ) (x : Entry)
+    (limit : ℕ) (s : State) (h : ContextsState) (is_blocked : Bool) (known : List ℕ) (place : ℕ) (x : Entry)
     (found : Option CommunicatorFault) →
     option_map number_of_fault found
     ≡ or_limited
-    (fault_by (is_blocked || is_within (membership_of s h).present) no_requests s.own (known_by known)
+    (fault_by limit (is_blocked || is_within (membership_of s h).present) no_requests s.own (known_by known)
     (membership_of s h) (Enter (Some place) (call_of x)))
     (limit_in s h (Some place) x) →
     found ≡ None → (entry_rule s h place ≡ None) × (limit_at s h place x ≡ false)
-entry_allowed law s h b known place x found judged none =
-    law s h b (known_by known) (Some place) x (sym judged ∙ ap (option_map number_of_fault) none)
+entry_allowed law limit s h b known place x found judged none =
+    law limit s h b (known_by known) (Some place) x (sym judged ∙ ap (option_map number_of_fault) none)

@@ -6,7 +6,7 @@ use communicators::{
 };
 use payload::{Choice, NewGroup, Payload, PayloadContent, Record};
 use std::alloc::Global;
-use vocabulary::Endpoint;
+use vocabulary::{Endpoint, MessageLimit};
 
 /// With what a collective ends, as a plain value.
 #[derive(Clone, Copy, Debug, PartialEq, Eq)]
@@ -72,7 +72,13 @@ pub(crate) fn rank_of(alloc: Global, rank: u16, size: u16) -> Option<Communicato
 /// The rank enters a collective of the communicator at a place, where no rank is known to be replaced.
 #[tactic(auto, using(crate::proofs::Entering::entry_allowed))]
 pub(crate) fn enter(rank: &mut Communicators, place: usize, entry: Entry) -> Step {
-    if let Some(fault) = rank.fault_of_entry(false, &[], Some(place), &entry) {
+    if let Some(fault) = rank.fault_of_entry(
+        false,
+        &[],
+        MessageLimit::least(),
+        Some(place),
+        &entry,
+    ) {
         return Err(Refused::Entry(fault));
     }
     // An entry that breaks no rule can be made ready.

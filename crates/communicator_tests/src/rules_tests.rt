@@ -2,7 +2,7 @@
 
 use crate::ranks::{enter, rank_of, turn};
 use communicators::{CommunicatorFault, Communicators, Entry, Question};
-use vocabulary::Source;
+use vocabulary::{MessageLimit, Source};
 
 /// Whether a communicator is missing at each of these places, and at none.
 fn lacking(rank: &Communicators) -> [bool; 4] {
@@ -72,7 +72,13 @@ fn a_replaced_member_counts_off_world_and_in_collectives(rt: HostRuntime) {
 
 /// What a barrier on world breaks where rank 0 is known at this incarnation.
 fn barrier(rank: &Communicators, is_blocked: bool, incarnation: u16) -> Option<CommunicatorFault> {
-    rank.fault_of_entry(is_blocked, &[incarnation, 0], Some(0), &Entry::Barrier)
+    rank.fault_of_entry(
+        is_blocked,
+        &[incarnation, 0],
+        MessageLimit::least(),
+        Some(0),
+        &Entry::Barrier,
+    )
 }
 
 /// What an entry breaks: blocked on requests, with no communicator, with a member that was replaced, and with none of
@@ -86,7 +92,7 @@ fn entries(
 ) {
     let faults = [
         barrier(rank, true, 1),
-        rank.fault_of_entry(false, &[1, 0], Some(2), &Entry::Dup),
+        rank.fault_of_entry(false, &[1, 0], MessageLimit::least(), Some(2), &Entry::Dup),
         barrier(rank, false, 1),
         barrier(rank, false, 0),
     ];

@@ -73,7 +73,7 @@ data_go_to rank transfer count bytes is = record {
 }
 
 -- the sessions can send them
-pub data_can_go : (p : Place) (rank transfer : ℕ) (bytes : List ℕ) → rank < p.size → length bytes ≤ 1048576 →
+pub data_can_go : (p : Place) (rank transfer : ℕ) (bytes : List ℕ) → rank < p.size → length bytes ≤ 2147483647 →
     All (CanSend p) (data_sent rank transfer bytes)
 data_can_go p rank transfer bytes there limit =
     can_send p.size p (data_frames rank transfer (pieces_of bytes)) refl

@@ -7,13 +7,15 @@ use Rattle.std.specs.Prelude.{IfErr, OnErr, OnOk, slice_index}
 use Rattle.vocabulary.specs.declared.endpoint.Endpoint.{Endpoint}
 use Rattle.datagram.specs.declared.datagram.Header.{Header}
 use Rattle.datagram.specs.declared.refusal.DatagramRefusal as reading
+use Rattle.datagram.specs.declared.refusal.DatagramRefusal.TheVariants as readings
 use Rattle.collective_transfers.specs.Payloads.{Whole}
 use Rattle.collective_steps.specs.declared.step.Ending.{Ending}
 use Rattle.collective_transfers.specs.State as payloads
 use Rattle.collective_transfers.specs.State.{is_due, whole_with}
 use Rattle.datagram.specs.Spelling.{BodyText, DataText, EagerText, FrameBody, AckBody, ResetBody, DatagramText}
-use Rattle.datagram.specs.Spelling.{OutgoingText}
-use Rattle.datagram.specs.Reading.{datagram_of}
+use Rattle.datagram.specs.Spelling.{OutgoingText, body_is_within}
+use Rattle.datagram.specs.Reading.{bounded, datagram_of, datagram_within, guard}
+use Rattle.vocabulary.specs.MessageLimits.{limit_of}
 use Rattle.incarnation.specs.declared.judgement.Judgement.{Judgement}
 use Rattle.incarnation.specs.declared.judgement.Judgement.TheVariants.{Current, Learn}
 use Rattle.incarnation.specs.declared.refusal.IncarnationRefusal as judging
@@ -169,16 +171,31 @@ pub known_carried : (old new : SessionsState) (h : HeardText) → IsCarried old 
 known_carried old new h goes = ap (λ (s : SessionsState). s.known) goes.carried ∙
     known_sends (links.after_heard old (Some h)) goes.frames
 
+-- where anything is heard in what was read, it is within the job's limit
+within_limit : (test : Bool) (s : SessionsState) (d : DatagramText) (bytes : List ℕ) (h : HeardText) →
+    heard_in s (guard test readings.BadFrame (Ok d)) bytes ≡ Ok h →
+    heard_by (judgement (knowledge s) d.header) s d bytes ≡ Ok h
+within_limit true s d bytes h is = is
+within_limit false s d bytes h is = absurd cc
+
+-- so it is by what the bytes say
+heard_by_text : (s : SessionsState) (bytes : List ℕ) (d : DatagramText) (h : HeardText) → datagram_of bytes ≡ Ok d →
+    heard_of s bytes ≡ Ok h → heard_by (judgement (knowledge s) d.header) s d bytes ≡ Ok h
+unfolding heard_of datagram_within
+heard_by_text s bytes d h is heard =
+    within_limit (body_is_within (limit_of s.place.message_limit) d.body) s d bytes h
+    (sym (ap (λ (r : Result DatagramText reading.DatagramRefusal).
+    heard_in s (bounded (limit_of s.place.message_limit) r) bytes) is) ∙ heard)
+
 -- the source of what was taken in is known at the incarnation in its header
 pub heard_is_known : (old new : EngineState) (bytes : List ℕ) (h : HeardText) (result : Result (Unit {0}) Refusal) →
     length old.sessions.known ≡ old.sessions.place.size → heard_of old.sessions bytes ≡ Ok h →
     OnOk result (new.sessions.known ≡ taught_known h.lesson old.sessions.known h.source) →
     OnOk result (SourceIsKnown new bytes)
-unfolding heard_of
 heard_is_known old new bytes h (Err e) each heard known = tt
 heard_is_known old new bytes h (Ok x) each heard known = λ d is.
     let by : heard_by (judgement (knowledge old.sessions) d.header) old.sessions d bytes ≡ Ok h =
-    sym (ap (λ (r : Result DatagramText reading.DatagramRefusal). heard_in old.sessions r bytes) is) ∙ heard in
+    heard_by_text old.sessions bytes d h is heard in
     ap (λ (ks : List ℕ). slice_index ks d.header.source.rank) known
     ∙ subst (λ (r : Result HeardText Unheard). Knows r old.sessions d.header.source) by
     (judged_knows (judgement (knowledge old.sessions) d.header) old.sessions d bytes each refl)
@@ -253,7 +270,7 @@ read_tells (Ok d) s bytes = judged_tells (judgement (knowledge s) d.header) s d 
 
 bytes_tell : (bytes : List ℕ) (s : SessionsState) → ResetsTell (heard_of s bytes)
 unfolding heard_of
-bytes_tell bytes s = read_tells (datagram_of bytes) s bytes
+bytes_tell bytes s = read_tells (datagram_within (limit_of s.place.message_limit) bytes) s bytes
 
 -- nothing but the sessions changed
 abbrev IsElsewhere : EngineState → EngineState → Type 0

@@ -1,5 +1,6 @@
 pub mod Entered
 pub mod Ruled
+pub mod JobPayloads
 pub mod Taken
 pub mod Replies
 pub mod Announced

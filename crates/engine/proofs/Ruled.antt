@@ -15,6 +15,7 @@ use Rattle.communicators.specs.Rules.{or_limited, rule_in}
 use Rattle.communicators.specs.declared.fault.CommunicatorFault.{CommunicatorFault}
 use Rattle.communicators.specs.declared.fault.CommunicatorFault.TheVariants as faults
 use Rattle.communicators.specs.declared.question.Question.{Question}
+use Rattle.incarnation.specs.declared.place.Place.{Place}
 use Rattle.perfect_groups.specs.Calls.{Enter, Inquire, held_at}
 use Rattle.perfect_groups.specs.Faults.{asks_of_none, fault_by, has_replaced, is_within}
 use Rattle.perfect_groups.specs.Membership.{Membership}
@@ -24,6 +25,7 @@ use Rattle.engine_calls.specs.EngineState.{EngineState, member_of}
 use Rattle.engine_calls.specs.Faults.{broken, fault_of, is_busy}
 use Rattle.engine_calls.specs.Refusals.{first_fault, of_entry_rule, of_rule}
 use Rattle.engine_calls.specs.declared.call.Call.TheVariants as calls
+use Rattle.vocabulary.specs.MessageLimits.{limit_of}
 
 -- the refusal with a number
 abbrev refusal_of : ℕ → Refusal
@@ -72,29 +74,34 @@ in_order false false None true l = refl
 in_order false false None false true = refl
 in_order false false None false false = refl
 
-pub entry_ruled : (e : EngineState) (b : Bool) (known : List ℕ) (comm : Option ℕ) (x : Entry)
+pub entry_ruled : (e : EngineState) (b : Bool) (known : List ℕ) (place : Place) (comm : Option ℕ) (x : Entry)
     (o : Option CommunicatorFault) → b ≡ is_some e.core.blocked →
-    known ≡ e.sessions.known →
+    known ≡ e.sessions.known → place ≡ e.sessions.place →
     option_map number_of_fault o
     ≡ or_limited
-    (fault_by (b || is_within (member_of e.groups).present) no_requests e.groups.collective.own (known_by known)
+    (fault_by (limit_of place.message_limit) (b || is_within (member_of e.groups).present) no_requests
+    e.groups.collective.own (known_by known)
     (member_of e.groups) (Enter comm (call_of x)))
     (limit_in e.groups.collective e.groups.contexts comm x) →
     option_map of_rule o ≡ fault_of e (calls.Enter comm x)
-entry_ruled e b known comm x o blocked knows is =
+entry_ruled e b known place comm x o blocked knows placed is =
     let m : Membership = member_of e.groups in
     let limit : Bool = limit_in e.groups.collective e.groups.contexts comm x in
+    let most : ℕ = limit_of e.sessions.place.message_limit in
     by_number o ∙ ap (option_map refusal_of) is
+    ∙ ap (λ (p : Place). option_map refusal_of
+    (or_limited (fault_by (limit_of p.message_limit) (b || is_within m.present) no_requests e.groups.collective.own
+    (known_by known) m (Enter comm (call_of x))) limit)) placed
     ∙ ap (λ (t : Bool). option_map refusal_of
-    (or_limited (fault_by (t || is_within m.present) no_requests e.groups.collective.own (known_by known) m
+    (or_limited (fault_by most (t || is_within m.present) no_requests e.groups.collective.own (known_by known) m
     (Enter comm (call_of x))) limit)) blocked
     ∙ ap (λ (k : List ℕ). option_map refusal_of
-    (or_limited (fault_by (is_busy e) no_requests e.groups.collective.own (known_by k) m (Enter comm (call_of x)))
+    (or_limited (fault_by most (is_busy e) no_requests e.groups.collective.own (known_by k) m (Enter comm (call_of x)))
     limit)) knows
     ∙ ap (λ (f : Option ℕ). option_map refusal_of (or_limited f limit))
-    (entry_judged (is_busy e) e.groups.collective e.groups.contexts (known_by e.sessions.known) comm x)
+    (entry_judged most (is_busy e) e.groups.collective e.groups.contexts (known_by e.sessions.known) comm x)
     ∙ in_order (is_busy e) (is_none (held_at m comm))
-    (rule_in e.groups.collective.own (held_in e.groups.contexts comm) x)
+    (rule_in most e.groups.collective.own (held_in e.groups.contexts comm) x)
     (has_replaced (known_by e.sessions.known) (held_at m comm)) limit
 
 none_of : (b n : Bool) (o : Option Rule) (r l : Bool) → fault_in b n o r l ≡ None → or_limited (number_by b n o r) l ≡
@@ -113,11 +120,12 @@ entry_allowed allowed e now comm x same met =
     let free : fault_of e (calls.Enter comm x) ≡ None = subst (λ (s : EngineState). fault_of s (calls.Enter comm x) ≡ None) (sym same) met in
     let m : Membership = member_of e.groups in
     let limit : Bool = limit_in e.groups.collective e.groups.contexts comm x in
-    allowed e.groups.collective e.groups.contexts (is_some e.core.blocked) (known_by e.sessions.known) comm x
+    let most : ℕ = limit_of e.sessions.place.message_limit in
+    allowed most e.groups.collective e.groups.contexts (is_some e.core.blocked) (known_by e.sessions.known) comm x
     (ap (λ (f : Option ℕ). or_limited f limit)
-    (entry_judged (is_busy e) e.groups.collective e.groups.contexts (known_by e.sessions.known) comm x)
+    (entry_judged most (is_busy e) e.groups.collective e.groups.contexts (known_by e.sessions.known) comm x)
     ∙ none_of (is_busy e) (is_none (held_at m comm))
-    (rule_in e.groups.collective.own (held_in e.groups.contexts comm) x)
+    (rule_in most e.groups.collective.own (held_in e.groups.contexts comm) x)
     (has_replaced (known_by e.sessions.known) (held_at m comm)) limit free)
 
 -- at its place
@@ -138,18 +146,18 @@ in_turn false false = refl
 
 pub question_ruled : (e : EngineState) (b : Bool) (comm : Option ℕ) (q : Question) (o : Option CommunicatorFault) →
     b ≡ is_some e.core.blocked →
-    ((known : ℕ → ℕ) → option_map number_of_fault o
-    ≡ fault_by (b || is_within (member_of e.groups).present) no_requests e.groups.collective.own known
+    ((limit : ℕ) (known : ℕ → ℕ) → option_map number_of_fault o
+    ≡ fault_by limit (b || is_within (member_of e.groups).present) no_requests e.groups.collective.own known
     (member_of e.groups) (Inquire comm (question_of q))) →
     option_map of_rule o ≡ fault_of e (calls.Ask comm q)
 question_ruled e b comm q o blocked is =
     let m : Membership = member_of e.groups in
     let nobody : ℕ → ℕ = λ r. 0 in
-    by_number o ∙ ap (option_map refusal_of) (is nobody)
+    by_number o ∙ ap (option_map refusal_of) (is 0 nobody)
     ∙ ap (λ (t : Bool). option_map refusal_of
-    (fault_by (t || is_within m.present) no_requests e.groups.collective.own nobody m
+    (fault_by 0 (t || is_within m.present) no_requests e.groups.collective.own nobody m
     (Inquire comm (question_of q)))) blocked
-    ∙ ap (option_map refusal_of) (question_judged (is_busy e) e.groups.collective.own nobody m comm q)
+    ∙ ap (option_map refusal_of) (question_judged 0 (is_busy e) e.groups.collective.own nobody m comm q)
     ∙ in_turn (is_busy e) (is_none (held_at m comm) || asks_of_none m (question_of q))
 
 held_by : (b n : Bool) → first_fault (broken b refusals.Request) (broken n refusals.Communicator) ≡ None → n ≡ false

@@ -15,7 +15,7 @@ use Rattle.collective_steps.specs.Steps.{contexts_after, ending_of}
 use Rattle.collectives.specs.declared.collective.ReadyMessage.{ReadyMessage}
 use Rattle.collective_steps.specs.declared.step.Ending.{Ending}
 use Rattle.context_agreement.specs.Communicators.{ContextsState}
-use Rattle.payload.specs.Reading.{payload_of}
+use Rattle.engine.specs.JobPayloads.{payload_in}
 use Rattle.payload.specs.Spelling.{PartFits, PayloadText}
 use Rattle.point_to_point_calls.specs.declared.refusal.Refusal.{Refusal}
 use Rattle.point_to_point_calls.specs.declared.refusal.Refusal.TheVariants as refusals
@@ -99,7 +99,7 @@ pub noticed : (old : EngineState) (h : HeardText) (w : Whole) (lesson : Option E
     (ready : ReadyMessage)
     (s1 s2 s3 : State) (k1 k2 k3 : ContextsState) (replaced left ending : Option Ending) (c : CoreState)
     (q : payloads.State) (links : SessionsState) →
-    lesson ≡ lesson_in h → payload_of w.bytes ≡ Some p →
+    lesson ≡ lesson_in h → payload_in old.sessions.place.size w.bytes ≡ Some p →
     IsReady (after_lesson old.groups.collective old.groups.contexts lesson) old.groups.contexts
     (address_of h.source w) p ready →
     IsTold old.core old.payloads old.sessions h ready.step.messages c q links →
@@ -149,7 +149,7 @@ noticed old h w lesson p ready s1 s2 s3 k1 k2 k3 replaced left ending c q links 
 -- it can't be made ready
 pub unready : (old : EngineState) (h : HeardText) (w : Whole) (lesson : Option Endpoint) (p : PayloadText)
     (why : noted.CollectiveRefusal) → lesson ≡ lesson_in h →
-    payload_of w.bytes ≡ Some p →
+    payload_in old.sessions.place.size w.bytes ≡ Some p →
     MessageRefused (after_lesson old.groups.collective old.groups.contexts lesson) old.groups.contexts
     (address_of h.source w) p why →
     WhyUnnoticed old h w (of_collectives why)
@@ -180,7 +180,7 @@ ready_fits s k a p ready is = arrival_fits a p is.0 is.1
 -- its step is stopped
 pub stopped : (old : EngineState) (h : HeardText) (w : Whole) (lesson : Option Endpoint) (p : PayloadText)
     (ready : ReadyMessage) (why : Refusal) → lesson ≡ lesson_in h →
-    payload_of w.bytes ≡ Some p →
+    payload_in old.sessions.place.size w.bytes ≡ Some p →
     IsReady (after_lesson old.groups.collective old.groups.contexts lesson) old.groups.contexts
     (address_of h.source w) p ready →
     StepStops (step_limit old.sessions (numbers_met old.core h) (Some h) ready.step.messages) why →

@@ -226,10 +226,11 @@ memory_alone r (inr (inr is)) bad limit = is
 
 -- a message that isn't taken in without memory
 pub unread : (e : EngineState) (h : HeardText) (w : Whole) (bytes : List ℕ) (r : Refusal) → bytes ≡ w.bytes →
-    WhyUnread bytes r → WhyUnnoticed e h w r
-unread e h w bytes r same why = go r (subst (λ (bs : List ℕ). WhyUnread bs r) same why)
+    WhyUnread e.sessions.place.size bytes r → WhyUnnoticed e h w r
+unread e h w bytes r same why =
+    go r (subst (λ (bs : List ℕ). WhyUnread e.sessions.place.size bs r) same why)
   where
-    go : (r : Refusal) → WhyUnread w.bytes r → WhyUnnoticed e h w r
+    go : (r : Refusal) → WhyUnread e.sessions.place.size w.bytes r → WhyUnnoticed e h w r
     go refusals.BadFrame why = why
     go refusals.OutOfMemory why = why
     go refusals.Limit why = absurd why

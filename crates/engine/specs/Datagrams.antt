@@ -50,6 +50,7 @@ use Rattle.engine_calls.specs.EngineState.{EngineState, GroupsState, or_before}
 use Rattle.engine_calls.specs.Frames.{AreWhole, step_limit, step_numbers, step_payloads, step_sendings}
 use Rattle.engine_calls.specs.Refusals.{fault_of_sessions, first_fault, of_sessions}
 use Rattle.engine_calls.specs.Steps.{ending_met}
+use Rattle.engine.specs.JobPayloads.{payload_in}
 
 -- WHAT IS HEARD
 
@@ -182,7 +183,7 @@ pub record IsTold (c : CoreState) (p : payloads.State) (s : SessionsState) (h : 
 pub record IsNoticed (old : EngineState) (before : payloads.State) (h : HeardText) (w : Whole)
     (new : EngineState) : Type 0 where
   pub payload : PayloadText
-  pub read : payload_of w.bytes ≡ Some payload
+  pub read : payload_in old.sessions.place.size w.bytes ≡ Some payload
   pub ready : ReadyMessage
   pub is_ready : IsReady (met_by old h) old.groups.contexts (address_of h.source w) payload ready
   pub whole : AreWhole ready.step.messages
@@ -205,19 +206,20 @@ IsStepStopped old h w p =
     (ready : ReadyMessage) × IsReady (met_by old h) old.groups.contexts (address_of h.source w) p ready
     × (step_limit old.sessions (numbers_met old.core h) (Some h) ready.step.messages ≡ Some refusals.Limit)
 
--- Why a message of a collective is refused: it can't be read, or what it carries doesn't fit its record (30); what the
--- rank would then get can't be held or given, or a frame can't go (13); or, where its part fits, for want of memory
+-- Why a message of a collective is refused: it can't be read, it names a rank that the job lacks, or what it carries
+-- doesn't fit its record (30); what the rank would then get can't be held or given, or a frame can't go (13); or, where
+-- its part fits, for want of memory
 abbrev pub WhyUnnoticed : EngineState → HeardText → Whole → Refusal → Type 0
 WhyUnnoticed old h w refusals.BadFrame =
-    (payload_of w.bytes ≡ None)
-    ⊎ ((p : PayloadText) × (payload_of w.bytes ≡ Some p)
+    (payload_in old.sessions.place.size w.bytes ≡ None)
+    ⊎ ((p : PayloadText) × (payload_in old.sessions.place.size w.bytes ≡ Some p)
     × MessageRefused (met_by old h) old.groups.contexts (address_of h.source w) p notes.BadFrame)
 WhyUnnoticed old h w refusals.Limit =
-    (p : PayloadText) × (payload_of w.bytes ≡ Some p)
+    (p : PayloadText) × (payload_in old.sessions.place.size w.bytes ≡ Some p)
     × (MessageRefused (met_by old h) old.groups.contexts (address_of h.source w) p notes.Limit ⊎
     IsStepStopped old h w p)
 WhyUnnoticed old h w refusals.OutOfMemory =
-    (p : PayloadText) × (payload_of w.bytes ≡ Some p) × PartFits p.record_is p.part
+    (p : PayloadText) × (payload_in old.sessions.place.size w.bytes ≡ Some p) × PartFits p.record_is p.part
 WhyUnnoticed old h w _ = ⊥
 
 -- a message of a collective is taken in, or refused with nothing changed

@@ -1,6 +1,6 @@
 -- Why nothing more follows a frame that is handed up.
 use Rattle.std.specs.Prelude.{◌≡◌, ◌⊎◌, ℕ, zero, suc, List, Option, Some, None, Ok, Err}
-use Rattle.payload.specs.Reading.{payload_of}
+use Rattle.engine.specs.JobPayloads.{payload_in}
 use Rattle.payload.specs.Spelling.{PartFits, PayloadText}
 use Rattle.point_to_point.specs.Arrivals.{news_fault}
 use Rattle.point_to_point.specs.CoreState.{CoreState}
@@ -64,13 +64,15 @@ news_met c s h =
     first_fault (hold_fault h.word)
     (first_fault (news_fault c (news_of h)) (fault_of_sessions (event_limit s (Some h) (replies c h))))
 
--- why a message of a collective isn't taken in without memory: it can't be read, or what it carries doesn't fit its
--- record (30); or else for want of it
-abbrev pub WhyUnread : List ℕ → Refusal → Type 0
-WhyUnread bytes refusals.BadFrame =
-    (payload_of bytes ≡ None) ⊎ ((p : PayloadText) × (payload_of bytes ≡ Some p) × (PartFits p.record_is p.part → ⊥))
-WhyUnread bytes refusals.OutOfMemory = (p : PayloadText) × (payload_of bytes ≡ Some p) × PartFits p.record_is p.part
-WhyUnread bytes _ = ⊥
+-- why a message of a collective isn't taken in without memory, in a job of so many ranks: it can't be read, it names a
+-- rank that the job lacks, or what it carries doesn't fit its record (30); or else for want of it
+abbrev pub WhyUnread : (size : ℕ) → List ℕ → Refusal → Type 0
+WhyUnread size bytes refusals.BadFrame =
+    (payload_in size bytes ≡ None) ⊎
+    ((p : PayloadText) × (payload_in size bytes ≡ Some p) × (PartFits p.record_is p.part → ⊥))
+WhyUnread size bytes refusals.OutOfMemory =
+    (p : PayloadText) × (payload_in size bytes ≡ Some p) × PartFits p.record_is p.part
+WhyUnread size bytes _ = ⊥
 
 -- with what the next frame of an endpoint would be refused if there were no memory at all: nothing is held; what is
 -- held spells no frame (30); or it is refused so

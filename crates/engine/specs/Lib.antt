@@ -1,5 +1,6 @@
 pub mod Answering
 pub mod Places
+pub mod JobPayloads
 pub mod Datagrams
 pub mod Parts
 pub mod Entering

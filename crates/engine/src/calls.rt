@@ -235,12 +235,12 @@ impl Engine {
     /// such request, a list names one twice, what is cancelled is no receive, or what is to be received is no message
     /// that was taken out and isn't received), 4 (MPI_COMM_NULL, or the rank holds no such communicator, nor one to
     /// compare with), 2 (buffer and layout are of different basic types, a receive names a place twice, or a scatter's
-    /// root hands in elements of another type than its blocks), 1 (more than 1,048,576 bytes of data in a send, the
-    /// buffer is too short, a block of a collective has more than 1,048,560 bytes, or a scatter's root hands in another
-    /// number of elements than a block for each member), 3 (the tag is above the greatest, or the wildcard in a send),
-    /// 5 (no such rank in the communicator, or any rank in a send), 7 (no such root), 9 (the operation isn't defined on
-    /// the type), 11 (the member that is named is known at another incarnation, which counts off `world` alone; in a
-    /// collective any member), 13 (65,536 requests are there, messages that were taken out among them, and one more is
+    /// root hands in elements of another type than its blocks), 1 (more bytes of data in a send than a message of the
+    /// job may have, the buffer is too short, more bytes in a block of a collective than 16 less than a message may
+    /// have, or a scatter's root hands in another number of elements than a block for each member), 3 (the tag is above
+    /// the greatest, or the wildcard in a send), 5 (no such rank in the communicator, or any rank in a send), 7 (no such
+    /// root), 9 (the operation isn't defined on the type), 11 (the member that is named is known at another incarnation,
+    /// which counts off `world` alone; in a collective any member), 13 (65,536 requests are there, messages that were taken out among them, and one more is
     /// wanted, which a matching probe wants only for a message that it found; no number is left for a message that is
     /// announced to the rank or for a frame to it, a communicator can't be held or given, no further collective may be
     /// entered on it, or a member would have to be told more than 1,008 bytes of elements), 14. A refusal hands the

@@ -94,10 +94,12 @@ impl Engine {
         ensures { result ≡ fault_of self.now (calls.Enter comm entry.now) }
     {
         let known = self.parts.sessions.incarnations();
+        let limit = self.parts.sessions.place().message_limit;
+        let is_blocked = self.parts.core.is_blocked();
         match self
             .parts
             .communicators
-            .fault_of_entry(self.parts.core.is_blocked(), known, comm, entry)
+            .fault_of_entry(is_blocked, known, limit, comm, entry)
         {
             Some(fault) => Some(of_rule(fault)),
             None => None,

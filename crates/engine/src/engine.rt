@@ -7,7 +7,7 @@ ghost use Rattle.sessions.specs.SessionsState.{SessionGives};
 ghost use Rattle.engine.specs.Places.{place_fault};
 ghost use Rattle.engine_calls.specs.EngineState.{completion_by, completion_of, opening, without_completion};
 ghost use Rattle.engine_calls.specs.EngineState.{without_out};
-ghost use Rattle.engine.specs.Ticks.{TickGives};
+ghost use Rattle.engine.specs.Ticks.{TickGives, after_wait};
 
 use crate::parts::Parts;
 use collective_transfers::CollectiveTransfers;
@@ -94,7 +94,20 @@ impl Engine {
         self.parts.sessions.place()
     }
 
-    /// The clock says `now`, in milliseconds: what was last sent 20 ms or more before is sent again.
+    /// Frames to a rank of the job wait so long for their acknowledgements from now on, in milliseconds, also those
+    /// that are out: a tick sends again what has waited as long. It is 20 until it is told. For a rank that isn't of the
+    /// job nothing is done. Nothing else changes, so whoever measures how long acknowledgements take may tell it at any
+    /// time.
+    pub fn set_wait(&mut self, rank: u16, wait: u64)
+        ensures { self.new ≡ after_wait self.old rank wait }
+    {
+        if rank < self.parts.sessions.place().size {
+            self.parts.sessions.set_wait(rank, wait);
+        }
+    }
+
+    /// The clock says `now`, in milliseconds: what has waited for its acknowledgement as long as frames of its session
+    /// wait (20 ms, unless `set_wait` said another number) is sent again.
     ///
     /// Refused with 41 exactly where `now` is below the last tick, and with 14, which comes only where a frame is due.
     /// A refusal changes nothing.

@@ -3,7 +3,7 @@
 ghost use Rattle.std.specs.Prelude.{◌≡◌, ◌≤◌, All, length, IfErr, IfOk, None, OnErr, OnOk, Some};
 ghost use Rattle.collective_messages.specs.Messages.{IsFitting};
 ghost use Rattle.collectives.specs.Calls.{after_lesson};
-ghost use Rattle.payload.specs.Reading.{payload_of};
+ghost use Rattle.engine.specs.JobPayloads.{payload_in};
 ghost use Rattle.payload.specs.Spelling.{payload_text};
 ghost use Rattle.sessions.specs.Windows.{StaysWithin};
 ghost use Rattle.sessions.specs.Heard.{CanHear, heard_text};
@@ -13,7 +13,7 @@ ghost use Rattle.engine_calls.specs.EngineState.{or_before};
 ghost use Rattle.engine_calls.specs.Steps.{ending_met};
 
 use crate::parts::Parts;
-use collective_messages::{Address, CollectiveMessage};
+use collective_messages::{Address, CollectiveMessage, names_beyond};
 use collective_transfers::CollectiveTransfers;
 use collectives::Ending;
 use communicators::Communicators;
@@ -86,13 +86,20 @@ pub(crate) fn ending_or(ending: Option<Ending>, before: Option<Ending>) -> Optio
     }
 }
 
-/// What the bytes of a message say (30).
-fn read(bytes: &[u8]) -> Result<Payload<'_>, Refusal>
-    ensures ok { IfOk result (λ p. payload_of bytes.now ≡ Some (payload_text p)) }
-    ensures err { IfErr result (λ e. (e ≡ Refusal.BadFrame) × (payload_of bytes.now ≡ None)) }
+/// What the bytes of a message say in a job of so many ranks. It is refused with 30 where they can't be read, or name a
+/// rank that isn't there.
+pub(crate) fn read(bytes: &[u8], size: u16) -> Result<Payload<'_>, Refusal>
+    ensures ok { IfOk result (λ p. payload_in size bytes.now ≡ Some (payload_text p)) }
+    ensures err { IfErr result (λ e. (e ≡ Refusal.BadFrame) × (payload_in size bytes.now ≡ None)) }
 {
     match read_payload(bytes) {
-        Ok(payload) => Ok(payload),
+        Ok(payload) => {
+            if names_beyond(payload, size) {
+                Err(Refusal::BadFrame)
+            } else {
+                Ok(payload)
+            }
+        }
         Err(_) => Err(Refusal::BadFrame),
     }
 }
@@ -165,7 +172,7 @@ impl Parts {
         ensures within { OnOk result (StaysWithin (Some (heard_text heard.entry)) self.old.sessions self.new.sessions) }
         ensures placed { StayInPlace self.old self.new }
     {
-        let payload = read(message.bytes)?;
+        let payload = read(message.bytes, self.sessions.place().size)?;
         let address = Address {
             sender: heard.source,
             context: message.context,

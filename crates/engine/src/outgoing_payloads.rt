@@ -9,7 +9,7 @@ ghost use Rattle.point_to_point_calls.specs.Refusals.{IsRefusal};
 ghost use Rattle.sessions.specs.Windows.{StaysWithin};
 ghost use Rattle.sessions.specs.Heard.{heard_text, CanHear};
 ghost use Rattle.sessions.specs.Events.{AreFor, CanSend, after_event, event_limit, sendings};
-ghost use Rattle.vocabulary.specs.Limits.{send_limit};
+ghost use Rattle.vocabulary.specs.Limits.{greatest_limit};
 ghost use Rattle.engine_calls.specs.Refusals.{fault_of_sessions};
 ghost use Rattle.engine.specs.Datagrams.{AnnouncementGives, AnswerGives, announcement_fault, answer_to, coming_by};
 ghost use Rattle.engine.specs.Datagrams.{data_sent};
@@ -149,7 +149,7 @@ fn send_data(
 ) -> Result<(), Refusal>
     requires can { CanHear sessions.old (Some (heard_text heard)) }
     requires there { heard.source.rank < sessions.old.place.size }
-    requires limit { length bytes.now ≤ send_limit }
+    requires limit { length bytes.now ≤ greatest_limit }
     ensures none { OnOk result
         (fault_of_sessions
         (event_limit sessions.old (Some (heard_text heard.entry))

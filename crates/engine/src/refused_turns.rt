@@ -19,10 +19,10 @@ ghost use Rattle.engine_calls.specs.Refusals.{fault_of_sessions};
 
 use crate::datagrams::{hold_fault, limit_of_news, news_of};
 use crate::notice_kinds::{Notice, notice_in};
+use crate::notices::read;
 use crate::outgoing_payloads::{fault_of_announcement, limit_of};
 use collective_transfers::CollectiveTransfers;
 use datagram::{ClearToSend, Clearance, Data, RequestToSend};
-use payload::read_payload;
 use point_to_point::{Core, Refusal};
 use rendezvous::count_of;
 use sessions::{Heard, Sessions, turn_in};
@@ -52,11 +52,11 @@ fn refusal_of_news(core: &Core, sessions: &Sessions, heard: Heard<'_>) -> Refusa
     or_memory(limit_of_news(core, sessions, heard))
 }
 
-/// The refusal of a message of a collective.
-fn refusal_of_message(bytes: &[u8]) -> Refusal
-    ensures { WhyUnread bytes.now result }
+/// The refusal of a message of a collective in a job of so many ranks.
+fn refusal_of_message(bytes: &[u8], size: u16) -> Refusal
+    ensures { WhyUnread size bytes.now result }
 {
-    match read_payload(bytes) {
+    match read(bytes, size) {
         Ok(payload) => {
             if payload.fits() {
                 Refusal::OutOfMemory
@@ -139,7 +139,7 @@ fn refusal_of_piece(
     let Some(whole) = payloads.take_whole(rank, piece.transfer, piece.bytes) else {
         return or_memory(limit_of(sessions, heard, 0));
     };
-    let refusal = refusal_of_message(whole.bytes());
+    let refusal = refusal_of_message(whole.bytes(), sessions.place().size);
     payloads.put_back(whole);
     refusal
 }
@@ -159,7 +159,9 @@ fn refusal_of(
     ensures kept { payloads.new.state ≡ payloads.old.state }
 {
     match notice_in(payloads, heard) {
-        Some(Notice::Message(message)) => refusal_of_message(message.elements),
+        Some(Notice::Message(message)) => {
+            refusal_of_message(message.elements, sessions.place().size)
+        }
         Some(Notice::Announcement(request)) => {
             refusal_of_announcement(core, sessions, heard, request)
         }

@@ -210,11 +210,11 @@ or_of true b is = inl refl
 or_of false b is = inr is
 
 -- what can go has at most as many bytes as a message
-limited : (ns : List Numbers) (rank count : ℕ) → is_sendable ns rank count ≡ true → count ≤ 1048576
+limited : (ns : List Numbers) (rank count : ℕ) → is_sendable ns rank count ≡ true → count ≤ 2147483647
 limited ns rank count is =
-    elim (or_of (nat_le count 1024) (nat_le count 1048576 && not (is_full_to ns rank)) is) [
+    elim (or_of (nat_le count 1024) (nat_le count 2147483647 && not (is_full_to ns rank)) is) [
       | inl small ↦ omega (arith, leb-true count 1024 small)
-      | inr large ↦ leb-true count 1048576 (both_of (nat_le count 1048576) (not (is_full_to ns rank)) large).0
+      | inr large ↦ leb-true count 2147483647 (both_of (nat_le count 2147483647) (not (is_full_to ns rank)) large).0
     ]
 
 not_false : (b : Bool) → not b ≡ true → b ≡ false
@@ -228,28 +228,27 @@ pub left_for : (p : Place) (ns : List Numbers) (m : CollectiveMessage) (count : 
 left_for p ns m count counted is large =
     let parts = both_of (nat_lt m.target.rank p.size) (nat_le m.number 2147483647 && is_sendable ns m.target.rank (length (spelling (says m)))) is in
     let rest = both_of (nat_le m.number 2147483647) (is_sendable ns m.target.rank (length (spelling (says m)))) parts.1 in
-    elim (or_of (nat_le (length (spelling (says m))) 1024) (nat_le (length (spelling (says m))) 1048576 &&
+    elim (or_of (nat_le (length (spelling (says m))) 1024) (nat_le (length (spelling (says m))) 2147483647 &&
     not (is_full_to ns m.target.rank)) rest.1) [
       | inl small ↦ absurd (omega (arith, leb-true (length (spelling (says m))) 1024 small, counted, large))
       | inr room ↦ not_false (is_full_to ns m.target.rank)
-          (both_of (nat_le (length (spelling (says m))) 1048576) (not (is_full_to ns m.target.rank)) room).1
+          (both_of (nat_le (length (spelling (says m))) 2147483647) (not (is_full_to ns m.target.rank)) room).1
     ]
 
 -- and it has at most as many bytes as a message
 pub few_bytes : (p : Place) (ns : List Numbers) (m : CollectiveMessage) (count : ℕ) →
-    count ≡ length (spelling (says m)) → can_go p ns m ≡ true → count ≤ 1048576
+    count ≡ length (spelling (says m)) → can_go p ns m ≡ true → count ≤ 2147483647
 few_bytes p ns m count counted is =
     let parts = both_of (nat_lt m.target.rank p.size) (nat_le m.number 2147483647 && is_sendable ns m.target.rank (length (spelling (says m)))) is in
     let rest = both_of (nat_le m.number 2147483647) (is_sendable ns m.target.rank (length (spelling (says m)))) parts.1 in
     omega (arith, counted, limited ns m.target.rank (length (spelling (says m))) rest.1)
 
 frame_fits : (b : Bool) (transfer context number : ℕ) (bytes : List ℕ) → nat_lt 1024 (length bytes) ≡ b →
-    number ≤ 2147483647 → length bytes ≤ 1048576 →
+    number ≤ 2147483647 → length bytes ≤ 2147483647 →
     FrameFits (payload_frame (cond b (Some transfer) None) context number bytes)
 frame_fits true transfer context number bytes large tag few =
     let some : 1024 < length bytes * 1 = omega (arith, ltb-true 1024 (length bytes) large) in
-    let most : length bytes * 1 ≤ 1048576 = omega (arith, few) in
-    record { tag = tag; large = lt-ltb 1024 (length bytes * 1) some; limit = most; plane = refl }
+    record { tag = tag; large = lt-ltb 1024 (length bytes * 1) some; plane = refl }
 frame_fits false transfer context number bytes small tag few =
     let size : length bytes ≡ length bytes * 1 = omega arith in
     record { tag = tag; size = size; limit = ltb-false 1024 (length bytes) small; plane = refl }

@@ -25,6 +25,7 @@ use Rattle.engine_calls.specs.declared.call.Call.TheVariants as calls
 use Rattle.point_to_point_calls.specs.declared.call.Probe.{Probe}
 use Rattle.point_to_point_calls.specs.declared.call.Receive.{Receive}
 use Rattle.point_to_point_calls.specs.declared.call.Send.{Send}
+use Rattle.vocabulary.specs.MessageLimits.{limit_of}
 
 -- ---- point to point
 
@@ -86,7 +87,9 @@ on_route (Some r) rules = rules r
 
 -- of what is handed in: 2, 1, 7, 9
 abbrev pub handed_rules : EngineState → (comm : Option ℕ) → Entry → Option Refusal
-handed_rules e comm x = option_map of_entry_rule (rule_in e.groups.collective.own (held_in e.groups.contexts comm) x)
+handed_rules e comm x =
+    option_map of_entry_rule
+    (rule_in (limit_of e.sessions.place.message_limit) e.groups.collective.own (held_in e.groups.contexts comm) x)
 
 -- of entering: 4, 2, 1, 7, 9, 11, 13
 abbrev pub entry_rules : EngineState → (comm : Option ℕ) → Entry → Option Refusal

@@ -18,7 +18,7 @@ use Rattle.sessions.specs.Heard.{HeardText}
 use Rattle.sessions.specs.SessionsState.{SessionsState}
 use Rattle.vocabulary.specs.declared.mode.Mode.TheVariants.{Standard}
 use Rattle.vocabulary.specs.declared.basic_type.BasicType.TheVariants.{Byte}
-use Rattle.vocabulary.specs.Limits.{eager_limit, highest_tag, send_limit}
+use Rattle.vocabulary.specs.Limits.{eager_limit, greatest_limit, highest_tag}
 use Rattle.engine_calls.specs.Refusals.{fault_of_sessions}
 
 -- THE FRAME OF A CALL
@@ -105,14 +105,14 @@ by_rank (suc k) fs = by_rank k fs ++ filter (λ (f : OutgoingText). f.target == 
 abbrev pub step_sendings : Place → List Numbers → List CollectiveMessage → List OutgoingText
 step_sendings p ns ms = by_rank p.size (messages_sent ns ms)
 
--- whether so many bytes can go to a rank: in a frame; or, up to 1,048,576 of them, under a number that is left for a
--- transfer
+-- whether so many bytes can go to a rank: in a frame; or, as many as any message may have, under a number that is left
+-- for a transfer
 abbrev pub is_sendable : List Numbers → (rank : ℕ) → (count : ℕ) → Bool
-is_sendable ns rank count = nat_le count eager_limit || (nat_le count send_limit && not (is_full_to ns rank))
+is_sendable ns rank count = nat_le count eager_limit || (nat_le count greatest_limit && not (is_full_to ns rank))
 
 -- whether a message can go: to a rank of the job, under a number that a tag can be, as so many bytes. Each can that a
--- collective among at most 1,024 ranks brings, since a block has at most 1,048,560 bytes and the record 16, as long as
--- a number is left
+-- collective among at most 1,024 ranks brings, since a block and the 16 bytes of its record have at most as many bytes
+-- as a message of the job, as long as a number is left
 abbrev pub can_go : Place → List Numbers → CollectiveMessage → Bool
 can_go p ns m = nat_lt m.target.rank p.size &&
     (nat_le m.number highest_tag && is_sendable ns m.target.rank (length (spelling (says m))))

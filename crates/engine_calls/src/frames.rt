@@ -8,7 +8,7 @@ ghost use Rattle.payload.specs.Spelling.{spelling};
 ghost use Rattle.sessions.specs.Events.{CanSend, after_event, event_limit, sendings};
 ghost use Rattle.sessions.specs.Heard.{CanHear, heard_option};
 ghost use Rattle.sessions.specs.Windows.{StaysWithin};
-ghost use Rattle.vocabulary.specs.Limits.{eager_limit, send_limit};
+ghost use Rattle.vocabulary.specs.Limits.{eager_limit, greatest_limit};
 ghost use Rattle.engine_calls.specs.Frames.{AreWhole, IsWhole, all_can_go, by_rank, can_go, is_sendable, payload_frame};
 ghost use Rattle.engine_calls.specs.Frames.{payload_kept, step_limit, step_numbers, step_payloads, step_sendings};
 ghost use Rattle.engine_calls.specs.Refusals.{fault_of_sessions};
@@ -25,7 +25,7 @@ use point_to_point::Refusal;
 use rendezvous::{Numbers, begin, is_full_to};
 use sessions::{Heard, Sessions};
 use std::alloc::Global;
-use vocabulary::{BasicType, EAGER_LIMIT, HIGHEST_TAG, Mode, SEND_LIMIT};
+use vocabulary::{BasicType, EAGER_LIMIT, GREATEST_LIMIT, HIGHEST_TAG, Mode};
 
 /// What goes in the frame of a message.
 #[derive(Drop)]
@@ -77,7 +77,7 @@ fn write(alloc: Global, message: &CollectiveMessage) -> Result<Vec<u8>, Refusal>
 fn is_sendable(numbers: &[Numbers], rank: u16, count: usize) -> bool
     ensures { result ≡ is_sendable numbers.now rank count }
 {
-    count <= EAGER_LIMIT || (count <= SEND_LIMIT && !is_full_to(numbers, rank))
+    count <= EAGER_LIMIT || (count <= GREATEST_LIMIT && !is_full_to(numbers, rank))
 }
 
 /// Whether a message can go that is spelled in so many bytes: to a rank of the job, under a number that a tag can be.
@@ -147,7 +147,7 @@ fn add_announced(
     announced: &mut Vec<AnnouncedPayload>,
 ) -> Result<(), Refusal>
     requires says { bytes.items ≡ spelling (says message.now) }
-    requires limit { length bytes.items ≤ send_limit }
+    requires limit { length bytes.items ≤ greatest_limit }
     requires left { is_full_to numbers.old.items message.now.target.rank ≡ false }
     ensures numbers { OnOk result (numbers.new.items ≡ with_begun numbers.old.items message.now.target.rank) }
     ensures frames { OnOk result (map written frames.new.items ≡ map written frames.old.items

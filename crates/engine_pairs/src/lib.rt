@@ -3,4 +3,4 @@
 
 mod pairs;
 
-pub use pairs::{copies, deliver, rank_of_two, two_ranks};
+pub use pairs::{copies, deliver, rank_of_two, rank_with_limit, two_ranks};

@@ -4,14 +4,24 @@
 use datatypes::Buffer;
 use engine::{Engine, Place, Refusal};
 use std::alloc::Global;
-use vocabulary::{BasicType, Endpoint};
+use vocabulary::{BasicType, Endpoint, MessageLimit};
 
-/// A rank of two at an incarnation.
+/// A rank of two at an incarnation, whose messages have the limit of scripts.
 pub fn rank_of_two(alloc: Global, rank: u16, incarnation: u16) -> Result<Engine, Refusal> {
+    rank_with_limit(alloc, Endpoint { rank, incarnation }, MessageLimit::least())
+}
+
+/// A rank of two, whose messages have this limit.
+pub fn rank_with_limit(
+    alloc: Global,
+    endpoint: Endpoint,
+    message_limit: MessageLimit,
+) -> Result<Engine, Refusal> {
     let place = Place {
-        endpoint: Endpoint { rank, incarnation },
+        endpoint,
         size: 2,
         job: 1,
+        message_limit,
     };
     Engine::new(alloc, place)
 }

@@ -5,7 +5,7 @@ use Rattle.std.proofs.lemmas.Grind.{common_steps}
 use Rattle.perfect_queues.specs.Buffers.{differs_in_type, is_too_short}
 use Rattle.requests.specs.declared.awaited_requests.Awaited.{Awaited}
 use Rattle.vocabulary.specs.BasicTypes.{size_of}
-use Rattle.vocabulary.specs.Limits.{send_limit}
+use Rattle.vocabulary.specs.Limits.{greatest_limit}
 use Rattle.datatypes.specs.Contents.{Contents}
 use Rattle.requests.specs.Regions.{CanReceive, handed_of, is_unfit_to_receive, sent_from}
 use Rattle.requests.specs.Table.{is_full}
@@ -25,7 +25,7 @@ use Rattle.rendezvous.specs.State.{State, is_full_to}
 use Rattle.point_to_point_calls.specs.Sending.{announced_to, destination, is_announced, or_worn_out, rank_to}
 use Rattle.point_to_point_calls.specs.Sending.{send_fault}
 use Rattle.point_to_point.specs.Sending.{or_full}
-use Rattle.point_to_point_calls.proofs.SendLaws.{long_enough, rank_is_there, same_type, within_limit}
+use Rattle.point_to_point_calls.proofs.SendLaws.{long_enough, rank_is_there, same_type, within_greatest}
 
 -- nothing else was found while no earlier call is blocked
 unblocked : (a : Option Awaited) (c : CoreState) (call : RoutedCall) → fault_at a c call ≡ None → free_fault c call ≡
@@ -97,10 +97,10 @@ offer_is_there c s rank none is =
 -- and is within the limit of a message
 pub offer_is_within : (c : CoreState) (s : RoutedSend) (elements : Contents) → free_fault c (Isend s) ≡ None →
     elements ≡ sent_from s.send.from →
-    length elements.values * size_of elements.basic ≤ send_limit
+    length elements.values * size_of elements.basic ≤ greatest_limit
 offer_is_within c s elements none same =
-    subst (λ (e : Contents). length e.values * size_of e.basic ≤ send_limit) (sym same)
-    (within_limit c.place s (free_send c s none))
+    subst (λ (e : Contents). length e.values * size_of e.basic ≤ greatest_limit) (sym same)
+    (within_greatest c.place s (free_send c s none))
 
 -- it breaks no other rule
 pub allowed_send : (c : CoreState) (s : RoutedSend) → call_fault c (Isend s) ≡ None → free_fault c (Isend s) ≡ None

@@ -5,7 +5,7 @@ use Rattle.std.specs.Prelude.{filter, remove, slice_index_or}
 use Rattle.std.specs.List.{AllByRecursion}
 use Rattle.std.proofs.lemmas.List.{length-set}
 use Rattle.vocabulary.specs.BasicTypes.{size_of}
-use Rattle.vocabulary.specs.Limits.{send_limit}
+use Rattle.vocabulary.specs.Limits.{greatest_limit}
 use Rattle.datatypes.specs.Contents.{Contents}
 use Rattle.incarnation.specs.declared.place.Place.{Place}
 use Rattle.match_queues.specs.declared.envelope.Message.{Message}
@@ -117,7 +117,7 @@ kept_on_withdrawal p q t slots request kept = cancelled p q t slots (posted_for 
 -- a transfer to a rank of the job begins, within the limit of a message
 pub kept_on_begin : (p : Place) (q : State) (t : transfers.State) (slots : List (Option TableEntry)) (rank request : ℕ)
     (elements : Contents) → IsKept p q t slots →
-    rank < p.size → length elements.values * size_of elements.basic ≤ send_limit →
+    rank < p.size → length elements.values * size_of elements.basic ≤ greatest_limit →
     IsKept p q (transfers.after_begin t rank request elements) slots
 kept_on_begin p q t slots rank request elements kept there limit =
     let n = slice_index_or t.numbers rank transfers.fresh in

@@ -40,42 +40,40 @@ use Rattle.point_to_point.proofs.Endings.{left_part, nothing_offered}
 joined_length : (p : ℕ × List ℕ) (ps : List (ℕ × List ℕ)) → length (joined (p ∷ ps)) ≡ length p.1 + length (joined ps)
 joined_length p ps = length-append p.1 (joined ps)
 
-piece_fits : (n start len : ℕ) → start ≡ n * 1024 → 1 ≤ len → n * 1024 + len ≤ 1048576 →
-    (start % 1024 ≡ 0) × (start + 1024 ≤ 1048576)
-piece_fits n start len at some within = (omega (arith, at), omega (arith, at, some, within))
+piece_fits : (n start : ℕ) → start ≡ n * 1024 → start % 1024 ≡ 0
+piece_fits n start at = omega (arith, at)
 
-next_start : (n len rest : ℕ) → len ≡ 1024 → n * 1024 + (len + rest) ≤ 1048576 → suc n * 1024 + rest ≤ 1048576
+next_start : (n len rest : ℕ) → len ≡ 1024 → n * 1024 + (len + rest) ≤ 2147483647 → suc n * 1024 + rest ≤ 2147483647
 next_start n len rest full within = omega (arith, full, within)
 
 -- pieces from a number on, which go on to an end within the limit of a message
 can_go_from : (size rank transfer n : ℕ) (ps : List (ℕ × List ℕ)) → rank < size → AreCut 1024 n ps →
-    n * 1024 + length (joined ps) ≤ 1048576 →
+    n * 1024 + length (joined ps) ≤ 2147483647 →
     AllByRecursion (CanGo size) (data_frames rank transfer ps)
 can_go_from size rank transfer n [] there cut within = tt
 can_go_from size rank transfer n (p ∷ []) there cut within =
-    let sized = joined_length p [] in
-    let fits = piece_fits n p.0 (length p.1) cut.0.offset cut.0.some (omega (arith, sized, within)) in (
+    let aligned = piece_fits n p.0 cut.0.offset in (
       record {
-        fits = record { aligned = fits.0; within = fits.1; some = omega (arith, cut.0.some); limit = cut.0.most };
+        fits = record { aligned = aligned; some = omega (arith, cut.0.some); limit = cut.0.most };
         there = there;
       },
       tt,
     )
 can_go_from size rank transfer n (p ∷ q ∷ ps) there cut within =
     let sized = joined_length p (q ∷ ps) in
-    let fits = piece_fits n p.0 (length p.1) cut.0.offset cut.0.some (omega (arith, sized, within)) in
+    let aligned = piece_fits n p.0 cut.0.offset in
     let next = next_start n (length p.1) (length (joined (q ∷ ps))) cut.0.full (omega (arith, sized, within)) in (
       record {
         fits =
-            record { aligned = fits.0; within = fits.1; some = omega (arith, cut.0.some); limit = cut.0.most };
+            record { aligned = aligned; some = omega (arith, cut.0.some); limit = cut.0.most };
         there =
             there;
       },
       can_go_from size rank transfer (suc n) (q ∷ ps) there cut.1 next,
     )
 
-few_from : (n : ℕ) (ps : List (ℕ × List ℕ)) → AreCut 1024 n ps → n * 1024 + length (joined ps) ≤ 1048576 →
-    n + length ps ≤ 1024
+few_from : (n : ℕ) (ps : List (ℕ × List ℕ)) → AreCut 1024 n ps → n * 1024 + length (joined ps) ≤ 2147483647 →
+    n + length ps ≤ 2097152
 few_from n [] cut within = omega (arith, within)
 few_from n (p ∷ []) cut within = omega (arith, joined_length p [], cut.0.some, within)
 few_from n (p ∷ q ∷ ps) cut within =
@@ -83,18 +81,18 @@ few_from n (p ∷ q ∷ ps) cut within =
     let next = next_start n (length p.1) (length (joined (q ∷ ps))) cut.0.full (omega (arith, sized, within)) in
     omega (arith, few_from (suc n) (q ∷ ps) cut.1 next)
 
-bounded : (bytes : List ℕ) → length bytes ≤ 1048576 → 0 * 1024 + length (joined (pieces_of bytes)) ≤ 1048576
+bounded : (bytes : List ℕ) → length bytes ≤ 2147483647 → 0 * 1024 + length (joined (pieces_of bytes)) ≤ 2147483647
 bounded bytes limit = omega (arith, ap length ((pieces bytes).all), limit)
 
 -- the data of so many bytes can go
-pub data_go : (size rank transfer : ℕ) (bytes : List ℕ) → rank < size → length bytes ≤ 1048576 →
+pub data_go : (size rank transfer : ℕ) (bytes : List ℕ) → rank < size → length bytes ≤ 2147483647 →
     AllByRecursion (CanGo size) (data_frames rank transfer (pieces_of bytes))
 data_go size rank transfer bytes there limit =
     can_go_from size rank transfer 0 (pieces_of bytes) there ((pieces bytes).cut) (bounded bytes limit)
 
 -- the bytes of an offer are within the limit
 offer_bytes : (size : ℕ) (o : Offer) → IsOfferFor size o →
-    length (bytes_of (size_of o.elements.basic) o.elements.values) ≤ 1048576
+    length (bytes_of (size_of o.elements.basic) o.elements.values) ≤ 2147483647
 offer_bytes size o kept = omega (arith, length-bytes_of (size_of o.elements.basic) o.elements.values, kept.limit)
 
 -- ITS FRAMES
@@ -110,12 +108,12 @@ wanted_go size rank Send (Some o) kept =
 
 wanted_few : (size rank : ℕ) (clearance : Clearance) (o : Option Offer) →
     IfSome o (λ (x : Offer). IsOfferFor size x × (rank < size)) →
-    length (wanted_frames rank clearance o) ≤ 1024
+    length (wanted_frames rank clearance o) ≤ 2097152
 wanted_few size rank Drop o kept = omega arith
 wanted_few size rank Send None kept = omega arith
 wanted_few size rank Send (Some o) kept =
     let bytes = bytes_of (size_of o.elements.basic) o.elements.values in
-    let count : 0 + length (pieces_of bytes) ≤ 1024 = few_from 0 (pieces_of bytes) ((pieces bytes).cut) (bounded bytes (offer_bytes size o kept.0)) in
+    let count : 0 + length (pieces_of bytes) ≤ 2097152 = few_from 0 (pieces_of bytes) ((pieces bytes).cut) (bounded bytes (offer_bytes size o kept.0)) in
     omega (arith, count, length-map (pieces_of bytes) (data_frame rank o.transfer))
 
 -- THE OFFER THAT IS ANSWERED
@@ -177,7 +175,7 @@ unfolding announced_of
 answer_goes size slots None s t there = tt
 answer_goes size slots (Some r) s t there = (record { fits = tt; there = there }, tt)
 
-one_at_most : (o : Option OutgoingText) → length (as_list o) ≤ 1024
+one_at_most : (o : Option OutgoingText) → length (as_list o) ≤ 2097152
 one_at_most None = omega arith
 one_at_most (Some f) = omega arith
 
@@ -214,7 +212,7 @@ go lesson c s (Some (DataFrame t)) kept none = tt
 
 few : (lesson : Bool) (c : CoreState) (s : Endpoint) (f : Option FrameText) →
     IsKept c.place c.queues c.transfers c.slots →
-    length (called_for (after_lesson lesson c s) s f) ≤ 1024
+    length (called_for (after_lesson lesson c s) s f) ≤ 2097152
 few lesson c s None kept = omega arith
 few lesson c s (Some (EagerFrame t)) kept = omega arith
 few lesson c s (Some (RequestFrame t)) kept = one_at_most _
@@ -230,7 +228,7 @@ frames_go c n kept none = go n.lesson c n.source n.frame kept none
 
 -- and are few
 pub frames_are_few : (c : CoreState) (n : NewsText) → IsKept c.place c.queues c.transfers c.slots →
-    length (news_frames c n) ≤ 1024
+    length (news_frames c n) ≤ 2097152
 frames_are_few c n kept = few n.lesson c n.source n.frame kept
 
 -- HOW MANY THEY ARE

@@ -5,7 +5,7 @@ use Rattle.incarnation.specs.declared.place.Place.{Place}
 use Rattle.match_queues.specs.State.{State}
 use Rattle.std.specs.List.{AllByRecursion}
 use Rattle.vocabulary.specs.BasicTypes.{size_of}
-use Rattle.vocabulary.specs.Limits.{send_limit}
+use Rattle.vocabulary.specs.Limits.{greatest_limit}
 use Rattle.match_queues.specs.declared.envelope.Message.{Message}
 use Rattle.match_queues.specs.declared.envelope.Body.{Body}
 use Rattle.match_queues.specs.declared.envelope.Body.TheVariants.{Announced, Own, Whole}
@@ -36,7 +36,7 @@ pub record CoreState : Type 0 where
 -- the data of an offer are no more than a message may have, and it goes to a rank of the job
 pub record IsOfferFor (size : ℕ) (o : Offer) : Type 0 where
   pub there : o.target < size
-  pub limit : length o.elements.values * size_of o.elements.basic ≤ send_limit
+  pub limit : length o.elements.values * size_of o.elements.basic ≤ greatest_limit
 
 -- an announced message comes from a rank of the job
 abbrev pub IsAnswerable : (size : ℕ) → Message → Body → Type 0

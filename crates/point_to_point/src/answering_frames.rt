@@ -163,7 +163,7 @@ impl Core {
         ensures exact { IfOk result (λ frames. map outgoing_text frames.items ≡
             news_frames self.now.state (news_text news.entry)) }
         ensures go { AllByRecursion (CanGo self.now.state.place.size) (news_frames self.now.state (news_text news.entry)) }
-        ensures few { length (news_frames self.now.state (news_text news.entry)) ≤ 1024 }
+        ensures few { length (news_frames self.now.state (news_text news.entry)) ≤ 2097152 }
         ensures err { IfErr result (λ e. e ≡ refusals.OutOfMemory) }
         ensures need { OnErr result (news_are_answered self.now.state (news_text news.entry) ≡ true) }
     {

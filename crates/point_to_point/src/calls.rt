@@ -2,7 +2,7 @@
 
 ghost use Rattle.std.specs.Prelude.{◌≡◌, ◌<◌, ◌≤◌, ◌*◌, length, true, false, Some, None, is_some};
 ghost use Rattle.vocabulary.specs.BasicTypes.{size_of};
-ghost use Rattle.vocabulary.specs.Limits.{send_limit};
+ghost use Rattle.vocabulary.specs.Limits.{greatest_limit};
 ghost use Rattle.rendezvous.specs.State.{is_full_to};
 ghost use Rattle.requests.specs.Lists.{is_twice, named};
 ghost use Rattle.requests.specs.Regions.{CanReceive};
@@ -129,7 +129,7 @@ impl Core {
         requires room { 0 < self.old.offers }
         requires left { is_full_to self.old.state.transfers.numbers rank ≡ false }
         requires there { rank < self.old.state.place.size }
-        requires limit { length elements.values * size_of elements.basic ≤ send_limit }
+        requires limit { length elements.values * size_of elements.basic ≤ greatest_limit }
         ensures exact { IsOffering self.old.state rank elements result self.new.state }
         ensures placed { self.new.state.place ≡ self.old.state.place }
     {

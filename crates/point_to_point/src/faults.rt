@@ -202,7 +202,7 @@ impl Core {
     }
 
     /// The fault of a call by what it hands in, the first of 2 (buffer and layout are of different basic types, or a
-    /// receive names a place twice), 1 (more than 1,048,576 bytes of data in a send, or the buffer is too short), 3
+    /// receive names a place twice), 1 (more bytes of data in a send than a message of the job may have, or the buffer is too short), 3
     /// (the tag is above the greatest, or the wildcard in a send) and 5 (no such rank of world, or any rank in a send).
     /// Of a matching probe these are 3 and 5, and of the receive of a message 2 and 1. It takes no memory (MPI 3.1,
     /// 3.2.2 and 4.1.11).

@@ -5,7 +5,9 @@ use Rattle.std.proofs.lemmas.Grind.{common_steps}
 use Rattle.vocabulary.specs.BasicTypes.{size_of}
 use Rattle.vocabulary.specs.declared.envelope.Source.{Source}
 use Rattle.vocabulary.specs.declared.envelope.Source.TheVariants.{Any, Rank, Null}
-use Rattle.vocabulary.specs.Limits.{send_limit}
+use Rattle.vocabulary.specs.Limits.{greatest_limit}
+use Rattle.vocabulary.specs.MessageLimits.{limit_of}
+use Rattle.vocabulary.proofs.MessageLimits.{limit_most}
 use Rattle.datatypes.specs.Contents.{Contents, bytes_of}
 use Rattle.datatypes.specs.ContentLaws.{length-bytes_of, sizes}
 use Rattle.perfect_queues.specs.Buffers.{differs_in_type, is_too_short}
@@ -31,10 +33,15 @@ pub long_enough : (p : Place) (s : RoutedSend) → send_fault p s ≡ None → i
 unfolding send_fault
 long_enough p s none = grind (arith, common_steps, none)
 
--- it has no more bytes than a message may have
-pub within_limit : (p : Place) (s : RoutedSend) → send_fault p s ≡ None → byte_count s.send.from ≤ send_limit
+-- it has no more bytes than a message of the job may have
+pub within_limit : (p : Place) (s : RoutedSend) → send_fault p s ≡ None →
+    byte_count s.send.from ≤ limit_of p.message_limit
 unfolding send_fault
 within_limit p s none = grind (arith, common_steps, none)
+
+-- nor than a message of any job
+pub within_greatest : (p : Place) (s : RoutedSend) → send_fault p s ≡ None → byte_count s.send.from ≤ greatest_limit
+within_greatest p s none = omega (arith, within_limit p s none, limit_most p.message_limit)
 
 -- it has a tag
 has_tag : (p : Place) (s : RoutedSend) → send_fault p s ≡ None → is_no_tag s.send.tag ≡ false
@@ -55,7 +62,7 @@ announced_is Standard c h = h
 announced_is Synchronous c h = refl
 
 -- what may be sent has few elements
-pub few_elements : (tag : ℕ) (c : Contents) → IsSendable tag c → length c.values ≤ send_limit
+pub few_elements : (tag : ℕ) (c : Contents) → IsSendable tag c → length c.values ≤ greatest_limit
 few_elements tag c small =
     let sized : length (bytes_of (size_of c.basic) c.values) ≡ length c.values * size_of c.basic = length-bytes_of (size_of c.basic) c.values in
     let size : 0 < size_of c.basic = (sizes c.basic).positive in
@@ -63,7 +70,7 @@ few_elements tag c small =
     omega (arith, sized, least, small.count)
 
 -- few bytes under a tag may be sent
-sendable_at : (t : Source) (g : Option ℕ) (x : ℕ) (c : Contents) → length c.values * size_of c.basic ≤ send_limit →
+sendable_at : (t : Source) (g : Option ℕ) (x : ℕ) (c : Contents) → length c.values * size_of c.basic ≤ greatest_limit →
     is_no_tag g ≡ false →
     IfSome (destination t g x) (λ (d : Destination). IsSendable d.tag c)
 sendable_at Any g x c few tagged = tt
@@ -86,7 +93,7 @@ pub is_sendable : (p : Place) (s : RoutedSend) → send_fault p s ≡ None →
     IfSome (destination s.route.named s.send.tag s.route.context)
     (λ (d : Destination). IsSendable d.tag (sent_from s.send.from))
 is_sendable p s none =
-    sendable_at s.route.named s.send.tag s.route.context (sent_from s.send.from) (within_limit p s none)
+    sendable_at s.route.named s.send.tag s.route.context (sent_from s.send.from) (within_greatest p s none)
     (has_tag p s none)
 
 -- it goes to a rank of the job

@@ -1,7 +1,8 @@
 -- What a send is: its rules, its frame, and its message to the own rank (MPI 3.1, 3.4 and 3.7).
 use Rattle.std.specs.Prelude.{ℕ, ◌*◌, ◌≤◌, nat_lt, ◌==◌, length, Option, Some, None, Bool, true, false, if◌then◌else◌}
 use Rattle.vocabulary.specs.BasicTypes.{size_of}
-use Rattle.vocabulary.specs.Limits.{eager_limit, highest_tag, send_limit}
+use Rattle.vocabulary.specs.Limits.{eager_limit, greatest_limit, highest_tag}
+use Rattle.vocabulary.specs.MessageLimits.{limit_of}
 use Rattle.vocabulary.specs.declared.envelope.Source.{Source}
 use Rattle.vocabulary.specs.declared.envelope.Source.TheVariants.{Any, Rank, Null}
 use Rattle.datatypes.specs.Contents.{Contents, bytes_of}
@@ -26,13 +27,13 @@ use Rattle.point_to_point_calls.specs.declared.refusal.Refusal.{Refusal}
 use Rattle.point_to_point_calls.specs.declared.refusal.Refusal.TheVariants as refusals
 use Rattle.rendezvous.specs.State.{State, after_begin, is_full_to, next_to}
 
--- The first rule that a send breaks: buffer and layout differ in basic type; it has more than 1,048,576 bytes, also to
--- the own rank and to the null process; the buffer is too short; the tag is above the highest, or the wildcard; there
--- is no such rank, or it is any rank.
+-- The first rule that a send breaks: buffer and layout differ in basic type; it has more bytes than a message of the job
+-- may have, also to the own rank and to the null process; the buffer is too short; the tag is above the highest, or the
+-- wildcard; there is no such rank, or it is any rank.
 unfoldable pub send_fault : Place → RoutedSend → Option Refusal
 send_fault p s =
     if differs_in_type (handed_of s.send.from) then Some refusals.WrongType
-    else (if nat_lt send_limit (byte_count s.send.from) then Some refusals.Count
+    else (if nat_lt (limit_of p.message_limit) (byte_count s.send.from) then Some refusals.Count
     else (if is_too_short (handed_of s.send.from) then Some refusals.Count
     else (if is_no_tag s.send.tag then Some refusals.Tag
     else (if is_no_target p.size s.route.named then Some refusals.Rank
@@ -67,7 +68,7 @@ is_to_itself p s = is_own p (destination s.route.named s.send.tag s.route.contex
 
 -- what may be sent
 pub record IsSendable (tag : ℕ) (c : Contents) : Type 0 where
-  pub count : length (bytes_of (size_of c.basic) c.values) ≤ send_limit
+  pub count : length (bytes_of (size_of c.basic) c.values) ≤ greatest_limit
   pub tag_is : tag ≤ highest_tag
 
 -- whether elements don't go in one frame

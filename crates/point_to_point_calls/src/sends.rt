@@ -21,7 +21,7 @@ use incarnation::Place;
 use match_queues::{Body, Message, OwnSend};
 use rendezvous::Transfers;
 use requests::Request;
-use vocabulary::{EAGER_LIMIT, Mode, SEND_LIMIT, Source};
+use vocabulary::{EAGER_LIMIT, Mode, Source};
 
 /// The rank that a message goes to, its tag and its context.
 #[derive(Clone, Copy)]
@@ -62,7 +62,7 @@ pub fn fault_of(place: Place, routed: &RoutedSend) -> Option<Refusal>
     if send.from.differs_in_type() {
         return Some(Refusal::WrongType);
     }
-    if send.from.is_above(SEND_LIMIT) {
+    if send.from.is_above(place.message_limit.bytes() as usize) {
         return Some(Refusal::Count);
     }
     if send.from.is_too_short() {

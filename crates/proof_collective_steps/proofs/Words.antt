@@ -1,5 +1,5 @@
 -- The word of a rank: that it and those below it have entered.
-use Rattle.std.proofs.Common.{◌≡◌, ℕ, zero, suc, Bool, true, false, ◌&&◌, List, [], ◌∷◌, pos, Option, Some, None}
+use Rattle.std.proofs.Common.{◌≡◌, ℕ, zero, suc, Bool, true, false, not, ◌&&◌, List, [], ◌∷◌, pos, Option, Some, None}
 use Rattle.std.proofs.Common.{if◌then◌else◌, refl, sym, ap, ◌∙◌, subst}
 use Rattle.std.specs.Prelude.{fold}
 use Rattle.std.specs.Option.{option_to_list}
@@ -8,7 +8,7 @@ use Rattle.std.proofs.lemmas.Option.{same_Some}
 use Rattle.collective_messages.specs.Entering as entering
 use Rattle.collective_messages.specs.Notes as notes
 use Rattle.collective_messages.specs.Notes.{have_entered, member_at}
-use Rattle.collective_messages.specs.Roles.{RoleState, below_place, own_place, role_of}
+use Rattle.collective_messages.specs.Roles.{RoleState, own_place, role_of}
 use Rattle.collective_steps.specs.Steps as steps
 use Rattle.collective_steps.specs.Steps.{towards, word_given, word_to}
 use Rattle.collective_messages.specs.declared.entry.Entry.{Entry}
@@ -21,11 +21,11 @@ use Rattle.collective_messages.specs.declared.note.Note.{Note}
 use Rattle.datatypes.specs.Combinations.{combined_values}
 use Rattle.datatypes.specs.Contents.{Contents}
 use Rattle.payload.specs.declared.payload.Direction.TheVariants.{TowardsRoot}
-use Rattle.perfect_groups.specs.Collectives.{Part}
+use Rattle.perfect_groups.specs.Collectives.{Part, reduce}
 use Rattle.perfect_groups.specs.Operations.{combined_by}
 use Rattle.perfect_groups.specs.Results.{all_parts, at_rank, has_rank, reduced, with_first}
 use Rattle.proof_collective_steps.proofs.KeptNotes.{AllTold, PartsAre, all_known}
-use Rattle.proof_collective_steps.proofs.Middle.{reduced_is}
+use Rattle.proof_collective_steps.proofs.Middle.{HasSome, reduced_is, some_feeders}
 use Rattle.proof_collective_steps.proofs.Telling.{some_said}
 use Rattle.proof_collective_steps.proofs.Verdicts.{has_role}
 use Rattle.proof_collective_steps.specs.Counterparts.{AreNoted, AreSaid, GivenStandsFor, HandsIn, part_of}
@@ -35,6 +35,7 @@ use Rattle.proof_group_network.specs.Notices.{HasEntered, Notice, joined, notice
 use Rattle.proof_group_network.specs.Roles as roles
 use Rattle.proof_roles.specs.Meeting.{IsRole, named}
 use Rattle.vocabulary.specs.Endpoints.{is_same}
+use Rattle.vocabulary.specs.Operations.{is_associative}
 use Rattle.vocabulary.specs.declared.endpoint.Endpoint.{Endpoint}
 
 -- WHAT IS KNOWN OF THOSE FOR WHOM A RANK WAITS
@@ -107,11 +108,11 @@ Says e i ns y ps = (g : MessageContent) × (word_given e i ns y ≡ Some g) ×
 
 says : (e : Endpoint) (place c inc k : ℕ) (y : Entry) (role : RoleState) (ranks : List ℕ) (ns : List Note)
     (xs : List network.Note) (ps : List Part) →
-    IsRole (part_of y).record_is.kind (part_of y).record_is.root e inc ranks role → role.feeders ≡
+    IsRole (roles.way_of (part_of y).record_is) (part_of y).record_is.root e inc ranks role → role.feeders ≡
     (role_of e inc ranks (entering.record_of y)).feeders → HandsIn e ranks y →
     PartsAre e (inside place c inc k y role) ns role.feeders ps →
     all_parts (part_known e (part_of y) c k xs)
-    (roles.feeders (part_of y).record_is.kind (part_of y).record_is.root e (named inc ranks)) ≡ Some ps →
+    (roles.feeders (roles.way_of (part_of y).record_is) (part_of y).record_is.root e (named inc ranks)) ≡ Some ps →
     (r : ℕ) → role.above ≡ Some r → is_same (member_at inc r) e ≡ false → Says e (inside place c inc k y role) ns y ps
 says e place c inc k entries.Barrier role ranks ns xs ps h fed hands are q r up other = (
   given.Nothing TowardsRoot,
@@ -119,8 +120,7 @@ says e place c inc k entries.Barrier role ranks ns xs ps h fed hands are q r up 
   ap (λ (zs : List Part). HasEntered (joined (part_of entries.Barrier).record_is zs)) first.1
       ∙ ap (λ (vs : List ℕ). HasEntered
       (record { record_is = (part_of entries.Barrier).record_is; values = vs; colour = None; key = pos 0 }))
-      (none_folded (combined_by (part_of entries.Barrier).record_is.operation (part_of entries.Barrier).record_is.basic)
-      first.0),
+      (none_folded (λ (x y : ℕ). x) first.0),
 )
   where
     first : (qs : List Part) × (ps ≡ part_of entries.Barrier ∷ qs)
@@ -158,18 +158,37 @@ says e place c inc k (entries.Reduce o root b) role ranks ns xs ps h fed hands a
     sum : Contents
     sum = record { basic = b.basic; values = reduced (combined_by (Some o) (Some b.basic)) ps }
 
-    below : List ℕ
-    below = below_place ranks (own_place e inc ranks)
+    some : HasSome role.feeders
+    some = some_feeders (is_associative o b.basic) (own_place e inc ranks) e inc ranks root role.feeders fed
 
     made : steps.reduce_blocks e (inside place c inc k (entries.Reduce o root b) role) ns role.feeders o b ≡ Some sum
     made =
-        ap (λ (fs : List ℕ). steps.reduce_blocks e (inside place c inc k (entries.Reduce o root b) role) ns fs o b) fed
-        ∙ reduced_is e (inside place c inc k (entries.Reduce o root b) role) ns e.rank below o b ps
-        (subst (λ (fs : List ℕ). PartsAre e (inside place c inc k (entries.Reduce o root b) role) ns fs ps) fed
+        ap (λ (fs : List ℕ). steps.reduce_blocks e (inside place c inc k (entries.Reduce o root b) role) ns fs o b)
+        some.is
+        ∙ reduced_is e (inside place c inc k (entries.Reduce o root b) role) ns some.first some.others o b ps
+        (subst (λ (fs : List ℕ). PartsAre e (inside place c inc k (entries.Reduce o root b) role) ns fs ps) some.is
         are).blocks hands
 
-    first : (qs : List Part) × (ps ≡ part_of (entries.Reduce o root b) ∷ qs)
-    first = own_first e (part_of (entries.Reduce o root b)) c k xs (roles.below_of e (named inc ranks)) ps q
+    own_part : Part
+    own_part = part_of (entries.Reduce o root b)
+
+    -- who tells another one has itself first, or is alone
+    first_by : (a : Bool) → roles.whom_to_tell (roles.way_by reduce (not a)) root e (named inc ranks) ≡
+        named inc (option_to_list (Some r)) →
+        all_parts (part_known e own_part c k xs)
+        (roles.feeders (roles.way_by reduce (not a)) root e (named inc ranks)) ≡
+        Some ps → (qs : List Part) × (ps ≡ own_part ∷ qs)
+    first_by true to q = own_first e own_part c k xs (roles.below_of e (named inc ranks)) ps q
+    first_by false to q = (
+      [],
+      own_alone e own_part c k xs _ ps
+          (alone e (named inc ranks) (has_rank e (named inc ranks) root)
+          (not_rank e (member_at inc r) (named inc ranks) root to other)) q,
+    )
+
+    first : (qs : List Part) × (ps ≡ own_part ∷ qs)
+    first = first_by (is_associative o b.basic)
+        (h.above ∙ ap (λ (o : Option ℕ). named inc (option_to_list o)) up) q
 says e place c inc k (entries.Allreduce o b) role ranks ns xs ps h fed hands are q r up other = (
   given.Elements TowardsRoot b,
   refl,
@@ -238,7 +257,8 @@ pub words_follow : (e : Endpoint) (i : Inside) (ranks : List ℕ) (ns : List Not
     AreSaid e (steps.word_messages e i ns) (network.entries_to e (here i ranks) i.number (part_of i.entry) ps i.told)
 words_follow e i ranks ns xs ps own is hands h u q = by i.told
   where
-    has : IsRole (part_of i.entry).record_is.kind (part_of i.entry).record_is.root e i.incarnation ranks i.role
+    has : IsRole (roles.way_of (part_of i.entry).record_is) (part_of i.entry).record_is.root e i.incarnation ranks
+        i.role
     has = has_role e i ranks own is
 
     are : PartsAre e i ns i.role.feeders ps

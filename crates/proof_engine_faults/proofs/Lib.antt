@@ -3,3 +3,6 @@ pub mod Rows
 pub mod Alike
 pub mod Judged
 pub mod Orderly
+mod Tables
+mod GroupsOfJob
+mod Staying

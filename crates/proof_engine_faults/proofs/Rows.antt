@@ -27,6 +27,7 @@ use Rattle.requests.specs.declared.table.TableEntry.{TableEntry}
 use Rattle.requests.specs.declared.table.RequestProgress.{RequestProgress}
 use Rattle.requests.specs.declared.table.RequestProgress.TheVariants as progresses
 use Rattle.std.specs.Prelude.{slice_index}
+use Rattle.vocabulary.specs.MessageLimits.{limit_of}
 use Rattle.vocabulary.specs.declared.endpoint.Endpoint.{Endpoint}
 
 -- ---- a request by its serial
@@ -362,6 +363,7 @@ core_of c known =
       known = λ r. slice_index known r;
       held =
           [];
+      message_limit = limit_of c.place.message_limit;
     }
 
 pub calm_is_shown : (c : CoreState) (known : List ℕ) → IsOrdered c.slots c.serial → length known ≡ c.place.size →

@@ -2,6 +2,8 @@
 
 ghost use Rattle.proof_engine_faults.specs.Own.{OwnRefusals, OwnTakings, OwnJudgements, NewEnginesAreOrderly};
 ghost use Rattle.proof_engine_faults.specs.Own.{EnginesOfWorldsAreOrderly};
+ghost use Rattle.proof_engine_faults.specs.Staying.{CallsKeepOrder, DatagramsKeepOrder, NewEnginesStayOrderly};
+ghost use Rattle.proof_engine_faults.specs.Staying.{OutKeepsOrder, CompletionsKeepOrder, TicksKeepOrder, WaitsKeepOrder};
 
 /// States of an engine alone, without a world or a network, whatever it has heard, that it refuses a call exactly where
 /// the machine finds a fault with it, by what the engine itself holds: its blocked call, its table of requests, the
@@ -19,4 +21,20 @@ pub fn engines_find_the_machines_faults()
     ensures judged { OwnJudgements }
     ensures new { NewEnginesAreOrderly }
     ensures worlds { EnginesOfWorldsAreOrderly }
+{}
+
+/// States that an engine stays orderly, whatever calls, bytes and times it is handed (`StaysOrderly`). A new engine is
+/// so; a call, a datagram and a tick, each taken or refused, leave it so, and so do taking out what it emitted, taking
+/// out the answer of a blocked call, and telling it how long frames wait for their acknowledgements. So a rank that
+/// runs refuses a call exactly where the machine finds a fault with it (`engines_find_the_machines_faults`), whatever
+/// came to it. What is asked beside `IsOrderly` is that its rank is one of its job's, and that each group that it was
+/// told of is of ranks of its job, as what is received is judged. It does nothing when it is called.
+pub fn engines_stay_orderly()
+    ensures new { NewEnginesStayOrderly }
+    ensures calls { CallsKeepOrder }
+    ensures datagrams { DatagramsKeepOrder }
+    ensures ticks { TicksKeepOrder }
+    ensures out { OutKeepsOrder }
+    ensures completions { CompletionsKeepOrder }
+    ensures waits { WaitsKeepOrder }
 {}

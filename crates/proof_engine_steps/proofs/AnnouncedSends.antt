@@ -1,13 +1,15 @@
 -- A large send of a rank to another one is that of its core in the network: it is announced, and its request waits for
 -- the answer.
 use Rattle.std.proofs.Common.{◌^◌, ◌≡◌, ℕ, ◌+◌, ◌*◌, ◌<◌, ◌≤◌, ◌==◌, true, false, List, [], ◌∷◌, ◌++◌, length, Option}
-use Rattle.std.proofs.Common.{Some, None, slice_index, refl, sym, ap, ap₂, ◌∙◌, subst, append-nil}
+use Rattle.std.proofs.Common.{Some, None, slice_index, refl, sym, ap, ap₂, ◌∙◌, subst, append-nil, arith}
 use Rattle.std.specs.List.{AllByRecursion}
 use Rattle.std.proofs.lemmas.Bool.{eqb-false, leb-false, ltb-false}
 use Rattle.std.proofs.lemmas.List.{length-map}
 use Rattle.datagram.specs.Spelling.{OutgoingText}
 use Rattle.vocabulary.specs.BasicTypes.{size_of}
-use Rattle.vocabulary.specs.Limits.{highest_tag, send_limit}
+use Rattle.vocabulary.specs.Limits.{highest_tag, greatest_limit}
+use Rattle.vocabulary.specs.MessageLimits.{limit_of}
+use Rattle.vocabulary.proofs.MessageLimits.{limit_most}
 use Rattle.vocabulary.specs.declared.endpoint.Endpoint.{Endpoint}
 use Rattle.vocabulary.specs.declared.mode.Mode.{Mode}
 use Rattle.vocabulary.specs.declared.envelope.Source.{Source}
@@ -15,7 +17,7 @@ use Rattle.vocabulary.specs.declared.envelope.Source.TheVariants.{Rank}
 use Rattle.datatypes.specs.Contents.{AreWithin, Contents}
 use Rattle.perfect_queues.specs.Calls as machine
 use Rattle.perfect_queues.specs.Refusals as rules
-use Rattle.requests.specs.Regions.{sent_from}
+use Rattle.requests.specs.Regions.{byte_count, sent_from}
 use Rattle.requests.specs.declared.table.RequestProgress.TheVariants.{Offering}
 use Rattle.requests.specs.declared.table.Request.{Request}
 use Rattle.point_to_point_calls.specs.declared.call.RoutedCall.TheVariants as calls
@@ -56,9 +58,12 @@ record MayAnnounce (mode : Mode) (old : CoreState) (to context tag : ℕ) (c : C
   pub low : tag ≤ highest_tag
   pub wide : context < 2 ^ 64
   pub large : is_announced mode c ≡ true
-  pub limit : length c.values * size_of c.basic ≤ send_limit
+  pub limit : length c.values * size_of c.basic ≤ greatest_limit
   pub within : AreWithin (size_of c.basic) c.values
   pub free : is_full_to old.transfers.numbers to ≡ false
+
+below : (a b c : ℕ) → a ≤ b → b ≤ c → a ≤ c
+below a b c h k = omega (arith, h, k)
 
 -- one that meets no rule and no limit may
 may_announce : (old : CoreState) (s : RoutedSend) (to tag : ℕ) → s.route.named ≡ Rank to → s.send.tag ≡ Some tag →
@@ -71,7 +76,8 @@ may_announce old s to tag target_is tag_is other kept within large fine =
       apart = eqb-false to old.place.endpoint.rank other;
       low = ltb-false highest_tag tag (sym (ap rules.is_no_tag tag_is) ∙ kept.low);
       large = large;
-      limit = kept.few;
+      limit = below (byte_count s.send.from) (limit_of old.place.message_limit) greatest_limit kept.few
+          (limit_most old.place.message_limit);
       wide = within.1;
       within = within.0;
       free = number_left (or_full (send_fault old.place s) old) (announced_to old.place s) to old.transfers

@@ -8,7 +8,7 @@ use Rattle.std.proofs.lemmas.Bool.{cases_eq, eqb-false}
 use Rattle.std.proofs.lemmas.List.{get_or-set_other, get_or-set_same, length-append, length-set, map-append}
 use Rattle.std.proofs.lemmas.Option.{none-some, same_Some}
 use Rattle.vocabulary.specs.BasicTypes.{size_of}
-use Rattle.vocabulary.specs.Limits.{send_limit}
+use Rattle.vocabulary.specs.Limits.{greatest_limit}
 use Rattle.vocabulary.specs.declared.basic_type.BasicType.{BasicType}
 use Rattle.vocabulary.specs.declared.endpoint.Endpoint.{Endpoint}
 use Rattle.datatypes.specs.Contents.{AreWithin, Contents}
@@ -243,7 +243,7 @@ offering_row key d c = row_of key (Offering d c.basic c.values)
 -- it is that of the row, under the number that follows
 offer_begun : (a : Announcements) (known : List ℕ) (rows : List Row) (to number key context tag serial : ℕ)
     (c : Contents) → number ≡ length (a.to (endpoint_of known to)) → length rows ≡ serial →
-    AreWithin (size_of c.basic) c.values → length c.values * size_of c.basic ≤ send_limit →
+    AreWithin (size_of c.basic) c.values → length c.values * size_of c.basic ≤ greatest_limit →
     IsOfferOf ((after_out a ((endpoint_of known to, Rts context tag c.basic serial (length c.values)) ∷ [])).to) known
     (rows ++ offering_row key (endpoint_of known to) c ∷ []) (offer_of to number key c)
 offer_begun a known rows to number key context tag serial c is count within limit =
@@ -290,7 +290,7 @@ pub begun_under_way :
     (t : transfers.State) (ms : List Message) (to key context tag serial : ℕ) (c : Contents) →
     AreUnderWay a known p rows t ms → IsTable slots rows → slot_at slots key ≡ None → length rows ≡ serial →
     to < p.size → (to ≡ p.endpoint.rank → ⊥) → is_full_to t.numbers to ≡ false →
-    AreWithin (size_of c.basic) c.values → length c.values * size_of c.basic ≤ send_limit →
+    AreWithin (size_of c.basic) c.values → length c.values * size_of c.basic ≤ greatest_limit →
     AreUnderWay (after_out a ((endpoint_of known to, Rts context tag c.basic serial (length c.values)) ∷ [])) known p
     (rows ++ offering_row key (endpoint_of known to) c ∷ []) (after_begin t to key c) ms
 begun_under_way a known p slots rows t ms to key context tag serial c u table empty count inside other free within

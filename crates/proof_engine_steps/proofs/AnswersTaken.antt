@@ -6,7 +6,7 @@ use Rattle.std.proofs.lemmas.List.{length-set}
 use Rattle.std.proofs.lemmas.Option.{same_Some}
 use Rattle.vocabulary.specs.BasicTypes.{size_of}
 use Rattle.vocabulary.specs.Endpoints.{is_same}
-use Rattle.vocabulary.specs.Limits.{send_limit}
+use Rattle.vocabulary.specs.Limits.{greatest_limit}
 use Rattle.vocabulary.specs.declared.basic_type.BasicType.{BasicType}
 use Rattle.vocabulary.specs.declared.endpoint.Endpoint.{Endpoint}
 use Rattle.datatypes.specs.Contents.{AreWithin}
@@ -63,7 +63,7 @@ record IsAnswerTo (to : Endpoint → List Transfer) (rows : List Row) (d : Endpo
   row : slice_get rows serial ≡ Some (row_of o.request (offering d o))
   announced : slice_get (to d) o.transfer ≡ Some (transfer_with serial o)
   within : AreWithin (size_of o.elements.basic) o.elements.values
-  limit : length o.elements.values * size_of o.elements.basic ≤ send_limit
+  limit : length o.elements.values * size_of o.elements.basic ≤ greatest_limit
   frame_is : frame ≡ Cts serial (is_wanted t.clearance)
 
 -- both numbers stand at one place, so the serials are one
@@ -191,7 +191,7 @@ wanted_sent a known rank serial o Send there within =
 
 wanted_leave : (p : Place) (rank : ℕ) (o : Offer) (clearance : Clearance) → rank < p.size →
     (rank ≡ p.endpoint.rank → ⊥) → o.transfer < 2 ^ 32 →
-    length o.elements.values * size_of o.elements.basic ≤ send_limit →
+    length o.elements.values * size_of o.elements.basic ≤ greatest_limit →
     AllByRecursion (CanLeave p) (wanted_frames rank clearance (Some o))
 wanted_leave p rank o Drop there apart width limit = tt
 wanted_leave p rank o Send there apart width limit =

@@ -8,7 +8,7 @@ use Rattle.std.proofs.lemmas.Bool.{cases_lt}
 use Rattle.std.proofs.lemmas.List.{drop_at, get_or-drop, get_or-take, get_or_past, length-append, length-drop}
 use Rattle.std.proofs.lemmas.List.{length-take, take-append-drop, take_all, take_at}
 use Rattle.vocabulary.specs.BasicTypes.{size_of}
-use Rattle.vocabulary.specs.Limits.{send_limit}
+use Rattle.vocabulary.specs.Limits.{greatest_limit}
 use Rattle.vocabulary.specs.declared.basic_type.BasicType.{BasicType}
 use Rattle.datatypes.specs.Contents.{AreWithin, bytes_of}
 use Rattle.datatypes.specs.ContentLaws.{length-bytes_of, sizes}
@@ -165,42 +165,57 @@ data_sent a known rank number t elements there within =
 
 -- ---- THAT THEY CAN LEAVE
 
--- pieces of no more data than a message may have
-leave_from : (p : Place) (rank number : ℕ) → rank < p.size → (rank ≡ p.endpoint.rank → ⊥) → number < 2 ^ 32 →
-    (place : ℕ) (ps : List (ℕ × List ℕ)) →
-    AreCut piece_bytes place ps → place * piece_bytes + length (joined ps) ≤ send_limit →
-    AllByRecursion (CanLeave p) (hearing.data_frames rank number ps)
-leave_from p rank number there apart width place [] are low = tt
-leave_from p rank number there apart width place (x ∷ xs) (here, others) low =
+-- a piece of no more data than a message may have
+piece_leaves : (p : Place) (rank number : ℕ) → rank < p.size → (rank ≡ p.endpoint.rank → ⊥) → number < 2 ^ 32 →
+    (place : ℕ) (x : ℕ × List ℕ) (xs : List (ℕ × List ℕ)) → IsCut piece_bytes place x xs →
+    place * piece_bytes + length (x.1 ++ joined xs) ≤ greatest_limit →
+    AllByRecursion (CanLeave p) (hearing.data_frames rank number (x ∷ []))
+piece_leaves p rank number there apart width place x xs here low =
     let len : length (x.1 ++ joined xs) ≡ length x.1 + length (joined xs) = length-append x.1 (joined xs) in
     let offset : x.0 ≡ place * 1024 = here.offset in
     let some : 1 ≤ length x.1 = here.some in
     let most : length x.1 ≤ 1024 = here.most in
-    let high : place < 1024 = omega (arith, low, len, some) in (
+    let high : place < 2097152 = omega (arith, low, len, some) in (
       record {
         there = there;
         apart = apart;
         fits = record {
           aligned = omega (arith, offset);
-          within = omega (arith, offset, high);
-          some =
-              omega (arith, some);
+          some = omega (arith, some);
           limit = most;
         };
         width = record { transfer = width; offset = omega (arith, offset, high) };
       },
-      leave_from p rank number there apart width (suc place) xs others (rest_low place xs x here low),
+      tt,
     )
-  where
-    rest_low : (n : ℕ) (ys : List (ℕ × List ℕ)) (y : ℕ × List ℕ) → IsCut piece_bytes n y ys →
-        n * piece_bytes + length (y.1 ++ joined ys) ≤ send_limit → suc n * piece_bytes + length (joined ys) ≤ send_limit
-    rest_low n [] y h low = omega (arith, length-append y.1 [], h.some, low)
-    rest_low n (z ∷ zs) y h low = omega (arith, length-append y.1 (joined (z ∷ zs)), h.full, low)
+
+-- and pieces of no more
+leave_from : (p : Place) (rank number : ℕ) → rank < p.size → (rank ≡ p.endpoint.rank → ⊥) → number < 2 ^ 32 →
+    (place : ℕ) (ps : List (ℕ × List ℕ)) →
+    AreCut piece_bytes place ps → place * piece_bytes + length (joined ps) ≤ greatest_limit →
+    AllByRecursion (CanLeave p) (hearing.data_frames rank number ps)
+leave_from p rank number there apart width place [] are low = tt
+leave_from p rank number there apart width place (x ∷ []) (here, others) low =
+    piece_leaves p rank number there apart width place x [] here low
+leave_from p rank number there apart width place (x ∷ z ∷ zs) (here, others) low = (
+  (piece_leaves p rank number there apart width place x (z ∷ zs) here low).0,
+  leave_from p rank number there apart width (suc place) (z ∷ zs) others
+      (omega (arith, length-append x.1 (joined (z ∷ zs)), here.full, low)),
+)
+
+-- the pieces of so many bytes can leave
+pub bytes_leave : (p : Place) (rank number : ℕ) (sent : List ℕ) → rank < p.size → (rank ≡ p.endpoint.rank → ⊥) →
+    number < 2 ^ 32 → length sent ≤ greatest_limit →
+    AllByRecursion (CanLeave p) (hearing.data_frames rank number (pieces_of sent))
+bytes_leave p rank number sent there apart width limit =
+    let q = bytes.pieces sent in
+    leave_from p rank number there apart width 0 (pieces_of sent) q.cut
+    (omega (arith, ap (λ (xs : List ℕ). length xs) q.all, limit))
 
 -- the data of a message can leave
 pub data_leave : (p : Place) (rank number : ℕ) (basic : BasicType) (elements : List ℕ) → rank < p.size →
     (rank ≡ p.endpoint.rank → ⊥) → number < 2 ^ 32 →
-    length elements * size_of basic ≤ send_limit →
+    length elements * size_of basic ≤ greatest_limit →
     AllByRecursion (CanLeave p) (hearing.data_frames rank number (pieces_of (bytes_of (size_of basic) elements)))
 data_leave p rank number basic elements there apart width limit =
     let q = bytes.pieces (bytes_of (size_of basic) elements) in

@@ -4,7 +4,7 @@ use Rattle.std.proofs.Common.{◌^◌, ◌≡◌, ℕ, ◌+◌, ◌*◌, ◌<◌
 use Rattle.std.proofs.Common.{length, Option, Some, None, if◌then◌else◌, nat_le, refl, sym, ap, ap₂, ◌∙◌, subst, arith}
 use Rattle.std.proofs.lemmas.Bool.{and_left, lt-leb, ltb-true}
 use Rattle.vocabulary.specs.BasicTypes.{size_of}
-use Rattle.vocabulary.specs.Limits.{eager_limit, highest_tag, send_limit}
+use Rattle.vocabulary.specs.Limits.{eager_limit, highest_tag, greatest_limit}
 use Rattle.vocabulary.specs.Endpoints.{is_same}
 use Rattle.vocabulary.specs.declared.basic_type.BasicType.{BasicType}
 use Rattle.vocabulary.specs.Modes.{may_be_announced}
@@ -208,7 +208,7 @@ may_announce Synchronous c large = refl
 -- it can leave the rank
 pub announcing_leaves : (mode : Mode) (p : Place) (to number context tag : ℕ) (c : Contents) → context < 2 ^ 64 →
     to < p.size → (to ≡ p.endpoint.rank → ⊥) → tag ≤ highest_tag → is_announced mode c ≡ true →
-    length c.values * size_of c.basic ≤ send_limit → number ≤ most_transfers →
+    length c.values * size_of c.basic ≤ greatest_limit → number ≤ most_transfers →
     CanLeave p (record { target = to; frame = request_frame mode number context tag c })
 announcing_leaves mode p to number context tag c wide there apart low large limit most =
     let size : 0 < size_of c.basic = (sizes c.basic).positive in
@@ -216,7 +216,7 @@ announcing_leaves mode p to number context tag c wide there apart low large limi
     record {
       there = there;
       apart = apart;
-      fits = record { tag = low; large = may_announce mode c large; limit = limit; plane = tt };
+      fits = record { tag = low; large = may_announce mode c large; plane = tt };
       width = record { context = wide; count = omega (arith, least, limit); transfer = omega (arith, most) };
     }
 

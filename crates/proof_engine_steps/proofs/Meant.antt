@@ -49,7 +49,7 @@ told_same e call (replies.Refused why back) = refl
 -- what a call leaves that the machine is told as this one
 pub record IsMeant (links : Announcements) (old : CoreState) (known : List ℕ) (core : Core) (c : machine.Call)
     (reply : CoreReply) (new : CoreState) : Type 0 where
-  pub fit : queue_fault old.place.size (view blank core) c ≡ None
+  pub fit : queue_fault old.place (view blank core) c ≡ None
   pub place : new.place ≡ old.place
   pub completion : new.completion ≡ old.completion
   pub shown : IsShown links new known (core_settled (called old.place.endpoint core c).core)

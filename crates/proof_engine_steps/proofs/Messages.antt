@@ -236,7 +236,7 @@ told_as e c d o reply h = sym (by_answer o) ∙ (ap (renamed d) h ∙ by_reply r
 -- such a receive is that of the core
 received_called : (links : Announcements) (old new : CoreState) (known : List ℕ) (core : Core) (q : Request)
     (into : Region) (reply : CoreReply) → IsShown links old known core → old.blocked ≡ None →
-    queue_fault old.place.size (view blank core) (machine.Mrecv (Some q.serial) (handed_of into)) ≡ None →
+    queue_fault old.place (view blank core) (machine.Mrecv (Some q.serial) (handed_of into)) ≡ None →
     IsReceivedSo links old known core q into → Receives old (Some q) into reply new →
     IsCalled links old known core (calls.Mrecv (Some q) into) reply new
 received_called links old new known core q into reply shown free fit so done =

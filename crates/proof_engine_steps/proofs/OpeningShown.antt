@@ -29,7 +29,7 @@ opening_numbered p to known none =
     }
 
 pub opening_is_shown : OpeningIsShown
-opening_is_shown p a inside none =
+opening_is_shown p limit a inside none =
     let k = opening_known p inside in
     record {
       rows = [];
@@ -57,4 +57,4 @@ opening_is_shown p a inside none =
     }
 
 pub opening_is_settled : OpeningIsSettled
-opening_is_settled e = refl
+opening_is_settled limit e = refl

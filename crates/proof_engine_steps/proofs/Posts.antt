@@ -93,12 +93,12 @@ receive_rules e v fine =
     record { fit = t.0; long = t.1; low = u.0; inside = u.1 }
 
 -- no rule of the machine is broken
-pub post_fit : (n : ℕ) (core : Core) (v : RoutedReceive) → core.blocked ≡ None → KeepsRules n v →
-    queue_fault n (view blank core) (machine.Irecv (receive_seen v)) ≡ None
-post_fit n core v free kept =
-    fault_free n core (machine.Irecv (receive_seen v)) free ∙
+pub post_fit : (p : Place) (core : Core) (v : RoutedReceive) → core.blocked ≡ None → KeepsRules p.size v →
+    queue_fault p (view blank core) (machine.Irecv (receive_seen v)) ≡ None
+post_fit p core v free kept =
+    fault_free p core (machine.Irecv (receive_seen v)) free ∙
     no_fault false false (is_unfit_to_receive (handed_of v.receive.into)) (is_too_short (handed_of v.receive.into))
-    (rules.is_tag_above v.receive.tag) (rules.is_source_beyond n v.route.named)
+    (rules.is_tag_above v.receive.tag) (rules.is_source_beyond p.size v.route.named)
     refl refl kept.fit kept.long kept.low kept.inside
 
 -- BOTH
@@ -181,7 +181,7 @@ receive_started links old new known core v q after rows shown free fine serial i
     let core_is : core.blocked ≡ None = core_free links old known core shown free in
     started_call links old new known core (calls.Irecv v) q after (record {
       is = is;
-      fit = post_fit old.place.size core v core_is (receive_rules old v fine);
+      fit = post_fit old.place core v core_is (receive_rules old v fine);
       place = stays.place;
       completion = stays.completion;
       free = same ∙ core_is;

@@ -3,6 +3,7 @@ use Rattle.std.proofs.Common.{◌≡◌, ℕ, Bool, true, false, List, [], ◌�
 use Rattle.std.proofs.Common.{if◌then◌else◌, option_map, slice_get, refl, sym, ap, ap₂, ◌∙◌, subst, append-nil, ◌⊎◌}
 use Rattle.std.proofs.Common.{inl, inr}
 use Rattle.std.specs.List.{AllByRecursion}
+use Rattle.vocabulary.specs.MessageLimits.{limit_of}
 use Rattle.vocabulary.specs.declared.endpoint.Endpoint.{Endpoint}
 use Rattle.vocabulary.specs.declared.envelope.Source.{Source}
 use Rattle.vocabulary.specs.declared.envelope.Source.TheVariants as sources
@@ -189,11 +190,11 @@ rules_same false false = refl
 -- while no call is blocked
 judged_free : (links : Announcements) (old : CoreState) (known : List ℕ) (core : Core) (p : RoutedProbe) →
     IsShown links old known core → old.blocked ≡ None →
-    queue_fault old.place.size (view blank core) (machine.Iprobe (probe_seen p)) ≡
+    queue_fault old.place (view blank core) (machine.Iprobe (probe_seen p)) ≡
     option_map number_of_refusal (probe_rule old.place.size p.route.named p.probe.tag)
 unfolding probe_rule
 judged_free links old known core p shown free =
-    fault_free old.place.size core (machine.Iprobe (probe_seen p)) (core_free links old known core shown free)
+    fault_free old.place core (machine.Iprobe (probe_seen p)) (core_free links old known core shown free)
     ∙ rules_same (rules.is_tag_above p.probe.tag) (rules.is_source_beyond old.place.size p.route.named)
 
 -- the fault of a look is the machine's
@@ -201,11 +202,11 @@ pub looks_are_judged : LooksAreJudged
 looks_are_judged links old known core p shown = go old.blocked refl shown.blocked
   where
     go : (b : Option Awaited) → old.blocked ≡ b → IsBlocked shown.rows b core.blocked →
-        queue_fault old.place.size (view blank core) (machine.Iprobe (probe_seen p)) ≡
+        queue_fault old.place (view blank core) (machine.Iprobe (probe_seen p)) ≡
         option_map number_of_refusal (look_fault_at b old p)
     go None is c = judged_free links old known core p shown is
     go (Some a) is c =
-        ap (λ (b : Option Unanswered). queue_fault_by old.place.size (is_held b)
+        ap (λ (b : Option Unanswered). queue_fault_by old.place.size (limit_of old.place.message_limit) (is_held b)
         (λ k. standing (slice_get (map (request_of blank) core.jobs) k)) (machine.Iprobe (probe_seen p))) c.0
 
 -- ---- MATCHING PROBES
@@ -213,11 +214,11 @@ looks_are_judged links old known core p shown = go old.blocked refl shown.blocke
 -- the fault of a matching probe, but for its limit, is the machine's
 pub searches_judged : (links : Announcements) (old : CoreState) (known : List ℕ) (core : Core) (p : RoutedProbe) →
     IsShown links old known core → old.blocked ≡ None →
-    queue_fault old.place.size (view blank core) (machine.Improbe (probe_seen p)) ≡
+    queue_fault old.place (view blank core) (machine.Improbe (probe_seen p)) ≡
     option_map number_of_refusal (probe_rule old.place.size p.route.named p.probe.tag)
 unfolding probe_rule
 searches_judged links old known core p shown free =
-    fault_free old.place.size core (machine.Improbe (probe_seen p)) (core_free links old known core shown free)
+    fault_free old.place core (machine.Improbe (probe_seen p)) (core_free links old known core shown free)
     ∙ rules_same (rules.is_tag_above p.probe.tag) (rules.is_source_beyond old.place.size p.route.named)
 
 -- where two rules find nothing, the first one doesn't
@@ -228,7 +229,7 @@ first_none (Some e) b h = absurd cc
 -- no rule of the machine is broken by one that meets none
 pub search_fit : (links : Announcements) (old : CoreState) (known : List ℕ) (core : Core) (p : RoutedProbe) →
     IsShown links old known core → old.blocked ≡ None → free_fault old (calls.Improbe p) ≡ None →
-    queue_fault old.place.size (view blank core) (machine.Improbe (probe_seen p)) ≡ None
+    queue_fault old.place (view blank core) (machine.Improbe (probe_seen p)) ≡ None
 search_fit links old known core p shown free fine =
     searches_judged links old known core p shown free ∙
     ap (option_map number_of_refusal)

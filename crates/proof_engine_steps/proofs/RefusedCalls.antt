@@ -1,5 +1,6 @@
 -- Each call that meets a rule or a limit of a rank's core has a reason, and each that meets none is without a fault.
 use Rattle.std.proofs.Common.{◌≡◌, ℕ, List, map, Option, Some, None, slice_get, refl, ap, ◌∙◌, subst}
+use Rattle.vocabulary.specs.MessageLimits.{limit_of}
 use Rattle.perfect_queues.specs.Calls as machine
 use Rattle.perfect_queues.specs.Completions.{Unanswered}
 use Rattle.perfect_queues.specs.Refusals as rules
@@ -36,7 +37,7 @@ blocked_fault : (links : Announcements) (old : CoreState) (known : List ℕ) (co
 blocked_fault links old known core call a shown h =
     ap
     (λ (b : Option Unanswered).
-    queue_fault_by old.place.size (rules.is_held b)
+    queue_fault_by old.place.size (limit_of old.place.message_limit) (rules.is_held b)
     (λ k. rules.standing (slice_get (map (request_of blank) core.jobs) k)) (call_meant old call))
     (subst (λ (b : Option rank.Awaited). IsBlocked shown.rows b core.blocked) h shown.blocked).0
 
@@ -79,7 +80,7 @@ faults_have_reasons links old known core call why shown fault = go old.blocked r
 -- while no other call is blocked
 free_faultless : (links : Announcements) (old : CoreState) (known : List ℕ) (core : Core) (call : RoutedCall) →
     IsShown links old known core → old.blocked ≡ None → free_fault old call ≡ None →
-    IsFaultless (queue_fault old.place.size (view blank core) (call_seen call)) old call
+    IsFaultless (queue_fault old.place (view blank core) (call_seen call)) old call
 free_faultless links old known core (calls.Isend s) shown free fine =
     record { own = refl; none = send_faultless links old known core s shown free (no_send_fault old s fine) }
 free_faultless links old known core (calls.Irecv v) shown free fine =
@@ -103,12 +104,12 @@ pub allowed_calls_are_faultless : AllowedCallsAreFaultless
 allowed_calls_are_faultless links old known core call shown fine = go old.blocked refl fine
   where
     go : (b : Option rank.Awaited) → old.blocked ≡ b → fault_at b old call ≡ None →
-        IsFaultless (queue_fault old.place.size (view blank core) (call_seen call)) old call
+        IsFaultless (queue_fault old.place (view blank core) (call_seen call)) old call
     go (Some a) e f = absurd cc
     go None e f = free_faultless links old known core call shown e f
 
 -- so a limit of the frame, or want of memory, is a reason
 pub room_is_a_reason : AllowedCallsAreFaultless → RoomIsAReason
 room_is_a_reason allowed links old known core call why shown fine room =
-    let f : IsFaultless (queue_fault old.place.size (view blank core) (call_seen call)) old call = allowed links old known core call shown fine in
-    NoRoom room (ap (λ (c : machine.Call). queue_fault old.place.size (view blank core) c) f.own ∙ f.none)
+    let f : IsFaultless (queue_fault old.place (view blank core) (call_seen call)) old call = allowed links old known core call shown fine in
+    NoRoom room (ap (λ (c : machine.Call). queue_fault old.place (view blank core) c) f.own ∙ f.none)

@@ -68,7 +68,7 @@ search_reason links old known core p why shown free fault = go (probe_rule old.p
 -- one that meets none
 pub search_without_fault : (links : Announcements) (old : CoreState) (known : List ℕ) (core : Core) (p : RoutedProbe) →
     IsShown links old known core → old.blocked ≡ None → free_fault old (calls.Improbe p) ≡ None →
-    IsFaultless (queue_fault old.place.size (view blank core) (call_seen (calls.Improbe p))) old (calls.Improbe p)
+    IsFaultless (queue_fault old.place (view blank core) (call_seen (calls.Improbe p))) old (calls.Improbe p)
 search_without_fault links old known core p shown free fine =
     record { own = refl; none = search_fit links old known core p shown free fine }
 
@@ -89,12 +89,12 @@ message_rules unknown into =
 -- the fault that the machine finds is by the rank's own tests
 message_found : (links : Announcements) (old : CoreState) (known : List ℕ) (core : Core) (q : Option Request)
     (into : Region) → IsShown links old known core → old.blocked ≡ None →
-    queue_fault old.place.size (view blank core) (machine.Mrecv (request_by (serial_meant old) q) (handed_of into)) ≡
+    queue_fault old.place (view blank core) (machine.Mrecv (request_by (serial_meant old) q) (handed_of into)) ≡
     message_rules (is_unknown old q) into
 message_found links old known core None into shown free =
-    fault_free old.place.size core (machine.Mrecv None (handed_of into)) (core_free links old known core shown free)
+    fault_free old.place core (machine.Mrecv None (handed_of into)) (core_free links old known core shown free)
 message_found links old known core (Some q) into shown free =
-    fault_free old.place.size core (machine.Mrecv (Some (serial_meant old q)) (handed_of into))
+    fault_free old.place core (machine.Mrecv (Some (serial_meant old q)) (handed_of into))
     (core_free links old known core shown free)
     ∙ ap (λ (b : Bool). message_rules (not b) into) (message_seen links old known core q shown)
 
@@ -127,7 +127,7 @@ message_reason links old known core q into why shown free fault =
     short : Bool
     short = is_too_short (handed_of into)
 
-    found : queue_fault old.place.size (view blank core)
+    found : queue_fault old.place (view blank core)
         (machine.Mrecv (request_by (serial_meant old) q) (handed_of into)) ≡ message_rules (is_unknown old q) into
     found = message_found links old known core q into shown free
 
@@ -202,11 +202,11 @@ message_own old (Some q) h = ap (λ (k : ℕ). Some k) (meant_present old q (mes
 pub message_without_fault : (links : Announcements) (old : CoreState) (known : List ℕ) (core : Core)
     (q : Option Request) (into : Region) → IsShown links old known core → old.blocked ≡ None →
     free_fault old (calls.Mrecv q into) ≡ None →
-    IsFaultless (queue_fault old.place.size (view blank core) (call_seen (calls.Mrecv q into))) old (calls.Mrecv q into)
+    IsFaultless (queue_fault old.place (view blank core) (call_seen (calls.Mrecv q into))) old (calls.Mrecv q into)
 message_without_fault links old known core q into shown free fine =
     record {
       own = ap (λ (k : Option ℕ). machine.Mrecv k (handed_of into)) own;
-      none = ap (λ (k : Option ℕ). queue_fault old.place.size (view blank core) (machine.Mrecv k (handed_of into)))
+      none = ap (λ (k : Option ℕ). queue_fault old.place (view blank core) (machine.Mrecv k (handed_of into)))
           (sym own)
           ∙ (message_found links old known core q into shown free
           ∙ no_fault (is_unknown old q) false (is_unfit_to_receive (handed_of into)) (is_too_short (handed_of into))

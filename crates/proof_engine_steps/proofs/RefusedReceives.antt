@@ -25,9 +25,9 @@ use Rattle.proof_engine_steps.proofs.Starting.{core_free, fault_free}
 -- the machine finds no fault with a receive that meets no rule of the rank's
 pub receive_faultless : (links : Announcements) (old : CoreState) (known : List ℕ) (core : Core) (v : RoutedReceive) →
     IsShown links old known core → old.blocked ≡ None → receive_fault old v ≡ None →
-    queue_fault old.place.size (view blank core) (call_seen (calls.Irecv v)) ≡ None
+    queue_fault old.place (view blank core) (call_seen (calls.Irecv v)) ≡ None
 receive_faultless links old known core v shown free fine =
-    post_fit old.place.size core v (core_free links old known core shown free) (receive_rules old v fine)
+    post_fit old.place core v (core_free links old known core shown free) (receive_rules old v fine)
 
 -- a receive that breaks a rule or meets the limit
 pub receive_reason : (links : Announcements) (old : CoreState) (known : List ℕ) (core : Core) (v : RoutedReceive)
@@ -62,18 +62,18 @@ receive_reason links old known core v why shown free fault = by_type unfit refl 
         (if b then Some refusals.Rank else last) ≡ Some why → HasReason old core (calls.Irecv v) why
     by_rank fit long low true e h =
         reason_is old core (calls.Irecv v) refusals.Rank why h
-        (MachinesFault (fault_free n core (call_seen (calls.Irecv v)) core_is ∙
+        (MachinesFault (fault_free old.place core (call_seen (calls.Irecv v)) core_is ∙
         rank_fault false false unfit short high beyond refl refl fit long low e))
     by_rank fit long low false e h =
         NoRoom (limit_met (is_full old.slots old.serial) why h)
-        (post_fit n core v core_is (record { fit = fit; long = long; low = low; inside = e }))
+        (post_fit old.place core v core_is (record { fit = fit; long = long; low = low; inside = e }))
 
     by_tag : unfit ≡ false → short ≡ false → (b : Bool) → high ≡ b →
         (if b then Some refusals.Tag else (if beyond then Some refusals.Rank else last)) ≡ Some why →
         HasReason old core (calls.Irecv v) why
     by_tag fit long true e h =
         reason_is old core (calls.Irecv v) refusals.Tag why h
-        (MachinesFault (fault_free n core (call_seen (calls.Irecv v)) core_is ∙
+        (MachinesFault (fault_free old.place core (call_seen (calls.Irecv v)) core_is ∙
         tag_fault false false unfit short high beyond refl refl fit long e))
     by_tag fit long false e h = by_rank fit long e beyond refl h
 
@@ -83,7 +83,7 @@ receive_reason links old known core v why shown free fault = by_type unfit refl 
         HasReason old core (calls.Irecv v) why
     by_length fit true e h =
         reason_is old core (calls.Irecv v) refusals.Count why h
-        (MachinesFault (fault_free n core (call_seen (calls.Irecv v)) core_is ∙
+        (MachinesFault (fault_free old.place core (call_seen (calls.Irecv v)) core_is ∙
         count_fault false false unfit short high beyond refl refl fit e))
     by_length fit false e h = by_tag fit e high refl h
 
@@ -94,6 +94,6 @@ receive_reason links old known core v why shown free fault = by_type unfit refl 
         HasReason old core (calls.Irecv v) why
     by_type true e h =
         reason_is old core (calls.Irecv v) refusals.WrongType why h
-        (MachinesFault (fault_free n core (call_seen (calls.Irecv v)) core_is ∙
+        (MachinesFault (fault_free old.place core (call_seen (calls.Irecv v)) core_is ∙
         type_fault false false unfit short high beyond refl refl e))
     by_type false e h = by_length e short refl h

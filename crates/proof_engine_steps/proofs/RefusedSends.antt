@@ -4,7 +4,7 @@ use Rattle.std.proofs.Common.{if◌then◌else◌, nat_lt, refl, ◌∙◌}
 use Rattle.std.proofs.lemmas.Bool.{ltb-false}
 use Rattle.vocabulary.specs.BasicTypes.{size_of}
 use Rattle.perfect_queues.specs.Buffers.{data_of, differs_in_type, is_too_short}
-use Rattle.vocabulary.specs.Limits.{send_limit}
+use Rattle.vocabulary.specs.MessageLimits.{limit_of}
 use Rattle.perfect_queues.specs.Refusals as rules
 use Rattle.proof_pure_network.specs.Core.{Core, view}
 use Rattle.proof_pure_network.specs.Held.{blank}
@@ -38,6 +38,10 @@ send_fault_reason old core s x free fault = by_type differs refl fault
     n : ℕ
     n = old.place.size
 
+    -- the most bytes of a message of the job
+    limit : ℕ
+    limit = limit_of old.place.message_limit
+
     differs : Bool
     differs = differs_in_type (handed_of s.send.from)
 
@@ -47,7 +51,7 @@ send_fault_reason old core s x free fault = by_type differs refl fault
     -- the machine's rule on counts
     count : Bool
     count =
-        nat_lt send_limit (length (data_of (handed_of s.send.from)) * size_of (handed_of s.send.from).buffer.basic) ||
+        nat_lt limit (length (data_of (handed_of s.send.from)) * size_of (handed_of s.send.from).buffer.basic) ||
         is_too_short (handed_of s.send.from)
 
     high : Bool
@@ -60,57 +64,57 @@ send_fault_reason old core s x free fault = by_type differs refl fault
     last : Option Refusal
     last = if beyond then Some refusals.Rank else None
 
-    by_rank : differs ≡ false → byte_count s.send.from ≤ send_limit → short ≡ false → high ≡ false →
+    by_rank : differs ≡ false → byte_count s.send.from ≤ limit → short ≡ false → high ≡ false →
         (b : Bool) → beyond ≡ b →
         (if b then Some refusals.Rank else None) ≡ Some x → HasReason old core (calls.Isend s) x
     by_rank one few long low true e h =
         reason_is old core (calls.Isend s) refusals.Rank x h
-        (MachinesFault (fault_free n core (call_seen (calls.Isend s)) free ∙
-        rank_fault false false differs count high beyond refl refl one (send_count s false few long) low e))
+        (MachinesFault (fault_free old.place core (call_seen (calls.Isend s)) free ∙
+        rank_fault false false differs count high beyond refl refl one (send_count limit s false few long) low e))
     by_rank one few long low false e h = absurd cc
 
-    by_tag : differs ≡ false → byte_count s.send.from ≤ send_limit → short ≡ false → (b : Bool) → high ≡ b →
+    by_tag : differs ≡ false → byte_count s.send.from ≤ limit → short ≡ false → (b : Bool) → high ≡ b →
         (if b then Some refusals.Tag else last) ≡ Some x → HasReason old core (calls.Isend s) x
     by_tag one few long true e h =
         reason_is old core (calls.Isend s) refusals.Tag x h
-        (MachinesFault (fault_free n core (call_seen (calls.Isend s)) free ∙
-        tag_fault false false differs count high beyond refl refl one (send_count s false few long) e))
+        (MachinesFault (fault_free old.place core (call_seen (calls.Isend s)) free ∙
+        tag_fault false false differs count high beyond refl refl one (send_count limit s false few long) e))
     by_tag one few long false e h = by_rank one few long e beyond refl h
 
-    by_length : differs ≡ false → byte_count s.send.from ≤ send_limit → (b : Bool) → short ≡ b →
+    by_length : differs ≡ false → byte_count s.send.from ≤ limit → (b : Bool) → short ≡ b →
         (if b then Some refusals.Count else (if high then Some refusals.Tag else last)) ≡ Some x →
         HasReason old core (calls.Isend s) x
     by_length one few true e h =
         reason_is old core (calls.Isend s) refusals.Count x h
-        (MachinesFault (fault_free n core (call_seen (calls.Isend s)) free ∙
-        count_fault false false differs count high beyond refl refl one (send_count s true few e)))
+        (MachinesFault (fault_free old.place core (call_seen (calls.Isend s)) free ∙
+        count_fault false false differs count high beyond refl refl one (send_count limit s true few e)))
     by_length one few false e h = by_tag one few e high refl h
 
-    by_count : differs ≡ false → (b : Bool) → nat_lt send_limit (byte_count s.send.from) ≡ b →
+    by_count : differs ≡ false → (b : Bool) → nat_lt limit (byte_count s.send.from) ≡ b →
         (if b then Some refusals.Count else
         (if short then Some refusals.Count else (if high then Some refusals.Tag else last))) ≡ Some x →
         HasReason old core (calls.Isend s) x
     by_count one true e h =
         reason_is old core (calls.Isend s) refusals.Count x h
-        (MachinesFault (fault_free n core (call_seen (calls.Isend s)) free ∙
-        count_fault false false differs count high beyond refl refl one (send_over s e)))
-    by_count one false e h = by_length one (ltb-false send_limit (byte_count s.send.from) e) short refl h
+        (MachinesFault (fault_free old.place core (call_seen (calls.Isend s)) free ∙
+        count_fault false false differs count high beyond refl refl one (send_over limit s e)))
+    by_count one false e h = by_length one (ltb-false limit (byte_count s.send.from) e) short refl h
 
     by_type : (b : Bool) → differs ≡ b →
         (if b then Some refusals.WrongType else
-        (if nat_lt send_limit (byte_count s.send.from) then Some refusals.Count else
+        (if nat_lt limit (byte_count s.send.from) then Some refusals.Count else
         (if short then Some refusals.Count else (if high then Some refusals.Tag else last)))) ≡ Some x →
         HasReason old core (calls.Isend s) x
     by_type true e h =
         reason_is old core (calls.Isend s) refusals.WrongType x h
-        (MachinesFault (fault_free n core (call_seen (calls.Isend s)) free ∙
+        (MachinesFault (fault_free old.place core (call_seen (calls.Isend s)) free ∙
         type_fault false false differs count high beyond refl refl e))
-    by_type false e h = by_count e (nat_lt send_limit (byte_count s.send.from)) refl h
+    by_type false e h = by_count e (nat_lt limit (byte_count s.send.from)) refl h
 
 -- the machine finds no fault with a send that breaks no rule of the rank's
 pub send_faultless : (links : Announcements) (old : CoreState) (known : List ℕ) (core : Core) (s : RoutedSend) →
     IsShown links old known core → old.blocked ≡ None → send_fault old.place s ≡ None →
-    queue_fault old.place.size (view blank core) (call_seen (calls.Isend s)) ≡ None
+    queue_fault old.place (view blank core) (call_seen (calls.Isend s)) ≡ None
 send_faultless links old known core s shown free fine =
     send_fit old.place core s (core_free links old known core shown free) (send_rules old.place s fine)
 

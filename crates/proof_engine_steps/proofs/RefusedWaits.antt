@@ -2,6 +2,8 @@
 use Rattle.std.proofs.Common.{◌≡◌, ℕ, Bool, true, false, not, ◌||◌, List, Option, Some, None, if◌then◌else◌, refl, sym}
 use Rattle.std.proofs.Common.{ap, ◌∙◌, subst}
 use Rattle.std.specs.List.{AllByRecursion}
+use Rattle.incarnation.specs.declared.place.Place.{Place}
+use Rattle.vocabulary.specs.MessageLimits.{limit_of}
 use Rattle.perfect_queues.specs.Calls as machine
 use Rattle.perfect_queues.specs.Completions as completions
 use Rattle.perfect_queues.specs.Refusals as rules
@@ -53,10 +55,10 @@ rule_kept false f = refl
 -- the fault that the machine finds with a wait is by the rank's own tests
 wait_found : (links : Announcements) (old : CoreState) (known : List ℕ) (core : Core) (a : Awaited) →
     IsShown links old known core → old.blocked ≡ None →
-    queue_fault old.place.size (view blank core) (machine.Wait (awaited_by (serial_meant old) a)) ≡
+    queue_fault old.place (view blank core) (machine.Wait (awaited_by (serial_meant old) a)) ≡
     six_if (lists.is_one_absent old.slots (awaited_requests a) || lists.is_twice (awaited_requests a))
 wait_found links old known core a shown free =
-    fault_free old.place.size core (machine.Wait (awaited_by (serial_meant old) a))
+    fault_free old.place core (machine.Wait (awaited_by (serial_meant old) a))
     (core_free links old known core shown free) ∙
     (ap (λ (ks : List ℕ). six_if (rules.is_one_missing (standing_at core) ks || rules.is_twice ks))
     (awaited_meant (serial_meant old) a) ∙
@@ -65,10 +67,10 @@ wait_found links old known core a shown free =
 -- a wait that breaks a rule
 pub wait_reason : (links : Announcements) (old : CoreState) (known : List ℕ) (core : Core) (a : Awaited)
     (why : Refusal) → IsShown links old known core → old.blocked ≡ None → wait_fault old a ≡ Some why →
-    IsReason (queue_fault old.place.size (view blank core) (machine.Wait (awaited_by (serial_meant old) a))) why
+    IsReason (queue_fault old.place (view blank core) (machine.Wait (awaited_by (serial_meant old) a))) why
 wait_reason links old known core a why shown free fault =
     rule_broken (lists.is_one_absent old.slots (awaited_requests a) || lists.is_twice (awaited_requests a))
-    (queue_fault old.place.size (view blank core) (machine.Wait (awaited_by (serial_meant old) a))) why
+    (queue_fault old.place (view blank core) (machine.Wait (awaited_by (serial_meant old) a))) why
     (wait_found links old known core a shown free) fault
 
 -- where a wait breaks none, all that it names is there
@@ -82,7 +84,7 @@ wait_present old a fine =
 -- the machine finds no fault with what it means
 wait_none : (links : Announcements) (old : CoreState) (known : List ℕ) (core : Core) (a : Awaited) →
     IsShown links old known core → old.blocked ≡ None → wait_fault old a ≡ None →
-    queue_fault old.place.size (view blank core) (machine.Wait (awaited_by (serial_meant old) a)) ≡ None
+    queue_fault old.place (view blank core) (machine.Wait (awaited_by (serial_meant old) a)) ≡ None
 wait_none links old known core a shown free fine =
     wait_found links old known core a shown free ∙
     ap six_if
@@ -91,9 +93,9 @@ wait_none links old known core a shown free fine =
 -- nor with what is seen of it
 pub wait_faultless : (links : Announcements) (old : CoreState) (known : List ℕ) (core : Core) (a : Awaited) →
     IsShown links old known core → old.blocked ≡ None → wait_fault old a ≡ None →
-    queue_fault old.place.size (view blank core) (machine.Wait (awaited_seen a)) ≡ None
+    queue_fault old.place (view blank core) (machine.Wait (awaited_seen a)) ≡ None
 wait_faultless links old known core a shown free fine =
-    ap (λ (x : completions.Awaited). queue_fault old.place.size (view blank core) (machine.Wait x))
+    ap (λ (x : completions.Awaited). queue_fault old.place (view blank core) (machine.Wait x))
     (sym (awaited_own old a (wait_present old a fine))) ∙ wait_none links old known core a shown free fine
 
 -- ---- tests
@@ -104,14 +106,14 @@ or_nothing true = refl
 or_nothing false = refl
 
 -- the fault of a test is that of a wait
-test_is_wait : (n : ℕ) (core : Core) (r : Option ℕ) → core.blocked ≡ None →
-    queue_fault n (view blank core) (machine.Test r) ≡
-    queue_fault n (view blank core) (machine.Wait (completions.One r))
-test_is_wait n core r free = fault_free n core (machine.Test r) free ∙
-    (go r ∙ sym (fault_free n core (machine.Wait (completions.One r)) free))
+test_is_wait : (p : Place) (core : Core) (r : Option ℕ) → core.blocked ≡ None →
+    queue_fault p (view blank core) (machine.Test r) ≡
+    queue_fault p (view blank core) (machine.Wait (completions.One r))
+test_is_wait p core r free = fault_free p core (machine.Test r) free ∙
+    (go r ∙ sym (fault_free p core (machine.Wait (completions.One r)) free))
   where
-    go : (r : Option ℕ) → queue_fault_by n false (standing_at core) (machine.Test r) ≡
-        queue_fault_by n false (standing_at core) (machine.Wait (completions.One r))
+    go : (r : Option ℕ) → queue_fault_by p.size (limit_of p.message_limit) false (standing_at core) (machine.Test r) ≡
+        queue_fault_by p.size (limit_of p.message_limit) false (standing_at core) (machine.Wait (completions.One r))
     go None = refl
     go (Some k) = sym (ap six_if (or_nothing (rules.is_missing (standing_at core k))))
 
@@ -120,15 +122,15 @@ pub test_reason : (links : Announcements) (old : CoreState) (known : List ℕ) (
     HasReason old core (calls.Test q) why
 test_reason links old known core q why shown free fault =
     subst (λ (x : Option ℕ). IsReason x why)
-    (sym (test_is_wait old.place.size core (request_by (serial_meant old) q)
+    (sym (test_is_wait old.place core (request_by (serial_meant old) q)
     (core_free links old known core shown free)))
     (wait_reason links old known core (awaiteds.One q) why shown free fault)
 
 pub test_faultless : (links : Announcements) (old : CoreState) (known : List ℕ) (core : Core) (q : Option Request) →
     IsShown links old known core → old.blocked ≡ None → wait_fault old (awaiteds.One q) ≡ None →
-    queue_fault old.place.size (view blank core) (machine.Test (request_by own_serial q)) ≡ None
+    queue_fault old.place (view blank core) (machine.Test (request_by own_serial q)) ≡ None
 test_faultless links old known core q shown free fine =
-    test_is_wait old.place.size core (request_by own_serial q) (core_free links old known core shown free) ∙
+    test_is_wait old.place core (request_by own_serial q) (core_free links old known core shown free) ∙
     wait_faultless links old known core (awaiteds.One q) shown free fine
 
 -- ---- cancels
@@ -141,10 +143,10 @@ turned false = refl
 -- the fault that the machine finds with a cancel is by the rank's own test
 cancel_found : (links : Announcements) (old : CoreState) (known : List ℕ) (core : Core) (q : Request) →
     IsShown links old known core → old.blocked ≡ None →
-    queue_fault old.place.size (view blank core) (machine.Cancel (Some (serial_meant old q))) ≡
+    queue_fault old.place (view blank core) (machine.Cancel (Some (serial_meant old q))) ≡
     six_if (not (table.is_receive (progress_at old.slots q.key q.serial)))
 cancel_found links old known core q shown free =
-    fault_free old.place.size core (machine.Cancel (Some (serial_meant old q)))
+    fault_free old.place core (machine.Cancel (Some (serial_meant old q)))
     (core_free links old known core shown free) ∙
     ap (λ (b : Bool). six_if (not b)) (receive_seen links old known core q shown)
 
@@ -152,11 +154,11 @@ pub cancel_reason : (links : Announcements) (old : CoreState) (known : List ℕ)
     (why : Refusal) → IsShown links old known core → old.blocked ≡ None → cancel_fault old q ≡ Some why →
     HasReason old core (calls.Cancel q) why
 cancel_reason links old known core None why shown free fault =
-    rule_broken true (queue_fault old.place.size (view blank core) (machine.Cancel None)) why
-    (fault_free old.place.size core (machine.Cancel None) (core_free links old known core shown free)) fault
+    rule_broken true (queue_fault old.place (view blank core) (machine.Cancel None)) why
+    (fault_free old.place core (machine.Cancel None) (core_free links old known core shown free)) fault
 cancel_reason links old known core (Some q) why shown free fault =
     rule_broken (not (table.is_receive (progress_at old.slots q.key q.serial)))
-    (queue_fault old.place.size (view blank core) (machine.Cancel (Some (serial_meant old q)))) why
+    (queue_fault old.place (view blank core) (machine.Cancel (Some (serial_meant old q)))) why
     (cancel_found links old known core q shown free)
     (sym (turned (table.is_receive (progress_at old.slots q.key q.serial))) ∙ fault)
 
@@ -178,7 +180,7 @@ cancel_present old q fine = receive_there old q (table.is_receive (progress_at o
 -- the machine finds no fault with what it means
 cancel_none : (links : Announcements) (old : CoreState) (known : List ℕ) (core : Core) (q : Request) →
     IsShown links old known core → old.blocked ≡ None → cancel_fault old (Some q) ≡ None →
-    queue_fault old.place.size (view blank core) (machine.Cancel (Some (serial_meant old q))) ≡ None
+    queue_fault old.place (view blank core) (machine.Cancel (Some (serial_meant old q))) ≡ None
 cancel_none links old known core q shown free fine =
     cancel_found links old known core q shown free ∙
     ap six_if
@@ -188,9 +190,9 @@ cancel_none links old known core q shown free fine =
 -- nor with what is seen of it
 pub cancel_faultless : (links : Announcements) (old : CoreState) (known : List ℕ) (core : Core) (q : Request) →
     IsShown links old known core → old.blocked ≡ None → cancel_fault old (Some q) ≡ None →
-    queue_fault old.place.size (view blank core) (machine.Cancel (Some q.serial)) ≡ None
+    queue_fault old.place (view blank core) (machine.Cancel (Some q.serial)) ≡ None
 cancel_faultless links old known core q shown free fine =
-    ap (λ (k : ℕ). queue_fault old.place.size (view blank core) (machine.Cancel (Some k)))
+    ap (λ (k : ℕ). queue_fault old.place (view blank core) (machine.Cancel (Some k)))
     (sym (meant_present old q (cancel_present old q fine))) ∙ cancel_none links old known core q shown free fine
 
 -- ---- calls that break no rule
@@ -199,7 +201,7 @@ cancel_faultless links old known core q shown free fine =
 waits_without_fault : (links : Announcements) (old : CoreState) (known : List ℕ) (core : Core) (a : Awaited) →
     IsShown links old known core → old.blocked ≡ None → wait_fault old a ≡ None →
     (machine.Wait (awaited_by (serial_meant old) a) ≡ machine.Wait (awaited_seen a)) ×
-    (queue_fault old.place.size (view blank core) (machine.Wait (awaited_seen a)) ≡ None)
+    (queue_fault old.place (view blank core) (machine.Wait (awaited_seen a)) ≡ None)
 waits_without_fault links old known core a shown free fine = (
   ap machine.Wait (awaited_own old a (wait_present old a fine)),
   wait_faultless links old known core a shown free fine,
@@ -207,7 +209,7 @@ waits_without_fault links old known core a shown free fine = (
 
 pub wait_without_fault : (links : Announcements) (old : CoreState) (known : List ℕ) (core : Core) (q : Option Request) →
     IsShown links old known core → old.blocked ≡ None → wait_fault old (awaiteds.One q) ≡ None →
-    IsFaultless (queue_fault old.place.size (view blank core) (call_seen (calls.Wait q))) old (calls.Wait q)
+    IsFaultless (queue_fault old.place (view blank core) (call_seen (calls.Wait q))) old (calls.Wait q)
 wait_without_fault links old known core q shown free fine =
     let w = waits_without_fault links old known core (awaiteds.One q) shown free fine in record {
       own = w.0;
@@ -218,7 +220,7 @@ wait_without_fault links old known core q shown free fine =
 pub waitany_without_fault : (links : Announcements) (old : CoreState) (known : List ℕ) (core : Core)
     (qs : List (Option Request)) → IsShown links old known core → old.blocked ≡ None →
     wait_fault old (awaiteds.AnyOf qs) ≡ None →
-    IsFaultless (queue_fault old.place.size (view blank core) (call_seen (calls.Waitany qs))) old (calls.Waitany qs)
+    IsFaultless (queue_fault old.place (view blank core) (call_seen (calls.Waitany qs))) old (calls.Waitany qs)
 waitany_without_fault links old known core qs shown free fine =
     let w = waits_without_fault links old known core (awaiteds.AnyOf qs) shown free fine in record {
       own = w.0;
@@ -229,7 +231,7 @@ waitany_without_fault links old known core qs shown free fine =
 pub waitall_without_fault : (links : Announcements) (old : CoreState) (known : List ℕ) (core : Core)
     (qs : List (Option Request)) → IsShown links old known core → old.blocked ≡ None →
     wait_fault old (awaiteds.AllOf qs) ≡ None →
-    IsFaultless (queue_fault old.place.size (view blank core) (call_seen (calls.Waitall qs))) old (calls.Waitall qs)
+    IsFaultless (queue_fault old.place (view blank core) (call_seen (calls.Waitall qs))) old (calls.Waitall qs)
 waitall_without_fault links old known core qs shown free fine =
     let w = waits_without_fault links old known core (awaiteds.AllOf qs) shown free fine in record {
       own = w.0;
@@ -239,7 +241,7 @@ waitall_without_fault links old known core qs shown free fine =
 
 pub test_without_fault : (links : Announcements) (old : CoreState) (known : List ℕ) (core : Core) (q : Option Request) →
     IsShown links old known core → old.blocked ≡ None → wait_fault old (awaiteds.One q) ≡ None →
-    IsFaultless (queue_fault old.place.size (view blank core) (call_seen (calls.Test q))) old (calls.Test q)
+    IsFaultless (queue_fault old.place (view blank core) (call_seen (calls.Test q))) old (calls.Test q)
 test_without_fault links old known core q shown free fine =
     record {
       own = ap machine.Test (request_own old q (wait_present old (awaiteds.One q) fine));
@@ -249,7 +251,7 @@ test_without_fault links old known core q shown free fine =
 
 pub cancel_without_fault : (links : Announcements) (old : CoreState) (known : List ℕ) (core : Core)
     (q : Option Request) → IsShown links old known core → old.blocked ≡ None → cancel_fault old q ≡ None →
-    IsFaultless (queue_fault old.place.size (view blank core) (call_seen (calls.Cancel q))) old (calls.Cancel q)
+    IsFaultless (queue_fault old.place (view blank core) (call_seen (calls.Cancel q))) old (calls.Cancel q)
 cancel_without_fault links old known core None shown free fine = absurd cc
 cancel_without_fault links old known core (Some q) shown free fine =
     record {

@@ -1,6 +1,7 @@
 -- A send of a rank to another one, or to the null process, is that of its core in the network.
 use Rattle.datagram.specs.Spelling.{OutgoingText}
-use Rattle.vocabulary.specs.Limits.{eager_limit, highest_tag, send_limit}
+use Rattle.vocabulary.specs.MessageLimits.{limit_of}
+use Rattle.vocabulary.specs.Limits.{eager_limit, highest_tag}
 use Rattle.std.proofs.Common.{◌^◌, ◌≡◌, ℕ, ◌+◌, ◌*◌, ◌<◌, ◌≤◌, Bool, true, false, List, [], ◌∷◌, ◌++◌, length, Option}
 use Rattle.std.proofs.Common.{Some, None, if◌then◌else◌, ◌==◌, ◌||◌, ap₂, nat_le, nat_lt, slice_index, refl, sym, ap}
 use Rattle.std.proofs.Common.{◌∙◌, subst, arith, append-nil}
@@ -71,7 +72,7 @@ one_test false x h = refl
 -- of the job or the null process
 pub record KeepsRules (p : Place) (s : RoutedSend) : Type 0 where
   pub one_type : differs_in_type (handed_of s.send.from) ≡ false
-  pub few : byte_count s.send.from ≤ send_limit
+  pub few : byte_count s.send.from ≤ limit_of p.message_limit
   pub long : is_too_short (handed_of s.send.from) ≡ false
   pub low : rules.is_no_tag s.send.tag ≡ false
   pub inside : rules.is_no_target p.size s.route.named ≡ false
@@ -80,48 +81,50 @@ pub send_rules : (p : Place) (s : RoutedSend) → send_fault p s ≡ None → Ke
 unfolding send_fault
 send_rules p s fine =
     let last : Option Refusal = if rules.is_no_target p.size s.route.named then Some refusals.Rank else None in
-    let t = two_tests (differs_in_type (handed_of s.send.from)) (nat_lt send_limit (byte_count s.send.from)) refusals.WrongType refusals.Count
+    let t = two_tests (differs_in_type (handed_of s.send.from))
+    (nat_lt (limit_of p.message_limit) (byte_count s.send.from)) refusals.WrongType refusals.Count
     (if is_too_short (handed_of s.send.from) then Some refusals.Count else
     (if rules.is_no_tag s.send.tag then Some refusals.Tag else last)) fine in
     let u = two_tests (is_too_short (handed_of s.send.from)) (rules.is_no_tag s.send.tag) refusals.Count refusals.Tag last t.2 in
     record {
       one_type = t.0;
-      few = ltb-false send_limit (byte_count s.send.from) t.1;
+      few = ltb-false (limit_of p.message_limit) (byte_count s.send.from) t.1;
       long = u.0;
       low = u.1;
       inside = one_test (rules.is_no_target p.size s.route.named) refusals.Rank u.2;
     }
 
 -- so many bytes, in a buffer that is long enough or isn't, are as many as the machine allows
-pub send_count : (s : RoutedSend) (b : Bool) → byte_count s.send.from ≤ send_limit → is_too_short
-    (handed_of s.send.from) ≡ b →
-    (nat_lt send_limit (length (data_of (handed_of s.send.from)) * size_of (handed_of s.send.from).buffer.basic) ||
+pub send_count : (limit : ℕ) (s : RoutedSend) (b : Bool) → byte_count s.send.from ≤ limit →
+    is_too_short (handed_of s.send.from) ≡ b →
+    (nat_lt limit (length (data_of (handed_of s.send.from)) * size_of (handed_of s.send.from).buffer.basic) ||
     is_too_short (handed_of s.send.from)) ≡ b
-send_count s b few long =
+send_count limit s b few long =
     ap₂ (λ (x y : Bool). x || y)
-    (ap (λ (c : Contents). nat_lt send_limit (length (data_of (handed_of s.send.from)) * size_of c.basic))
+    (ap (λ (c : Contents). nat_lt limit (length (data_of (handed_of s.send.from)) * size_of c.basic))
     (handed_buffer s.send.from)
-    ∙ le-ltb send_limit (byte_count s.send.from) few) long
+    ∙ le-ltb limit (byte_count s.send.from) few) long
 
 -- too many bytes are more than the machine allows, whatever the buffer
-pub send_over : (s : RoutedSend) → nat_lt send_limit (byte_count s.send.from) ≡ true →
-    (nat_lt send_limit (length (data_of (handed_of s.send.from)) * size_of (handed_of s.send.from).buffer.basic) ||
+pub send_over : (limit : ℕ) (s : RoutedSend) → nat_lt limit (byte_count s.send.from) ≡ true →
+    (nat_lt limit (length (data_of (handed_of s.send.from)) * size_of (handed_of s.send.from).buffer.basic) ||
     is_too_short (handed_of s.send.from)) ≡ true
-send_over s over =
+send_over limit s over =
     ap (λ (x : Bool). x || is_too_short (handed_of s.send.from))
-    (ap (λ (c : Contents). nat_lt send_limit (length (data_of (handed_of s.send.from)) * size_of c.basic))
+    (ap (λ (c : Contents). nat_lt limit (length (data_of (handed_of s.send.from)) * size_of c.basic))
     (handed_buffer s.send.from) ∙ over)
 
 -- no rule of the machine is broken
 pub send_fit : (p : Place) (core : Core) (s : RoutedSend) → core.blocked ≡ None → KeepsRules p s →
-    queue_fault p.size (view blank core) (call_seen (calls.Isend s)) ≡ None
+    queue_fault p (view blank core) (call_seen (calls.Isend s)) ≡ None
 send_fit p core s free kept =
-    fault_free p.size core (call_seen (calls.Isend s)) free ∙
+    fault_free p core (call_seen (calls.Isend s)) free ∙
     no_fault false false (differs_in_type (handed_of s.send.from))
-    (nat_lt send_limit (length (data_of (handed_of s.send.from)) * size_of (handed_of s.send.from).buffer.basic) ||
+    (nat_lt (limit_of p.message_limit)
+    (length (data_of (handed_of s.send.from)) * size_of (handed_of s.send.from).buffer.basic) ||
     is_too_short (handed_of s.send.from))
     (rules.is_no_tag s.send.tag) (rules.is_no_target p.size s.route.named)
-    refl refl kept.one_type (send_count s false kept.few kept.long) kept.low kept.inside
+    refl refl kept.one_type (send_count (limit_of p.message_limit) s false kept.few kept.long) kept.low kept.inside
 
 -- THE CORE'S SEND
 

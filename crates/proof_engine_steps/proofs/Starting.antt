@@ -3,6 +3,7 @@ use Rattle.std.proofs.Common.{◌≡◌, ℕ, ◌+◌, Bool, true, false, List, 
 use Rattle.std.proofs.Common.{if◌then◌else◌, slice_get, refl, sym, ap, ◌∙◌, subst, arith, length-append}
 use Rattle.std.specs.List.{AllByRecursion}
 use Rattle.std.proofs.lemmas.List.{length-map}
+use Rattle.vocabulary.specs.MessageLimits.{limit_of}
 use Rattle.datagram.specs.Spelling.{OutgoingText}
 use Rattle.perfect_queues.specs.Calls as machine
 use Rattle.perfect_queues.specs.Completions.{Unanswered}
@@ -50,10 +51,12 @@ shown_free links e known core rows h a b =
     shown_with links e known core rows h (subst (λ (x : Option rank.Awaited). IsBlocked rows x core.blocked) (sym a) b)
 
 -- the fault of a call while no other is blocked
-pub fault_free : (n : ℕ) (core : Core) (c : machine.Call) → core.blocked ≡ None → queue_fault n (view blank core) c ≡
-    queue_fault_by n false (λ k. standing (slice_get (map (request_of blank) core.jobs) k)) c
-fault_free n core c h =
-    ap (λ (b : Option Unanswered). queue_fault_by n (is_held b)
+pub fault_free : (p : Place) (core : Core) (c : machine.Call) → core.blocked ≡ None →
+    queue_fault p (view blank core) c ≡
+    queue_fault_by p.size (limit_of p.message_limit) false
+    (λ k. standing (slice_get (map (request_of blank) core.jobs) k)) c
+fault_free p core c h =
+    ap (λ (b : Option Unanswered). queue_fault_by p.size (limit_of p.message_limit) (is_held b)
     (λ k. standing (slice_get (map (request_of blank) core.jobs) k)) c) h
 
 -- no rule is broken
@@ -123,7 +126,7 @@ serial_told links e known core q s h =
 pub record IsStart (links : Announcements) (old : CoreState) (known : List ℕ) (core : Core) (call : RoutedCall)
     (q : Request) (new : CoreState) (after : Effect) : Type 0 where
   pub is : called old.place.endpoint core (call_seen call) ≡ after
-  pub fit : queue_fault old.place.size (view blank core) (call_seen call) ≡ None
+  pub fit : queue_fault old.place (view blank core) (call_seen call) ≡ None
   pub place : new.place ≡ old.place
   pub completion : new.completion ≡ old.completion
   pub free : after.core.blocked ≡ None

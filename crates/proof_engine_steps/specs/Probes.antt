@@ -62,7 +62,7 @@ look_fault c p = look_fault_at c.blocked c p
 abbrev pub LooksAreJudged : Type 0
 LooksAreJudged =
     (a : Announcements) (old : CoreState) (known : List ℕ) (core : Core) (p : RoutedProbe) → IsShown a old known core →
-    queue_fault old.place.size (view blank core) (Iprobe (probe_seen p)) ≡
+    queue_fault old.place (view blank core) (Iprobe (probe_seen p)) ≡
     option_map number_of_refusal (look_fault old p)
 
 -- A matching probe answers none only where there is none

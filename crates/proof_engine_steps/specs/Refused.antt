@@ -16,7 +16,7 @@ pub use Rattle.observation.specs.Reasons.{IsOutOfRoom, IsReason, MachinesFault, 
 
 -- the fault that the machine finds with what a call means at a rank, but for the rule on its communicator
 abbrev pub fault_seen : CoreState → Core → RoutedCall → Option ℕ
-fault_seen old core call = queue_fault old.place.size (view blank core) (call_meant old call)
+fault_seen old core call = queue_fault old.place (view blank core) (call_meant old call)
 
 -- a call is refused for such a reason, by the fault that the machine finds
 abbrev pub HasReason : CoreState → Core → RoutedCall → Refusal → Type 0
@@ -38,7 +38,7 @@ abbrev pub AllowedCallsAreFaultless : Type 0
 AllowedCallsAreFaultless =
     (a : Announcements) (old : CoreState) (known : List ℕ) (core : Core) (call : RoutedCall) →
     IsShown a old known core → call_fault old call ≡ None →
-    IsFaultless (queue_fault old.place.size (view blank core) (call_seen call)) old call
+    IsFaultless (queue_fault old.place (view blank core) (call_seen call)) old call
 
 -- So where a call is refused that meets none, for a limit or for want of memory, that is a reason
 abbrev pub RoomIsAReason : Type 0

@@ -32,19 +32,19 @@ use Rattle.proof_engine_view.specs.Transfers.{Announcements, AnnouncementsGrow, 
 -- links, whatever was announced to it
 abbrev pub OpeningIsShown : Type 0
 OpeningIsShown =
-    (p : Place) (a : Announcements) → p.endpoint.rank < p.size → ((d : Endpoint) → a.to d ≡ []) →
-    IsShown a (opening p) (knowing.opening p).known (new_core p.endpoint)
+    (p : Place) (limit : ℕ) (a : Announcements) → p.endpoint.rank < p.size → ((d : Endpoint) → a.to d ≡ []) →
+    IsShown a (opening p) (knowing.opening p).known (new_core limit p.endpoint)
 
 -- and no call of it is blocked whose answer is ready
 abbrev pub OpeningIsSettled : Type 0
-OpeningIsSettled = (e : Endpoint) → IsSettled (new_core e)
+OpeningIsSettled = (limit : ℕ) (e : Endpoint) → IsSettled (new_core limit e)
 
 -- ---- calls
 
 -- a call of the rank is the call of its core in the network
 pub record IsCalled (a : Announcements) (old : CoreState) (known : List ℕ) (core : Core) (call : RoutedCall)
     (reply : CoreReply) (new : CoreState) : Type 0 where
-  pub fit : queue_fault old.place.size (view blank core) (call_seen call) ≡ None
+  pub fit : queue_fault old.place (view blank core) (call_seen call) ≡ None
   -- it leaves the rank's place, and the answer of an earlier call
   pub place : new.place ≡ old.place
   pub completion : new.completion ≡ old.completion

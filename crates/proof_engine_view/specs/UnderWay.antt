@@ -2,7 +2,7 @@
 use Rattle.std.specs.Prelude.{◌≡◌, ℕ, ◌*◌, ◌<◌, ◌≤◌, List, [], ◌∷◌, length, map, Option, Some, None, slice_get}
 use Rattle.std.specs.List.{AllByRecursion}
 use Rattle.vocabulary.specs.BasicTypes.{size_of}
-use Rattle.vocabulary.specs.Limits.{send_limit}
+use Rattle.vocabulary.specs.Limits.{greatest_limit}
 use Rattle.vocabulary.specs.declared.basic_type.BasicType.{BasicType}
 use Rattle.vocabulary.specs.declared.endpoint.Endpoint.{Endpoint}
 use Rattle.datatypes.specs.Contents.{AreWithin, bytes_of}
@@ -59,7 +59,7 @@ pub record IsOfferOf (to : Endpoint → List Transfer) (known : List ℕ) (rows 
       ≡ Some (record { serial = serial; basic = o.elements.basic; count = length o.elements.values })
   -- its elements have the width of their type, and are no more than a message may have
   pub within : AreWithin (size_of o.elements.basic) o.elements.values
-  pub limit : length o.elements.values * size_of o.elements.basic ≤ send_limit
+  pub limit : length o.elements.values * size_of o.elements.basic ≤ greatest_limit
 
 -- MESSAGES THAT COME
 

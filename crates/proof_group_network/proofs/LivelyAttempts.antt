@@ -31,7 +31,8 @@ use Rattle.proof_group_network.specs.Notices.{Member, Notice, Said, Stays, Verdi
 use Rattle.proof_group_network.specs.Notices.{carried_out, entries_to, is_differing, is_elsewhere, joined}
 use Rattle.proof_group_network.specs.Notices.{left_by, making_new, notice}
 use Rattle.proof_group_network.specs.Notices.{relayed, result_for, result_said, result_told, results_on, results_to}
-use Rattle.proof_group_network.specs.Notices.{told_on, verdict, whom_to_tell, without}
+use Rattle.proof_group_network.specs.Notices.{told_on, verdict, way_of, whom_to_tell, without}
+use Rattle.proof_group_network.specs.Roles.{is_ordered}
 use Rattle.vocabulary.specs.Endpoints.{is_same}
 use Rattle.vocabulary.specs.declared.endpoint.Endpoint.{Endpoint}
 
@@ -190,7 +191,7 @@ told_up_now members entered made links known e c k p ps false before =
       part = joined p.record_is ps;
       told =
           others_told links e (λ m. notice c.context k (HasEntered (joined p.record_is ps)))
-          (whom_to_tell p.record_is.kind p.record_is.root e c.members) y h o;
+          (whom_to_tell (way_of p.record_is) p.record_is.root e c.members) y h o;
     }))
 
 same_more : (entered : Entered) (made : Made) (links : Endpoint → Endpoint → NoticeLink) (known : Endpoint → ℕ →
@@ -337,7 +338,7 @@ attempt_lively n members entered made links known e h l = go (members e).members
                     is_result = is;
                     told =
                         others_told links1 e (λ m. notice c.context k (relayed p.record_is s))
-                        (told_on p.record_is.kind p.record_is.root e c.members) z q o;
+                        (told_on (way_of p.record_is) p.record_is.root e c.members) z q o;
                   }));
             })
 
@@ -404,7 +405,9 @@ attempt_lively n members entered made links known e h l = go (members e).members
         grow false bq c' k' cs q = q
         grow true bq c' k' cs q =
             with_made_more made c.context k (new true)
-            (h.first_made e c k p inside bq (making_first p.record_is.kind p.record_is.root e c.members bq d.3)).0 c' k'
+            (h.first_made e c k p inside bq
+            (making_first p.record_is.kind (is_ordered p.record_is.operation p.record_is.basic) p.record_is.root e
+            c.members bq d.3)).0 c' k'
             cs q
 
         up1 : IsToldUp entered links1 (known e) e c.context k p c.members
@@ -428,7 +431,7 @@ attempt_lively n members entered made links known e h l = go (members e).members
                     is_result = result_is b z;
                     told =
                         others_told links1 e (λ x. notice c.context k (result_for c p ps b (new b) x))
-                        (told_on p.record_is.kind p.record_is.root e c.members) z q o;
+                        (told_on (way_of p.record_is) p.record_is.root e c.members) z q o;
                   }));
             })
 

@@ -85,16 +85,17 @@ words_go_on n r frames notices w s i =
 
 -- what calls, words and frames keep of the links of messages
 keeps_midway : (P : Network → Type 0) → IsStable P →
-    (n r frames : ℕ) (notices : List ℕ) (hs : List Happening) (s : Endpoint) → P (new_group_network n).net →
-    P (unsettled (run n hs (new_group_network n)) (here (run n hs (new_group_network n)).net r) s frames notices).net
-keeps_midway P stable n r frames notices hs s new =
+    (n limit r frames : ℕ) (notices : List ℕ) (hs : List Happening) (s : Endpoint) → P (new_group_network n limit).net →
+    P (unsettled (run n hs (new_group_network n limit)) (here (run n hs (new_group_network n limit)).net r) s frames
+    notices).net
+keeps_midway P stable n limit r frames notices hs s new =
     subst P (sym
     (note_some_net notices (record (hear_word w e s) { net = hand_some (hear_at w.net e s) e s frames }) e s))
     (hand_some_keeps P stable frames (hear_at w.net e s) e s
-    (stable.heard w.net e s (run_keeps_net P stable n hs (new_group_network n) new)))
+    (stable.heard w.net e s (run_keeps_net P stable n hs (new_group_network n limit) new)))
   where
     w : GroupNetwork
-    w = run n hs (new_group_network n)
+    w = run n hs (new_group_network n limit)
 
     e : Endpoint
     e = here w.net r
@@ -119,10 +120,12 @@ held_before n u e x = go (is_same x e) refl
     go false h all = all
 
 pub midway_stands : MidwayStands
-midway_stands n r frames notices hs s few i =
+midway_stands n limit r frames notices hs s few i =
     record {
-      transfers = transfers_stand_in u.net (keeps_midway Standing standing_is_stable n r frames notices hs s new_stands)
-          (keeps_midway Agrees agreeing_is_stable n r frames notices hs s new_agrees) doing.sane.logs;
+      transfers =
+          transfers_stand_in u.net
+          (keeps_midway Standing standing_is_stable n limit r frames notices hs s (new_stands limit))
+          (keeps_midway Agrees agreeing_is_stable n limit r frames notices hs s (new_agrees limit)) doing.sane.logs;
       meetings = meetings_stand_in V u.net doing.sane doing.spoken doing.flows;
       notices =
           stands_by n V u few
@@ -137,7 +140,7 @@ midway_stands n r frames notices hs s few i =
     }
   where
     w : GroupNetwork
-    w = run n hs (new_group_network n)
+    w = run n hs (new_group_network n limit)
 
     e : Endpoint
     e = here w.net r
@@ -149,7 +152,7 @@ midway_stands n r frames notices hs s few i =
     V = λ a k. get_or (w.net.log a) k []
 
     kept : NetworkKept n V w
-    kept = run_kept_with_groups n V hs (new_group_network n) few (λ a k lt. refl) (new_kept_with_groups n V)
+    kept = run_kept_with_groups n V hs (new_group_network n limit) few (λ a k lt. refl) (new_kept_with_groups n limit V)
 
     apart : is_same s e ≡ false
     apart = apart_of s r (w.net.current r) (ap not i.apart)
@@ -159,7 +162,8 @@ midway_stands n r frames notices hs s few i =
         (le-ltb s.incarnation ((w.net.core e).known s.rank) i.fresh) kept
 
     live : Live n w
-    live = run_live n V hs (new_group_network n) few (λ a k lt. refl) (new_kept_with_groups n V) (new_live n)
+    live = run_live n V hs (new_group_network n limit) few (λ a k lt. refl) (new_kept_with_groups n limit V)
+        (new_live n limit)
 
     both : Both n u
     both = word_both n w e s frames notices few (real_of n w.net.current e few kept.lasting i.there refl)
@@ -167,8 +171,8 @@ midway_stands n r frames notices hs s few i =
 
     -- between events it holds of all that happens
     after : NoticesStand n (settle_event u e None)
-    after = subst (NoticesStand n) (run_push n hs (Word s r frames notices) (new_group_network n) ∙
-        words n r frames notices w s i) (notices_stand n (hs ++ Word s r frames notices ∷ []) few)
+    after = subst (NoticesStand n) (run_push n hs (Word s r frames notices) (new_group_network n limit) ∙
+        words n r frames notices w s i) (notices_stand n limit (hs ++ Word s r frames notices ∷ []) few)
 
     held : (x : ℕ) → x < n → AllByRecursion (IsOfWorld n) (u.member (here u.net x)).membership.held
     held x lt = held_before n u e (here u.net x) (after.held x lt)

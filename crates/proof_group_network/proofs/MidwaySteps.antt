@@ -36,6 +36,7 @@ unseen w mid e core messages m notices i =
       cores = i.cores;
       messages_are = i.messages_are;
       current_is = i.current_is;
+      limit_is = i.limit_is;
       member_is = i.member_is;
       members = i.members;
       notices_are = i.notices_are;

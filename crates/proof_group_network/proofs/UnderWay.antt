@@ -70,7 +70,7 @@ pub record NetworkKept (n : ℕ) (V : Values) (w : GroupNetwork) : Type 0 where
   pub honest : Honest n (groups_in w) (λ x. (w.member x).kept) w.notices
   -- no incarnation is above the last
   pub lasting : (r : ℕ) → w.net.current r ≤ 65535
-  pub seen : NetworkSeen V n w.history (views V w.net) w.net.link w.net.current (groups_in w)
+  pub seen : NetworkSeen V n w.net.message_limit w.history (views V w.net) w.net.link w.net.current (groups_in w)
 
 -- an event at e is under way since w0
 pub record NetworkDoing (n : ℕ) (V : Values) (w0 w : GroupNetwork) (e : Endpoint) (call : Option Call) : Type 0 where
@@ -79,8 +79,9 @@ pub record NetworkDoing (n : ℕ) (V : Values) (w0 w : GroupNetwork) (e : Endpoi
   pub due : Due w.net
   pub flows : Flows V w.net
   pub honest : Honest n (groups_in w) (λ x. (w.member x).kept) w.notices
-  pub before : NetworkSeen V n w.history (views V w0.net) w0.net.link w0.net.current (groups_in w0)
-  pub mid : NetworkMidway V (after_run (machine_opening n) before.events) e call (views V w.net) w.net.link
+  pub before : NetworkSeen V n w0.net.message_limit w.history (views V w0.net) w0.net.link w0.net.current (groups_in w0)
+  pub mid : NetworkMidway V (after_run (machine_opening n w0.net.message_limit) before.events) e call (views V w.net)
+      w.net.link
       w.net.current (groups_in w)
 
 -- WHAT A RANK DOES OF ITSELF
@@ -95,7 +96,8 @@ attempt_doing n V w0 w e call le real d =
       flows = d.flows;
       honest = t.honest;
       before = d.before;
-      mid = mid_group V (after_run (machine_opening n) d.before.events) e call (views V w.net) w.net.link w.net.current
+      mid = mid_group V (after_run (machine_opening n w0.net.message_limit) d.before.events) e call (views V w.net)
+          w.net.link w.net.current
           (groups_in w) (groups_in (attempt_at w e)) d.mid t.move;
     }
   where
@@ -126,7 +128,8 @@ note_doing n V w0 w e a call i x le real next d = attempt_doing n V w0 w1 e call
           honest = noted_honest n w.member w.entered w.made w.notices e a i x real is d.honest;
           before = d.before;
           mid = subst
-              (λ (g : Groups). NetworkMidway V (after_run (machine_opening n) d.before.events) e call
+              (λ (g : Groups). NetworkMidway V (after_run (machine_opening n w0.net.message_limit) d.before.events) e
+              call
               (views V w.net) w.net.link w.net.current g) (noted_groups w.member w.entered w.made e a x) d.mid;
         }
 
@@ -163,7 +166,7 @@ hear_doing_with_groups n V w0 w e a call now below real d =
     }
   where
     s : Machine
-    s = after_run (machine_opening n) d.before.events
+    s = after_run (machine_opening n w0.net.message_limit) d.before.events
 
     r : ℕ
     r = a.rank
@@ -243,7 +246,7 @@ hand_doing_with_groups n V w0 w e a call f now apart live heard next d =
     }
   where
     s : Machine
-    s = after_run (machine_opening n) d.before.events
+    s = after_run (machine_opening n w0.net.message_limit) d.before.events
 
     honest : IsHonest V a f
     honest = all_at (IsHonest V a) (w.net.link a e).accepted (w.net.link a e).handed f (d.sane.frames a e) next
@@ -342,7 +345,7 @@ call_doing_with_groups n V w e c le real now fits x k =
     (entered (entry_of (w.member e).membership c) refl fits)
   where
     s : Machine
-    s = after_run (machine_opening n) k.seen.events
+    s = after_run (machine_opening n w.net.message_limit) k.seen.events
 
     q : Option queues.Call
     q = queue_call (w.member e).membership c
@@ -395,10 +398,11 @@ call_doing_with_groups n V w e c le real now fits x k =
 
 pub settle_kept_with_groups : (n : ℕ) (V : Values) (w0 w : GroupNetwork) (e : Endpoint) (call : Option Call) →
     IsReal e → NetworkDoing n V w0 w e call → e.rank < n → w.net.current ≡ w0.net.current →
+    w.net.message_limit ≡ w0.net.message_limit →
     ((r : ℕ) → w0.net.current r ≤ 65535) → e.incarnation ≡ w.net.current e.rank →
     call_fault e (view V (w0.net.core e)) (w0.member e).membership call ≡ None →
     NetworkKept n V (settle_event w e (call_and_reply e (view blank (w0.net.core e)) (w0.member e).membership call))
-settle_kept_with_groups n V w0 w e call real d lt cur lasting now fit =
+settle_kept_with_groups n V w0 w e call real d lt cur limit lasting now fit =
     record {
       sane = settle_sane V w.net e w.net.history now d.sane;
       due = settle_due V w.net e w.net.history d.sane d.due;
@@ -407,7 +411,10 @@ settle_kept_with_groups n V w0 w e call real d lt cur lasting now fit =
       spoken = settle_spoken w.net e w.net.history d.spoken;
       honest = settled_honest n w.member w.entered w.made w.notices e real d.honest;
       lasting = λ r. subst (λ (u : ℕ → ℕ). u r ≤ 65535) (sym cur) (lasting r);
-      seen = group_seen_more V n w.history (views V w0.net) (views V w'.net) w0.net.link w.net.link w0.net.current
+      seen = subst (λ (l : ℕ). NetworkSeen V n l w'.history (views V w'.net) w'.net.link w'.net.current (groups_in w'))
+          (sym limit)
+          (group_seen_more V n w0.net.message_limit w.history (views V w0.net) (views V w'.net) w0.net.link w.net.link
+          w0.net.current
           w.net.current (groups_in w0) (groups_in w')
           (told_of e (call_and_reply e (view blank (w0.net.core e)) (w0.member e).membership call)
           (ready_by (ended_with (w.member e).membership.present) (core_ready (w.net.core e)))) d.before
@@ -422,11 +429,11 @@ settle_kept_with_groups n V w0 w e call real d lt cur lasting now fit =
           (with_local (views V w.net) e (after_settling (view V (w.net.core e)))) w.net.link w.net.current settled
           es) same_told
           (group_settle_follows V n s call (views V w.net) (views V w0.net) w0.net.link w.net.link w.net.current
-          (groups_in w0) (groups_in w) e joined d.before.groups_are d.mid lt now fit)))));
+          (groups_in w0) (groups_in w) e joined d.before.groups_are d.mid lt now fit))))));
     }
   where
     s : Machine
-    s = after_run (machine_opening n) d.before.events
+    s = after_run (machine_opening n w0.net.message_limit) d.before.events
 
     w' : GroupNetwork
     w' = settle_event w e (call_and_reply e (view blank (w0.net.core e)) (w0.member e).membership call)

@@ -1,7 +1,7 @@
 -- What a verdict says, and what a member has that gathered or was told.
-use Rattle.std.proofs.Common.{◌≡◌, ℕ, suc, ◌+◌, ◌≤◌, ◌<◌, Bool, true, false, List, [], ◌∷◌, ◌++◌, length}
+use Rattle.std.proofs.Common.{◌≡◌, ℕ, suc, ◌≤◌, ◌<◌, Bool, true, false, List, [], ◌∷◌, ◌++◌, length}
 use Rattle.std.proofs.Common.{map, Option, Some, None, if◌then◌else◌, ◌==◌, nat_lt, refl, sym, ap, ◌∙◌, subst}
-use Rattle.std.proofs.Common.{arith, ◌⊎◌, inl, inr}
+use Rattle.std.proofs.Common.{arith, ◌⊎◌, ⊎_elim, inl, inr}
 use Rattle.std.specs.List.{AllByRecursion}
 use Rattle.std.proofs.lemmas.List.{length-map}
 use mathlib.Core.Path.{fun_ext}
@@ -9,8 +9,10 @@ use Rattle.binomial_trees.specs.TreeLaws as tree
 use Rattle.perfect_groups.proofs.Distinct.{MadeApart, there_apart}
 use Rattle.perfect_groups.specs.Quiet.{IsOneOf}
 use Rattle.proof_group_network.proofs.Deciding.{Gathered, some_fed}
-use Rattle.proof_group_network.proofs.RoleLaws.{up_law}
-use Rattle.proof_group_network.proofs.Summing.{Collected, collect, collect_star, joined_pieces}
+use Rattle.proof_group_network.proofs.RoleLaws.{IsStar, chunks, up_law}
+use Rattle.proof_group_network.proofs.Summing.{Associates, Collected, collect, collect_star, folds_or_star}
+use Rattle.proof_group_network.proofs.Summing.{joined_pieces}
+use Rattle.proof_group_network.proofs.Summing.{star_chunks}
 use Rattle.perfect_groups.proofs.GroupProofs.{sound_held, sound_same}
 use Rattle.perfect_groups.specs.Collectives.{Kind, Part, Record, allreduce, barrier, bcast, dup, gather, reduce}
 use Rattle.perfect_groups.specs.Collectives.{scatter, split}
@@ -32,10 +34,11 @@ use Rattle.proof_group_network.specs.Network.{put_member}
 use Rattle.proof_group_network.specs.Notices.{Breaks, Decides, HasEntered, Hears}
 use Rattle.proof_group_network.specs.Notices.{Member, Note, Notice, Said, Stays, Verdict, Waits}
 use Rattle.proof_group_network.specs.Notices.{decides, differs_in, entries_to, feeders}
-use Rattle.proof_group_network.specs.Notices.{gathered_by, is_first, joined}
+use Rattle.proof_group_network.specs.Notices.{gathered_by, is_first, joined, joins}
 use Rattle.proof_group_network.specs.Notices.{notice, part_known, result_told}
 use Rattle.proof_group_network.specs.Notices.{told_on, verdict, verdict_by}
-use Rattle.proof_group_network.specs.Notices.{verdict_told, whom_to_tell}
+use Rattle.proof_group_network.specs.Notices.{verdict_told, way_of, whom_to_tell}
+use Rattle.proof_group_network.specs.Roles.{is_ordered, stands_for, way_by}
 use Rattle.vocabulary.specs.Endpoints.{is_same}
 use Rattle.vocabulary.specs.declared.endpoint.Endpoint.{Endpoint}
 use Rattle.proof_pure_network.proofs.JobLemmas.{All_append}
@@ -67,40 +70,42 @@ says false r d (Some ps) s = go (all_agree r ps) refl
 
 abbrev pub SaysAt : Endpoint → Communicator → (number : ℕ) → Part → List Note → Verdict → Type 0
 SaysAt e c k p notes v =
-    Says (differs_in c.context k p.record_is notes) p.record_is (decides p.record_is.kind p.record_is.root e c.members)
+    Says (differs_in c.context k p.record_is notes) p.record_is
+    (decides (way_of p.record_is) p.record_is.root e c.members)
     (gathered_by e c k p notes) (result_told c.context k notes) v
 
 pub says_at : (e : Endpoint) (c : Communicator) (k : ℕ) (p : Part) (notes : List Note) (v : Verdict) →
     verdict e c k p notes ≡ v → SaysAt e c k p notes v
 says_at e c k p notes v h =
     subst (λ (x : Verdict). SaysAt e c k p notes x) h
-    (says (differs_in c.context k p.record_is notes) p.record_is (decides p.record_is.kind p.record_is.root e c.members)
+    (says (differs_in c.context k p.record_is notes) p.record_is
+    (decides (way_of p.record_is) p.record_is.root e c.members)
     (gathered_by e c k p notes) (result_told c.context k notes))
 
 -- KINDS
 
-pub making_first : (k : Kind) (root : ℕ) (e : Endpoint) (ms : List Endpoint) → is_making k ≡ true →
-    decides k root e ms ≡ true → is_first e ms ≡ true
-making_first barrier root e ms h d = absurd (grind arith)
-making_first bcast root e ms h d = absurd (grind arith)
-making_first gather root e ms h d = absurd (grind arith)
-making_first scatter root e ms h d = absurd (grind arith)
-making_first reduce root e ms h d = absurd (grind arith)
-making_first allreduce root e ms h d = absurd (grind arith)
-making_first dup root e ms h d = d
-making_first split root e ms h d = d
+pub making_first : (k : Kind) (b : Bool) (root : ℕ) (e : Endpoint) (ms : List Endpoint) → is_making k ≡ true →
+    decides (way_by k b) root e ms ≡ true → is_first e ms ≡ true
+making_first barrier b root e ms h d = absurd (grind arith)
+making_first bcast b root e ms h d = absurd (grind arith)
+making_first gather b root e ms h d = absurd (grind arith)
+making_first scatter b root e ms h d = absurd (grind arith)
+making_first reduce b root e ms h d = absurd (grind arith)
+making_first allreduce b root e ms h d = absurd (grind arith)
+making_first dup b root e ms h d = d
+making_first split b root e ms h d = d
 
 -- who makes communicators tells no result on
-pub making_told : (k : Kind) (root : ℕ) (e d : Endpoint) (ms : List Endpoint) → is_making k ≡ true →
-    decides k root e ms ≡ false → IsOneOf d (told_on k root e ms) → ⊥
-making_told barrier root e d ms h g o = absurd (grind arith)
-making_told bcast root e d ms h g o = absurd (grind arith)
-making_told gather root e d ms h g o = absurd (grind arith)
-making_told scatter root e d ms h g o = absurd (grind arith)
-making_told reduce root e d ms h g o = absurd (grind arith)
-making_told allreduce root e d ms h g o = absurd (grind arith)
-making_told dup root e d ms h g o = subst (λ (t : Bool). IsOneOf d (if t then ms else [])) g o
-making_told split root e d ms h g o = subst (λ (t : Bool). IsOneOf d (if t then ms else [])) g o
+pub making_told : (k : Kind) (b : Bool) (root : ℕ) (e d : Endpoint) (ms : List Endpoint) → is_making k ≡ true →
+    decides (way_by k b) root e ms ≡ false → IsOneOf d (told_on (way_by k b) root e ms) → ⊥
+making_told barrier b root e d ms h g o = absurd (grind arith)
+making_told bcast b root e d ms h g o = absurd (grind arith)
+making_told gather b root e d ms h g o = absurd (grind arith)
+making_told scatter b root e d ms h g o = absurd (grind arith)
+making_told reduce b root e d ms h g o = absurd (grind arith)
+making_told allreduce b root e d ms h g o = absurd (grind arith)
+making_told dup b root e d ms h g o = subst (λ (t : Bool). IsOneOf d (if t then ms else [])) g o
+making_told split b root e d ms h g o = subst (λ (t : Bool). IsOneOf d (if t then ms else [])) g o
 
 pub first_is : (e : Endpoint) (ms : List Endpoint) → is_first e ms ≡ true → first_of ms e ≡ e
 first_is e [] h = refl
@@ -268,10 +273,9 @@ pub gathered_is : (n : ℕ) (g : Groups) (e : Endpoint) (c : Communicator) (k : 
     (ps : List Part) → Sound n g → MadeApart g.made → IsThere n g.made c → AllByRecursion (IsTrueNote n g e) notes →
     g.entered c.context k e ≡ Some p →
     gathered_by e c k p notes ≡ Some ps → all_agree p.record_is ps ≡ true →
-    Gathered (g.entered c.context k) p.record_is.kind p.record_is e c.members p ps
+    Gathered (g.entered c.context k) (way_of p.record_is) p.record_is e c.members p ps
 gathered_is n g e c k p notes ps sound once there a own h ag =
     record {
-      kind_is = refl;
       own = own;
       record_is = refl;
       apart = there_apart n g.made c once there;
@@ -282,18 +286,58 @@ gathered_is n g e c k p notes ps sound once there a own h ag =
       filled = t.filled;
       sums = t.sums;
       star = λ st. collect_star n g e c k p notes sound there a own st
-          (feeders p.record_is.kind p.record_is.root e c.members) ps h ag;
+          (feeders (way_of p.record_is) p.record_is.root e c.members) ps h ag;
     }
   where
     t : Collected (g.entered c.context k) p.record_is e c.members
-        (feeders p.record_is.kind p.record_is.root e c.members) ps
-    t = collect n g e c k p notes sound there a own (feeders p.record_is.kind p.record_is.root e c.members) ps h ag
+        (feeders (way_of p.record_is) p.record_is.root e c.members) ps
+    t = collect n g e c k p notes sound there a own (feeders (way_of p.record_is) p.record_is.root e c.members) ps h ag
 
 some_pieces : (r : Record) (pieces : List (List Part)) (ps : List Part) → tree.AreFilled pieces →
     map (joined r) pieces ≡ ps → (ps ≡ [] → ⊥) → 0 < length (tree.joined pieces)
 some_pieces r [] ps fill sums some = absurd (some (sym sums))
 some_pieces r ([] ∷ pieces) ps fill sums some = absurd (let z : 0 < 0 = fill.0 in omega (arith, z))
 some_pieces r ((x ∷ xs) ∷ pieces) ps fill sums some = omega arith
+
+-- those for whom the word of a member stands, that gathered this
+record Word (F : Endpoint → Option Part) (r : Record) (e : Endpoint) (ms : List Endpoint)
+    (ps : List Part) : Type 0 where
+  pub parts : List Part
+  pub are : all_parts F (stands_for (way_of r) e ms) ≡ Some parts
+  pub agreeing : all_agree r parts ≡ true
+  pub filled : 0 < length parts
+  pub value : joined r parts ≡ joined r ps
+
+some_parts : (ps : List Part) → (ps ≡ [] → ⊥) → 0 < length ps
+some_parts [] some = absurd (some refl)
+some_parts (p ∷ ps) some = omega arith
+
+word_of : (F : Endpoint → Option Part) (r : Record) (e : Endpoint) (ms : List Endpoint) (p : Part) (ps : List Part) →
+    (t : Gathered F (way_of r) r e ms p ps) → (ps ≡ [] → ⊥) →
+    chunks (way_of r) e ms (feeders (way_of r) r.root e ms) ≡ stands_for (way_of r) e ms → Word F r e ms ps
+word_of F r e ms p ps t some up =
+    ⊎_elim by_fold over_star (folds_or_star r.kind (is_ordered r.operation r.basic) r.operation r.basic refl)
+  where
+    by_fold : Associates (joins r.kind r.operation r.basic) → Word F r e ms ps
+    by_fold assoc =
+        record {
+          parts = tree.joined t.pieces;
+          are = subst (λ (xs : List Endpoint). all_parts F xs ≡ Some (tree.joined t.pieces)) up t.all;
+          agreeing = t.all_agreeing;
+          filled = some_pieces r t.pieces ps t.filled t.sums some;
+          value = joined_pieces r assoc t.pieces t.filled ∙ ap (joined r) t.sums;
+        }
+
+    over_star : IsStar (way_of r) → Word F r e ms ps
+    over_star star =
+        record {
+          parts = ps;
+          are = subst (λ (xs : List Endpoint). all_parts F xs ≡ Some ps)
+              (sym (star_chunks (way_of r) e ms (feeders (way_of r) r.root e ms) star) ∙ up) (t.star star);
+          agreeing = t.agreeing;
+          filled = some_parts ps some;
+          value = refl;
+        }
 
 -- the word that it then tells is true
 pub entries_true : (n : ℕ) (g : Groups) (e : Endpoint) (c : Communicator) (k : ℕ) (p : Part) (notes : List Note)
@@ -305,16 +349,16 @@ entries_true n g e c k p notes ps sound once there a own h ag true = tt
 entries_true n g e c k p notes ps sound once there a own h ag false =
     others_all_of (λ (o : Endpoint × Notice). IsTrue n g e o.0 o.1) e
     (λ m. notice c.context k (HasEntered (joined p.record_is ps)))
-    (whom_to_tell p.record_is.kind p.record_is.root e c.members) (λ m o d. entries m o d)
+    (whom_to_tell (way_of p.record_is) p.record_is.root e c.members) (λ m o d. entries m o d)
   where
-    t : Gathered (g.entered c.context k) p.record_is.kind p.record_is e c.members p ps
+    t : Gathered (g.entered c.context k) (way_of p.record_is) p.record_is e c.members p ps
     t = gathered_is n g e c k p notes ps sound once there a own h ag
 
     some : ps ≡ [] → ⊥
-    some q = some_fed (part_known e p c.context k notes) p.record_is.kind p.record_is.root e c.members
+    some q = some_fed (part_known e p c.context k notes) (way_of p.record_is) p.record_is.root e c.members
         (h ∙ ap (λ (x : List Part). Some x) q)
 
-    entries : (m : Endpoint) → IsOneOf m (whom_to_tell p.record_is.kind p.record_is.root e c.members) →
+    entries : (m : Endpoint) → IsOneOf m (whom_to_tell (way_of p.record_is) p.record_is.root e c.members) →
         is_same m e ≡ false → Entries n g.entered g.made e c.context k (joined p.record_is ps)
     entries m o d =
         record {
@@ -324,13 +368,16 @@ entries_true n g e c k p notes ps sound once there a own h ag false =
           comm = c;
           there = there;
           context_is = refl;
-          parts = tree.joined t.pieces;
-          parts_are = subst (λ (xs : List Endpoint). all_parts (g.entered c.context k) xs ≡ Some (tree.joined t.pieces))
-              (up_law p.record_is.kind p.record_is.root e c.members t.apart m o d) t.all;
-          agreeing = t.all_agreeing;
-          filled = some_pieces p.record_is t.pieces ps t.filled t.sums some;
-          value = joined_pieces p.record_is t.pieces t.filled ∙ ap (joined p.record_is) t.sums;
+          parts = W.parts;
+          parts_are = W.are;
+          agreeing = W.agreeing;
+          filled = W.filled;
+          value = W.value;
         }
+      where
+        W : Word (g.entered c.context k) p.record_is e c.members ps
+        W = word_of (g.entered c.context k) p.record_is e c.members p ps t some
+            (up_law (way_of p.record_is) p.record_is.root e c.members t.apart m o d)
 
 pub both_true : (n : ℕ) (g : Groups) (e : Endpoint) (xs ys : List (Endpoint × Notice)) →
     AllByRecursion (λ (o : Endpoint × Notice). IsTrue n g e o.0 o.1) xs →

@@ -93,7 +93,8 @@ pub record Stands (n : ℕ) (u : GroupNetwork) : Type 0 where
 -- is there in the middle of a word, too
 abbrev pub MidwayStands : Type 0
 MidwayStands =
-    (n r frames : ℕ) (notices : List ℕ) (happenings : List Happening) (s : Endpoint) → n ≤ 65536 →
-    IsWord n r (run n happenings (new_group_network n)) s →
-    Stands n (unsettled (run n happenings (new_group_network n)) (here (run n happenings (new_group_network n)).net r) s
+    (n limit r frames : ℕ) (notices : List ℕ) (happenings : List Happening) (s : Endpoint) → n ≤ 65536 →
+    IsWord n r (run n happenings (new_group_network n limit)) s →
+    Stands n (unsettled (run n happenings (new_group_network n limit))
+    (here (run n happenings (new_group_network n limit)).net r) s
     frames notices)

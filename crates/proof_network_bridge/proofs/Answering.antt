@@ -29,7 +29,7 @@ use Rattle.proof_group_network.specs.NoticesStand.{heard_member}
 use Rattle.proof_group_network.specs.SessionLaws.{IsNext}
 use Rattle.proof_link_truth.specs.Events as below
 use Rattle.proof_link_truth.specs.Events.{MaySendAll, all_addressed}
-use Rattle.link_truth.specs.Wire.{place_of}
+use Rattle.link_truth.specs.Wire.{in_job, place_of}
 use Rattle.endpoint_links.specs.Links.{LinksOf, accept_all, handed_on}
 use Rattle.proof_pure_network.specs.Frames.{Cts, Frame}
 use Rattle.proof_pure_network.specs.Network.{here}
@@ -48,7 +48,7 @@ use Rattle.rendezvous.specs.Pieces.{piece_bytes, piece_count, pieces_of}
 use Rattle.sessions.specs.Events.{after_event, event_limit}
 use Rattle.sessions.specs.Heard.{HeardText}
 use Rattle.sessions.specs.SessionsState.{SessionsState, known_endpoint}
-use Rattle.vocabulary.specs.Limits.{send_limit}
+use Rattle.vocabulary.specs.Limits.{greatest_limit}
 use Rattle.vocabulary.specs.declared.endpoint.Endpoint.{Endpoint}
 use Rattle.proof_network_bridge.specs.Payloads.{ArePayloads, IsAnnouncedPayload, IsLargeNotice}
 use Rattle.proof_network_bridge.proofs.Carried.{IsAlone, IsSilent, alone_step}
@@ -60,6 +60,7 @@ use Rattle.proof_network_bridge.proofs.OfMessages.{known_as}
 use Rattle.proof_network_bridge.proofs.Payloads.{payloads_grow, said_same}
 use Rattle.proof_network_bridge.proofs.Words.{hands_next}
 use Rattle.proof_network_bridge.proofs.Worlds.{only_handed}
+use Rattle.proof_engine_steps.proofs.DataSent.{bytes_leave}
 
 -- ---- the payload that is asked for
 
@@ -110,7 +111,7 @@ record IsAskedFor (sessions : Sessions) (said : Saying) (own s : Endpoint) (tran
   message : CollectiveMessage
   notice : IsLargeNotice sessions said own s transfer message
   bytes_are : bytes ≡ bytes_of_message message
-  short : length bytes ≤ send_limit
+  short : length bytes ≤ greatest_limit
 
 is_asked_for : (sessions : Sessions) (said : Saying) (own s : Endpoint) (known : List ℕ) (p : payloads.State)
     (transfer : ℕ) → ArePayloads sessions said own known p → (k : IsKept p s.rank transfer) →
@@ -196,24 +197,6 @@ pieces_addressed known rank transfer d is (p ∷ ps) =
     ∙ ap (λ (ts : List (Endpoint × FrameText)).
     (d, DataFrame (record { transfer = transfer; offset = p.0; bytes = p.1 })) ∷ ts)
     (pieces_addressed known rank transfer d is ps)
-
--- data that can go can leave for another rank
-can_leave : (p : Place) (rank number : ℕ) → (rank ≡ p.endpoint.rank → ⊥) → number < 2 ^ 32 → (ps : List (ℕ × List ℕ)) →
-    AllByRecursion (CanGo p.size) (data_frames rank number ps) →
-    AllByRecursion (CanLeave p) (data_frames rank number ps)
-can_leave p rank number apart width [] all = tt
-can_leave p rank number apart width (x ∷ xs) all =
-    let within : x.0 + 1024 ≤ 1048576 = all.0.fits.within in
-    let offset : x.0 < 2 ^ 32 = omega (arith, within) in (
-      record {
-        there = all.0.there;
-        apart = apart;
-        fits = all.0.fits;
-        width =
-            record { transfer = width; offset = offset };
-      },
-      can_leave p rank number apart width xs all.1,
-    )
 
 -- the parts of a notice announce nothing
 parts_silent : (d : Endpoint) (i part more : ℕ) →
@@ -312,13 +295,14 @@ taken_step n r engines u T old h t x is ours fine =
         (neither_fault (unwanted t.clearance)
         (fault_of_sessions (event_limit old.sessions (Some h) (data_for old.payloads h t))) fine).1
 
-    limit : length bytes ≤ 1048576
-    limit = subst (λ (bs : List ℕ). length bs ≤ 1048576) p.bytes_are p.short
+    limit : length bytes ≤ 2147483647
+    limit = subst (λ (bs : List ℕ). length bs ≤ 2147483647) p.bytes_are p.short
 
     may : MaySendAll n r sendings
-    may = may_send n own (data_frames s.rank t.transfer (pieces_of bytes))
-        (can_leave (place_of n own) s.rank t.transfer (eqb-false s.rank r o.apart) says.carried.width.transfer
-        (pieces_of bytes) (data_go n s.rank t.transfer bytes o.source limit))
+    may = may_send n old.sessions.place.message_limit own (data_frames s.rank t.transfer (pieces_of bytes))
+        (bytes_leave (in_job old.sessions.place.message_limit (place_of n own)) s.rank t.transfer bytes o.source
+        (eqb-false s.rank r o.apart)
+        says.carried.width.transfer limit)
 
     next : IsNext o.sessions s own (Answers number)
     next = is_of_answer u o.said x.texts o.sessions own s t number o.between says.next p.notice.named

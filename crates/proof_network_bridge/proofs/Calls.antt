@@ -23,10 +23,10 @@ use Rattle.observation.specs.EngineCalls.{told_call, told_completion}
 use Rattle.vocabulary.specs.declared.envelope.Status.{Status}
 
 -- what a call leaves that was answered so
-abbrev pub LeavesCalled : (n : ℕ) → (before : List Happening) → List EngineState → List (ℕ × List ℕ) →
+abbrev pub LeavesCalled : (n limit : ℕ) → (before : List Happening) → List EngineState → List (ℕ × List ℕ) →
     (r : ℕ) → List Entry → (old mid : EngineState) → Call → Reply → Type 0
-LeavesCalled n before engines datagrams r history old mid call reply =
-    LeavesFollowedOn n before engines datagrams r mid
+LeavesCalled n limit before engines datagrams r history old mid call reply =
+    LeavesFollowedOn n limit before engines datagrams r mid
     (history ++
     (told_call old.sessions.place.endpoint call (Some reply) ++
     told_completion old.sessions.place.endpoint (completion_of mid)))
@@ -38,7 +38,7 @@ CoreCallsFollow =
     (old mid : EngineState) (call : Call) (reply : Reply) →
     (f : IsFollowed n engines datagrams history) → slice_get engines r ≡ Some old → IsTaken reply →
     CallGives old call reply mid → IsAnswered old call reply mid →
-    LeavesCalled n f.happenings engines datagrams r history old mid call reply
+    LeavesCalled n f.limit f.happenings engines datagrams r history old mid call reply
 
 -- the entry of a collective
 abbrev pub EntriesFollow : Type 0
@@ -46,7 +46,7 @@ EntriesFollow =
     (n r : ℕ) (engines : List EngineState) (datagrams : List (ℕ × List ℕ)) (history : List Entry)
     (old mid : EngineState) (comm : Option ℕ) (x : collectives.Entry) (reply : Reply) →
     (f : IsFollowed n engines datagrams history) → slice_get engines r ≡ Some old → IsEntered old comm x reply mid →
-    LeavesCalled n f.happenings engines datagrams r history old mid (calls.Enter comm x) reply
+    LeavesCalled n f.limit f.happenings engines datagrams r history old mid (calls.Enter comm x) reply
 
 -- a question
 abbrev pub QuestionsFollow : Type 0
@@ -54,7 +54,7 @@ QuestionsFollow =
     (n r : ℕ) (engines : List EngineState) (datagrams : List (ℕ × List ℕ)) (history : List Entry)
     (old mid : EngineState) (comm : Option ℕ) (q : Question) (fact : Fact) →
     (f : IsFollowed n engines datagrams history) → slice_get engines r ≡ Some old → IsTold old comm q fact mid →
-    LeavesCalled n f.happenings engines datagrams r history old mid (calls.Ask comm q) (replies.Fact fact)
+    LeavesCalled n f.limit f.happenings engines datagrams r history old mid (calls.Ask comm q) (replies.Fact fact)
 
 -- a probe that takes nothing out
 abbrev pub LooksFollow : Type 0
@@ -62,7 +62,7 @@ LooksFollow =
     (n r : ℕ) (engines : List EngineState) (datagrams : List (ℕ × List ℕ)) (history : List Entry)
     (old mid : EngineState) (p : Probe) (found : Option Status) →
     (f : IsFollowed n engines datagrams history) → slice_get engines r ≡ Some old → IsLooked old p found mid →
-    LeavesCalled n f.happenings engines datagrams r history old mid (calls.Iprobe p) (replies.Probed found)
+    LeavesCalled n f.limit f.happenings engines datagrams r history old mid (calls.Iprobe p) (replies.Probed found)
 
 -- a question that is taken is answered with a fact
 told : QuestionsFollow →
@@ -70,10 +70,10 @@ told : QuestionsFollow →
     (old mid : EngineState) (comm : Option ℕ) (q : Question) (reply : Reply) →
     (f : IsFollowed n engines datagrams history) → slice_get engines r ≡ Some old → IsTaken reply →
     AskingGives old comm q reply mid →
-    LeavesCalled n f.happenings engines datagrams r history old mid (calls.Ask comm q) reply
+    LeavesCalled n f.limit f.happenings engines datagrams r history old mid (calls.Ask comm q) reply
 told questions n r engines datagrams history old mid comm q reply f there taken gives =
     let a : IsAnsweredWith old comm q reply mid = asked old mid comm q reply taken gives in
-    subst (λ (x : Reply). LeavesCalled n f.happenings engines datagrams r history old mid (calls.Ask comm q) x)
+    subst (λ (x : Reply). LeavesCalled n f.limit f.happenings engines datagrams r history old mid (calls.Ask comm q) x)
     (sym a.reply_is) (questions n r engines datagrams history old mid comm q a.fact f there a.told)
 
 -- such a probe that is taken is answered with what it found
@@ -82,27 +82,29 @@ probed : LooksFollow →
     (old mid : EngineState) (p : Probe) (reply : Reply) →
     (f : IsFollowed n engines datagrams history) → slice_get engines r ≡ Some old → IsTaken reply →
     LookingGives old p reply mid →
-    LeavesCalled n f.happenings engines datagrams r history old mid (calls.Iprobe p) reply
+    LeavesCalled n f.limit f.happenings engines datagrams r history old mid (calls.Iprobe p) reply
 probed looks n r engines datagrams history old mid p reply f there taken gives =
     let a : IsLookedWith old p reply mid = looked old mid p reply taken gives in
-    subst (λ (x : Reply). LeavesCalled n f.happenings engines datagrams r history old mid (calls.Iprobe p) x)
+    subst (λ (x : Reply). LeavesCalled n f.limit f.happenings engines datagrams r history old mid (calls.Iprobe p) x)
     (sym a.reply_is) (looks n r engines datagrams history old mid p a.found f there a.looked)
 
 -- ---- every call
 
 pub calls_follow : CoreCallsFollow → EntriesFollow → QuestionsFollow → LooksFollow → CallsFollowOn
-calls_follow core entries questions looks n r before engines datagrams history old mid call reply by there taken gives =
+calls_follow core entries questions looks n limit r before engines datagrams history old mid call reply by there taken
+    gives =
     go call gives
   where
     f : IsFollowed n engines datagrams history
-    f = followed n before engines datagrams history by
+    f = followed n limit before engines datagrams history by
 
     plain : (c : Call) → CallGives old c reply mid → CoreGives old c reply mid →
-        LeavesCalled n before engines datagrams r history old mid c reply
+        LeavesCalled n limit before engines datagrams r history old mid c reply
     plain c given g =
         core n r engines datagrams history old mid c reply f there taken given (answered old mid c reply taken g)
 
-    go : (c : Call) → CallGives old c reply mid → LeavesCalled n before engines datagrams r history old mid c reply
+    go : (c : Call) → CallGives old c reply mid →
+        LeavesCalled n limit before engines datagrams r history old mid c reply
     go (calls.Isend s) g = plain (calls.Isend s) g g
     go (calls.Irecv v) g = plain (calls.Irecv v) g g
     go (calls.Wait q) g = plain (calls.Wait q) g g

@@ -146,6 +146,7 @@ alone_step n r engines u T old mid h b sendings out x is alone may fine silent c
     }))
     (alone.completion ∙ o.completion)
     (subst (λ (k : List ℕ). ArePayloads sessions o.said own k mid.payloads) (sym known_is) kept)
+    (ap (λ (t : SessionsState). t.place) alone.sessions ∙ keeps.place)
   where
     own : Endpoint
     own = here u.net r

@@ -3,23 +3,25 @@ use Rattle.std.proofs.Common.{◌≡◌, ℕ, List, [], ◌∷◌, refl, ap}
 use Rattle.std.specs.List.{AllByRecursion}
 use Rattle.std.proofs.lemmas.Bool.{ne_eqb}
 use Rattle.vocabulary.specs.declared.endpoint.Endpoint.{Endpoint}
+use Rattle.vocabulary.specs.declared.message_limit.MessageLimit.{MessageLimit}
 use Rattle.datagram.specs.Spelling.{FrameText, OutgoingText}
 use Rattle.proof_engine_view.specs.Standing.{CanLeave, all_gone, gone_to}
 use Rattle.proof_link_truth.specs.Events.{MaySendAll, all_addressed}
-use Rattle.link_truth.specs.Wire.{place_of}
+use Rattle.link_truth.specs.Wire.{in_job, place_of}
 
 -- what can leave a rank may be sent
-pub may_send : (n : ℕ) (own : Endpoint) (fs : List OutgoingText) → AllByRecursion (CanLeave (place_of n own)) fs →
+pub may_send : (n : ℕ) (l : MessageLimit) (own : Endpoint) (fs : List OutgoingText) →
+    AllByRecursion (CanLeave (in_job l (place_of n own))) fs →
     MaySendAll n own.rank fs
-may_send n own [] all = tt
-may_send n own (f ∷ fs) all = (
+may_send n l own [] all = tt
+may_send n l own (f ∷ fs) all = (
   record {
     there = all.0.there;
     apart = ne_eqb f.target own.rank all.0.apart;
     carried =
         record { fits = all.0.fits; width = all.0.width };
   },
-  may_send n own fs all.1,
+  may_send n l own fs all.1,
 )
 
 -- it goes to the known endpoints

@@ -1,5 +1,6 @@
 -- A world of engines follows the pure network with communicators: the laws of the parts, put together.
 use Rattle.std.proofs.Common.{[]}
+use Rattle.vocabulary.specs.MessageLimits.{limit_of}
 use Rattle.perfect_groups.proofs.GroupRuns.{one_group_for_each_context}
 use Rattle.proof_collective_steps.proofs.RankSteps.{entries_of_ranks_follow, openings_are_shown}
 use Rattle.proof_engine_matching.proofs.AnnouncedLemmas.{announcements_agree}
@@ -55,7 +56,8 @@ pub opening_follows_none : OpeningFollowsNone
 opening_follows_none = opening.opening_follows opening_is_shown openings_are_shown new_sessions_are_part opening_is_true
 
 pub opening_follows : OpeningFollows
-opening_follows n few = followed n [] (opening_engines n 0 n) [] [] (opening_follows_none n few)
+opening_follows l n few =
+    followed n (limit_of l) [] (opening_engines l n 0 n) [] [] (opening_follows_none l n few)
 
 -- each kind of calls
 core_calls_follow : CoreCallsFollow
@@ -81,8 +83,8 @@ calls_follow_on = calls.calls_follow core_calls_follow entries_follow questions_
 -- whoever is followed by some happenings is followed
 pub calls_follow : CallsFollow
 calls_follow n r engines datagrams history old mid call reply f there taken gives =
-    followed_on n r f.happenings _ _ _
-    (calls_follow_on n r f.happenings engines datagrams history old mid call reply
+    followed_on n f.limit r f.happenings _ _ _
+    (calls_follow_on n f.limit r f.happenings engines datagrams history old mid call reply
     (by_happenings n engines datagrams history f) there taken gives)
 
 -- each kind of frame of messages is taken in as it is in the network
@@ -109,8 +111,8 @@ datagrams_follow_on = delivering.datagrams_follow news_follow wakes_are_shown (r
 
 pub datagrams_follow : DatagramsFollow
 datagrams_follow n r number bytes engines datagrams history old mid f there emitted gives =
-    followed_on n r f.happenings _ _ _
-    (datagrams_follow_on n r number bytes f.happenings engines datagrams history old mid
+    followed_on n f.limit r f.happenings _ _ _
+    (datagrams_follow_on n f.limit r number bytes f.happenings engines datagrams history old mid
     (by_happenings n engines datagrams history f) there emitted gives)
 
 pub refusals_stand : RefusalsStand
@@ -118,8 +120,8 @@ refusals_stand = unanswered.refusals_stand rest_is_true refusals_are_true
 
 pub refusals_follow : RefusalsFollow
 refusals_follow n r number bytes engines datagrams history old mid why f there emitted gives =
-    followed n f.happenings _ _ _
-    (refusals_stand n r number bytes f.happenings engines datagrams history old mid why
+    followed n f.limit f.happenings _ _ _
+    (refusals_stand n f.limit r number bytes f.happenings engines datagrams history old mid why
     (by_happenings n engines datagrams history f) there emitted gives)
 
 pub ticks_stand : TicksStand
@@ -127,8 +129,8 @@ ticks_stand = unanswered.ticks_stand ticks_are_true
 
 pub ticks_follow : TicksFollow
 ticks_follow n r now engines datagrams history old mid f there gives =
-    followed n f.happenings _ _ _
-    (ticks_stand n r now f.happenings engines datagrams history old mid
+    followed n f.limit f.happenings _ _ _
+    (ticks_stand n f.limit r now f.happenings engines datagrams history old mid
     (by_happenings n engines datagrams history f) there gives)
 
 pub restarts_follow_on : RestartsFollowOn
@@ -137,8 +139,9 @@ restarts_follow_on =
 
 pub restarts_follow : RestartsFollow
 restarts_follow n r engines datagrams history old f there few =
-    followed_on n r f.happenings _ _ _
-    (restarts_follow_on n r f.happenings engines datagrams history old (by_happenings n engines datagrams history f)
+    followed_on n f.limit r f.happenings _ _ _
+    (restarts_follow_on n f.limit r f.happenings engines datagrams history old
+    (by_happenings n engines datagrams history f)
     there few)
 
 seen_laws : SeenLaws

@@ -48,7 +48,7 @@ use Rattle.proof_group_network.specs.Network.{Ask, GroupNetwork, happens}
 use Rattle.proof_link_truth.specs.Events.{EventsAreTrue, LeavesTrue, MaySendAll, all_addressed}
 use Rattle.endpoint_links.specs.Links.{LinksOf}
 use Rattle.endpoint_links.specs.Links as carriers
-use Rattle.link_truth.specs.Wire.{place_of}
+use Rattle.link_truth.specs.Wire.{in_job, place_of}
 use Rattle.proof_pure_network.specs.Claims.{ClaimsOnce}
 use Rattle.proof_pure_network.specs.Core.{Core, view}
 use Rattle.proof_pure_network.specs.Engine.{called, core_ready, core_settled}
@@ -368,14 +368,16 @@ pub core_calls_follow : CallsAreShown → EventsAreTrue → QueueCallsHappen →
     CoreCallsFollow
 core_calls_follow shows truth happen carried taken n r engines datagrams history old mid call reply f there is gives
     answer =
-    subst (λ (es : List Entry). LeavesFollowedOn n f.happenings engines datagrams r mid (history ++ es)) entries_are
+    subst (λ (es : List Entry). LeavesFollowedOn n f.limit f.happenings engines datagrams r mid (history ++ es))
+    entries_are
     (followed_after n r engines datagrams history _ mid (Ask r (call_seen call)) (core_settled (called own core q).core)
     (accept_all w.net.link own out) (w.member own) w.notices
     f.joined.said (carriers.accept_all f.joined.texts own texts) sessions f after between
-    (only_out f.joined.sessions own (frames_carried out)) leaves held (said_same f.joined.said) kept refl)
+    (only_out f.joined.sessions own (frames_carried out)) leaves held (said_same f.joined.said) kept refl old
+    there stands)
   where
     w : GroupNetwork
-    w = network_after n f.happenings
+    w = network_after n f.limit f.happenings
 
     own : Endpoint
     own = here w.net r
@@ -407,7 +409,7 @@ core_calls_follow shows truth happen carried taken n r engines datagrams history
     at_own : IsHeldBy w f.joined.sessions r old
     at_own = f.joined.held r old there
 
-    place : (r < n) × (old.sessions.place ≡ place_of n own)
+    place : (r < n) × (old.sessions.place ≡ in_job old.sessions.place.message_limit (place_of n own))
     place = place_is n r engines datagrams w old f.joined there
 
     free : IsAllowed old answer.asked
@@ -415,16 +417,19 @@ core_calls_follow shows truth happen carried taken n r engines datagrams history
 
     -- no two messages there name one of its own sends
     claimed : ClaimsOnce core
-    claimed = (group_meetings_stand n f.happenings (omega (arith, f.few))).claimed own
+    claimed = (group_meetings_stand n f.limit f.happenings (omega (arith, f.few))).claimed own
 
     shown : (serial : ℕ) → IsCalled (a serial) old.core known core answer.asked answer.answer mid.core
     shown serial =
         shows (a serial) old.core mid.core known core answer.asked answer.answer (at_own.queues serial) claimed
         answer.within free.core answer.core
 
-    c : (serial : ℕ) → IsCalledAt (a serial) (place_of n own) old.core known core answer.asked answer.answer mid.core
+    c : (serial : ℕ) →
+        IsCalledAt (a serial) (in_job old.sessions.place.message_limit (place_of n own)) old.core known core
+        answer.asked answer.answer mid.core
     c serial =
-        called_at (a serial) (place_of n own) old.core known core answer.asked answer.answer mid.core
+        called_at (a serial) (in_job old.sessions.place.message_limit (place_of n own)) old.core known core
+        answer.asked answer.answer mid.core
         (at_own.placed ∙ place.1) (shown serial)
 
     -- the network takes the call
@@ -444,7 +449,8 @@ core_calls_follow shows truth happen carried taken n r engines datagrams history
         (carriers.accept_all f.joined.texts own texts) w.net.current
     sent = truth n r (sessions_in engines) datagrams f.joined.texts w.net.current old.sessions None
         (as_list frame) f.joined.links (is_at n r engines datagrams w old f.joined there) tt
-        (may_send n own (as_list frame) (c 0).leaves) (frame_free old.sessions frame free.frame)
+        (may_send n old.sessions.place.message_limit own (as_list frame) (c 0).leaves)
+        (frame_free old.sessions frame free.frame)
 
     leaves : LeavesTrue n (sessions_in engines) datagrams r mid.sessions (carriers.accept_all f.joined.texts own texts)
         w.net.current

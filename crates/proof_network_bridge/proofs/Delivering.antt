@@ -48,6 +48,7 @@ use Rattle.sessions.specs.Following.{acknowledged_at, without_ready}
 use Rattle.sessions.specs.Heard.{Acknowledges, Follows, Hands, HeardText, Holds, Nothing, Repeats, WordText, heard_of}
 use Rattle.sessions.specs.SessionsState.{SessionsState}
 use Rattle.sessions.specs.declared.heard.Unheard.{Unheard}
+use Rattle.vocabulary.specs.MessageLimits.{limit_of}
 use Rattle.vocabulary.specs.declared.endpoint.Endpoint.{Endpoint}
 use Rattle.proof_network_bridge.specs.GoingOn.{DatagramsFollowOn, Happened, LeavesFollowedOn, Stands}
 use Rattle.proof_network_bridge.specs.Joined.{IsClean, IsFollowed, IsHeldBy, IsJoined, network_after}
@@ -148,6 +149,7 @@ same_held n r engines w s T S e t known place turns d =
           groups = m.held.groups;
           placed = m.held.placed ∙ sym place;
         };
+        limited = ap (λ (p : Place). limit_of p.message_limit) place ∙ m.limited;
         payloads = subst (λ (ks : List ℕ). ArePayloads m.sessions m.said own ks e.payloads) (sym known) m.payloads;
       };
     }
@@ -162,20 +164,22 @@ same_held n r engines w s T S e t known place turns d =
     m = d.midway
 
 -- whatever is heard in the middle of it
-hearing : (n r frames : ℕ) (notices : List ℕ) (engines : List EngineState) (happenings : List Happening)
+hearing : (n limit r frames : ℕ) (notices : List ℕ) (engines : List EngineState) (happenings : List Happening)
     (T : SessionsState → LinksOf FrameText → Type 0) (old : EngineState) (h : HeardText) → n ≤ 1024 →
-    IsWord n r (network_after n happenings) h.source →
-    IsReady n r engines (network_after n happenings).net.current
-    (unsettled (network_after n happenings) (here (network_after n happenings).net r) h.source frames notices) T old
+    IsWord n r (network_after n limit happenings) h.source →
+    IsReady n r engines (network_after n limit happenings).net.current
+    (unsettled (network_after n limit happenings) (here (network_after n limit happenings).net r) h.source frames
+    notices) T old
     h →
     IsHearing n r engines
-    (unsettled (network_after n happenings) (here (network_after n happenings).net r) h.source frames notices) T old
+    (unsettled (network_after n limit happenings) (here (network_after n limit happenings).net r) h.source frames
+    notices) T old
     h
-hearing n r frames notices engines happenings T old h few word ready =
+hearing n limit r frames notices engines happenings T old h few word ready =
     record {
       few = few;
-      stands = midway_stands n r frames notices happenings h.source (omega (arith, few)) word;
-      knows = midway_known n happenings (here w.net r) h.source frames notices;
+      stands = midway_stands n limit r frames notices happenings h.source (omega (arith, few)) word;
+      knows = midway_known n limit happenings (here w.net r) h.source frames notices;
       texts = there.texts;
       opens = there.opens;
       says = there.says;
@@ -183,7 +187,7 @@ hearing n r frames notices engines happenings T old h few word ready =
     }
   where
     w : GroupNetwork
-    w = network_after n happenings
+    w = network_after n limit happenings
 
     u : GroupNetwork
     u = unsettled w (here w.net r) h.source frames notices
@@ -214,6 +218,7 @@ begins n r engines datagrams w old j there =
             (w.member (here w.net r)) given) (sym clean.ended) held.groups;
         placed = held.placed;
       };
+      limited = j.limits r old there;
       payloads = j.payloads r old there;
     }
 
@@ -221,14 +226,14 @@ begins n r engines datagrams w old j there =
 first_opens : NewsAreShown →
     (n r : ℕ) (engines : List EngineState) (datagrams : List (ℕ × List ℕ)) (history : List Entry) (old : EngineState)
     (h : HeardText) (f : IsFollowed n engines datagrams history) → slice_get engines r ≡ Some old →
-    below.IsHeard n r (network_after n f.happenings).net.current old.sessions.known h.source h.lesson →
-    IsWord n r (network_after n f.happenings) h.source →
-    IsOpen n r engines (network_after n f.happenings).net.current
-    (unsettled (network_after n f.happenings) (here (network_after n f.happenings).net r) h.source 0 [])
+    below.IsHeard n r (network_after n f.limit f.happenings).net.current old.sessions.known h.source h.lesson →
+    IsWord n r (network_after n f.limit f.happenings) h.source →
+    IsOpen n r engines (network_after n f.limit f.happenings).net.current
+    (unsettled (network_after n f.limit f.happenings) (here (network_after n f.limit f.happenings).net r) h.source 0 [])
     f.joined.texts h.source (opened old h)
 first_opens shows n r engines datagrams history old h f there heard word =
     opens_by shows n r engines w.net.current w (unsettled w own s 0 []) f.joined.texts old h
-    (group_meetings_stand n f.happenings (omega (arith, f.few)))
+    (group_meetings_stand n f.limit f.happenings (omega (arith, f.few)))
     (begins n r engines datagrams w old f.joined there)
     (record {
       there = (place_is n r engines datagrams w old f.joined there).0;
@@ -238,7 +243,7 @@ first_opens shows n r engines datagrams history old h f there heard word =
     heard (words_come r w s) groups
   where
     w : GroupNetwork
-    w = network_after n f.happenings
+    w = network_after n f.limit f.happenings
 
     own : Endpoint
     own = here w.net r
@@ -272,14 +277,14 @@ first_step : NewsAreShown →
     (old first : EngineState) (h : HeardText) (T : SessionsState → LinksOf FrameText → Type 0)
     (f : IsFollowed n engines datagrams history) →
     slice_get engines r ≡ Some old →
-    HearsTruth n r (network_after n f.happenings).net.current old.sessions f.joined.texts h →
-    IsWord n r (network_after n f.happenings) h.source →
-    LeavesLinks n r T old.sessions h f.joined.texts (network_after n f.happenings).net.current →
-    HeardGives old h (Ok tt) first → IsDelivering n r engines (network_after n f.happenings) h.source T first
+    HearsTruth n r (network_after n f.limit f.happenings).net.current old.sessions f.joined.texts h →
+    IsWord n r (network_after n f.limit f.happenings) h.source →
+    LeavesLinks n r T old.sessions h f.joined.texts (network_after n f.limit f.happenings).net.current →
+    HeardGives old h (Ok tt) first → IsDelivering n r engines (network_after n f.limit f.happenings) h.source T first
 first_step shows n r engines datagrams history old first h T f there truth word leaves gives =
     delivered n r 0 [] engines w h.source T first (words_go_on n r 0 [] w h.source word).current
     (heard_step shows n r engines (unsettled w (here w.net r) h.source 0 []) T old first h
-    (hearing n r 0 [] engines f.happenings T old h f.few word (record {
+    (hearing n f.limit r 0 [] engines f.happenings T old h f.few word (record {
       texts = f.joined.texts;
       opens = first_opens shows n r engines datagrams history old h f there truth.heard word;
       says = truth.word;
@@ -287,7 +292,7 @@ first_step shows n r engines datagrams history old first h T f there truth word 
     })) gives)
   where
     w : GroupNetwork
-    w = network_after n f.happenings
+    w = network_after n f.limit f.happenings
 
 -- ---- a frame that follows
 
@@ -306,6 +311,7 @@ heard_again u own s known = record {
   cores = λ x apart. refl;
   messages_are = refl;
   current_is = refl;
+  limit_is = refl;
   member_is = sym (learns_none (u.net.core own).known s (u.member own) known);
   members = λ x apart. refl;
   notices_are = refl;
@@ -320,25 +326,26 @@ record TurnLaws : Type 0 where
 
 -- it is taken in
 turn_step : NewsAreShown → TurnLaws →
-    (n r place : ℕ) (engines : List EngineState) (datagrams : List (ℕ × List ℕ)) (happenings : List Happening)
+    (n limit r place : ℕ) (engines : List EngineState) (datagrams : List (ℕ × List ℕ)) (happenings : List Happening)
     (old e first : EngineState) (s : Endpoint) (frame : FrameText) → n ≤ 1024 →
-    IsWord n r (network_after n happenings) s → slice_get engines r ≡ Some old →
-    (d : IsDelivering n r engines (network_after n happenings) s
-    (Following n r engines datagrams place s (network_after n happenings).net.current) e) →
-    HearsTruth n r (network_after n happenings).net.current e.sessions d.texts
+    IsWord n r (network_after n limit happenings) s → slice_get engines r ≡ Some old →
+    (d : IsDelivering n r engines (network_after n limit happenings) s
+    (Following n r engines datagrams place s (network_after n limit happenings).net.current) e) →
+    HearsTruth n r (network_after n limit happenings).net.current e.sessions d.texts
     (record { source = s; lesson = false; word = Follows frame }) →
     turn_from e s ≡ Some (Some (record { source = s; lesson = false; word = Follows frame })) →
     HeardGives e (record { source = s; lesson = false; word = Follows frame }) (Ok tt) first →
-    IsDelivering n r engines (network_after n happenings) s
-    (Following n r engines datagrams place s (network_after n happenings).net.current) (acknowledged place s first)
-turn_step shows laws n r place engines datagrams happenings old e first s frame few word there d truth is gives =
+    IsDelivering n r engines (network_after n limit happenings) s
+    (Following n r engines datagrams place s (network_after n limit happenings).net.current)
+    (acknowledged place s first)
+turn_step shows laws n limit r place engines datagrams happenings old e first s frame few word there d truth is gives =
     same_held n r engines w s T S first (acknowledged_at place s first.sessions) refl refl (λ texts t. t)
     (delivered n r d.frames d.notices engines w s T first (words_go_on n r d.frames d.notices w s word).current
     (heard_step shows n r engines u T e first h
-    (hearing n r d.frames d.notices engines happenings T e h few word (record {
+    (hearing n limit r d.frames d.notices engines happenings T e h few word (record {
       texts = d.texts;
       opens = opens_by shows n r engines w.net.current u u d.texts e h
-          (midway_stands n r d.frames d.notices happenings s (omega (arith, few)) word).meetings m
+          (midway_stands n limit r d.frames d.notices happenings s (omega (arith, few)) word).meetings m
           (told_by n r engines datagrams d.texts w.net.current old e there d.truth.leaves) truth.heard
           (heard_again u own s known)
           (subst (λ (y : Member). collectives.IsShown own e.groups.collective e.groups.contexts y e.ended)
@@ -349,7 +356,7 @@ turn_step shows laws n r place engines datagrams happenings old e first s frame 
     })) gives))
   where
     w : GroupNetwork
-    w = network_after n happenings
+    w = network_after n limit happenings
 
     own : Endpoint
     own = here w.net r
@@ -387,29 +394,31 @@ turn_out laws n r place engines datagrams w e s d =
 
 -- so it goes for as many turns as there are
 turns_follow : NewsAreShown → TurnLaws →
-    (turns n r place : ℕ) (engines : List EngineState) (datagrams : List (ℕ × List ℕ)) (happenings : List Happening)
+    (turns n limit r place : ℕ) (engines : List EngineState) (datagrams : List (ℕ × List ℕ))
+    (happenings : List Happening)
     (old e new : EngineState) (s : Endpoint) → n ≤ 1024 →
-    IsWord n r (network_after n happenings) s → slice_get engines r ≡ Some old →
-    IsDelivering n r engines (network_after n happenings) s
-    (Following n r engines datagrams place s (network_after n happenings).net.current) e →
+    IsWord n r (network_after n limit happenings) s → slice_get engines r ≡ Some old →
+    IsDelivering n r engines (network_after n limit happenings) s
+    (Following n r engines datagrams place s (network_after n limit happenings).net.current) e →
     FollowGives turns place s e new →
-    IsDelivering n r engines (network_after n happenings) s
-    (Following n r engines datagrams place s (network_after n happenings).net.current) new
-turns_follow shows laws zero n r place engines datagrams happenings old e new s few word there d gives =
+    IsDelivering n r engines (network_after n limit happenings) s
+    (Following n r engines datagrams place s (network_after n limit happenings).net.current) new
+turns_follow shows laws zero n limit r place engines datagrams happenings old e new s few word there d gives =
     subst (λ (x : EngineState). IsDelivering n r engines w s T x) (sym gives) d
   where
     w : GroupNetwork
-    w = network_after n happenings
+    w = network_after n limit happenings
 
     T : SessionsState → LinksOf FrameText → Type 0
     T t texts = Following n r engines datagrams place s w.net.current t texts
-turns_follow shows laws (suc turns) n r place engines datagrams happenings old e new s few word there d gives =
+turns_follow shows laws (suc turns) n limit r place engines datagrams happenings old e new s few word there d gives =
     go (turn_from e s) refl gives
-    (λ x given rest. turns_follow shows laws turns n r place engines datagrams happenings old x new s few word there
+    (λ x given rest. turns_follow shows laws turns n limit r place engines datagrams happenings old x new s few word
+    there
     given rest)
   where
     w : GroupNetwork
-    w = network_after n happenings
+    w = network_after n limit happenings
 
     T : SessionsState → LinksOf FrameText → Type 0
     T t texts = Following n r engines datagrams place s w.net.current t texts
@@ -425,7 +434,7 @@ turns_follow shows laws (suc turns) n r place engines datagrams happenings old e
         IsDelivering n r engines w s T (acknowledged place s first)
     taken h first is given =
         let turn : TurnIsTrue n r w.net.current e.sessions d.texts s h = laws.tell n r place (sessions_in engines) datagrams d.texts w.net.current s e.sessions h d.truth is in
-        turn_step shows laws n r place engines datagrams happenings old e first s turn.frame few word there d
+        turn_step shows laws n limit r place engines datagrams happenings old e first s turn.frame few word there d
         (subst (λ (x : HeardText). HearsTruth n r w.net.current e.sessions d.texts x) turn.says turn.hears)
         (subst (λ (x : HeardText). turn_from e s ≡ Some (Some x)) turn.says is)
         (subst (λ (x : HeardText). HeardGives e x (Ok tt) first) turn.says given)
@@ -445,11 +454,11 @@ turns_follow shows laws (suc turns) n r place engines datagrams happenings old e
 ends : WakesAreShown →
     (n r : ℕ) (engines : List EngineState) (datagrams : List (ℕ × List ℕ)) (history : List Entry) (old e : EngineState)
     (s : Endpoint) (f : IsFollowed n engines datagrams history) → slice_get engines r ≡ Some old →
-    IsWord n r (network_after n f.happenings) s →
-    IsDelivering n r engines (network_after n f.happenings) s
+    IsWord n r (network_after n f.limit f.happenings) s →
+    IsDelivering n r engines (network_after n f.limit f.happenings) s
     (λ (t : SessionsState) (texts : LinksOf FrameText). LeavesTrue n (sessions_in engines) datagrams r t texts
-    (network_after n f.happenings).net.current) e →
-    LeavesFollowedOn n f.happenings engines datagrams r (woken_engine e)
+    (network_after n f.limit f.happenings).net.current) e →
+    LeavesFollowedOn n f.limit f.happenings engines datagrams r (woken_engine e)
     (history ++ told_completion old.sessions.place.endpoint (completion_of (woken_engine e)))
 ends wakes n r engines datagrams history old e s f there word d =
     Happened (Word s r d.frames d.notices) refl (record {
@@ -462,7 +471,7 @@ ends wakes n r engines datagrams history old e s f there word d =
     })
   where
     w : GroupNetwork
-    w = network_after n f.happenings
+    w = network_after n f.limit f.happenings
 
     own : Endpoint
     own = here w.net r
@@ -488,8 +497,8 @@ ends wakes n r engines datagrams history old e s f there word d =
     a : IsAfter u after own (core_settled (u.net.core own)) u.net.link (member_settled (u.member own)) u.notices entries
     a = events_settle u own
 
-    pushed : network_after n (f.happenings ++ Word s r d.frames d.notices ∷ []) ≡ after
-    pushed = run_push n f.happenings (Word s r d.frames d.notices) (new_group_network n) ∙
+    pushed : network_after n f.limit (f.happenings ++ Word s r d.frames d.notices ∷ []) ≡ after
+    pushed = run_push n f.happenings (Word s r d.frames d.notices) (new_group_network n f.limit) ∙
         words_settle n r d.frames d.notices w s word
 
     wakes_at : (serial : ℕ) → IsWoken (announcements_in serial m.sessions own) e.core e.sessions.known (u.net.core own)
@@ -571,6 +580,10 @@ ends wakes n r engines datagrams history old e s f there word d =
                 (sym p.1) m.payloads)
             | inr p ↦ rest.payloads x g p.0 p.1
           ]);
+      limits = λ x g is. elim (set_cases engines r (emptied new) x g is) [
+        | inl p ↦ ap (λ (z : EngineState). limit_of z.sessions.place.message_limit) p.1 ∙ m.limited ∙ sym a.limit_is
+        | inr p ↦ rest.limits x g p.0 p.1
+      ];
       unborn = λ c later. rest.unborn c (subst (λ (k : ℕ → ℕ). k c.rank < c.incarnation) current later);
     }
 
@@ -593,15 +606,15 @@ taken_in : NewsAreShown → WakesAreShown → LinkLaws →
     (old mid : EngineState) (h : HeardText) →
     (f : IsFollowed n engines datagrams history) → slice_get engines r ≡ Some old →
     IsFromDatagram datagrams r old.sessions h → IsTakenIn old h mid →
-    LeavesFollowedOn n f.happenings engines datagrams r mid
+    LeavesFollowedOn n f.limit f.happenings engines datagrams r mid
     (history ++ told_completion old.sessions.place.endpoint (completion_of mid))
 taken_in shows wakes laws n r engines datagrams history old mid h f there comes i =
-    subst (λ (x : EngineState). LeavesFollowedOn n f.happenings engines datagrams r x
+    subst (λ (x : EngineState). LeavesFollowedOn n f.limit f.happenings engines datagrams r x
     (history ++ told_completion old.sessions.place.endpoint (completion_of x))) (sym i.new_is)
     (ends wakes n r engines datagrams history old i.last h.source f there word (go h.word refl i.follows))
   where
     w : GroupNetwork
-    w = network_after n f.happenings
+    w = network_after n f.limit f.happenings
 
     place : ℕ
     place = length old.sessions.out
@@ -638,7 +651,8 @@ taken_in shows wakes laws n r engines datagrams history old mid h f there comes 
         (ap (λ (t : SessionsState). t.known) g.arranged.same) (ap (λ (t : SessionsState). t.place) g.arranged.same)
         (λ texts t. laws.order n r (suc place) (sessions_in engines) datagrams texts w.net.current g.last.sessions
         i.last.sessions t.leaves g.arranged)
-        (turns_follow shows (record { tell = laws.tell; turns = laws.turns; discards = laws.discards }) 64 n r place
+        (turns_follow shows (record { tell = laws.tell; turns = laws.turns; discards = laws.discards }) 64 n f.limit r
+        place
         engines datagrams f.happenings old i.first g.last h.source f.few word there
         (first_step shows n r engines datagrams history old i.first h T f there truth word
         (λ sendings may free. laws.starts n r (sessions_in engines) datagrams f.joined.texts w.net.current old.sessions
@@ -659,11 +673,11 @@ unchanged : LinkLaws →
     (n r : ℕ) (engines : List EngineState) (datagrams : List (ℕ × List ℕ)) (history : List Entry)
     (old mid : EngineState) →
     (f : IsFollowed n engines datagrams history) → slice_get engines r ≡ Some old → mid ≡ old →
-    LeavesFollowedOn n f.happenings engines datagrams r mid
+    LeavesFollowedOn n f.limit f.happenings engines datagrams r mid
     (history ++ told_completion old.sessions.place.endpoint (completion_of mid))
 unchanged laws n r engines datagrams history old mid f there same =
-    let w : GroupNetwork = network_after n f.happenings in
-    subst (λ (x : EngineState). LeavesFollowedOn n f.happenings engines datagrams r x
+    let w : GroupNetwork = network_after n f.limit f.happenings in
+    subst (λ (x : EngineState). LeavesFollowedOn n f.limit f.happenings engines datagrams r x
     (history ++ told_completion old.sessions.place.endpoint (completion_of x))) (sym same)
     (Stands (followed_unanswered n r engines datagrams history old old f there
     (record { core = refl; groups = refl; ended = refl; payloads = refl; known = refl; place = refl })
@@ -676,7 +690,7 @@ heard_follows : NewsAreShown → WakesAreShown → LinkLaws →
     (old mid : EngineState) (h : HeardText) (nothing : Bool) →
     (f : IsFollowed n engines datagrams history) → slice_get engines r ≡ Some old →
     IsFromDatagram datagrams r old.sessions h → IsTakenInUnless nothing old h mid →
-    LeavesFollowedOn n f.happenings engines datagrams r mid
+    LeavesFollowedOn n f.limit f.happenings engines datagrams r mid
     (history ++ told_completion old.sessions.place.endpoint (completion_of mid))
 heard_follows shows wakes laws n r engines datagrams history old mid h true f there comes same =
     unchanged laws n r engines datagrams history old mid f there same
@@ -684,14 +698,15 @@ heard_follows shows wakes laws n r engines datagrams history old mid h false f t
     taken_in shows wakes laws n r engines datagrams history old mid h f there comes taken
 
 pub datagrams_follow : NewsAreShown → WakesAreShown → LinkLaws → DatagramsFollowOn
-datagrams_follow shows wakes laws n r number bytes before engines datagrams history old mid by there emitted gives =
+datagrams_follow shows wakes laws n limit r number bytes before engines datagrams history old mid by there emitted
+    gives =
     go (heard_of old.sessions bytes) refl gives
   where
     f : IsFollowed n engines datagrams history
-    f = followed n before engines datagrams history by
+    f = followed n limit before engines datagrams history by
 
     go : (o : Result HeardText Unheard) → heard_of old.sessions bytes ≡ o → HearingGives o old (Ok tt) mid →
-        LeavesFollowedOn n before engines datagrams r mid
+        LeavesFollowedOn n limit before engines datagrams r mid
         (history ++ told_completion old.sessions.place.endpoint (completion_of mid))
     go (Ok h) is g =
         heard_follows shows wakes laws n r engines datagrams history old mid h (says_nothing h.lesson h.word) f there

@@ -18,13 +18,15 @@ use Rattle.proof_group_network.specs.Notices.{Member}
 use Rattle.proof_link_truth.specs.Events.{LeavesTrue}
 use Rattle.link_truth.specs.Truth.{AreTrue}
 use Rattle.endpoint_links.specs.Links.{LinksOf}
-use Rattle.proof_pure_network.specs.Core.{Core}
+use Rattle.proof_pure_network.specs.Core.{Core, new_core}
 use Rattle.proof_pure_network.specs.Links.{Link}
 use Rattle.proof_pure_network.specs.Network.{here}
 use Rattle.proof_session_carrying.specs.Announced.{announcements_in}
 use Rattle.proof_session_carrying.specs.Carrying.{Saying}
 use Rattle.proof_session_carrying.specs.EventLaws.{AreJoined}
 use Rattle.point_to_point.specs.CoreState.{CoreState}
+use Rattle.vocabulary.specs.MessageLimits.{limit_of}
+use Rattle.incarnation.specs.declared.place.Place.{Place}
 use Rattle.vocabulary.specs.Endpoints.{is_same}
 use Rattle.vocabulary.specs.declared.endpoint.Endpoint.{Endpoint}
 use Rattle.proof_network_bridge.specs.GoingOn.{Happened, IsFollowedBy, IsFollowedOn, LeavesFollowedOn, Stands}
@@ -116,9 +118,10 @@ pub joined_after : (n r : ℕ) (engines : List EngineState) (datagrams datagrams
     AreTrue n (sessions_in (slice_set engines r new)) datagrams' texts w.net.current →
     IsHeldUnder sessions (here w.net r) new core m →
     SaidGrows j.said said → ArePayloads sessions said (here w.net r) new.sessions.known new.payloads → IsClean new →
+    limit_of new.sessions.place.message_limit ≡ w.net.message_limit →
     IsJoined n (slice_set engines r new) datagrams' after
 joined_after n r engines datagrams datagrams' w after new core messages m notices entries said texts sessions j a
-    between only truth held grows kept clean =
+    between only truth held grows kept clean limited =
     record {
       texts = texts;
       links = subst (λ (current : ℕ → ℕ). AreTrue n (sessions_in (slice_set engines r new)) datagrams' texts current)
@@ -141,9 +144,14 @@ joined_after n r engines datagrams datagrams' w after new core messages m notice
             | inr p ↦ payloads_grow j.sessions sessions j.said said (here w.net x) e.sessions.known e.payloads only.grow
                 grows (j.payloads x e p.1)
           ]);
+      limits = λ x e is. elim (set_cases engines r new x e is) [
+        | inl p ↦ ap (λ (g : EngineState). limit_of g.sessions.place.message_limit) p.1 ∙ limited ∙ sym a.limit_is
+        | inr p ↦ j.limits x e p.1 ∙ sym a.limit_is
+      ];
       unborn = λ d later.
           let before : w.net.current d.rank < d.incarnation = subst (λ (current : ℕ → ℕ). current d.rank < d.incarnation) a.current_is later in
-          a.cores d (later_apart w.net d r before) ∙ j.unborn d before;
+          a.cores d (later_apart w.net d r before) ∙ j.unborn d before ∙
+          ap (λ (limit : ℕ). new_core limit d) (sym a.limit_is);
     }
   where
     -- at the endpoint where it was
@@ -185,8 +193,9 @@ joined_still : (n r : ℕ) (engines : List EngineState) (datagrams datagrams' : 
     AreTrue n (sessions_in (slice_set engines r new)) datagrams' j.texts w.net.current →
     IsHeldUnder j.sessions (here w.net r) new (w.net.core (here w.net r)) (w.member (here w.net r)) →
     ArePayloads j.sessions j.said (here w.net r) new.sessions.known new.payloads → IsClean new →
+    limit_of new.sessions.place.message_limit ≡ w.net.message_limit →
     IsJoined n (slice_set engines r new) datagrams' w
-joined_still n r engines datagrams datagrams' w new j truth held kept clean =
+joined_still n r engines datagrams datagrams' w new j truth held kept clean limited =
     record {
       texts = j.texts;
       links = truth;
@@ -208,50 +217,57 @@ joined_still n r engines datagrams datagrams' w new j truth held kept clean =
             (sym p.1) kept)
         | inr p ↦ j.payloads x e p.1
       ];
+      limits = λ x e is. elim (set_cases engines r new x e is) [
+        | inl p ↦ ap (λ (g : EngineState). limit_of g.sessions.place.message_limit) p.1 ∙ limited
+        | inr p ↦ j.limits x e p.1
+      ];
       unborn = j.unborn;
     }
 
 -- ---- what follows
 
 -- these happenings are some
-abbrev pub followed : (n : ℕ) (happenings : List Happening) (engines : List EngineState) (datagrams : List (ℕ × List ℕ))
-    (history : List Entry) → IsFollowedBy n happenings engines datagrams history →
-    IsFollowed n engines datagrams history
-followed n happenings engines datagrams history f =
-    record { happenings = happenings; few = f.few; joined = f.joined; seen = f.seen }
+abbrev pub followed : (n limit : ℕ) (happenings : List Happening) (engines : List EngineState)
+    (datagrams : List (ℕ × List ℕ)) (history : List Entry) →
+    IsFollowedBy n limit happenings engines datagrams history → IsFollowed n engines datagrams history
+followed n limit happenings engines datagrams history f =
+    record { limit = limit; happenings = happenings; few = f.few; joined = f.joined; seen = f.seen }
 
 -- and some are known
 pub by_happenings : (n : ℕ) (engines : List EngineState) (datagrams : List (ℕ × List ℕ)) (history : List Entry) →
-    (f : IsFollowed n engines datagrams history) → IsFollowedBy n f.happenings engines datagrams history
+    (f : IsFollowed n engines datagrams history) → IsFollowedBy n f.limit f.happenings engines datagrams history
 by_happenings n engines datagrams history f = record { few = f.few; joined = f.joined; seen = f.seen }
 
 -- so it is with one more, or with none
-pub followed_on : (n r : ℕ) (before : List Happening) (engines : List EngineState) (datagrams : List (ℕ × List ℕ))
-    (history : List Entry) → IsFollowedOn n r before engines datagrams history → IsFollowed n engines datagrams history
-followed_on n r before engines datagrams history (Stands f) = followed n before engines datagrams history f
-followed_on n r before engines datagrams history (Happened h is f) =
-    followed n (before ++ h ∷ []) engines datagrams history f
+pub followed_on : (n limit r : ℕ) (before : List Happening) (engines : List EngineState)
+    (datagrams : List (ℕ × List ℕ)) (history : List Entry) → IsFollowedOn n limit r before engines datagrams history →
+    IsFollowed n engines datagrams history
+followed_on n limit r before engines datagrams history (Stands f) = followed n limit before engines datagrams history f
+followed_on n limit r before engines datagrams history (Happened h is f) =
+    followed n limit (before ++ h ∷ []) engines datagrams history f
 
 -- a happening more
 pub followed_after : (n r : ℕ) (engines : List EngineState) (datagrams : List (ℕ × List ℕ))
     (history entries : List Entry) (mid : EngineState) (h : Happening) (core : Core)
     (messages : Endpoint → Endpoint → Link) (m : Member) (notices : Endpoint → Endpoint → NoticeLink) (said : Saying)
     (texts : LinksOf FrameText) (sessions : Sessions) (f : IsFollowed n engines datagrams history) →
-    IsAfter (network_after n f.happenings) (happens n (network_after n f.happenings) h)
-    (here (network_after n f.happenings).net r) core messages m notices entries →
-    AreJoined (happens n (network_after n f.happenings) h) said texts sessions →
-    OnlyFrom (here (network_after n f.happenings).net r) f.joined.sessions sessions →
-    LeavesTrue n (sessions_in engines) datagrams r mid.sessions texts (network_after n f.happenings).net.current →
-    IsHeldUnder sessions (here (network_after n f.happenings).net r) mid core m →
+    IsAfter (network_after n f.limit f.happenings) (happens n (network_after n f.limit f.happenings) h)
+    (here (network_after n f.limit f.happenings).net r) core messages m notices entries →
+    AreJoined (happens n (network_after n f.limit f.happenings) h) said texts sessions →
+    OnlyFrom (here (network_after n f.limit f.happenings).net r) f.joined.sessions sessions →
+    LeavesTrue n (sessions_in engines) datagrams r mid.sessions texts
+    (network_after n f.limit f.happenings).net.current →
+    IsHeldUnder sessions (here (network_after n f.limit f.happenings).net r) mid core m →
     SaidGrows f.joined.said said →
-    ArePayloads sessions said (here (network_after n f.happenings).net r) mid.sessions.known mid.payloads →
+    ArePayloads sessions said (here (network_after n f.limit f.happenings).net r) mid.sessions.known mid.payloads →
     rank_of h ≡ r →
-    LeavesFollowedOn n f.happenings engines datagrams r mid (history ++ entries)
+    (old : EngineState) → slice_get engines r ≡ Some old → mid.sessions.place ≡ old.sessions.place →
+    LeavesFollowedOn n f.limit f.happenings engines datagrams r mid (history ++ entries)
 followed_after n r engines datagrams history entries mid h core messages m notices said texts sessions f a between only
-    truth held grows kept at_r =
-    let w : GroupNetwork = network_after n f.happenings in
+    truth held grows kept at_r old there place =
+    let w : GroupNetwork = network_after n f.limit f.happenings in
     let own : Endpoint = here w.net r in
-    let pushed : network_after n (f.happenings ++ h ∷ []) ≡ happens n w h = run_push n f.happenings h (new_group_network n) in
+    let pushed : network_after n f.limit (f.happenings ++ h ∷ []) ≡ happens n w h = run_push n f.happenings h (new_group_network n f.limit) in
     Happened h at_r (record {
       few = f.few;
       joined = subst
@@ -261,7 +277,8 @@ followed_after n r engines datagrams history entries mid h core messages m notic
           (emptied mid) core messages m notices entries said texts sessions f.joined a between only
           (leaves_engines n r engines datagrams mid texts w.net.current truth)
           (λ serial. held_emptied (announcements_in serial sessions own) own mid core m (held serial)) grows kept
-          (clean_emptied mid));
+          (clean_emptied mid)
+          (ap (λ (p : Place). limit_of p.message_limit) place ∙ f.joined.limits r old there));
       seen = ap (λ (after : GroupNetwork). after.history) pushed ∙ a.seen ∙
           ap (λ (es : List Entry). es ++ entries) f.seen;
     })
@@ -299,10 +316,10 @@ pub followed_still : (n r : ℕ) (engines : List EngineState) (datagrams : List 
     (old mid : EngineState) (f : IsFollowed n engines datagrams history) →
     slice_get engines r ≡ Some old → IsBeside old mid →
     LeavesTrue n (sessions_in engines) datagrams r mid.sessions f.joined.texts
-    (network_after n f.happenings).net.current →
-    IsFollowedBy n f.happenings (slice_set engines r (emptied mid)) (datagrams ++ mid.sessions.out) history
+    (network_after n f.limit f.happenings).net.current →
+    IsFollowedBy n f.limit f.happenings (slice_set engines r (emptied mid)) (datagrams ++ mid.sessions.out) history
 followed_still n r engines datagrams history old mid f there beside truth =
-    let w : GroupNetwork = network_after n f.happenings in
+    let w : GroupNetwork = network_after n f.limit f.happenings in
     let own : Endpoint = here w.net r in
     record {
       few = f.few;
@@ -313,7 +330,8 @@ followed_still n r engines datagrams history old mid f there beside truth =
           (held_beside (announcements_in serial f.joined.sessions own) own old mid (w.net.core own)
           (w.member own) beside (held_at n r engines datagrams w old f.joined there serial)))
           (payloads_beside f.joined.sessions f.joined.said own old mid beside (f.joined.payloads r old there))
-          (clean_emptied mid);
+          (clean_emptied mid)
+          (ap (λ (p : Place). limit_of p.message_limit) beside.place ∙ f.joined.limits r old there);
       seen = f.seen;
     }
 
@@ -322,8 +340,8 @@ pub followed_unanswered : (n r : ℕ) (engines : List EngineState) (datagrams : 
     (old mid : EngineState) (f : IsFollowed n engines datagrams history) →
     slice_get engines r ≡ Some old → IsBeside old mid →
     LeavesTrue n (sessions_in engines) datagrams r mid.sessions f.joined.texts
-    (network_after n f.happenings).net.current →
-    IsFollowedBy n f.happenings (slice_set engines r (emptied mid)) (datagrams ++ mid.sessions.out)
+    (network_after n f.limit f.happenings).net.current →
+    IsFollowedBy n f.limit f.happenings (slice_set engines r (emptied mid)) (datagrams ++ mid.sessions.out)
     (history ++ told_completion old.sessions.place.endpoint (completion_of mid))
 followed_unanswered n r engines datagrams history old mid f there beside truth =
     let clean : IsClean old = f.joined.clean r old there in
@@ -333,6 +351,6 @@ followed_unanswered n r engines datagrams history old mid f there beside truth =
     let nothing : history ≡ history ++ told_completion old.sessions.place.endpoint (completion_of mid) =
     sym (append-nil history) ∙ ap (λ (o : Option Completion). history ++ told_completion old.sessions.place.endpoint o)
     (sym none) in
-    subst (λ (es : List Entry). IsFollowedBy n f.happenings (slice_set engines r (emptied mid))
+    subst (λ (es : List Entry). IsFollowedBy n f.limit f.happenings (slice_set engines r (emptied mid))
     (datagrams ++ mid.sessions.out) es) nothing
     (followed_still n r engines datagrams history old mid f there beside truth)

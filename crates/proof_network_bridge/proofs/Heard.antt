@@ -16,6 +16,7 @@ use Rattle.point_to_point.specs.CoreState.{CoreState}
 use Rattle.requests.specs.declared.answer.Answer.{Answer}
 use Rattle.sessions.specs.Events.{taught_known}
 use Rattle.vocabulary.specs.declared.endpoint.Endpoint.{Endpoint}
+use Rattle.vocabulary.specs.declared.message_limit.MessageLimit.{MessageLimit}
 use Rattle.proof_collective_steps.specs.RankLaws.{lesson_at, lesson_ends}
 use Rattle.observation.specs.Endings.{ending_is}
 use Rattle.proof_engine_steps.specs.Steps.{IsFromOther}
@@ -26,7 +27,7 @@ use Rattle.proof_group_network.specs.Happened.{IsWord}
 use Rattle.proof_group_network.specs.Network.{GroupNetwork}
 use Rattle.proof_link_truth.specs.Events as below
 use Rattle.proof_link_truth.specs.Events.{IsLesson}
-use Rattle.link_truth.specs.Wire.{at, place_of}
+use Rattle.link_truth.specs.Wire.{at, in_job, place_of}
 use Rattle.proof_pure_network.specs.Network.{here}
 use Rattle.proof_network_bridge.specs.Joined.{IsHeldBy, IsJoined}
 use Rattle.proof_network_bridge.specs.OnWorld.{entries_on_world}
@@ -69,9 +70,9 @@ is_word n r engines datagrams w old s lesson j there h =
 
 -- and one that the core takes for another rank's
 pub is_from_other : (n r : ℕ) (current : ℕ → ℕ) (old : CoreState) (known : List ℕ) (news : NewsText) →
-    old.place ≡ place_of n (at r (current r)) →
+    (l : MessageLimit) → old.place ≡ in_job l (place_of n (at r (current r))) →
     below.IsHeard n r current known news.source news.lesson → IsFromOther old known news
-is_from_other n r current old known news place h =
+is_from_other n r current old known news l place h =
     let size_is : old.place.size ≡ n = ap (λ (p : Place). p.size) place in
     let rank_is : old.place.endpoint.rank ≡ r = ap (λ (p : Place). p.endpoint.rank) place in
     record {

@@ -24,7 +24,7 @@ use Rattle.observation.specs.CoreCalls.{probe_seen}
 use Rattle.proof_group_network.specs.Happened.{IsAfter, QueueCallsHappen, reply_of}
 use Rattle.proof_group_network.specs.Network.{Ask, GroupNetwork, happens}
 use Rattle.proof_link_truth.specs.Events.{RestIsTrue}
-use Rattle.link_truth.specs.Wire.{place_of}
+use Rattle.link_truth.specs.Wire.{in_job, place_of}
 use Rattle.proof_pure_network.specs.Core.{Core, view}
 use Rattle.proof_pure_network.specs.Engine.{called, core_ready, core_settled}
 use Rattle.proof_pure_network.specs.Held.{blank}
@@ -73,9 +73,10 @@ replied e q c found None is = absurd cc
 
 pub looks_follow : LooksAreShown → RestIsTrue → QueueCallsHappen → OthersAreCarried → TakenIsFaultless → LooksFollow
 looks_follow shows rest happen carried taken n r engines datagrams history old mid p found f there given =
-    subst (λ (e : EngineState). LeavesCalled n f.happenings engines datagrams r history old e (calls.Iprobe p)
+    subst (λ (e : EngineState). LeavesCalled n f.limit f.happenings engines datagrams r history old e (calls.Iprobe p)
     (replies.Probed found)) (sym given.unchanged)
-    (subst (λ (es : List Entry). LeavesFollowedOn n f.happenings engines datagrams r old (history ++ es)) entries_are
+    (subst (λ (es : List Entry). LeavesFollowedOn n f.limit f.happenings engines datagrams r old (history ++ es))
+    entries_are
     (followed_after n r engines datagrams history _ old (Ask r c) core w.net.link (w.member own) w.notices f.joined.said
     f.joined.texts f.joined.sessions f after
     (carried w (happens n w (Ask r c)) f.joined.said f.joined.texts f.joined.sessions own core
@@ -83,10 +84,10 @@ looks_follow shows rest happen carried taken n r engines datagrams history old m
     (rest n r (sessions_in engines) datagrams f.joined.texts w.net.current old.sessions f.joined.links
     (is_at n r engines datagrams w old f.joined there))
     (followed.held_at n r engines datagrams w old f.joined there) (said_same f.joined.said)
-    (f.joined.payloads r old there) refl))
+    (f.joined.payloads r old there) refl old there refl))
   where
     w : GroupNetwork
-    w = network_after n f.happenings
+    w = network_after n f.limit f.happenings
 
     own : Endpoint
     own = here w.net r
@@ -100,7 +101,7 @@ looks_follow shows rest happen carried taken n r engines datagrams history old m
     at_own : IsHeldBy w f.joined.sessions r old
     at_own = f.joined.held r old there
 
-    place : (r < n) × (old.sessions.place ≡ place_of n own)
+    place : (r < n) × (old.sessions.place ≡ in_job old.sessions.place.message_limit (place_of n own))
     place = place_is n r engines datagrams w old f.joined there
 
     l : IsLookedFor old p found

@@ -65,7 +65,7 @@ RefusedHasReason =
     (e mid : EngineState) (call back : Call) (why : Refusal) →
     (f : IsFollowed n engines datagrams history) → slice_get engines r ≡ Some e →
     CallGives e call (replies.Refused why back) mid →
-    IsReason (fault_at (network_after n f.happenings) r (call_meant e.core call)) why
+    IsReason (fault_at (network_after n f.limit f.happenings) r (call_meant e.core call)) why
 
 -- the network finds no fault with a call that an engine takes
 abbrev pub TakenIsFaultless : Type 0
@@ -74,7 +74,7 @@ TakenIsFaultless =
     (e mid : EngineState) (call : Call) (reply : Reply) →
     (f : IsFollowed n engines datagrams history) → slice_get engines r ≡ Some e → IsTaken reply →
     CallGives e call reply mid →
-    IsFaultless (fault_at (network_after n f.happenings) r (call_seen call)) e.core call
+    IsFaultless (fault_at (network_after n f.limit f.happenings) r (call_seen call)) e.core call
 
 -- ---- where nothing is on its way
 
@@ -142,14 +142,15 @@ among_held m None a h = absurd cc
 among_held m (Some i) a h = among_at m.held i a h
 
 -- communicators that two endpoints hold after a run
-one_of : OneGroupForEachContext → (n : ℕ) (events : List Event) (x y : Endpoint) (a b : Communicator) → n ≤ 1024 →
-    IsRun n (machine_opening n) events → IsReal x → IsReal y →
-    IsAmong a ((after_run (machine_opening n) events).groups.of x).held →
-    IsAmong b ((after_run (machine_opening n) events).groups.of y).held → a.context ≡ b.context → a ≡ b
-one_of law n events x y a b few run rx ry ha hb same =
-    law n events [] x y a b (omega (arith, few)) (subst (IsRun n (machine_opening n)) (sym (append-nil events)) run) rx
+one_of : OneGroupForEachContext → (n limit : ℕ) (events : List Event) (x y : Endpoint) (a b : Communicator) → n ≤ 1024 →
+    IsRun n (machine_opening n limit) events → IsReal x → IsReal y →
+    IsAmong a ((after_run (machine_opening n limit) events).groups.of x).held →
+    IsAmong b ((after_run (machine_opening n limit) events).groups.of y).held → a.context ≡ b.context → a ≡ b
+one_of law n limit events x y a b few run rx ry ha hb same =
+    law n limit events [] x y a b (omega (arith, few))
+    (subst (IsRun n (machine_opening n limit)) (sym (append-nil events)) run) rx
     ry ha
-    (subst (λ (vs : List Event). IsAmong b ((after_run (machine_opening n) vs).groups.of y).held)
+    (subst (λ (vs : List Event). IsAmong b ((after_run (machine_opening n limit) vs).groups.of y).held)
     (sym (append-nil events)) hb) same
 
 -- ---- the run
@@ -167,15 +168,16 @@ pub record SeenLaws : Type 0 where
 -- whatever a run shows of the network it tells of the engines
 seen_of : SeenLaws →
     (n : ℕ) (engines : List EngineState) (datagrams : List (ℕ × List ℕ)) (history : List machine_events.Entry)
-    (f : IsFollowed n engines datagrams history) → (m : IsRunOfGroups n (network_after n f.happenings)) →
-    IsSeenBy n engines history m.events
+    (f : IsFollowed n engines datagrams history) →
+    (m : IsRunOfGroups n f.limit (network_after n f.limit f.happenings)) →
+    IsSeenBy n f.limit engines history m.events
 seen_of laws n engines datagrams history f m = record { seen = seen; by = refl }
   where
     w : GroupNetwork
-    w = network_after n f.happenings
+    w = network_after n f.limit f.happenings
 
     ends : Machine
-    ends = after_run (machine_opening n) m.events
+    ends = after_run (machine_opening n f.limit) m.events
 
     faults : (r : ℕ) (e : EngineState) → slice_get engines r ≡ Some e → (c : machine_calls.Call) →
         fault_in ends e.sessions.place.endpoint c ≡ fault_at w r c
@@ -207,7 +209,7 @@ seen_of laws n engines datagrams history f m = record { seen = seen; by = refl }
         held_there n r engines datagrams w e ends.groups.of f.joined there
         (λ x. ap (λ (g : Groups). (g.of x).held) m.groups)
 
-    seen : IsSeenOfMachine n engines history
+    seen : IsSeenOfMachine n f.limit engines history
     seen =
         record {
           events = m.events;
@@ -227,7 +229,7 @@ seen_of laws n engines datagrams history f m = record { seen = seen; by = refl }
               (laws.taken n r engines datagrams history e mid call reply f there is gives);
           holds = holds;
           one_group = λ r x e d first second a b e_there d_there a_is b_is same.
-              one_of laws.one n m.events e.sessions.place.endpoint d.sessions.place.endpoint a b f.few m.run
+              one_of laws.one n f.limit m.events e.sessions.place.endpoint d.sessions.place.endpoint a b f.few m.run
               (real_there n r engines datagrams w e f.few f.joined e_there)
               (real_there n x engines datagrams w d f.few f.joined d_there)
               (subst (IsAmong a) (sym (holds r e e_there)) (among_held (member_of e.groups) first a a_is))
@@ -241,26 +243,28 @@ seen_of laws n engines datagrams history f m = record { seen = seen; by = refl }
 
 pub following_is_run : SeenLaws → FollowingIsRun
 following_is_run laws n engines datagrams history f =
-    (seen_of laws n engines datagrams history f (is_run_of_groups n f.happenings (omega (arith, f.few)))).seen
+    (seen_of laws n engines datagrams history f (is_run_of_groups n f.limit f.happenings (omega (arith, f.few)))).seen
 
 -- so does each run that goes with what the engines follow
 pub following_is_each_run : RunsShowAll → SeenLaws → FollowingIsEachRun
-following_is_each_run show laws n happenings events engines datagrams history f g =
-    let shown : IsShownBy n (network_after n happenings) events = show n happenings events (omega (arith, f.few)) g in
-    subst (λ (vs : List Event). IsSeenBy n engines history vs) shown.by
-    (seen_of laws n engines datagrams history (followed n happenings engines datagrams history f) shown.shown)
+following_is_each_run show laws n limit happenings events engines datagrams history f g =
+    let shown : IsShownBy n limit (network_after n limit happenings) events = show n limit happenings events (omega (arith, f.few)) g in
+    subst (λ (vs : List Event). IsSeenBy n limit engines history vs) shown.by
+    (seen_of laws n engines datagrams history (followed n limit happenings engines datagrams history f) shown.shown)
 
 -- ---- one group for each context, at any two moments
 
 pub engines_share_groups : OneGroupAlongRuns → EnginesShareGroups
-engines_share_groups one n earlier later events more engines engines' datagrams datagrams' history history' r x e d a b
+engines_share_groups one n limit earlier later events more engines engines' datagrams datagrams' history history' r x e
+    d a b
     f g f' g' e_there d_there a_is b_is same =
-    one n earlier later events more e.sessions.place.endpoint d.sessions.place.endpoint a b (omega (arith, f.few)) g g'
-    (real_there n r engines datagrams (network_after n earlier) e f.few f.joined e_there)
-    (real_there n x engines' datagrams' (network_after n later) d f'.few f'.joined d_there)
+    one n limit earlier later events more e.sessions.place.endpoint d.sessions.place.endpoint a b
+    (omega (arith, f.few)) g g'
+    (real_there n r engines datagrams (network_after n limit earlier) e f.few f.joined e_there)
+    (real_there n x engines' datagrams' (network_after n limit later) d f'.few f'.joined d_there)
     (subst (IsAmong a)
-    (sym (held_there n r engines datagrams (network_after n earlier) e
-    (λ y. ((network_after n earlier).member y).membership) f.joined e_there (λ y. refl))) a_is)
+    (sym (held_there n r engines datagrams (network_after n limit earlier) e
+    (λ y. ((network_after n limit earlier).member y).membership) f.joined e_there (λ y. refl))) a_is)
     (subst (IsAmong b)
-    (sym (held_there n x engines' datagrams' (network_after n later) d
-    (λ y. ((network_after n later).member y).membership) f'.joined d_there (λ y. refl))) b_is) same
+    (sym (held_there n x engines' datagrams' (network_after n limit later) d
+    (λ y. ((network_after n limit later).member y).membership) f'.joined d_there (λ y. refl))) b_is) same

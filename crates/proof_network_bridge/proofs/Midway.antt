@@ -1,6 +1,7 @@
 -- A world in the middle of a delivery at one rank: some of what was delivered was handed up there, and nothing is
 -- answered yet.
-use Rattle.std.proofs.Common.{◌≡◌, ℕ, zero, suc, ◌<◌, ◌≤◌, false, List, [], ◌∷◌, Some, None, refl, sym, subst, ◌∙◌}
+use Rattle.std.proofs.Common.{◌≡◌, ℕ, zero, suc, ◌<◌, ◌≤◌, false, List, [], ◌∷◌, Some, None, refl, sym, ap, subst}
+use Rattle.std.proofs.Common.{◌∙◌}
 use Rattle.std.specs.Prelude.{◌==◌, slice_get, slice_index, slice_set}
 use Rattle.datagram.specs.Spelling.{FrameText, OutgoingText}
 use Rattle.engine.specs.Datagrams.{ended_by, groups_met, lesson_in, payloads_met}
@@ -14,7 +15,7 @@ use Rattle.proof_group_network.specs.Midway.{Stands, unsettled}
 use Rattle.proof_group_network.specs.Network.{GroupNetwork, NoticeLink}
 use Rattle.proof_group_network.specs.Notices.{Member}
 use Rattle.proof_link_truth.specs.Events.{IsTrueWord, MaySendAll, all_addressed, links_heeded}
-use Rattle.link_truth.specs.Wire.{at, place_of}
+use Rattle.link_truth.specs.Wire.{at, in_job, place_of}
 use Rattle.endpoint_links.specs.Links.{LinksOf, accept_all}
 use Rattle.proof_pure_network.specs.Core.{Core, new_core}
 use Rattle.proof_pure_network.specs.Links.{Link}
@@ -26,6 +27,8 @@ use Rattle.point_to_point.specs.Arrivals.{after_lesson}
 use Rattle.sessions.specs.Events.{after_event, after_heard, sends_limit, taught_known}
 use Rattle.sessions.specs.Heard.{HeardText}
 use Rattle.sessions.specs.SessionsState.{SessionsState}
+use Rattle.vocabulary.specs.MessageLimits.{limit_of}
+use Rattle.incarnation.specs.declared.place.Place.{Place}
 use Rattle.vocabulary.specs.declared.endpoint.Endpoint.{Endpoint}
 use Rattle.proof_network_bridge.specs.Joined.{IsClean, IsJoined}
 use Rattle.proof_network_bridge.specs.Payloads.{ArePayloads, SaidGrows}
@@ -54,7 +57,9 @@ pub record AreOthers (r : ℕ) (engines : List EngineState) (current : ℕ → �
   pub clean : (x : ℕ) (e : EngineState) → (x ≡ r → ⊥) → slice_get engines x ≡ Some e → IsClean e
   pub payloads : (x : ℕ) (e : EngineState) → (x ≡ r → ⊥) → slice_get engines x ≡ Some e →
       ArePayloads sessions said (at x (current x)) e.sessions.known e.payloads
-  pub unborn : (d : Endpoint) → current d.rank < d.incarnation → u.net.core d ≡ new_core d
+  pub limits : (x : ℕ) (e : EngineState) → (x ≡ r → ⊥) → slice_get engines x ≡ Some e →
+      limit_of e.sessions.place.message_limit ≡ u.net.message_limit
+  pub unborn : (d : Endpoint) → current d.rank < d.incarnation → u.net.core d ≡ new_core u.net.message_limit d
 
 -- so it is in a world that is joined to a network
 pub others_joined : (n r : ℕ) (engines : List EngineState) (datagrams : List (ℕ × List ℕ)) (w : GroupNetwork) →
@@ -63,6 +68,7 @@ others_joined n r engines datagrams w j = record {
   held = λ x e apart is. held_at n x engines datagrams w e j is;
   clean = λ x e apart is. j.clean x e is;
   payloads = λ x e apart is. j.payloads x e is;
+  limits = λ x e apart is. j.limits x e is;
   unborn = j.unborn;
 }
 
@@ -88,7 +94,9 @@ others_after r engines current u after core messages m notices entries sessions 
           λ x e apart is. payloads_grow sessions later said more (at x (current x)) e.sessions.known e.payloads
           only.grow
           grows (o.payloads x e apart is);
-      unborn = λ d late. a.cores d (to_come_apart current d r late) ∙ o.unborn d late;
+      limits = λ x e apart is. o.limits x e apart is ∙ sym a.limit_is;
+      unborn = λ d late. a.cores d (to_come_apart current d r late) ∙ o.unborn d late ∙
+          ap (λ (limit : ℕ). new_core limit d) (sym a.limit_is);
     }
 
 -- ---- the rank at which it is delivered
@@ -110,12 +118,13 @@ pub record IsMidway (n r : ℕ) (engines : List EngineState) (current : ℕ → 
   pub others : AreOthers r engines current u sessions said
   pub completion : e.core.completion ≡ None
   pub held : IsHolding sessions (at r (current r)) e (u.net.core (at r (current r))) (u.member (at r (current r)))
+  pub limited : limit_of e.sessions.place.message_limit ≡ u.net.message_limit
   pub payloads : ArePayloads sessions said (at r (current r)) e.sessions.known e.payloads
 
 -- what the links say of the sessions at r
 pub record AreTold (n r : ℕ) (current : ℕ → ℕ) (texts : LinksOf FrameText) (sessions : SessionsState) : Type 0 where
   pub there : r < n
-  pub place : sessions.place ≡ place_of n (at r (current r))
+  pub place : sessions.place ≡ in_job sessions.place.message_limit (place_of n (at r (current r)))
   pub untold : (d : Endpoint) → slice_index sessions.known d.rank < d.incarnation →
       (texts (at r (current r)) d).accepted ≡ []
 
@@ -132,6 +141,7 @@ pub record IsOpen (n r : ℕ) (engines : List EngineState) (current : ℕ → �
   pub known : slice_index e.sessions.known s.rank ≡ s.incarnation
   pub completion : e.core.completion ≡ None
   pub held : IsHolding sessions (at r (current r)) e (u.net.core (at r (current r))) (u.member (at r (current r)))
+  pub limited : limit_of e.sessions.place.message_limit ≡ u.net.message_limit
   pub payloads : ArePayloads sessions said (at r (current r)) e.sessions.known e.payloads
 
 -- the engine once it learnt the lesson of what it hears, if there is one
@@ -199,9 +209,10 @@ pub stepped : (n r frames : ℕ) (numbers : List ℕ) (engines : List EngineStat
     OnlyFrom (here u.net r) o.sessions sessions → SaidGrows o.said said → T mid.sessions texts →
     IsHolding sessions (here u.net r) mid core m → mid.core.completion ≡ None →
     ArePayloads sessions said (here u.net r) mid.sessions.known mid.payloads →
+    mid.sessions.place ≡ e.sessions.place →
     IsStepped n r engines u s T mid
 stepped n r frames numbers engines u s T e mid core messages m notices before said texts sessions o a between only grows
-    truth held free kept =
+    truth held free kept place =
     record {
       frames = frames;
       notices = numbers;
@@ -217,6 +228,7 @@ stepped n r frames numbers engines u s T e mid core messages m notices before sa
         held = subst (λ (k : Core). IsHolding sessions (here u.net r) mid k (after.member (here u.net r)))
             (sym a.core_is)
             (subst (λ (y : Member). IsHolding sessions (here u.net r) mid core y) (sym a.member_is) held);
+        limited = ap (λ (p : Place). limit_of p.message_limit) place ∙ o.limited ∙ sym a.limit_is;
         payloads = kept;
       };
     }

@@ -48,7 +48,7 @@ use Rattle.proof_group_network.specs.Notices.{Notice}
 use Rattle.proof_group_network.specs.SessionLaws.{IsNext}
 use Rattle.proof_link_truth.specs.Events.{all_addressed}
 use Rattle.link_truth.specs.Links as lower
-use Rattle.link_truth.specs.Wire.{place_of}
+use Rattle.link_truth.specs.Wire.{in_job, place_of}
 use Rattle.endpoint_links.specs.Links.{LinksOf}
 use Rattle.proof_pure_network.specs.Core.{Core}
 use Rattle.proof_pure_network.specs.Network.{here}
@@ -81,7 +81,8 @@ use Rattle.proof_network_bridge.proofs.Sent.{IsSending, IsStepSent, as_many, num
 use Rattle.proof_network_bridge.proofs.Sent.{texts_gone}
 use Rattle.proof_network_bridge.proofs.StepTargets.{GoTo}
 use Rattle.proof_network_bridge.proofs.Words.{hands_next, hands_on}
-use Rattle.proof_network_bridge.proofs.Worlds.{only_handed}
+use Rattle.proof_network_bridge.proofs.Worlds.{only_handed, place_alike}
+use Rattle.engine.proofs.JobPayloads.{is_read}
 
 -- ---- what is heard
 
@@ -179,7 +180,8 @@ has_note own old mid before h u m x i context number bytes stands =
     elim (ready_messages_give (met_by old h) old.groups.contexts (address_of h.source u) i.payload i.ready i.is_ready) [
       | inl q ↦ record {
         note = q.0;
-        noted = payload_arrives own h.source u i.payload m x context number bytes stands i.read (Ok (Some q.0)) q.1;
+        noted = payload_arrives own h.source u i.payload m x context number bytes stands
+            (is_read old.sessions.place.size u.bytes i.payload i.read).0 (Ok (Some q.0)) q.1;
         gives = subst
             (λ (v : State). MessageGives (met_by old h) old.groups.contexts q.0
             (Ok (ending_of old.groups.contexts i.ready.step.outcome, i.ready.step)) v mid.groups.contexts)
@@ -188,7 +190,8 @@ has_note own old mid before h u m x i context number bytes stands =
             (Ok (ending_of old.groups.contexts i.ready.step.outcome, i.ready.step))
             (after_step (with_note (met_by old h) i.ready.note) i.ready.step.outcome) c) (sym i.contexts) q.2);
       }
-      | inr q ↦ absurd (payload_arrives own h.source u i.payload m x context number bytes stands i.read (Ok None) q.0)
+      | inr q ↦ absurd (payload_arrives own h.source u i.payload m x context number bytes stands
+          (is_read old.sessions.place.size u.bytes i.payload i.read).0 (Ok None) q.0)
     ]
 
 -- ---- with what the collective ends
@@ -283,6 +286,7 @@ notice_taken n r engines u T old mid h before b t x is notice kept_before i =
     (sym i.payloads)
     (subst (λ (k : List ℕ). ArePayloads sessions (say_all o.said own messages) own k
     (payloads.after_announcing before (step_payloads ns messages))) (sym known_then) sent.after.kept))
+    (ap (λ (y : SessionsState). y.place) i.sessions ∙ keeps.place)
   where
     own : Endpoint
     own = here u.net r
@@ -357,7 +361,7 @@ notice_taken n r engines u T old mid h before b t x is notice kept_before i =
     started : IsSending n own known (u.net.core own) (lower.handed_on o.sessions s own) o.said
         (noticed_on u.notices s own number) (with_numbers e.core ns) before
     started = record {
-      placed = o.held.placed ∙ o.told.place;
+      placed = place_alike e.core.place e.sessions.place (place_of n own) o.held.placed o.told.place;
       shown = λ serial. shown_same serial o.sessions (lower.handed_on o.sessions s own) own (with_numbers e.core ns)
           known (u.net.core own)
           (λ y d. ap announced_in (same_accepted o.sessions s own y d))
@@ -369,8 +373,8 @@ notice_taken n r engines u T old mid h before b t x is notice kept_before i =
           (only_handed o.sessions s own []).grow (said_same o.said) kept_before;
     }
 
-    can : all_can_go (place_of n own) ns messages ≡ true
-    can = subst (λ (p : Place). all_can_go p ns messages ≡ true) o.told.place
+    can : all_can_go (in_job e.core.place.message_limit (place_of n own)) ns messages ≡ true
+    can = subst (λ (p : Place). all_can_go p ns messages ≡ true) (sym o.held.placed ∙ started.placed)
         (meets_none old.sessions ns (Some h) messages i.goes).can
 
     sent : IsStepSent n own known (u.net.core own) (lower.handed_on o.sessions s own) o.said

@@ -17,7 +17,7 @@ use Rattle.proof_group_network.specs.Network.{GroupNetwork, hear_member}
 use Rattle.proof_group_network.specs.Notices.{Member}
 use Rattle.proof_group_network.specs.NoticesStand.{heard_member}
 use Rattle.proof_link_truth.specs.Events as below
-use Rattle.link_truth.specs.Wire.{at, place_of}
+use Rattle.link_truth.specs.Wire.{at, in_job, place_of}
 use Rattle.endpoint_links.specs.Links.{LinksOf}
 use Rattle.proof_pure_network.specs.Announced.{MeetingsStand}
 use Rattle.proof_pure_network.specs.Core.{Core}
@@ -77,7 +77,7 @@ pub from_known : (n r : ℕ) (engines : List EngineState) (current : ℕ → ℕ
     (s : Endpoint) (e : EngineState) (text : Option FrameText) → IsOpen n r engines current u texts s e →
     IsFromOther e.core e.sessions.known (news s false text)
 from_known n r engines current u texts s e text o =
-    let place : e.core.place ≡ place_of n (at r (current r)) = o.held.placed ∙ o.told.place in
+    let place : e.core.place ≡ in_job e.sessions.place.message_limit (place_of n (at r (current r))) = o.held.placed ∙ o.told.place in
     let size_is : e.core.place.size ≡ n = ap (λ (p : Place). p.size) place in
     let rank_is : e.core.place.endpoint.rank ≡ r = ap (λ (p : Place). p.endpoint.rank) place in
     let known : slice_index e.sessions.known s.rank ≡ s.incarnation = o.known in
@@ -149,6 +149,7 @@ opens_by shows n r engines current u after texts old h meetings m told heard a g
             groups = groups;
             placed = (alone 0).place ∙ m.held.placed;
           }));
+      limited = m.limited ∙ sym a.limit_is;
       payloads =
           subst (λ (known : List ℕ). ArePayloads m.sessions m.said own known (opened old h).payloads)
           (sym (known_alike h.lesson old.sessions.known s))
@@ -171,7 +172,8 @@ opens_by shows n r engines current u after texts old h meetings m told heard a g
     heard_news = news s h.lesson None
 
     other : IsFromOther old.core old.sessions.known heard_news
-    other = is_from_other n r current old.core old.sessions.known heard_news (m.held.placed ∙ told.place) heard
+    other = is_from_other n r current old.core old.sessions.known heard_news old.sessions.place.message_limit
+        (m.held.placed ∙ told.place) heard
 
     alone : (serial : ℕ) →
         IsHeard (announcements_in serial m.sessions own) old.core old.sessions.known (u.net.core own) heard_news None

@@ -255,6 +255,7 @@ part_step n r engines u T old h b p x is plain number part next kept =
     (ap (λ (c : CoreState). c.completion) (sym core_is) ∙ o.completion)
     (payloads_grow o.sessions (handed_on o.sessions s own) o.said o.said own mid.sessions.known p
     (only_handed o.sessions s own []).grow (said_same o.said) kept)
+    refl
   where
     own : Endpoint
     own = here u.net r

@@ -17,7 +17,7 @@ use Rattle.perfect_groups.specs.Membership.{Membership}
 use Rattle.proof_group_network.specs.Happened.{IsAfter, QuestionsHappen, reply_of}
 use Rattle.proof_group_network.specs.Network.{Ask, GroupNetwork, happens}
 use Rattle.proof_link_truth.specs.Events.{RestIsTrue}
-use Rattle.link_truth.specs.Wire.{place_of}
+use Rattle.link_truth.specs.Wire.{in_job, place_of}
 use Rattle.proof_pure_network.specs.Network.{here}
 use Rattle.proof_session_carrying.specs.MessageLaws.{OthersAreCarried}
 use Rattle.vocabulary.specs.declared.endpoint.Endpoint.{Endpoint}
@@ -51,9 +51,10 @@ facts_same e a b (Some c) q held = ap (λ (x : machine.Fact). Some (OfFact x)) (
 
 pub questions_follow : RestIsTrue → QuestionsHappen → OthersAreCarried → TakenIsFaultless → QuestionsFollow
 questions_follow rest happen carried taken n r engines datagrams history old mid comm q fact f there told =
-    subst (λ (e : EngineState). LeavesCalled n f.happenings engines datagrams r history old e (calls.Ask comm q)
+    subst (λ (e : EngineState). LeavesCalled n f.limit f.happenings engines datagrams r history old e (calls.Ask comm q)
     (replies.Fact fact)) (sym told.unchanged)
-    (subst (λ (es : List Entry). LeavesFollowedOn n f.happenings engines datagrams r old (history ++ es)) entries_are
+    (subst (λ (es : List Entry). LeavesFollowedOn n f.limit f.happenings engines datagrams r old (history ++ es))
+    entries_are
     (followed_after n r engines datagrams history _ old (Ask r (Inquire comm (question_of q)))
     (w.net.core own) w.net.link (w.member own) w.notices f.joined.said f.joined.texts f.joined.sessions f after
     (carried w (happens n w (Ask r (Inquire comm (question_of q)))) f.joined.said f.joined.texts f.joined.sessions own
@@ -61,10 +62,10 @@ questions_follow rest happen carried taken n r engines datagrams history old mid
     (rest n r (sessions_in engines) datagrams f.joined.texts w.net.current old.sessions f.joined.links
     (is_at n r engines datagrams w old f.joined there))
     (followed.held_at n r engines datagrams w old f.joined there) (said_same f.joined.said)
-    (f.joined.payloads r old there) refl))
+    (f.joined.payloads r old there) refl old there refl))
   where
     w : GroupNetwork
-    w = network_after n f.happenings
+    w = network_after n f.limit f.happenings
 
     own : Endpoint
     own = here w.net r
@@ -72,7 +73,7 @@ questions_follow rest happen carried taken n r engines datagrams history old mid
     at_own : IsHeldBy w f.joined.sessions r old
     at_own = f.joined.held r old there
 
-    place : (r < n) × (old.sessions.place ≡ place_of n own)
+    place : (r < n) × (old.sessions.place ≡ in_job old.sessions.place.message_limit (place_of n own))
     place = place_is n r engines datagrams w old f.joined there
 
     same : (w.member own).membership.held ≡ (member_of old.groups).held

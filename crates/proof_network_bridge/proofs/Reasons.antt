@@ -24,7 +24,10 @@ use Rattle.proof_collective_steps.specs.Shown as collectives
 use Rattle.observation.specs.Reasons.{IsReason}
 use Rattle.proof_engine_view.specs.Transfers.{Announcements}
 use Rattle.proof_session_carrying.specs.Announced.{announcements_in}
+use Rattle.proof_group_network.proofs.NetworkKept.{run_limit_with_groups}
+use Rattle.proof_group_network.proofs.NetworkRest.{is_run_of_groups}
 use Rattle.proof_group_network.proofs.NoticesStand.{notices_stand}
+use Rattle.proof_group_network.specs.Network.{new_group_network}
 use Rattle.proof_group_network.specs.Network.{GroupNetwork}
 use Rattle.proof_group_network.specs.Notices.{Member}
 use Rattle.proof_network_bridge.proofs.Followed.{IsHeldAs, held_at}
@@ -32,6 +35,7 @@ use Rattle.proof_network_bridge.proofs.Members.{are_in_world, busy_same, held_sa
 use Rattle.proof_network_bridge.proofs.Refusals.{by_rule, free_faultless, free_reason}
 use Rattle.proof_network_bridge.proofs.Routed.{IsFree}
 use Rattle.proof_network_bridge.proofs.Worlds.{place_is}
+use Rattle.vocabulary.specs.MessageLimits.{limit_of}
 use Rattle.proof_network_bridge.specs.Alone.{EnginesAreRanks, EnginesJudgeAsTheMachine, EnginesRefuseAsTheMachine}
 use Rattle.proof_network_bridge.specs.Alone.{EnginesTakeNoFault, IsRank}
 use Rattle.observation.specs.Faults.{IsFaultless}
@@ -163,8 +167,8 @@ none_there (Some x) h = absurd cc
 -- what it holds, while no earlier call of it is blocked
 free_at : (a : Announcements) (own : Endpoint) (e : EngineState) (core : Core) (m : Member) → IsHeldAs a own e core m →
     is_busy e ≡ false → AreInWorld e.core.place.size m.membership →
-    IsFree a e core m.membership
-free_at a own e core m h idle inside =
+    core.message_limit ≡ limit_of e.core.place.message_limit → IsFree a e core m.membership
+free_at a own e core m h idle inside limit =
     let two = neither (is_some e.core.blocked) (is_within (member_of e.groups).present) idle in
     record {
       shown = h.queues;
@@ -173,27 +177,43 @@ free_at a own e core m h idle inside =
       held = held_same own e.groups m h.groups;
       known = λ t r. h.queues.known_alike r t;
       inside = inside;
+      placed = h.placed;
+      limit = limit;
     }
 
 -- its communicators are of ranks of world
 inside_world : (n r : ℕ) (engines : List EngineState) (datagrams : List (ℕ × List ℕ)) (history : List Entry)
     (e : EngineState) (f : IsFollowed n engines datagrams history) → slice_get engines r ≡ Some e →
     AreInWorld e.core.place.size
-    ((network_after n f.happenings).member (here (network_after n f.happenings).net r)).membership
+    ((network_after n f.limit f.happenings).member (here (network_after n f.limit f.happenings).net r)).membership
 inside_world n r engines datagrams history e f there =
-    let w : GroupNetwork = network_after n f.happenings in
+    let w : GroupNetwork = network_after n f.limit f.happenings in
     let place = place_is n r engines datagrams w e f.joined there in
     let size : e.core.place.size ≡ n = ap (λ (p : Place). p.size) ((f.joined.held r e there).placed ∙ place.1) in
     subst (λ (k : ℕ). AreInWorld k (w.member (here w.net r)).membership) (sym size)
     (are_in_world n (w.member (here w.net r)).membership
-    ((notices_stand n f.happenings (omega (arith, f.few))).held r place.0))
+    ((notices_stand n f.limit f.happenings (omega (arith, f.few))).held r place.0))
+
+-- and its core has the limit of messages of its job
+limit_world : (n r : ℕ) (engines : List EngineState) (datagrams : List (ℕ × List ℕ)) (history : List Entry)
+    (e : EngineState) (f : IsFollowed n engines datagrams history) → slice_get engines r ≡ Some e →
+    ((network_after n f.limit f.happenings).net.core
+    (here (network_after n f.limit f.happenings).net r)).message_limit ≡
+    limit_of e.core.place.message_limit
+limit_world n r engines datagrams history e f there =
+    let w : GroupNetwork = network_after n f.limit f.happenings in
+    (is_run_of_groups n f.limit f.happenings (omega (arith, f.few))).limits (here w.net r)
+    ∙ sym (run_limit_with_groups n f.happenings (new_group_network n f.limit))
+    ∙ sym (f.joined.limits r e there)
+    ∙ ap (λ (p : Place). limit_of p.message_limit) (sym (f.joined.held r e there).placed)
 
 -- while an earlier call is blocked, the machine's first fault is 6
 busy_fault : (a : Announcements) (own : Endpoint) (e : EngineState) (core : Core) (m : Member) (c : machine.Call) →
     IsHeldAs a own e core m → is_busy e ≡ true →
     fault own (view blank core) m.membership c ≡ Some 6
 busy_fault a own e core m c h busy =
-    ap (λ (b : Bool). fault_by b (λ k. standing (slice_get (view blank core).requests k)) own core.known m.membership c)
+    ap (λ (b : Bool). fault_by core.message_limit b (λ k. standing (slice_get (view blank core).requests k)) own
+    core.known m.membership c)
     (busy_same a own e core m h.queues h.groups ∙ busy)
 
 -- ---- AN ENGINE ALONE
@@ -202,9 +222,9 @@ busy_fault a own e core m c h busy =
 -- or 14
 refused_alone : (a : Announcements) (own : Endpoint) (e mid : EngineState) (core : Core) (m : Member) (call back : Call)
     (why : Refusal) → IsHeldAs a own e core m → AreInWorld e.core.place.size m.membership →
-    CallGives e call (replies.Refused why back) mid →
+    core.message_limit ≡ limit_of e.core.place.message_limit → CallGives e call (replies.Refused why back) mid →
     IsReason (fault own (view blank core) m.membership (call_meant e.core call)) why
-refused_alone a own e mid core m call back why h inside gives =
+refused_alone a own e mid core m call back why h inside limit gives =
     go (is_busy e) refl (refused e mid call why back gives).reason
   where
     go : (b : Bool) → is_busy e ≡ b →
@@ -214,19 +234,20 @@ refused_alone a own e mid core m call back why h inside gives =
         by_rule (fault own (view blank core) m.membership (call_meant e.core call)) refusals.Request why because
         (busy_fault a own e core m (call_meant e.core call) h busy)
     go false idle because =
-        free_reason a own e core m.membership call why (free_at a own e core m h idle inside) h.groups.own because
+        free_reason a own e core m.membership call why (free_at a own e core m h idle inside limit) h.groups.own because
 
 -- a call that meets no rule and no limit has no fault there, and names no request of another engine
 allowed_alone : (a : Announcements) (own : Endpoint) (e : EngineState) (core : Core) (m : Member) (call : Call) →
-    IsHeldAs a own e core m → AreInWorld e.core.place.size m.membership → fault_of e call ≡ None →
+    IsHeldAs a own e core m → AreInWorld e.core.place.size m.membership →
+    core.message_limit ≡ limit_of e.core.place.message_limit → fault_of e call ≡ None →
     IsFaultless (fault own (view blank core) m.membership (call_seen call)) e.core call
-allowed_alone a own e core m call h inside fine = go (is_busy e) refl fine
+allowed_alone a own e core m call h inside limit fine = go (is_busy e) refl fine
   where
     go : (b : Bool) → is_busy e ≡ b → first_fault (broken b refusals.Request) (free_fault e call) ≡ None →
         IsFaultless (fault own (view blank core) m.membership (call_seen call)) e.core call
     go true busy none = absurd cc
     go false idle none =
-        free_faultless a own e core m.membership call (free_at a own e core m h idle inside) h.groups.own none
+        free_faultless a own e core m.membership call (free_at a own e core m h idle inside limit) h.groups.own none
 
 -- a rank holds what its core and its member hold
 rank_holds : (e : EngineState) (core : Core) (m : Member) → (r : IsRank e core m) →
@@ -236,11 +257,11 @@ rank_holds e core m r = record { queues = r.queues; groups = r.groups; placed = 
 pub engines_refuse_as_the_machine : EnginesRefuseAsTheMachine
 engines_refuse_as_the_machine e mid core m call back why r gives =
     refused_alone r.announced e.sessions.place.endpoint e mid core m call back why (rank_holds e core m r) r.inside
-    gives
+    r.limit gives
 
 pub engines_judge_as_the_machine : EnginesJudgeAsTheMachine
 engines_judge_as_the_machine e core m call r fine =
-    allowed_alone r.announced e.sessions.place.endpoint e core m call (rank_holds e core m r) r.inside fine
+    allowed_alone r.announced e.sessions.place.endpoint e core m call (rank_holds e core m r) r.inside r.limit fine
 
 pub engines_take_no_fault : EnginesTakeNoFault
 engines_take_no_fault e mid core m call reply r taken gives =
@@ -251,7 +272,7 @@ engines_take_no_fault e mid core m call reply r taken gives =
 -- it is a rank
 pub engines_are_ranks : EnginesAreRanks
 engines_are_ranks n r engines datagrams history e f there =
-    let w : GroupNetwork = network_after n f.happenings in
+    let w : GroupNetwork = network_after n f.limit f.happenings in
     let own : Endpoint = here w.net r in
     let h : IsHeldAs (announcements_in 0 f.joined.sessions own) own e (w.net.core own) (w.member own) = held_at n r engines datagrams w e f.joined there 0 in
     let endpoint : own ≡ e.sessions.place.endpoint = sym (ap (λ (p : Place). p.endpoint) (place_is n r engines datagrams w e f.joined there).1) in
@@ -266,6 +287,7 @@ engines_are_ranks n r engines datagrams history e f there =
             h.groups;
         placed = h.placed;
         inside = inside_world n r engines datagrams history e f there;
+        limit = limit_world n r engines datagrams history e f there;
       };
     }
 
@@ -275,32 +297,33 @@ pub refused_reason : (n r : ℕ) (engines : List EngineState) (datagrams : List 
     (e mid : EngineState) (call back : Call) (why : Refusal) →
     (f : IsFollowed n engines datagrams history) → slice_get engines r ≡ Some e →
     CallGives e call (replies.Refused why back) mid →
-    IsReason (fault (here (network_after n f.happenings).net r)
-    (view blank ((network_after n f.happenings).net.core (here (network_after n f.happenings).net r)))
-    ((network_after n f.happenings).member (here (network_after n f.happenings).net r)).membership
+    IsReason (fault (here (network_after n f.limit f.happenings).net r)
+    (view blank ((network_after n f.limit f.happenings).net.core (here (network_after n f.limit f.happenings).net r)))
+    ((network_after n f.limit f.happenings).member (here (network_after n f.limit f.happenings).net r)).membership
     (call_meant e.core call)) why
 refused_reason n r engines datagrams history e mid call back why f there gives =
-    let w : GroupNetwork = network_after n f.happenings in
+    let w : GroupNetwork = network_after n f.limit f.happenings in
     let own : Endpoint = here w.net r in
     refused_alone (announcements_in 0 f.joined.sessions own) own e mid (w.net.core own) (w.member own) call back why
     (held_at n r engines datagrams w e f.joined there 0)
-    (inside_world n r engines datagrams history e f there) gives
+    (inside_world n r engines datagrams history e f there) (limit_world n r engines datagrams history e f there) gives
 
 -- a call that meets no rule and no limit has no fault there, and names no request of another engine
 pub allowed_faultless : (n r : ℕ) (engines : List EngineState) (datagrams : List (ℕ × List ℕ)) (history : List Entry)
     (e : EngineState) (call : Call) → (f : IsFollowed n engines datagrams history) →
     slice_get engines r ≡ Some e → fault_of e call ≡ None →
     IsFaultless
-    (fault (here (network_after n f.happenings).net r)
-    (view blank ((network_after n f.happenings).net.core (here (network_after n f.happenings).net r)))
-    ((network_after n f.happenings).member (here (network_after n f.happenings).net r)).membership (call_seen call))
+    (fault (here (network_after n f.limit f.happenings).net r)
+    (view blank ((network_after n f.limit f.happenings).net.core (here (network_after n f.limit f.happenings).net r)))
+    ((network_after n f.limit f.happenings).member (here (network_after n f.limit f.happenings).net r)).membership
+    (call_seen call))
     e.core call
 allowed_faultless n r engines datagrams history e call f there fine =
-    let w : GroupNetwork = network_after n f.happenings in
+    let w : GroupNetwork = network_after n f.limit f.happenings in
     let own : Endpoint = here w.net r in
     allowed_alone (announcements_in 0 f.joined.sessions own) own e (w.net.core own) (w.member own) call
     (held_at n r engines datagrams w e f.joined there 0)
-    (inside_world n r engines datagrams history e f there) fine
+    (inside_world n r engines datagrams history e f there) (limit_world n r engines datagrams history e f there) fine
 
 -- so has one that it takes
 pub taken_faultless : (n r : ℕ) (engines : List EngineState) (datagrams : List (ℕ × List ℕ)) (history : List Entry)
@@ -308,9 +331,10 @@ pub taken_faultless : (n r : ℕ) (engines : List EngineState) (datagrams : List
     (f : IsFollowed n engines datagrams history) → slice_get engines r ≡ Some e → IsTaken reply →
     CallGives e call reply mid →
     IsFaultless
-    (fault (here (network_after n f.happenings).net r)
-    (view blank ((network_after n f.happenings).net.core (here (network_after n f.happenings).net r)))
-    ((network_after n f.happenings).member (here (network_after n f.happenings).net r)).membership (call_seen call))
+    (fault (here (network_after n f.limit f.happenings).net r)
+    (view blank ((network_after n f.limit f.happenings).net.core (here (network_after n f.limit f.happenings).net r)))
+    ((network_after n f.limit f.happenings).member (here (network_after n f.limit f.happenings).net r)).membership
+    (call_seen call))
     e.core call
 taken_faultless n r engines datagrams history e mid call reply f there taken gives =
     allowed_faultless n r engines datagrams history e call f there (allowed e mid call reply taken gives)

@@ -68,8 +68,10 @@ use Rattle.requests.specs.declared.region.Region.{Region}
 use Rattle.requests.specs.declared.awaited_requests.Awaited.{Awaited}
 use Rattle.requests.specs.declared.awaited_requests.Awaited.TheVariants as awaiteds
 use Rattle.requests.specs.declared.table.Request.{Request}
+use Rattle.incarnation.specs.declared.place.Place.{Place}
 use Rattle.vocabulary.specs.declared.envelope.Source.{Source}
 use Rattle.vocabulary.specs.declared.endpoint.Endpoint.{Endpoint}
+use Rattle.vocabulary.specs.MessageLimits.{limit_of}
 
 -- what the machine finds is the refusal's number
 pub by_rule : (found : Option ℕ) (x why : Refusal) → why ≡ x → found ≡ Some (number_of_refusal x) → IsReason found why
@@ -85,27 +87,29 @@ held_alone : (l : Local) (m : Membership) → is_within m.present ≡ false → 
 held_alone l m apart = none_more (is_held l.blocked) (is_within m.present) apart
 
 -- the machine finds what its queues find
-wait_found : (n : ℕ) (own : Endpoint) (l : Local) (m : Membership) (a : completions.Awaited) →
-    is_within m.present ≡ false → fault own l m (Wait a) ≡ queue_fault n l (queues.Wait a)
-wait_found n own l m a apart =
-    ap (λ (b : Bool). fault_by b (λ k. standing (slice_get l.requests k)) own l.known m (Wait a)) (held_alone l m apart)
+wait_found : (p : Place) (own : Endpoint) (l : Local) (m : Membership) (a : completions.Awaited) →
+    is_within m.present ≡ false → fault own l m (Wait a) ≡ queue_fault p l (queues.Wait a)
+wait_found p own l m a apart =
+    ap (λ (b : Bool). fault_by l.message_limit b (λ k. standing (slice_get l.requests k)) own l.known m (Wait a))
+    (held_alone l m apart)
 
-test_found : (n : ℕ) (own : Endpoint) (l : Local) (m : Membership) (r : Option ℕ) → is_within m.present ≡ false →
-    fault own l m (Test r) ≡ queue_fault n l (queues.Test r)
-test_found n own l m r apart =
-    ap (λ (b : Bool). fault_by b (λ k. standing (slice_get l.requests k)) own l.known m (Test r)) (held_alone l m apart)
+test_found : (p : Place) (own : Endpoint) (l : Local) (m : Membership) (r : Option ℕ) → is_within m.present ≡ false →
+    fault own l m (Test r) ≡ queue_fault p l (queues.Test r)
+test_found p own l m r apart =
+    ap (λ (b : Bool). fault_by l.message_limit b (λ k. standing (slice_get l.requests k)) own l.known m (Test r))
+    (held_alone l m apart)
 
-cancel_found : (n : ℕ) (own : Endpoint) (l : Local) (m : Membership) (r : Option ℕ) → is_within m.present ≡ false →
-    fault own l m (Cancel r) ≡ queue_fault n l (queues.Cancel r)
-cancel_found n own l m r apart =
-    ap (λ (b : Bool). fault_by b (λ k. standing (slice_get l.requests k)) own l.known m (Cancel r))
+cancel_found : (p : Place) (own : Endpoint) (l : Local) (m : Membership) (r : Option ℕ) → is_within m.present ≡ false →
+    fault own l m (Cancel r) ≡ queue_fault p l (queues.Cancel r)
+cancel_found p own l m r apart =
+    ap (λ (b : Bool). fault_by l.message_limit b (λ k. standing (slice_get l.requests k)) own l.known m (Cancel r))
     (held_alone l m apart)
 
 -- so the refusal has a reason
 requests_reason : (a : Announcements) (e : EngineState) (core : Core) (m : Membership) (call : engine.Call)
     (q : core_calls.RoutedCall) (found : Option ℕ) (why : Refusal) → IsFree a e core m →
     call_fault e.core q ≡ free_fault e call →
-    found ≡ queue_fault e.core.place.size (view blank core) (in_queues.call_meant e.core q) →
+    found ≡ queue_fault e.core.place (view blank core) (in_queues.call_meant e.core q) →
     (LacksRoom e call why → why ≡ refusals.OutOfMemory) →
     WhyRefused (free_fault e call) e call why → IsReason found why
 requests_reason a e core m call q found why free is same lacks reason =
@@ -132,7 +136,7 @@ as_call (queues.Mrecv message into) = Mrecv message into
 requests_faultless : (a : Announcements) (e : EngineState) (core : Core) (m : Membership) (call : engine.Call)
     (q : core_calls.RoutedCall) (found : Option ℕ) → IsFree a e core m →
     call_fault e.core q ≡ free_fault e call →
-    found ≡ queue_fault e.core.place.size (view blank core) (in_queues.call_seen q) →
+    found ≡ queue_fault e.core.place (view blank core) (in_queues.call_seen q) →
     ((f : Request → ℕ) → as_call (in_queues.call_by f q) ≡ call_by f call) → free_fault e call ≡ None →
     IsFaultless found e.core call
 requests_faultless a e core m call q found free is same as_is allowed =
@@ -161,7 +165,7 @@ routed_reason a own e core m call q c five eleven limit why free routed same req
     found : Option ℕ
     found = fault own (view blank core) m c
 
-    found_is : (o : Option ℕ) → queue_fault e.core.place.size (view blank core) (in_queues.call_meant e.core q) ≡ o →
+    found_is : (o : Option ℕ) → queue_fault e.core.place (view blank core) (in_queues.call_meant e.core q) ≡ o →
         found ≡ or_fault o (rules.first_fault ((five, 5) ∷ (eleven, 11) ∷ []))
     found_is o is =
         fault_cut a own e core m c (in_queues.call_meant e.core q) free routed
@@ -260,7 +264,8 @@ lacks_reason : (a : Announcements) (own : Endpoint) (e : EngineState) (core : Co
     why ≡ refusals.Communicator → IsReason (fault own (view blank core) m c) why
 lacks_reason a own e core m c why free requests lacks because =
     by_rule (fault own l m c) refusals.Communicator why because
-    (lacking (is_blocked l m || wrong) (wrong_communicator m c) ((wrong_type own m c, 2) ∷ (wrong_count own m c, 1) ∷
+    (lacking (is_blocked l m || wrong) (wrong_communicator m c)
+    ((wrong_type own m c, 2) ∷ (wrong_count l.message_limit own m c, 1) ∷
     (wrong_tag c, 3) ∷ (wrong_rank m c, 5) ∷ (wrong_root m c, 7) ∷ (wrong_operation c, 9) ∷
     (wrong_incarnation l.known m c, 11) ∷ [])
     (ap (λ (b : Bool). b || wrong) (not_blocked a e core m free) ∙ requests) lacks)
@@ -483,10 +488,11 @@ search_rules e p (Some r) =
 -- ---- the receive of a message
 
 -- the machine finds what its queues find
-message_found : (n : ℕ) (own : Endpoint) (l : Local) (m : Membership) (message : Option ℕ) (into : Handed) →
-    is_within m.present ≡ false → fault own l m (Mrecv message into) ≡ queue_fault n l (queues.Mrecv message into)
-message_found n own l m message into apart =
-    ap (λ (b : Bool). fault_by b (λ k. standing (slice_get l.requests k)) own l.known m (Mrecv message into))
+message_found : (p : Place) (own : Endpoint) (l : Local) (m : Membership) (message : Option ℕ) (into : Handed) →
+    is_within m.present ≡ false → fault own l m (Mrecv message into) ≡ queue_fault p l (queues.Mrecv message into)
+message_found p own l m message into apart =
+    ap (λ (b : Bool). fault_by l.message_limit b (λ k. standing (slice_get l.requests k)) own l.known m
+    (Mrecv message into))
     (held_alone l m apart)
 
 -- its core's fault, by its requests and what it hands in
@@ -504,7 +510,7 @@ message_reason : (a : Announcements) (own : Endpoint) (e : EngineState) (core : 
     IsReason (fault own (view blank core) m (call_meant e.core (calls.Mrecv q into))) why
 message_reason a own e core m q into why free reason =
     subst (λ (o : Option ℕ). IsReason o why)
-    (sym (message_found e.core.place.size own (view blank core) m
+    (sym (message_found e.core.place own (view blank core) m
     (in_queues.request_by (in_queues.serial_meant e.core) q) (handed_of into) free.apart))
     (by_requests (free_request_fault e.core asked) refl reason)
   where
@@ -549,7 +555,7 @@ message_faultless a own e core m q into free allowed =
     let fine = allowed_calls_are_faultless a e.core e.sessions.known core asked free.shown (message_cut a e core m q into None free requests.0 ∙ arguments.0) in
     record {
       own = ap as_call fine.own;
-      none = message_found e.core.place.size own (view blank core) m (in_queues.request_by in_queues.own_serial q)
+      none = message_found e.core.place own (view blank core) m (in_queues.request_by in_queues.own_serial q)
           (handed_of into) free.apart ∙ fine.none;
     }
 
@@ -557,11 +563,11 @@ message_faultless a own e core m q into free allowed =
 
 -- the machine's faults of an entry of the rank at e, by the communicator that the call names, while no earlier call is
 -- blocked
-abbrev entering_fault : (e : Endpoint) → (known : ℕ → ℕ) → Option Communicator → CollectiveCall → Option ℕ
-entering_fault e known o p =
+abbrev entering_fault : (limit : ℕ) → (e : Endpoint) → (known : ℕ → ℕ) → Option Communicator → CollectiveCall → Option ℕ
+entering_fault limit e known o p =
     if is_none o then Some 4 else
     (if wrong_data o e p then Some 2 else
-    (if wrong_block o e (part_of p) then Some 1 else
+    (if wrong_block limit o e (part_of p) then Some 1 else
     (if is_rooted (part_of p).record_is.kind && is_beyond o (part_of p).record_is.root then Some 7 else
     (if is_undefined (part_of p).record_is.operation (part_of p).record_is.basic then Some 9 else
     (if has_replaced known o then Some 11 else None)))))
@@ -571,15 +577,23 @@ entry_seen : (a : Announcements) (own : Endpoint) (e : EngineState) (core : Core
     (x : Entry) → IsFree a e core m → e.groups.collective.own ≡ own →
     fault own (view blank core) m (Enter comm (call_of x))
     ≡ cond (is_none (held_at (member_of e.groups) comm)) (Some 4)
-    (option_or (option_map number_of_rule (rule_in e.groups.collective.own (held_in e.groups.contexts comm) x))
+    (option_or (option_map number_of_rule
+    (rule_in (limit_of e.sessions.place.message_limit) e.groups.collective.own (held_in e.groups.contexts comm) x))
     (cond (has_replaced (known_by e.sessions.known) (held_at (member_of e.groups) comm)) (Some 11) None))
 entry_seen a own e core m comm x free stands =
-    ap (λ (b : Bool). fault_by b f own core.known m (Enter comm (call_of x))) (not_blocked a e core m free)
-    ∙ ap (λ (o : Option Communicator). entering_fault own core.known o (call_of x)) (at_same a e core m comm free)
-    ∙ ap (λ (known : ℕ → ℕ). entering_fault own known (held_at (member_of e.groups) comm) (call_of x)) free.known
-    ∙ ap (λ (d : Endpoint). entering_fault d (known_by e.sessions.known) (held_at (member_of e.groups) comm)
-    (call_of x)) (sym stands)
-    ∙ entry_judged false e.groups.collective e.groups.contexts (known_by e.sessions.known) comm x
+    ap (λ (b : Bool). fault_by core.message_limit b f own core.known m (Enter comm (call_of x)))
+    (not_blocked a e core m free)
+    ∙ ap (λ (o : Option Communicator). entering_fault core.message_limit own core.known o (call_of x))
+    (at_same a e core m comm free)
+    ∙ ap (λ (known : ℕ → ℕ). entering_fault core.message_limit own known (held_at (member_of e.groups) comm)
+    (call_of x)) free.known
+    ∙ ap (λ (d : Endpoint). entering_fault core.message_limit d (known_by e.sessions.known)
+    (held_at (member_of e.groups) comm) (call_of x)) (sym stands)
+    ∙ ap (λ (limit : ℕ). entering_fault limit e.groups.collective.own (known_by e.sessions.known)
+    (held_at (member_of e.groups) comm) (call_of x))
+    (free.limit ∙ ap (λ (p : Place). limit_of p.message_limit) free.placed)
+    ∙ entry_judged (limit_of e.sessions.place.message_limit) false e.groups.collective e.groups.contexts
+    (known_by e.sessions.known) comm x
   where
     f : ℕ → Standing
     f k = standing (slice_get (view blank core).requests k)
@@ -598,9 +612,10 @@ question_seen : (a : Announcements) (own : Endpoint) (e : EngineState) (core : C
     ≡ cond (is_none (held_at (member_of e.groups) comm) || asks_of_none (member_of e.groups) (question_of q))
     (Some 4) None
 question_seen a own e core m comm q free =
-    ap (λ (b : Bool). fault_by b (λ k. standing (slice_get (view blank core).requests k)) own core.known m
+    ap (λ (b : Bool). fault_by core.message_limit b (λ k. standing (slice_get (view blank core).requests k)) own
+    core.known m
     (Inquire comm (question_of q))) (not_blocked a e core m free)
-    ∙ question_judged false own core.known m comm q
+    ∙ question_judged core.message_limit false own core.known m comm q
     ∙ ap (λ (o : Option Communicator). cond (is_none o || asks_of_none m (question_of q)) (Some 4) None)
     (at_same a e core m comm free)
     ∙ ap (λ (b : Bool). cond (is_none (held_at (member_of e.groups) comm) || b) (Some 4) None)
@@ -626,7 +641,7 @@ entry_reason : (a : Announcements) (own : Endpoint) (e : EngineState) (core : Co
 entry_reason a own e core m comm x why free stands reason =
     subst (λ (o : Option ℕ). IsReason o why) (sym (entry_seen a own e core m comm x free stands))
     (go (is_none (held_at (member_of e.groups) comm))
-    (rule_in e.groups.collective.own (held_in e.groups.contexts comm) x)
+    (rule_in (limit_of e.sessions.place.message_limit) e.groups.collective.own (held_in e.groups.contexts comm) x)
     (has_replaced (known_by e.sessions.known) (held_at (member_of e.groups) comm))
     (limit_in e.groups.collective e.groups.contexts comm x) reason)
   where
@@ -651,7 +666,7 @@ entry_faultless : (a : Announcements) (own : Endpoint) (e : EngineState) (core :
 entry_faultless a own e core m comm x free stands allowed =
     entry_seen a own e core m comm x free stands
     ∙ go (is_none (held_at (member_of e.groups) comm))
-    (rule_in e.groups.collective.own (held_in e.groups.contexts comm) x)
+    (rule_in (limit_of e.sessions.place.message_limit) e.groups.collective.own (held_in e.groups.contexts comm) x)
     (has_replaced (known_by e.sessions.known) (held_at (member_of e.groups) comm))
     (limit_in e.groups.collective e.groups.contexts comm x) allowed
   where
@@ -708,29 +723,29 @@ free_reason a own e core m (calls.Irecv v) why free stands reason = receive_reas
 free_reason a own e core m (calls.Wait q) why free stands reason =
     requests_reason a e core m (calls.Wait q) (cores_calls.Wait q) _ why free
     (free_is a e core m (cores_calls.Wait q) free)
-    (wait_found e.core.place.size own (view blank core) m
+    (wait_found e.core.place own (view blank core) m
     (in_queues.awaited_by (in_queues.serial_meant e.core) (awaiteds.One q)) free.apart) (λ lacks. absurd lacks)
     reason
 free_reason a own e core m (calls.Test q) why free stands reason =
     requests_reason a e core m (calls.Test q) (cores_calls.Test q) _ why free
     (free_is a e core m (cores_calls.Test q) free)
-    (test_found e.core.place.size own (view blank core) m (in_queues.request_by (in_queues.serial_meant e.core) q)
+    (test_found e.core.place own (view blank core) m (in_queues.request_by (in_queues.serial_meant e.core) q)
     free.apart) (λ lacks. absurd lacks) reason
 free_reason a own e core m (calls.Waitany qs) why free stands reason =
     requests_reason a e core m (calls.Waitany qs) (cores_calls.Waitany qs) _ why free
     (free_is a e core m (cores_calls.Waitany qs) free)
-    (wait_found e.core.place.size own (view blank core) m
+    (wait_found e.core.place own (view blank core) m
     (in_queues.awaited_by (in_queues.serial_meant e.core) (awaiteds.AnyOf qs)) free.apart) (λ lacks. absurd lacks)
     reason
 free_reason a own e core m (calls.Waitall qs) why free stands reason =
     requests_reason a e core m (calls.Waitall qs) (cores_calls.Waitall qs) _ why free
     (free_is a e core m (cores_calls.Waitall qs) free)
-    (wait_found e.core.place.size own (view blank core) m
+    (wait_found e.core.place own (view blank core) m
     (in_queues.awaited_by (in_queues.serial_meant e.core) (awaiteds.AllOf qs)) free.apart) (λ lacks. lacks) reason
 free_reason a own e core m (calls.Cancel q) why free stands reason =
     requests_reason a e core m (calls.Cancel q) (cores_calls.Cancel q) _ why free
     (free_is a e core m (cores_calls.Cancel q) free)
-    (cancel_found e.core.place.size own (view blank core) m (in_queues.request_by (in_queues.serial_meant e.core) q)
+    (cancel_found e.core.place own (view blank core) m (in_queues.request_by (in_queues.serial_meant e.core) q)
     free.apart) (λ lacks. absurd lacks) reason
 free_reason a own e core m (calls.Iprobe p) why free stands reason =
     probing_reason a own e core m p (calls.Iprobe p) why (λ r. group_limit r.group) free
@@ -758,27 +773,27 @@ free_faultless a own e core m (calls.Irecv v) free stands allowed =
 free_faultless a own e core m (calls.Wait q) free stands allowed =
     requests_faultless a e core m (calls.Wait q) (cores_calls.Wait q) _ free
     (free_is a e core m (cores_calls.Wait q) free)
-    (wait_found e.core.place.size own (view blank core) m (in_queues.awaited_by in_queues.own_serial (awaiteds.One q))
+    (wait_found e.core.place own (view blank core) m (in_queues.awaited_by in_queues.own_serial (awaiteds.One q))
     free.apart) (λ f. refl) allowed
 free_faultless a own e core m (calls.Test q) free stands allowed =
     requests_faultless a e core m (calls.Test q) (cores_calls.Test q) _ free
     (free_is a e core m (cores_calls.Test q) free)
-    (test_found e.core.place.size own (view blank core) m (in_queues.request_by in_queues.own_serial q) free.apart)
+    (test_found e.core.place own (view blank core) m (in_queues.request_by in_queues.own_serial q) free.apart)
     (λ f. refl) allowed
 free_faultless a own e core m (calls.Waitany qs) free stands allowed =
     requests_faultless a e core m (calls.Waitany qs) (cores_calls.Waitany qs) _ free
     (free_is a e core m (cores_calls.Waitany qs) free)
-    (wait_found e.core.place.size own (view blank core) m
+    (wait_found e.core.place own (view blank core) m
     (in_queues.awaited_by in_queues.own_serial (awaiteds.AnyOf qs)) free.apart) (λ f. refl) allowed
 free_faultless a own e core m (calls.Waitall qs) free stands allowed =
     requests_faultless a e core m (calls.Waitall qs) (cores_calls.Waitall qs) _ free
     (free_is a e core m (cores_calls.Waitall qs) free)
-    (wait_found e.core.place.size own (view blank core) m
+    (wait_found e.core.place own (view blank core) m
     (in_queues.awaited_by in_queues.own_serial (awaiteds.AllOf qs)) free.apart) (λ f. refl) allowed
 free_faultless a own e core m (calls.Cancel q) free stands allowed =
     requests_faultless a e core m (calls.Cancel q) (cores_calls.Cancel q) _ free
     (free_is a e core m (cores_calls.Cancel q) free)
-    (cancel_found e.core.place.size own (view blank core) m (in_queues.request_by in_queues.own_serial q) free.apart)
+    (cancel_found e.core.place own (view blank core) m (in_queues.request_by in_queues.own_serial q) free.apart)
     (λ f. refl) allowed
 free_faultless a own e core m (calls.Iprobe p) free stands allowed =
     record { own = refl; none = probing_faultless a own e core m p (λ r. group_limit r.group) free allowed }

@@ -16,6 +16,7 @@ use Rattle.perfect_queues.specs.Refusals as rules
 use Rattle.perfect_queues.specs.Refusals.{is_count_wrong, is_held, is_no_tag, is_no_target, is_rank_wrong}
 use Rattle.perfect_queues.specs.Refusals.{is_request_wrong, is_source_beyond, is_tag_above, is_tag_wrong, is_type_wrong}
 use Rattle.perfect_queues.specs.Refusals.{standing}
+use Rattle.vocabulary.specs.MessageLimits.{limit_of}
 use Rattle.vocabulary.specs.declared.envelope.Source.{Source}
 use Rattle.vocabulary.specs.declared.envelope.Source.TheVariants as sources
 use Rattle.perfect_queues.specs.State.{Local}
@@ -58,7 +59,6 @@ use Rattle.sessions.specs.Peers.{peer_at}
 use Rattle.sessions.specs.Events.{is_worn_out}
 use Rattle.sessions.specs.declared.refusal.SessionRefusal.TheVariants as lowers
 use Rattle.std.specs.Prelude.{length, nat_lt, slice_get}
-use Rattle.vocabulary.specs.Limits.{send_limit}
 use Rattle.vocabulary.specs.declared.endpoint.Endpoint.{Endpoint}
 
 same_refusal : (x y : Refusal) → Some x ≡ Some y → x ≡ y
@@ -75,6 +75,8 @@ pub record IsFree (a : Announcements) (e : EngineState) (core : Core) (m : Membe
   pub held : m.held ≡ (member_of e.groups).held
   pub known : core.known ≡ known_by e.sessions.known
   pub inside : AreInWorld e.core.place.size m
+  pub placed : e.core.place ≡ e.sessions.place
+  pub limit : core.message_limit ≡ limit_of e.core.place.message_limit
 
 -- ---- THE MACHINE'S RULES
 
@@ -103,18 +105,25 @@ halves false false false false false five eleven = refl
 pub fault_cut : (a : Announcements) (own : Endpoint) (e : EngineState) (core : Core) (m : Membership) (c : Call)
     (q : queues.Call) → IsFree a e core m → queue_call m c ≡ Some q →
     fault own (view blank core) m c
-    ≡ or_fault (queue_fault e.core.place.size (view blank core) q)
+    ≡ or_fault (queue_fault e.core.place (view blank core) q)
     (rules.first_fault ((wrong_rank m c, 5) ∷ (wrong_incarnation core.known m c, 11) ∷ []))
 fault_cut a own e core m c q free routed =
     of_both_halves n own l m c q free.inside routed
-    ∙ ap (λ (six : Bool). rules.first_fault ((six, 6) ∷ (is_type_wrong q, 2) ∷ (is_count_wrong q, 1) ∷
+    ∙ ap (λ (most : ℕ). rules.first_fault (((is_held l.blocked || is_within m.present) || wrong, 6) ∷
+    (is_type_wrong q, 2) ∷ (is_count_wrong most q, 1) ∷ (is_tag_wrong q, 3) ∷ (is_rank_wrong n q, 5) ∷
+    (wrong_rank m c, 5) ∷ (wrong_incarnation l.known m c, 11) ∷ [])) free.limit
+    ∙ ap (λ (six : Bool). rules.first_fault ((six, 6) ∷ (is_type_wrong q, 2) ∷ (is_count_wrong most q, 1) ∷
     (is_tag_wrong q, 3) ∷ (is_rank_wrong n q, 5) ∷ (wrong_rank m c, 5) ∷ (wrong_incarnation l.known m c, 11) ∷ []))
     (six_same (is_held l.blocked) (is_within m.present) wrong free.apart)
-    ∙ halves (is_held l.blocked || wrong) (is_type_wrong q) (is_count_wrong q) (is_tag_wrong q) (is_rank_wrong n q)
+    ∙ halves (is_held l.blocked || wrong) (is_type_wrong q) (is_count_wrong most q) (is_tag_wrong q) (is_rank_wrong n q)
     (wrong_rank m c) (wrong_incarnation l.known m c)
   where
     n : ℕ
     n = e.core.place.size
+
+    -- the most bytes of a message
+    most : ℕ
+    most = limit_of e.core.place.message_limit
 
     l : Local
     l = view blank core
@@ -238,7 +247,7 @@ five_tests a false b' c d x h room = four_tests a b' c d x h room
 send_rule_room : (p : Place) (s : core_sends.RoutedSend) (x : Refusal) → send_fault p s ≡ Some x → IsOutOfRoom x → ⊥
 unfolding send_fault
 send_rule_room p s x h room =
-    five_tests (differs_in_type (handed_of s.send.from)) (nat_lt send_limit (byte_count s.send.from))
+    five_tests (differs_in_type (handed_of s.send.from)) (nat_lt (limit_of p.message_limit) (byte_count s.send.from))
     (is_too_short (handed_of s.send.from)) (is_no_tag s.send.tag) (is_no_target p.size s.route.named) x h room
 
 receive_rule_room : (size : ℕ) (v : core_receives.RoutedReceive) (x : Refusal) → receive_rule size v ≡ Some x →
@@ -343,13 +352,13 @@ core_fault c q idle requests = ap (λ (b : Option Awaited). fault_at b c q) idle
 -- what it hands in is wrong: the machine's queues find the same
 pub rule_broken : (a : Announcements) (e : EngineState) (core : Core) (m : Membership) (q : core_calls.RoutedCall)
     (x : Refusal) → IsFree a e core m → free_request_fault e.core q ≡ None →
-    argument_fault e.core.place q ≡ Some x → queue_fault e.core.place.size (view blank core) (call_meant e.core q) ≡
+    argument_fault e.core.place q ≡ Some x → queue_fault e.core.place (view blank core) (call_meant e.core q) ≡
     Some (number_of_refusal x)
 rule_broken a e core m q x free requests is =
     go (faults_have_reasons a e.core e.sessions.known core q x free.shown
     (core_fault e.core q free.idle requests ∙ ap (λ (o : Option Refusal). first_of o (limit_fault e.core q)) is))
   where
-    go : cores.HasReason e.core core q x → queue_fault e.core.place.size (view blank core) (call_meant e.core q) ≡
+    go : cores.HasReason e.core core q x → queue_fault e.core.place (view blank core) (call_meant e.core q) ≡
         Some (number_of_refusal x)
     go (MachinesFault found) = found
     go (NoRoom room none) = absurd (argument_room e.core.place q x is room)
@@ -358,14 +367,14 @@ rule_broken a e core m q x free requests is =
 pub rule_kept : (a : Announcements) (e : EngineState) (core : Core) (m : Membership) (q : core_calls.RoutedCall) →
     IsFree a e core m → free_request_fault e.core q ≡ None →
     call_meant e.core q ≡ call_seen q → argument_fault e.core.place q ≡ None →
-    queue_fault e.core.place.size (view blank core) (call_meant e.core q) ≡ None
+    queue_fault e.core.place (view blank core) (call_meant e.core q) ≡ None
 rule_kept a e core m q free requests same is = by_limit (limit_fault e.core q) refl
   where
     l : Local
     l = view blank core
 
     found : Option ℕ
-    found = queue_fault e.core.place.size l (call_meant e.core q)
+    found = queue_fault e.core.place l (call_meant e.core q)
 
     at_limit : (o : Option Refusal) → limit_fault e.core q ≡ o → call_fault e.core q ≡ o
     at_limit o limit = core_fault e.core q free.idle requests ∙
@@ -374,7 +383,8 @@ rule_kept a e core m q free requests same is = by_limit (limit_fault e.core q) r
     full : (x : Refusal) → x ≡ refusals.Limit → IsReason found x → found ≡ None
     full x limit (MachinesFault is_found) = absurd (thirteen
         (is_held l.blocked || is_request_wrong (λ k. standing (slice_get l.requests k)) (call_meant e.core q))
-        (is_type_wrong (call_meant e.core q)) (is_count_wrong (call_meant e.core q))
+        (is_type_wrong (call_meant e.core q))
+        (is_count_wrong (limit_of e.core.place.message_limit) (call_meant e.core q))
         (is_tag_wrong (call_meant e.core q))
         (is_rank_wrong e.core.place.size (call_meant e.core q))
         (is_found ∙ ap (λ (y : Refusal). Some (number_of_refusal y)) limit))
@@ -384,5 +394,5 @@ rule_kept a e core m q free requests same is = by_limit (limit_fault e.core q) r
     by_limit (Some x) limit =
         full x (limit_is e.core q x limit)
         (faults_have_reasons a e.core e.sessions.known core q x free.shown (at_limit (Some x) limit))
-    by_limit None limit = ap (λ (c : queues.Call). queue_fault e.core.place.size l c) same ∙
+    by_limit None limit = ap (λ (c : queues.Call). queue_fault e.core.place l c) same ∙
         (allowed_calls_are_faultless a e.core e.sessions.known core q free.shown (at_limit None limit)).none

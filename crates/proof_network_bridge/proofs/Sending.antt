@@ -20,7 +20,7 @@ use Rattle.proof_link_truth.specs.Events.{Comes, EventsAreTrue, IsAt, LeavesTrue
 use Rattle.proof_link_truth.specs.Events.{links_heard}
 use Rattle.link_truth.specs.Links.{Links}
 use Rattle.link_truth.specs.Truth.{AreTrue}
-use Rattle.link_truth.specs.Wire.{CanBeSent, at, place_of}
+use Rattle.link_truth.specs.Wire.{CanBeSent, at, in_job, place_of}
 use Rattle.endpoint_links.specs.Links.{accept_all}
 use Rattle.proof_session_carrying.specs.Carrying.{bytes_of_message}
 use Rattle.proof_session_carrying.specs.EventLaws.{Bring, Tells}
@@ -32,8 +32,9 @@ use Rattle.sessions.specs.Heard.{HeardText}
 use Rattle.sessions.specs.SessionsState.{SessionsState}
 use Rattle.sessions.specs.declared.refusal.SessionRefusal.{SessionRefusal}
 use Rattle.vocabulary.specs.Endpoints.{is_same}
-use Rattle.vocabulary.specs.Limits.{eager_limit, highest_tag, send_limit}
+use Rattle.vocabulary.specs.Limits.{eager_limit, highest_tag, greatest_limit}
 use Rattle.vocabulary.specs.declared.endpoint.Endpoint.{Endpoint}
+use Rattle.vocabulary.specs.declared.message_limit.MessageLimit.{MessageLimit}
 use Rattle.proof_network_bridge.proofs.ByRank.{all_by_rank, by_rank_same}
 use Rattle.proof_network_bridge.proofs.Halves.{no_limit}
 use Rattle.proof_network_bridge.proofs.StepTargets.{GoTo}
@@ -64,7 +65,7 @@ is_going p ns m goes =
 
 -- so many bytes that are too long for a frame are within the limit, and a number is left
 pub record CanBegin (ns : List Numbers) (rank count : ℕ) : Type 0 where
-  pub limit : count ≤ send_limit
+  pub limit : count ≤ greatest_limit
   pub free : is_full_to ns rank ≡ false
 
 pub can_begin : (ns : List Numbers) (rank count : ℕ) → eager_limit < count → is_sendable ns rank count ≡ true →
@@ -76,11 +77,11 @@ can_begin ns rank count large sendable = go (nat_le count eager_limit) refl send
     rest true h = absurd cc
 
     go : (short : Bool) → nat_le count eager_limit ≡ short →
-        (short || (nat_le count send_limit && not (is_full_to ns rank))) ≡ true → CanBegin ns rank count
+        (short || (nat_le count greatest_limit && not (is_full_to ns rank))) ≡ true → CanBegin ns rank count
     go true is h = absurd (let le : count ≤ eager_limit = leb-true count eager_limit is in omega (arith, le, large))
     go false is h =
-        let parts = and_parts (nat_le count send_limit) (not (is_full_to ns rank)) h in
-        record { limit = leb-true count send_limit parts.0; free = rest (is_full_to ns rank) parts.1 }
+        let parts = and_parts (nat_le count greatest_limit) (not (is_full_to ns rank)) h in
+        record { limit = leb-true count greatest_limit parts.0; free = rest (is_full_to ns rank) parts.1 }
 
 -- the numbers once one more transfer has begun, or none
 numbers_bounded : (n : ℕ) (ns : List Numbers) (m : CollectiveMessage) → AreBounded n ns → m.target.rank < n →
@@ -104,10 +105,10 @@ numbers_bounded n ns m b there sendable true is =
     free = (can_begin ns rank (length (bytes_of_message m)) (ltb-true eager_limit (length (bytes_of_message m)) is)
         sendable).free
 
-pub still_bounded : (n : ℕ) (own : Endpoint) (ns : List Numbers) (m : CollectiveMessage) → AreBounded n ns →
-    can_go (place_of n own) ns m ≡ true → AreBounded n (numbers_after ns m)
-still_bounded n own ns m b goes =
-    let g : IsGoing (place_of n own) ns m = is_going (place_of n own) ns m goes in
+pub still_bounded : (n : ℕ) (l : MessageLimit) (own : Endpoint) (ns : List Numbers) (m : CollectiveMessage) →
+    AreBounded n ns → can_go (in_job l (place_of n own)) ns m ≡ true → AreBounded n (numbers_after ns m)
+still_bounded n l own ns m b goes =
+    let g : IsGoing (in_job l (place_of n own)) ns m = is_going (in_job l (place_of n own)) ns m goes in
     numbers_bounded n ns m b g.there g.sendable (is_large m) refl
 
 -- ---- each may be sent
@@ -134,14 +135,12 @@ can_be_sent p ns m goes whole most = go (is_large m) refl
         }
     go true is =
         let above : 1024 < count = ltb-true eager_limit count is in
-        let limit : count ≤ 1048576 = (can_begin ns m.target.rank count above g.sendable).limit in
+        let limit : count ≤ 2147483647 = (can_begin ns m.target.rank count above g.sendable).limit in
         let greatest : next_to ns m.target.rank ≤ 4294967295 = most in
         record {
           fits = record {
             tag = g.tag;
             large = lt-ltb eager_limit (count * 1) (omega (arith, above));
-            limit =
-                omega (arith, limit);
             plane = refl;
           };
           width = record { context = whole.context; count = omega (arith, limit); transfer = omega (arith, greatest) };
@@ -156,27 +155,31 @@ other_rank a b alike other = go (a.rank == b.rank) refl
     go true h =
         absurd (let same : is_same a b ≡ true = and_from (a.rank == b.rank) (a.incarnation == b.incarnation) h (eq-eqb a.incarnation b.incarnation alike) in let no : true ≡ false = sym same ∙ other in cc)
 
-each_may_be_sent : (n : ℕ) (own : Endpoint) (ns : List Numbers) (ms : List CollectiveMessage) → AreBounded n ns →
-    AllByRecursion (IsSendable n own) ms → AreWhole ms → all_can_go (place_of n own) ns ms ≡ true →
+each_may_be_sent : (n : ℕ) (l : MessageLimit) (own : Endpoint) (ns : List Numbers) (ms : List CollectiveMessage) →
+    AreBounded n ns → AllByRecursion (IsSendable n own) ms → AreWhole ms →
+    all_can_go (in_job l (place_of n own)) ns ms ≡ true →
     MaySendAll n own.rank (messages_sent ns ms)
-each_may_be_sent n own ns [] bounded sendable whole goes = tt
-each_may_be_sent n own ns (m ∷ ms) bounded sendable whole goes =
-    let g = and_parts (can_go (place_of n own) ns m) (all_can_go (place_of n own) (numbers_after ns m) ms) goes in (
+each_may_be_sent n l own ns [] bounded sendable whole goes = tt
+each_may_be_sent n l own ns (m ∷ ms) bounded sendable whole goes =
+    let g = and_parts (can_go (in_job l (place_of n own)) ns m)
+    (all_can_go (in_job l (place_of n own)) (numbers_after ns m) ms) goes in (
       record {
         there = sendable.0.there;
         apart = other_rank m.target own sendable.0.alike sendable.0.other;
         carried =
-            can_be_sent (place_of n own) ns m g.0 whole.0 (bounded.most m.target.rank);
+            can_be_sent (in_job l (place_of n own)) ns m g.0 whole.0 (bounded.most m.target.rank);
       },
-      each_may_be_sent n own (numbers_after ns m) ms (still_bounded n own ns m bounded g.0) sendable.1 whole.1 g.1,
+      each_may_be_sent n l own (numbers_after ns m) ms (still_bounded n l own ns m bounded g.0) sendable.1 whole.1 g.1,
     )
 
 -- What a step sends by rank may be sent
-pub may_be_sent : (n : ℕ) (own : Endpoint) (ns : List Numbers) (ms : List CollectiveMessage) → AreBounded n ns →
-    AllByRecursion (IsSendable n own) ms → AreWhole ms → all_can_go (place_of n own) ns ms ≡ true →
-    MaySendAll n own.rank (step_sendings (place_of n own) ns ms)
-may_be_sent n own ns ms bounded sendable whole goes =
-    all_by_rank (MaySend n own.rank) n (messages_sent ns ms) (each_may_be_sent n own ns ms bounded sendable whole goes)
+pub may_be_sent : (n : ℕ) (l : MessageLimit) (own : Endpoint) (ns : List Numbers) (ms : List CollectiveMessage) →
+    AreBounded n ns → AllByRecursion (IsSendable n own) ms → AreWhole ms →
+    all_can_go (in_job l (place_of n own)) ns ms ≡ true →
+    MaySendAll n own.rank (step_sendings (in_job l (place_of n own)) ns ms)
+may_be_sent n l own ns ms bounded sendable whole goes =
+    all_by_rank (MaySend n own.rank) n (messages_sent ns ms)
+    (each_may_be_sent n l own ns ms bounded sendable whole goes)
 
 ranks_there : (n : ℕ) (own : Endpoint) (ns : List Numbers) (ms : List CollectiveMessage) →
     AllByRecursion (IsSendable n own) ms → AllByRecursion (λ (f : OutgoingText). f.target < n) (messages_sent ns ms)
@@ -262,17 +265,20 @@ pub step_leaves : (T : SessionsState → Links → Type 0) (n : ℕ) (own : Endp
     ((sendings : List OutgoingText) → MaySendAll n own.rank sendings → sends_limit (after_heard old heard) sendings ≡
     None →
     T (after_event old heard sendings) (accept_all links own (all_addressed known sendings))) →
-    old.place ≡ place_of n own → AreBounded n ns → AllByRecursion (IsSendable n own) ms → AreWhole ms →
+    old.place ≡ in_job old.place.message_limit (place_of n own) → AreBounded n ns →
+    AllByRecursion (IsSendable n own) ms → AreWhole ms →
     step_limit old ns heard ms ≡ None →
     T (after_event old heard (step_sendings old.place ns ms))
     (accept_all links own (all_addressed known (messages_sent ns ms)))
 step_leaves T n own old heard links known ns ms leaves place bounded sendable whole none =
     subst (λ (p : Place). T (after_event old heard (step_sendings p ns ms))
     (accept_all links own (all_addressed known (messages_sent ns ms)))) (sym place)
-    (subst (λ (ls : Links). T (after_event old heard (step_sendings (place_of n own) ns ms)) ls)
+    (subst (λ (ls : Links). T
+    (after_event old heard (step_sendings (in_job old.place.message_limit (place_of n own)) ns ms)) ls)
     (by_rank_same n links own known (messages_sent ns ms) (ranks_there n own ns ms sendable))
-    (leaves (step_sendings (place_of n own) ns ms)
-    (may_be_sent n own ns ms bounded sendable whole (subst (λ (p : Place). all_can_go p ns ms ≡ true) place free.can))
+    (leaves (step_sendings (in_job old.place.message_limit (place_of n own)) ns ms)
+    (may_be_sent n old.place.message_limit own ns ms bounded sendable whole
+    (subst (λ (p : Place). all_can_go p ns ms ≡ true) place free.can))
     (subst (λ (p : Place). sends_limit (after_heard old heard) (step_sendings p ns ms) ≡ None) place free.free)))
   where
     free : MeetsNone old ns heard ms
@@ -283,7 +289,7 @@ pub step_is_true : EventsAreTrue →
     (n r : ℕ) (sessions : List SessionsState) (datagrams : List (ℕ × List ℕ)) (links : Links) (current : ℕ →
     ℕ) (old : SessionsState) (heard : Option HeardText) (ns : List Numbers) (ms : List CollectiveMessage) →
     AreTrue n sessions datagrams links current → IsAt sessions r old → Comes datagrams r old heard →
-    old.place ≡ place_of n (at r (current r)) → AreBounded n ns →
+    old.place ≡ in_job old.place.message_limit (place_of n (at r (current r))) → AreBounded n ns →
     AllByRecursion (IsSendable n (at r (current r))) ms → AreWhole ms → step_limit old ns heard ms ≡ None →
     LeavesTrue n sessions datagrams r (after_event old heard (step_sendings old.place ns ms))
     (accept_all (links_heard links (at r (current r)) heard) (at r (current r))

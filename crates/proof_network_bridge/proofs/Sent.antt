@@ -27,7 +27,7 @@ use Rattle.proof_group_network.specs.Network.{NoticeLink, notify, notify_all}
 use Rattle.proof_group_network.specs.Notices.{Notice}
 use Rattle.proof_link_truth.proofs.Lists.{All_append}
 use Rattle.proof_link_truth.specs.Events.{all_addressed}
-use Rattle.link_truth.specs.Wire.{at, place_of}
+use Rattle.link_truth.specs.Wire.{at, in_job, place_of}
 use Rattle.endpoint_links.specs.Links.{accept, accept_all}
 use Rattle.proof_pure_network.specs.Announced.{Begins}
 use Rattle.proof_pure_network.specs.Core.{Core}
@@ -201,7 +201,7 @@ many_more said links e m x d many = go (is_same e e && is_same d m.target)
 -- that wasn't asked for, and as many messages were said as notices went out
 pub record IsSending (n : ℕ) (own : Endpoint) (known : List ℕ) (core : Core) (sessions : Sessions) (said : Saying)
     (links : Endpoint → Endpoint → NoticeLink) (c : CoreState) (p : payloads.State) : Type 0 where
-  pub placed : c.place ≡ place_of n own
+  pub placed : c.place ≡ in_job c.place.message_limit (place_of n own)
   pub shown : (serial : ℕ) → IsShown (announcements_in serial sessions own) c known core
   pub many : (d : Endpoint) → length (said own d) ≡ length (links own d).accepted
   pub kept : ArePayloads sessions said own known p
@@ -270,7 +270,8 @@ whole_sent n own known core sessions said links ns c p m x h =
 large_sent : (n : ℕ) (own : Endpoint) (known : List ℕ) (core : Core) (sessions : Sessions) (said : Saying)
     (links : Endpoint → Endpoint → NoticeLink) (ns : List Numbers) (c : CoreState) (p : payloads.State)
     (m : CollectiveMessage) (x : Notice) →
-    IsSending n own known core sessions said links (with_numbers c ns) p → IsGoing (place_of n own) ns m →
+    IsSending n own known core sessions said links (with_numbers c ns) p →
+    IsGoing (in_job c.place.message_limit (place_of n own)) ns m →
     IsSendable n own m → IsKnown known m.target → eager_limit < length (bytes_of_message m) →
     IsSent true n own known core sessions said links ns c p m x
 large_sent n own known core sessions said links ns c p m x h goes can known_is large =
@@ -357,7 +358,8 @@ large_sent n own known core sessions said links ns c p m x h goes can known_is l
 one_sent : (n : ℕ) (own : Endpoint) (known : List ℕ) (core : Core) (sessions : Sessions) (said : Saying)
     (links : Endpoint → Endpoint → NoticeLink) (ns : List Numbers) (c : CoreState) (p : payloads.State)
     (m : CollectiveMessage) (x : Notice) →
-    IsSending n own known core sessions said links (with_numbers c ns) p → IsGoing (place_of n own) ns m →
+    IsSending n own known core sessions said links (with_numbers c ns) p →
+    IsGoing (in_job c.place.message_limit (place_of n own)) ns m →
     IsSendable n own m → IsKnown known m.target → (large : Bool) → is_large m ≡ large →
     IsSent large n own known core sessions said links ns c p m x
 one_sent n own known core sessions said links ns c p m x h goes can known_is false is =
@@ -418,7 +420,8 @@ then_sent n own known core sessions said links ns c p m x ms xs one rest = recor
 pub step_sent : (n : ℕ) (own : Endpoint) (known : List ℕ) (core : Core) (sessions : Sessions) (said : Saying)
     (links : Endpoint → Endpoint → NoticeLink) (ns : List Numbers) (c : CoreState) (p : payloads.State)
     (ms : List CollectiveMessage) (xs : List (Endpoint × Notice)) →
-    IsSending n own known core sessions said links (with_numbers c ns) p → all_can_go (place_of n own) ns ms ≡ true →
+    IsSending n own known core sessions said links (with_numbers c ns) p →
+    all_can_go (in_job c.place.message_limit (place_of n own)) ns ms ≡ true →
     AllByRecursion (IsSendable n own) ms → GoTo (IsKnown known) ms → AreSaid own ms xs →
     IsStepSent n own known core sessions said links ns c p ms xs
 step_sent n own known core sessions said links ns c p [] [] h goes can known_all are = record {
@@ -430,8 +433,8 @@ step_sent n own known core sessions said links ns c p [] [] h goes can known_all
 step_sent n own known core sessions said links ns c p [] (x ∷ xs) h goes can known_all are = absurd are
 step_sent n own known core sessions said links ns c p (m ∷ ms) [] h goes can known_all are = absurd are
 step_sent n own known core sessions said links ns c p (m ∷ ms) ((d, x) ∷ xs) h goes can known_all are =
-    let g = and_parts (can_go (place_of n own) ns m) (all_can_go (place_of n own) (numbers_after ns m) ms) goes in
-    let one : IsSent (is_large m) n own known core sessions said links ns c p m x = one_sent n own known core sessions said links ns c p m x h (is_going (place_of n own) ns m g.0) can.0 known_all.0 (is_large m) refl in
+    let g = and_parts (can_go (in_job c.place.message_limit (place_of n own)) ns m) (all_can_go (in_job c.place.message_limit (place_of n own)) (numbers_after ns m) ms) goes in
+    let one : IsSent (is_large m) n own known core sessions said links ns c p m x = one_sent n own known core sessions said links ns c p m x h (is_going (in_job c.place.message_limit (place_of n own)) ns m g.0) can.0 known_all.0 (is_large m) refl in
     subst (λ (z : Endpoint). IsStepSent n own known core sessions said links ns c p (m ∷ ms) ((z, x) ∷ xs))
     (sym are.0.target)
     (then_sent n own known core sessions said links ns c p m x ms xs one

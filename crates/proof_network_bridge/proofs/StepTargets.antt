@@ -34,6 +34,7 @@ use Rattle.payload.specs.declared.payload.Direction.TheVariants.{FromRoot}
 use Rattle.payload.specs.declared.record.Elements.{Elements}
 use Rattle.proof_link_truth.proofs.Lists.{All_append}
 use Rattle.vocabulary.specs.Endpoints.{is_same}
+use Rattle.vocabulary.specs.Operations.{is_associative}
 use Rattle.vocabulary.specs.declared.endpoint.Endpoint.{Endpoint}
 
 -- the members of these ranks, of the collective that a rank is in, are such
@@ -194,8 +195,10 @@ warned_members P own i ranks t (entries.Bcast root b) told = told.onward
 warned_members P own i ranks t (entries.Gather root b) told = tt
 warned_members P own i ranks t (entries.Scatter r b) told = tt
 warned_members P own i ranks t (entries.Reduce o root b) told =
-    either_members P i i.role.onward (option_to_list i.role.above) (is_at own i.incarnation ranks 0) told.onward
-    told.above
+    either_members P i (if is_at own i.incarnation ranks 0 then i.role.onward else option_to_list i.role.above) []
+    (is_associative o b.basic)
+    (either_members P i i.role.onward (option_to_list i.role.above) (is_at own i.incarnation ranks 0) told.onward
+    told.above) tt
 warned_members P own i ranks t (entries.Allreduce o b) told = either_members P i ranks [] t told.all tt
 warned_members P own i ranks t entries.Dup told = either_members P i ranks [] t told.all tt
 warned_members P own i ranks t (entries.Split a) told = either_members P i ranks [] t told.all tt
@@ -289,10 +292,14 @@ role_tells Q own inc ranks entries.Barrier all =
 role_tells Q own inc ranks (entries.Bcast root b) all = (tt, onward_of Q root ranks (roles.own_place own inc ranks) all)
 role_tells Q own inc ranks (entries.Gather root b) all = (one_of Q ranks root all, tt)
 role_tells Q own inc ranks (entries.Scatter r b) all = (tt, some_of Q ranks (is_at own inc ranks r.root) all)
-role_tells Q own inc ranks (entries.Reduce o root b) all = (
-  above_of Q ranks (roles.own_place own inc ranks) all,
-  some_of Q (option_to_list (slice_get ranks root)) (is_at own inc ranks 0) (one_of Q ranks root all),
-)
+role_tells Q own inc ranks (entries.Reduce o root b) all = by (is_associative o b.basic)
+  where
+    by : (t : Bool) → BothAre Q (roles.reduce_role t (roles.own_place own inc ranks) own inc ranks root)
+    by true = (
+      above_of Q ranks (roles.own_place own inc ranks) all,
+      some_of Q (option_to_list (slice_get ranks root)) (is_at own inc ranks 0) (one_of Q ranks root all),
+    )
+    by false = (one_of Q ranks root all, tt)
 role_tells Q own inc ranks (entries.Allreduce o b) all =
     (one_of Q ranks 0 all, some_of Q ranks (is_at own inc ranks 0) all)
 role_tells Q own inc ranks entries.Dup all = (one_of Q ranks 0 all, some_of Q ranks (is_at own inc ranks 0) all)

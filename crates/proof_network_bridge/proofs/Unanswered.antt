@@ -24,10 +24,11 @@ use Rattle.proof_network_bridge.proofs.Worlds.{is_at}
 -- ---- a tick
 
 pub ticks_stand : TicksAreTrue → TicksStand
-ticks_stand truth n r now before engines datagrams history old mid by there gives =
-    let f : IsFollowed n engines datagrams history = followed n before engines datagrams history by in
-    let w : GroupNetwork = network_after n before in
-    subst (λ (e : EngineState). IsFollowedBy n before (slice_set engines r (emptied e)) (datagrams ++ e.sessions.out)
+ticks_stand truth n limit r now before engines datagrams history old mid by there gives =
+    let f : IsFollowed n engines datagrams history = followed n limit before engines datagrams history by in
+    let w : GroupNetwork = network_after n limit before in
+    subst (λ (e : EngineState). IsFollowedBy n limit before (slice_set engines r (emptied e))
+    (datagrams ++ e.sessions.out)
     (history ++ told_completion old.sessions.place.endpoint (completion_of e))) (sym gives.1)
     (followed_unanswered n r engines datagrams history old (after_tick old now) f there
     (record { core = refl; groups = refl; ended = refl; payloads = refl; known = refl; place = refl })
@@ -54,22 +55,23 @@ refused_leaves (Some (OfPiece t)) old mid h why gives =
     (whole_with old.payloads h.source.rank t.transfer t.bytes) old mid h t why gives
 
 pub refusals_stand : RestIsTrue → RefusalsAreTrue → RefusalsStand
-refusals_stand rest refusals n r number bytes before engines datagrams history old mid why by there emitted gives =
+refusals_stand rest refusals n limit r number bytes before engines datagrams history old mid why by there emitted
+    gives =
     go (heard_of old.sessions bytes) refl gives
   where
     f : IsFollowed n engines datagrams history
-    f = followed n before engines datagrams history by
+    f = followed n limit before engines datagrams history by
 
     w : GroupNetwork
-    w = network_after n f.happenings
+    w = network_after n f.limit f.happenings
 
     here_is : IsAt (sessions_in engines) r old.sessions
     here_is = is_at n r engines datagrams w old f.joined there
 
     go : (o : Result HeardText Unheard) → heard_of old.sessions bytes ≡ o → HearingGives o old (Err why) mid →
-        IsFollowedBy n before (slice_set engines r (emptied mid)) (datagrams ++ mid.sessions.out) history
+        IsFollowedBy n limit before (slice_set engines r (emptied mid)) (datagrams ++ mid.sessions.out) history
     go (Ok h) is g =
-        subst (λ (e : EngineState). IsFollowedBy n before (slice_set engines r (emptied e))
+        subst (λ (e : EngineState). IsFollowedBy n limit before (slice_set engines r (emptied e))
         (datagrams ++ e.sessions.out) history)
         (sym (refused_leaves (notice_in h.lesson old.payloads h.source.rank h.word) old mid h why g))
         (followed_still n r engines datagrams history old old f there

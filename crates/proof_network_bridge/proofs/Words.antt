@@ -178,6 +178,7 @@ with_frame shows n r engines u T old h b x is free =
     (payloads_grow o.sessions sessions o.said o.said own (after_heard old h).sessions.known e.payloads
     (only_handed o.sessions s own (frames_carried effect.out)).grow (said_same o.said)
     (subst (λ (known : List ℕ). ArePayloads o.sessions o.said own known e.payloads) (sym keeps.known) o.payloads))
+    keeps.place
   where
     own : Endpoint
     own = here u.net r
@@ -261,7 +262,7 @@ with_frame shows n r engines u T old h b x is free =
 
     may : MaySendAll n r (replies old.core h)
     may = subst (λ (ts : List OutgoingText). MaySendAll n r ts) (sym sendings_are)
-        (may_send n own fs
+        (may_send n e.sessions.place.message_limit own fs
         (subst (λ (p : Place). AllByRecursion (CanLeave p) fs) (o.held.placed ∙ o.told.place) (heard 0).leaves))
 
     gone_is : all_addressed e.sessions.known (replies old.core h) ≡ gone
@@ -298,6 +299,7 @@ plainly n r engines u T old h x is free =
     }))
     (ap (λ (c : CoreState). c.completion) core_is ∙ o.completion)
     (subst (λ (known : List ℕ). ArePayloads o.sessions o.said own known e.payloads) (sym keeps.known) o.payloads)
+    keeps.place
   where
     own : Endpoint
     own = here u.net r

@@ -334,6 +334,6 @@ follow n (v ∷ vs) s h plain run is all =
     }
 
 pub runs_on_world_are_of_queues : RunsOnWorldAreOfQueues
-runs_on_world_are_of_queues n events history run is all =
-    let f : IsRunFrom n (machine_opening n).queues history (after_run (machine_opening n) events).queues = follow n events (machine_opening n) history (λ x. refl) run is all in
+runs_on_world_are_of_queues n limit events history run is all =
+    let f : IsRunFrom n (machine_opening n limit).queues history (after_run (machine_opening n limit) events).queues = follow n events (machine_opening n limit) history (λ x. refl) run is all in
     record { events = f.events; run = f.run; tells = f.tells; ends = f.ends }

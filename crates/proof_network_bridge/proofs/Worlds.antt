@@ -11,6 +11,7 @@ use Rattle.vocabulary.specs.declared.endpoint.Endpoint.{Endpoint}
 use Rattle.perfect_queues.proofs.EndpointLemmas.{same_eq}
 use Rattle.point_to_point.specs.CoreState.{CoreState}
 use Rattle.engine_calls.specs.EngineState.{EngineState}
+use Rattle.incarnation.specs.declared.place.Place.{Place}
 use Rattle.proof_pure_network.specs.Core.{Core}
 use Rattle.proof_pure_network.specs.Announced.{Begins}
 use Rattle.proof_pure_network.specs.Frames.{Cts, Data, Eager, Frame, Rts}
@@ -34,7 +35,7 @@ use Rattle.proof_engine_view.specs.Shown.{IsShown}
 use Rattle.proof_group_network.specs.Network.{GroupNetwork, Happening, happens, run}
 use Rattle.proof_link_truth.specs.Events.{IsAt}
 use Rattle.link_truth.specs.Truth.{AreTrue}
-use Rattle.link_truth.specs.Wire.{at, place_of}
+use Rattle.link_truth.specs.Wire.{at, in_job, place_of}
 use Rattle.proof_session_carrying.specs.Carrying.{Saying, StandFor}
 use Rattle.proof_session_carrying.specs.EventLaws.{AreJoined}
 use Rattle.proof_network_bridge.specs.Joined.{IsJoined}
@@ -85,16 +86,21 @@ later_apart w d r later = to_come_apart w.current d r later
 -- where the sessions of the engine at a rank stand
 pub place_by : (n r : ℕ) (engines : List EngineState) (datagrams : List (ℕ × List ℕ)) (texts : LinksOf FrameText)
     (current : ℕ → ℕ) (e : EngineState) → AreTrue n (sessions_in engines) datagrams texts current →
-    slice_get engines r ≡ Some e → (r < n) × (e.sessions.place ≡ place_of n (at r (current r)))
+    slice_get engines r ≡ Some e →
+    (r < n) × (e.sessions.place ≡ in_job e.sessions.place.message_limit (place_of n (at r (current r))))
 place_by n r engines datagrams texts current e links there =
     let sessions = sessions_there engines r e there in (
       omega (arith, slice_get_within (sessions_in engines) r e.sessions sessions, links.count),
       (links.tells r e.sessions sessions).place,
     )
 
+-- where one place is such, another that is the same is, too
+pub place_alike : (p q x : Place) → p ≡ q → q ≡ in_job q.message_limit x → p ≡ in_job p.message_limit x
+place_alike p q x same is = subst (λ (y : Place). y ≡ in_job y.message_limit x) (sym same) is
+
 pub place_is : (n r : ℕ) (engines : List EngineState) (datagrams : List (ℕ × List ℕ)) (w : GroupNetwork)
     (e : EngineState) → IsJoined n engines datagrams w → slice_get engines r ≡ Some e →
-    (r < n) × (e.sessions.place ≡ place_of n (here w.net r))
+    (r < n) × (e.sessions.place ≡ in_job e.sessions.place.message_limit (place_of n (here w.net r)))
 place_is n r engines datagrams w e j there = place_by n r engines datagrams j.texts w.net.current e j.links there
 
 -- the sessions of a rank of the world, out of which everything was taken

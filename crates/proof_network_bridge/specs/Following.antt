@@ -22,6 +22,7 @@ use Rattle.perfect_groups.specs.Machine.{Machine, machine_opening}
 use Rattle.perfect_groups.specs.Quiet.{CollectivesAreLeft}
 use Rattle.perfect_groups.specs.Runs.{IsRun, after_run, seen}
 use Rattle.vocabulary.specs.Endpoints.{last_incarnation}
+use Rattle.vocabulary.specs.declared.message_limit.MessageLimit.{MessageLimit}
 use Rattle.vocabulary.specs.declared.endpoint.Endpoint.{Endpoint}
 use Rattle.perfect_queues.specs.Calls as queues
 use Rattle.perfect_queues.specs.Quiet.{IsAtRest, ProbesFindAll}
@@ -61,7 +62,7 @@ LeavesFollowed n engines datagrams r mid history =
 
 -- at most 1,024 engines at their start follow the network, and nothing was seen
 abbrev pub OpeningFollows : Type 0
-OpeningFollows = (n : ℕ) → n ≤ 1024 → IsFollowed n (opening_engines n 0 n) [] []
+OpeningFollows = (l : MessageLimit) (n : ℕ) → n ≤ 1024 → IsFollowed n (opening_engines l n 0 n) [] []
 
 -- A call that a rank takes is followed, and what is seen of it is the call, its reply and what it completes
 abbrev pub CallsFollow : Type 0
@@ -109,6 +110,7 @@ next_place p = record {
   endpoint = record { rank = p.endpoint.rank; incarnation = suc p.endpoint.incarnation };
   size = p.size;
   job = p.job;
+  message_limit = p.message_limit;
 }
 
 -- a rank is started anew
@@ -121,22 +123,23 @@ RestartsFollow =
     IsFollowed n (slice_set engines r (opening (next_place old.sessions.place))) datagrams
     (history ++ machine.Restarted r ∷ [])
 
--- A history is seen of a run of the machine of queues and groups among n ranks. The run ends with each rank at the
+-- A history is seen of a run of the machine of queues and groups among n ranks, where a message has at most this many
+-- bytes. The run ends with each rank at the
 -- incarnation of its engine, which knows there what its engine knows; a call that its engine refuses has a reason
 -- there, and one that it takes has no fault; and where their sessions are quiet, the run has come to a state that meets
 -- the machine's quiet clauses
-pub record IsSeenOfMachine (n : ℕ) (engines : List EngineState) (history : List machine.Entry) : Type 0 where
+pub record IsSeenOfMachine (n limit : ℕ) (engines : List EngineState) (history : List machine.Entry) : Type 0 where
   pub events : List machine.Event
-  pub run : IsRun n (machine_opening n) events
-  pub tells : seen (machine_opening n) events ≡ history
+  pub run : IsRun n (machine_opening n limit) events
+  pub tells : seen (machine_opening n limit) events ≡ history
   -- each rank is at the incarnation of its engine
   pub now :
       (r : ℕ) (e : EngineState) → slice_get engines r ≡ Some e →
-      (after_run (machine_opening n) events).queues.current r ≡ e.sessions.place.endpoint.incarnation
+      (after_run (machine_opening n limit) events).queues.current r ≡ e.sessions.place.endpoint.incarnation
   -- the endpoint there knows each rank at the incarnation at which its engine knows it
   pub knows :
       (r : ℕ) (e : EngineState) → slice_get engines r ≡ Some e → (x : ℕ) →
-      ((after_run (machine_opening n) events).queues.at e.sessions.place.endpoint).known x ≡
+      ((after_run (machine_opening n limit) events).queues.at e.sessions.place.endpoint).known x ≡
       slice_index e.sessions.known x
   -- a call that the engine refuses has the machine's first fault there, by its number; or the machine finds none, and
   -- the number is
@@ -144,17 +147,20 @@ pub record IsSeenOfMachine (n : ℕ) (engines : List EngineState) (history : Lis
   pub refuses :
       (r : ℕ) (e mid : EngineState) (call back : Call) (why : Refusal) → slice_get engines r ≡ Some e →
       CallGives e call (replies.Refused why back) mid →
-      IsReason (fault_in (after_run (machine_opening n) events) e.sessions.place.endpoint (call_meant e.core call)) why
+      IsReason (fault_in (after_run (machine_opening n limit) events) e.sessions.place.endpoint
+      (call_meant e.core call)) why
   -- the machine finds no fault with a call that the engine takes
   pub takes :
       (r : ℕ) (e mid : EngineState) (call : Call) (reply : Reply) → slice_get engines r ≡ Some e → IsTaken reply →
       CallGives e call reply mid →
-      IsFaultless (fault_in (after_run (machine_opening n) events) e.sessions.place.endpoint (call_seen call)) e.core
+      IsFaultless (fault_in (after_run (machine_opening n limit) events) e.sessions.place.endpoint (call_seen call))
+      e.core
       call
   -- the endpoint there holds the communicators that its engine holds
   pub holds :
       (r : ℕ) (e : EngineState) → slice_get engines r ≡ Some e →
-      ((after_run (machine_opening n) events).groups.of e.sessions.place.endpoint).held ≡ (member_of e.groups).held
+      ((after_run (machine_opening n limit) events).groups.of e.sessions.place.endpoint).held ≡
+      (member_of e.groups).held
   -- one group for each context: communicators of two engines that have one context are one
   pub one_group :
       (r x : ℕ) (e d : EngineState) (first second : Option ℕ) (a b : Communicator) →
@@ -162,15 +168,15 @@ pub record IsSeenOfMachine (n : ℕ) (engines : List EngineState) (history : Lis
       held_at (member_of e.groups) first ≡ Some a → held_at (member_of d.groups) second ≡ Some b →
       a.context ≡ b.context → a ≡ b
   -- messages have all been handed up, and what was matched is finished
-  pub quiet : AreQuiet (sessions_in engines) → IsAtRest (after_run (machine_opening n) events).queues
+  pub quiet : AreQuiet (sessions_in engines) → IsAtRest (after_run (machine_opening n limit) events).queues
   -- a probe finds nothing only where nothing is there that such a receive would accept
   pub finds : AreQuiet (sessions_in engines) →
-      ProbesFindAll (after_run (machine_opening n) events).queues (AnswersNone engines)
+      ProbesFindAll (after_run (machine_opening n limit) events).queues (AnswersNone engines)
   -- a collective whose members are all current, know each other so and have all entered it alike was left by all
-  pub leaves : AreQuiet (sessions_in engines) → CollectivesAreLeft n (after_run (machine_opening n) events)
+  pub leaves : AreQuiet (sessions_in engines) → CollectivesAreLeft n (after_run (machine_opening n limit) events)
 
 -- wherever engines follow the network, what was seen of them is seen of a run of the machine
 abbrev pub FollowingIsRun : Type 0
 FollowingIsRun =
     (n : ℕ) (engines : List EngineState) (datagrams : List (ℕ × List ℕ)) (history : List machine.Entry) →
-    IsFollowed n engines datagrams history → IsSeenOfMachine n engines history
+    (f : IsFollowed n engines datagrams history) → IsSeenOfMachine n f.limit engines history

@@ -8,7 +8,7 @@ use Rattle.proof_engine_view.specs.Shown.{IsShown}
 use Rattle.proof_group_network.specs.Carried.{Sessions}
 use Rattle.proof_group_network.specs.Network.{GroupNetwork, Happening, new_group_network, run}
 use Rattle.link_truth.specs.Truth.{AreTrue}
-use Rattle.link_truth.specs.Wire.{at, place_of}
+use Rattle.link_truth.specs.Wire.{at, in_job, place_of}
 use Rattle.endpoint_links.specs.Links.{LinksOf}
 use Rattle.proof_pure_network.specs.Core.{new_core}
 use Rattle.proof_pure_network.specs.Network.{here}
@@ -17,13 +17,24 @@ use Rattle.proof_session_carrying.specs.Carrying.{Saying}
 use Rattle.proof_session_carrying.specs.EventLaws.{AreJoined}
 use Rattle.proof_network_bridge.specs.Payloads.{ArePayloads}
 use Rattle.sessions.specs.SessionsState.{SessionsState}
+use Rattle.vocabulary.specs.MessageLimits.{least, limit_of}
 use Rattle.vocabulary.specs.declared.endpoint.Endpoint.{Endpoint}
+use Rattle.vocabulary.specs.declared.message_limit.MessageLimit.{MessageLimit}
 pub use Rattle.observation.specs.Sessions.{sessions_in}
 
--- the engines of k ranks among n, from this rank on, at their first incarnations
-abbrev pub opening_engines : (n rank : ℕ) → ℕ → List EngineState
-opening_engines n rank zero = []
-opening_engines n rank (suc k) = opening (place_of n (at rank 0)) ∷ opening_engines n (suc rank) k
+-- the engines of k ranks among n, from this rank on, at their first incarnations, in a job of this message limit
+abbrev pub opening_engines : (l : MessageLimit) (n rank : ℕ) → ℕ → List EngineState
+opening_engines l n rank zero = []
+opening_engines l n rank (suc k) = opening (in_job l (place_of n (at rank 0))) ∷ opening_engines l n (suc rank) k
+
+-- the limit of messages of these engines, which all have one: that of scripts where there is no engine
+abbrev pub limit_among : List EngineState → MessageLimit
+limit_among [] = least
+limit_among (e ∷ es) = e.sessions.place.message_limit
+
+-- how many bytes a message among them may have
+abbrev pub limit_in : List EngineState → ℕ
+limit_in engines = limit_of (limit_among engines)
 
 -- an engine out of which everything was taken
 pub record IsClean (e : EngineState) : Type 0 where
@@ -54,18 +65,22 @@ pub record IsJoined (n : ℕ) (engines : List EngineState) (datagrams : List (�
   -- the payloads of collectives that an engine keeps are notices of its sessions
   pub payloads : (r : ℕ) (e : EngineState) → slice_get engines r ≡ Some e →
       ArePayloads sessions said (here w.net r) e.sessions.known e.payloads
+  -- each has the network's limit of messages
+  pub limits : (r : ℕ) (e : EngineState) → slice_get engines r ≡ Some e →
+      limit_of e.sessions.place.message_limit ≡ w.net.message_limit
   -- endpoints that are to come have done nothing
-  pub unborn : (d : Endpoint) → w.net.current d.rank < d.incarnation → w.net.core d ≡ new_core d
+  pub unborn : (d : Endpoint) → w.net.current d.rank < d.incarnation → w.net.core d ≡ new_core w.net.message_limit d
 
--- the network of n ranks after these happenings
-abbrev pub network_after : (n : ℕ) → List Happening → GroupNetwork
-network_after n happenings = run n happenings (new_group_network n)
+-- the network of n ranks, where a message has at most this many bytes, after these happenings
+abbrev pub network_after : (n limit : ℕ) → List Happening → GroupNetwork
+network_after n limit happenings = run n happenings (new_group_network n limit)
 
 -- A list of happenings leads to a network of at most 1,024 ranks that is joined to the world, and of which the same is
 -- seen
 pub record IsFollowed (n : ℕ) (engines : List EngineState) (datagrams : List (ℕ × List ℕ)) (history : List Entry) : Type
     0 where
+  pub limit : ℕ
   pub happenings : List Happening
   pub few : n ≤ 1024
-  pub joined : IsJoined n engines datagrams (network_after n happenings)
-  pub seen : (network_after n happenings).history ≡ history
+  pub joined : IsJoined n engines datagrams (network_after n limit happenings)
+  pub seen : (network_after n limit happenings).history ≡ history

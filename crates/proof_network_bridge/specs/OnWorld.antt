@@ -51,16 +51,16 @@ IsEntryOnWorld (queue_events.Completed e a) = Unit {0}
 IsEntryOnWorld (queue_events.Restarted r) = Unit {0}
 
 -- a run of the machine of perfect queues among n ranks has this history, and ends in this state
-pub record IsRunOfQueues (n : ℕ) (history : List queue_events.Entry) (now : State) : Type 0 where
+pub record IsRunOfQueues (n limit : ℕ) (history : List queue_events.Entry) (now : State) : Type 0 where
   pub events : List queue_events.Event
-  pub run : queue_runs.IsRun n opening events
-  pub tells : queue_runs.seen opening events ≡ history
-  pub ends : queue_runs.after_run opening events ≡ now
+  pub run : queue_runs.IsRun n (opening limit) events
+  pub tells : queue_runs.seen (opening limit) events ≡ history
+  pub ends : queue_runs.after_run (opening limit) events ≡ now
 
 -- While calls are on world alone, the machine of queues and groups allows no history that the machine of perfect queues
 -- doesn't allow: its run is one of that machine, which ends in the same queues
 abbrev pub RunsOnWorldAreOfQueues : Type 0
 RunsOnWorldAreOfQueues =
-    (n : ℕ) (events : List Event) (history : List queue_events.Entry) → IsRun n (machine_opening n) events →
-    seen (machine_opening n) events ≡ entries_on_world history → AllByRecursion IsEntryOnWorld history →
-    IsRunOfQueues n history (after_run (machine_opening n) events).queues
+    (n limit : ℕ) (events : List Event) (history : List queue_events.Entry) → IsRun n (machine_opening n limit) events →
+    seen (machine_opening n limit) events ≡ entries_on_world history → AllByRecursion IsEntryOnWorld history →
+    IsRunOfQueues n limit history (after_run (machine_opening n limit) events).queues

@@ -10,7 +10,7 @@ use Rattle.proof_pure_network.specs.Announced.{Begins}
 use Rattle.proof_session_carrying.specs.Announced.{LargeNotice, all_announced}
 use Rattle.proof_session_carrying.specs.Carrying.{Saying, bytes_of_message}
 use Rattle.rendezvous.specs.Pieces.{piece_bytes}
-use Rattle.vocabulary.specs.Limits.{eager_limit, send_limit}
+use Rattle.vocabulary.specs.Limits.{eager_limit, greatest_limit}
 use Rattle.vocabulary.specs.declared.endpoint.Endpoint.{Endpoint}
 
 -- A session of s with d announced a notice under the number of a transfer; this message is the notice, and is too long
@@ -29,7 +29,7 @@ pub record IsAnnouncedPayload (sessions : Sessions) (said : Saying) (own : Endpo
   pub notice : IsLargeNotice sessions said own (endpoint_of known a.target) a.transfer message
   pub bytes : a.bytes ≡ bytes_of_message message
   -- it can be sent
-  pub short : length a.bytes ≤ send_limit
+  pub short : length a.bytes ≤ greatest_limit
 
 -- a payload that comes to it is one of that endpoint's session with it, and its first pieces have come
 pub record IsComingPayload (sessions : Sessions) (said : Saying) (own : Endpoint) (known : List ℕ)

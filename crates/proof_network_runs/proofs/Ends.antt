@@ -21,7 +21,14 @@ local_is : (V : Values) (w : GroupNetwork) (q : State) (x : Endpoint) →
 local_is V w q x j =
     let sim : Sim (q.at x) (views V w.net x) (coming V (λ y. w.net.link y x)) = j.each x in
     let queues : (q.at x).queue ≡ (local_by V w.net x).queue = fun_ext (λ s. fun_ext (λ c. sim.queue s c)) in
-    λ t. record { requests = sim.requests t; blocked = sim.blocked t; known = sim.known t; queue = queues t }
+    λ t.
+    record {
+      requests = sim.requests t;
+      blocked = sim.blocked t;
+      known = sim.known t;
+      message_limit = sim.message_limit t;
+      queue = queues t;
+    }
 
 -- the whole state is the network's
 pub joined_is : (V : Values) (w : GroupNetwork) (m : Machine) →
@@ -31,7 +38,7 @@ joined_is V w m j groups =
     λ t. record { queues = record { at = at t; current = j.now t }; groups = groups t }
 
 -- so a run that is seen of a network ends there
-pub seen_ends : (V : Values) (n : ℕ) (history : List Entry) (w : GroupNetwork) →
-    (s : NetworkSeen V n history (views V w.net) w.net.link w.net.current (groups_in w)) →
-    after_run (machine_opening n) s.events ≡ machine_by V w
-seen_ends V n history w s = joined_is V w (after_run (machine_opening n) s.events) s.joined s.groups_are
+pub seen_ends : (V : Values) (n limit : ℕ) (history : List Entry) (w : GroupNetwork) →
+    (s : NetworkSeen V n limit history (views V w.net) w.net.link w.net.current (groups_in w)) →
+    after_run (machine_opening n limit) s.events ≡ machine_by V w
+seen_ends V n limit history w s = joined_is V w (after_run (machine_opening n limit) s.events) s.joined s.groups_are

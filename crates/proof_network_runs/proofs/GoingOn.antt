@@ -3,6 +3,7 @@ use Rattle.std.proofs.Common.{◌≡◌, ℕ, suc, ◌<◌, ◌≤◌, Bool, tru
 use Rattle.std.proofs.Common.{None, if◌then◌else◌, ◌==◌, slice_get, nat_le, nat_lt, is_none, refl, sym, ap, ap₂, ◌∙◌}
 use Rattle.std.proofs.Common.{subst, append_assoc, append-nil, arith}
 use Rattle.std.proofs.lemmas.Bool.{and_parts, leb-true, ltb-true}
+use Rattle.perfect_groups.proofs.LimitLaws.{limit_is_of_job}
 use Rattle.perfect_groups.proofs.GroupRuns.{one_group_for_each_context}
 use Rattle.perfect_groups.specs.Calls.{Call, entry_of, queue_call}
 use Rattle.perfect_groups.specs.Collectives.{Part}
@@ -79,8 +80,8 @@ doing_event n V s w0 w e call is before cur lt now fit k d =
       leads = joined_is V w' (after_event s event) f.joined f.groups_are;
     }
   where
-    there : after_run (machine_opening n) d.before.events ≡ s
-    there = seen_ends V n w.history w0 d.before ∙ sym is
+    there : after_run (machine_opening n w0.net.message_limit) d.before.events ≡ s
+    there = seen_ends V n w0.net.message_limit w.history w0 d.before ∙ sym is
 
     mid : NetworkMidway V s e call (views V w.net) w.net.link w.net.current (groups_in w)
     mid = subst (λ (m : Machine). NetworkMidway V m e call (views V w.net) w.net.link w.net.current (groups_in w)) there
@@ -90,7 +91,7 @@ doing_event n V s w0 w e call is before cur lt now fit k d =
     joined =
         subst (λ (u : ℕ → ℕ). Joined V s.queues (views V w0.net) w0.net.link u) (sym cur)
         (subst (λ (m : Machine). Joined V m.queues (views V w0.net) w0.net.link w0.net.current)
-        (seen_ends V n w0.history w0 k.seen ∙ sym is) k.seen.joined)
+        (seen_ends V n w0.net.message_limit w0.history w0 k.seen ∙ sym is) k.seen.joined)
 
     event : Event
     event = At e call mid.moves
@@ -261,14 +262,15 @@ happened_last n [] h w = refl
 happened_last n (g ∷ gs) h w = happened_last n gs h (happens n w g)
 
 -- a network is sane by all values that say what was sent
-sane_by_all : (n : ℕ) (hs : List Happening) → n ≤ 65536 → IsSaneByAll (after n hs).net
-sane_by_all n hs le U x = (run_kept_with_groups n U hs (new_group_network n) le x (new_kept_with_groups n U)).sane
+sane_by_all : (n limit : ℕ) (hs : List Happening) → n ≤ 65536 → IsSaneByAll (after n limit hs).net
+sane_by_all n limit hs le U x =
+    (run_kept_with_groups n U hs (new_group_network n limit) le x (new_kept_with_groups n limit U)).sane
 
 pub happenings_go_on : HappeningsGoOn
-happenings_go_on n hs h vs le g = go step
+happenings_go_on n limit hs h vs le g = go step
   where
     w : GroupNetwork
-    w = after n hs
+    w = after n limit hs
 
     w' : GroupNetwork
     w' = happens n w h
@@ -280,26 +282,26 @@ happenings_go_on n hs h vs le g = go step
     before = happens_extends_with_groups n V w h (λ s k lt. refl)
 
     s : Machine
-    s = after_run (machine_opening n) vs
+    s = after_run (machine_opening n limit) vs
 
     step : StepAt n V s w w' (here w.net (rank_of h))
     step =
         happening_step n V s w h
-        (g.ends ∙ same_machine w (values_in w.net) V (λ s k lt. refl) before (sane_by_all n hs le)) le
+        (g.ends ∙ same_machine w (values_in w.net) V (λ s k lt. refl) before (sane_by_all n limit hs le)) le
         (λ s k lt. refl)
-        (run_kept_with_groups n V hs (new_group_network n) le before (new_kept_with_groups n V))
+        (run_kept_with_groups n V hs (new_group_network n limit) le before (new_kept_with_groups n limit V))
 
-    last : after n (hs ++ h ∷ []) ≡ w'
-    last = happened_last n hs h (new_group_network n)
+    last : after n limit (hs ++ h ∷ []) ≡ w'
+    last = happened_last n hs h (new_group_network n limit)
 
-    go : StepAt n V s w w' (here w.net (rank_of h)) → GoesOnWith n (hs ++ h ∷ []) vs (here w.net (rank_of h))
+    go : StepAt n V s w w' (here w.net (rank_of h)) → GoesOnWith n limit (hs ++ h ∷ []) vs (here w.net (rank_of h))
     go (Stands still) =
-        let same : after n (hs ++ h ∷ []) ≡ w = last ∙ still in
+        let same : after n limit (hs ++ h ∷ []) ≡ w = last ∙ still in
         record {
           more = [];
           own = tt;
           one = tt;
-          goes = subst (λ (es : List Event). GoesWith n (hs ++ h ∷ []) es) (sym (append-nil vs))
+          goes = subst (λ (es : List Event). GoesWith n limit (hs ++ h ∷ []) es) (sym (append-nil vs))
               (record {
                 allowed = g.allowed;
                 tells = g.tells ∙ ap (λ (x : GroupNetwork). x.history) (sym same);
@@ -312,29 +314,30 @@ happenings_go_on n hs h vs le g = go step
           own = (v.own, tt);
           one = tt;
           goes = record {
-            allowed = more_allowed n (machine_opening n) vs v.event g.allowed v.allowed;
-            tells = seen_more (machine_opening n) vs v.event ∙
+            allowed = more_allowed n (machine_opening n limit) vs v.event g.allowed v.allowed;
+            tells = seen_more (machine_opening n limit) vs v.event ∙
                 ap (λ (es : List Entry). es ++ entries s v.event) g.tells ∙ sym v.history ∙
                 ap (λ (x : GroupNetwork). x.history) (sym last);
-            ends = after_more (machine_opening n) vs v.event ∙ v.leads ∙ ap machine_in (sym last);
+            ends = after_more (machine_opening n limit) vs v.event ∙ v.leads ∙ ap machine_in (sym last);
           };
         }
 
 -- ---- the empty run
 
 pub none_is_a_run : NoneIsARun
-none_is_a_run n = record {
+none_is_a_run n limit = record {
   allowed = tt;
   tells = refl;
-  ends = joined_is (values_in (new_group_network n).net) (new_group_network n) (machine_opening n)
+  ends = joined_is (values_in (new_group_network n limit).net) (new_group_network n limit) (machine_opening n limit)
       (record {
         each =
             λ x. record {
               requests = refl;
               blocked = refl;
               known = refl;
+              message_limit = refl;
               queue =
-                  λ s c. nothing (is_stale (new_core x).known s);
+                  λ s c. nothing (is_stale (new_core limit x).known s);
             };
         fit =
             record { own = λ y c. refl; fits = λ y z. omega arith };
@@ -348,46 +351,47 @@ none_is_a_run n = record {
 
 -- ---- some run for all
 
-goes_on_by : (n : ℕ) (first more : List Happening) (vs : List Event) → n ≤ 65536 → GoesWith n first vs →
-    HasARun n (first ++ more)
-goes_on_by n first [] vs le g =
-    record { events = vs; goes = subst (λ (hs : List Happening). GoesWith n hs vs) (sym (append-nil first)) g }
-goes_on_by n first (h ∷ hs) vs le g =
-    let next : GoesOnWith n (first ++ h ∷ []) vs (here (after n first).net (rank_of h)) = happenings_go_on n first h vs le g in
-    subst (λ (xs : List Happening). HasARun n xs) (append_assoc first (h ∷ []) hs)
-    (goes_on_by n (first ++ h ∷ []) hs (vs ++ next.more) le next.goes)
+goes_on_by : (n limit : ℕ) (first more : List Happening) (vs : List Event) → n ≤ 65536 → GoesWith n limit first vs →
+    HasARun n limit (first ++ more)
+goes_on_by n limit first [] vs le g =
+    record { events = vs; goes = subst (λ (hs : List Happening). GoesWith n limit hs vs) (sym (append-nil first)) g }
+goes_on_by n limit first (h ∷ hs) vs le g =
+    let next : GoesOnWith n limit (first ++ h ∷ []) vs (here (after n limit first).net (rank_of h)) = happenings_go_on n limit first h vs le g in
+    subst (λ (xs : List Happening). HasARun n limit xs) (append_assoc first (h ∷ []) hs)
+    (goes_on_by n limit (first ++ h ∷ []) hs (vs ++ next.more) le next.goes)
 
 pub each_has_a_run : EachHasARun
-each_has_a_run n hs le = goes_on_by n [] hs [] le (none_is_a_run n)
+each_has_a_run n limit hs le = goes_on_by n limit [] hs [] le (none_is_a_run n limit)
 
 -- ---- what it shows
 
 pub runs_show_all : RunsShowAll
-runs_show_all n hs vs le g = record { shown = shown; by = refl }
+runs_show_all n limit hs vs le g = record { shown = shown; by = refl }
   where
     w : GroupNetwork
-    w = after n hs
+    w = after n limit hs
 
     V : Values
     V = values_in w.net
 
     k : NetworkKept n V w
-    k = run_kept_with_groups n V hs (new_group_network n) le (λ s i lt. refl) (new_kept_with_groups n V)
+    k = run_kept_with_groups n V hs (new_group_network n limit) le (λ s i lt. refl) (new_kept_with_groups n limit V)
 
     l : Live n w
-    l = run_live n V hs (new_group_network n) le (λ s i lt. refl) (new_kept_with_groups n V) (new_live n)
+    l = run_live n V hs (new_group_network n limit) le (λ s i lt. refl) (new_kept_with_groups n limit V)
+        (new_live n limit)
 
     ends : Machine
-    ends = after_run (machine_opening n) vs
+    ends = after_run (machine_opening n limit) vs
 
     joined : Joined V ends.queues (views V w.net) w.net.link w.net.current
     joined = subst (λ (m : Machine). Joined V m.queues (views V w.net) w.net.link w.net.current)
-        (seen_ends V n w.history w k.seen ∙ sym g.ends) k.seen.joined
+        (seen_ends V n w.net.message_limit w.history w k.seen ∙ sym g.ends) k.seen.joined
 
     groups_are : ends.groups ≡ groups_in w
     groups_are = ap (λ (m : Machine). m.groups) g.ends
 
-    shown : IsRunOfGroups n w
+    shown : IsRunOfGroups n limit w
     shown =
         record {
           events = vs;
@@ -395,6 +399,7 @@ runs_show_all n hs vs le g = record { shown = shown; by = refl }
           tells = g.tells;
           current = λ r. ap (λ (f : ℕ → ℕ). f r) joined.now;
           knows = λ e x. ap (λ (f : ℕ → ℕ). f x) (joined.each e).known;
+          limits = λ e. sym (joined.each e).message_limit ∙ limit_is_of_job n limit vs e;
           groups = groups_are;
           faults = λ e c. group_fault_same _ _ _ e (ends.groups.of e) c (joined.each e) ∙
               (ap (λ (x : Groups). fault e (view V (w.net.core e)) (x.of e) c) groups_are ∙
@@ -410,7 +415,7 @@ runs_show_all n hs vs le g = record { shown = shown; by = refl }
 -- ---- one group for each context
 
 pub one_group_along_runs : OneGroupAlongRuns
-one_group_along_runs n hs later vs more x y a b le g g' rx ry ha hb same =
-    one_group_for_each_context n vs more x y a b le g'.allowed rx ry
+one_group_along_runs n limit hs later vs more x y a b le g g' rx ry ha hb same =
+    one_group_for_each_context n limit vs more x y a b le g'.allowed rx ry
     (subst (λ (m : Machine). IsAmong a (m.groups.of x).held) (sym g.ends) ha)
     (subst (λ (m : Machine). IsAmong b (m.groups.of y).held) (sym g'.ends) hb) same

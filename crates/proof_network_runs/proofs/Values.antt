@@ -187,6 +187,7 @@ same_local w V V' x x' sane y =
       blocked = (w.core y).blocked;
       known =
           (w.core y).known;
+      message_limit = (w.core y).message_limit;
       queue = queues t;
     }
 

@@ -163,6 +163,7 @@ quiet_queues all s r a h sent started used waiting waits = record { current = h.
     own =
         record {
           known = (h.each r).known;
+          limit = (h.each r).limit;
           blocked = (h.each r).blocked ∙ sym waiting;
           waits = waits;
           count = (h.each r).count ∙ ap length (sym started);

@@ -104,11 +104,16 @@ pub judged_so : (r : ℕ) (l : Local) (m : Membership) (a : Account) (q : Queues
     m ≡ membership_of a → (call : Call) → fault (first_endpoint r) l m call ≡ judged r a call
 judged_so r l m a q h e call =
     ap (λ (x : Membership). fault (first_endpoint r) l x call) e
-    ∙ (ap₂ (λ (b : Option Unanswered) (known : ℕ → ℕ). fault_by (is_held b || is_within (membership_of a).present)
-    (λ k. standing (slice_get l.requests k)) (first_endpoint r) known (membership_of a) call) h.blocked h.known
-    ∙ ap (λ (f : ℕ → Standing). fault_by (is_held (awaited_of a.waiting) || is_within (membership_of a).present) f
+    ∙ (ap₂ (λ (b : Option Unanswered) (known : ℕ → ℕ). fault_by l.message_limit
+    (is_held b || is_within (membership_of a).present) (λ k. standing (slice_get l.requests k)) (first_endpoint r) known
+    (membership_of a) call) h.blocked h.known
+    ∙ (ap (λ (f : ℕ → Standing). fault_by l.message_limit
+    (is_held (awaited_of a.waiting) || is_within (membership_of a).present) f
     (first_endpoint r) (local_of r a).known (membership_of a) call)
-    (λ i k. stand_alike r l a q h k i))
+    (λ i k. stand_alike r l a q h k i)
+    ∙ ap (λ (limit : ℕ). fault_by limit (is_held (awaited_of a.waiting) || is_within (membership_of a).present)
+    (λ k. standing (slice_get (local_of r a).requests k)) (first_endpoint r) (local_of r a).known (membership_of a)
+    call) h.limit))
 
 -- and is answered at once as by accounts
 pub at_once_so : (r : ℕ) (l : Local) (m : Membership) (a : Account) (q : Queues) → HasQueues r l a q →

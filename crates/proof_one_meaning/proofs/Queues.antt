@@ -107,6 +107,7 @@ finish_keeps : (r : ℕ) (l : Local) (a : Account) (q : Queues) (k : ℕ) (x : R
 finish_keeps r l a q k x o same is h =
     record {
       known = h.known;
+      limit = h.limit;
       blocked = h.blocked;
       waits = h.waits;
       count = length_set l.requests k (Finished o) ∙ h.count;
@@ -135,6 +136,7 @@ pub step_keeps : (r : ℕ) (l : Local) (a : Account) (q : Queues) (x : Step) →
 step_keeps r l a q (Match k p earlier m later) n w h =
     record {
       known = h.known;
+      limit = h.limit;
       blocked = h.blocked;
       waits = h.waits;
       count = length_set l.requests k (Matched p m) ∙ h.count;
@@ -176,6 +178,7 @@ pub queues_alike : (r : ℕ) (l : Local) (a : Account) (q q' : Queues) → Alike
 queues_alike r l a q q' e h =
     record {
       known = h.known;
+      limit = h.limit;
       blocked = h.blocked;
       waits = h.waits;
       count = h.count;

@@ -135,6 +135,7 @@ answered_so r l a q h t is =
               (sym (same_wait (outcome_at l.requests) w c) ∙ e);
           after = record {
             known = h.known;
+            limit = h.limit;
             blocked = refl;
             waits = tt;
             count = all_length used_up l.requests t.1 ∙ h.count;
@@ -158,6 +159,7 @@ pub message_keeps : (x : ℕ) (l : Local) (a : Account) (q q' : Queues) (m : Mes
 message_keeps x l a q q' m r from more_of h =
     record {
       known = h.known;
+      limit = h.limit;
       blocked = h.blocked;
       waits = h.waits;
       count = h.count;
@@ -243,6 +245,7 @@ pub like : (x : ℕ) (l : Local) (a b : Account) (q : Queues) → b.waiting ≡ 
 like x l a b q w s u h =
     record {
       known = h.known;
+      limit = h.limit;
       blocked = h.blocked ∙ ap awaited_of (sym w);
       waits = subst WaitsOfAll (sym w) h.waits;
       count = h.count ∙ ap length (sym s);

@@ -58,6 +58,7 @@ pub request_keeps : (r : ℕ) (l : Local) (a : Account) (q : Queues) (x y : Requ
 request_keeps r l a q x y same n h =
     record {
       known = h.known;
+      limit = h.limit;
       blocked = h.blocked;
       waits = h.waits;
       count = length_last l.requests a.started x y h.count;
@@ -198,6 +199,7 @@ start_has all s r (queues.Wait w) cover h =
     (after_queue_call r (all r) (queues.Wait w)) h refl
     (record {
       known = (h.each r).known;
+      limit = (h.each r).limit;
       blocked = refl;
       waits = cover;
       count = (h.each r).count;

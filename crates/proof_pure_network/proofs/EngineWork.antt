@@ -53,7 +53,7 @@ pub push_view : (V : Values) (core : Core) (j : Job) → view V (with_jobs core 
     with_request (view V core) (request_of V j)
 push_view V core j =
     same_local (view V (with_jobs core (core.jobs ++ j ∷ []))) (with_request (view V core) (request_of V j))
-    (map-append (request_of V) core.jobs (j ∷ [])) refl refl (λ s c. refl)
+    (map-append (request_of V) core.jobs (j ∷ [])) refl (refl, refl) (λ s c. refl)
 
 -- no message of a request that is to come waits
 own_last : (e : Endpoint) (core : Core) (j : Job) (values : List ℕ) → ((f : Held → Bool) → one (taken_is f j) ≡ 0) →
@@ -177,7 +177,7 @@ receive_steps V e core p (Rank r) honest own quiet = post_steps V e core p hones
 pub used_view : (V : Values) (core : Core) (ks : List ℕ) → view V (core_used core ks) ≡ after_use (view V core) ks
 used_view V core ks =
     same_local (view V (core_used core ks)) (after_use (view V core) ks)
-    (all_changed_map V used_up closed (closed_gone V) ks core.jobs) refl refl (λ s c. refl)
+    (all_changed_map V used_up closed (closed_gone V) ks core.jobs) refl (refl, refl) (λ s c. refl)
 
 pub test_view : (V : Values) (core : Core) (o : Option (Answer × List ℕ)) → view V (core_tested core o) ≡
     after_test (view V core) o
@@ -189,7 +189,7 @@ pub cancel_view : (V : Values) (core : Core) (r : Option ℕ) → view V (core_c
 cancel_view V core None = refl
 cancel_view V core (Some k) =
     same_local (view V (core_cancels core (Some k))) (after_cancel (view V core) (Some k))
-    (changed_map V cancelled_request dropped (dropped_cancelled V) core.jobs k) refl refl (λ s c. refl)
+    (changed_map V cancelled_request dropped (dropped_cancelled V) core.jobs k) refl (refl, refl) (λ s c. refl)
 
 pub ask_steps : (V : Values) (e : Endpoint) (core : Core) (c : Call) → HonestCore V e core → OwnCore e core →
     NoneFits core → Steps e (taken_in V e (view V core) (Asked c)) (view V (called e core c).core)
@@ -417,7 +417,7 @@ answer_work V e core s k w = go (slice_get core.jobs k) refl
               by = (inl (w, refl), tt);
               leaves = same_local (view V (with_jobs core (slice_set core.jobs k (Over Sent))))
                   (after_steps (view V core) (FinishSend k s ∷ [])) (map-set (request_of V) core.jobs k (Over Sent))
-                  refl refl (λ a b. refl);
+                  refl (refl, refl) (λ a b. refl);
               gives = wanted_none d k basic values w;
             }
 
@@ -517,7 +517,8 @@ ended_map V r i (j ∷ js) = ap₂ (λ (x : Request) (xs : List Request). x ∷ 
 pub learn_local : (V : Values) (core : Core) (r i : ℕ) →
     view V (learned core r i) ≡ after_step (view V core) (Learn r i)
 learn_local V core r i =
-    same_local (view V (learned core r i)) (after_step (view V core) (Learn r i)) (ended_map V r i core.jobs) refl refl
+    same_local (view V (learned core r i)) (after_step (view V core) (Learn r i)) (ended_map V r i core.jobs) refl
+    (refl, refl)
     (λ s c. ap (λ (ms : List Message). filter (is_of s c) ms) (map_held V r i core.held) ∙
     filter_former r i s c (map (fill V) core.held))
 
@@ -547,4 +548,4 @@ view_settled V core =
     go None = refl
     go (Some t) =
         same_local (view V (core_settled_by core (Some t))) (after_answer (view V core) (Some t))
-        (all_changed_map V used_up closed (closed_gone V) t.1 core.jobs) refl refl (λ s c. refl)
+        (all_changed_map V used_up closed (closed_gone V) t.1 core.jobs) refl (refl, refl) (λ s c. refl)

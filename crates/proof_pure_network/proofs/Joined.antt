@@ -605,21 +605,22 @@ seen_push s [] v = append-nil (entries s v)
 seen_push s (u ∷ vs) v = rw (seen_push (after_event s u) vs v, append_assoc)
 
 -- a history that is seen, with the state that it leads to
-pub record Seen (V : Values) (n : ℕ) (history : List Entry) (locals : Endpoint → Local) (links : Endpoint → Endpoint →
-    Link) (cur : ℕ → ℕ) : Type 0 where
+pub record Seen (V : Values) (n limit : ℕ) (history : List Entry) (locals : Endpoint → Local)
+    (links : Endpoint → Endpoint → Link) (cur : ℕ → ℕ) : Type 0 where
   pub events : List Event
-  pub run : IsRun n opening events
-  pub tells : seen opening events ≡ history
-  pub joined : Joined V (after_run opening events) locals links cur
+  pub run : IsRun n (opening limit) events
+  pub tells : seen (opening limit) events ≡ history
+  pub joined : Joined V (after_run (opening limit) events) locals links cur
 
-pub seen_more : (V : Values) (n : ℕ) (history : List Entry) (locals locals' : Endpoint → Local)
+pub seen_more : (V : Values) (n limit : ℕ) (history : List Entry) (locals locals' : Endpoint → Local)
     (links links' : Endpoint → Endpoint → Link) (cur cur' : ℕ → ℕ) (told : List Entry) →
-    (h : Seen V n history locals links cur) → Follows V n (after_run opening h.events) locals' links' cur' told →
-    Seen V n (history ++ told) locals' links' cur'
-seen_more V n history locals locals' links links' cur cur' told h f =
+    (h : Seen V n limit history locals links cur) →
+    Follows V n (after_run (opening limit) h.events) locals' links' cur' told →
+    Seen V n limit (history ++ told) locals' links' cur'
+seen_more V n limit history locals locals' links links' cur cur' told h f =
     record {
       events = h.events ++ f.event ∷ [];
-      run = run_push n opening h.events f.event h.run f.allowed;
-      tells = seen_push opening h.events f.event ∙ rw (h.tells, f.tells);
-      joined = rw (after_push opening h.events f.event) f.joined;
+      run = run_push n (opening limit) h.events f.event h.run f.allowed;
+      tells = seen_push (opening limit) h.events f.event ∙ rw (h.tells, f.tells);
+      joined = rw (after_push (opening limit) h.events f.event) f.joined;
     }

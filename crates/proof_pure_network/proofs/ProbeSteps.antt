@@ -1,5 +1,5 @@
 -- What an engine does with a probe, and with a message that was taken out, is steps of the machine on what has arrived.
-use Rattle.std.proofs.Common.{◌≡◌, ℕ, zero, suc, ◌+◌, ◌<◌, Bool, true, false, List, [], ◌∷◌, ◌++◌, map}
+use Rattle.std.proofs.Common.{◌≡◌, ℕ, zero, suc, ◌<◌, Bool, true, false, List, [], ◌∷◌, ◌++◌, map}
 use Rattle.std.proofs.Common.{length, Option, Some, None, if◌then◌else◌, ◌==◌, slice_get, slice_set, filter}
 use Rattle.std.proofs.Common.{option_map, refl, sym, ap, ap₂, ◌∙◌, subst, arith}
 use Rattle.std.specs.List.{AllByRecursion}
@@ -34,7 +34,7 @@ use Rattle.proof_pure_network.specs.Matching.{receive_for, searched_at}
 use Rattle.proof_pure_network.specs.Matching.{searches, taken_at}
 use Rattle.proof_pure_network.specs.Transfers.{collected}
 use Rattle.proof_pure_network.proofs.Counts.{OwnCore}
-use Rattle.proof_pure_network.proofs.Counts.{parts, taken_some}
+use Rattle.proof_pure_network.proofs.Counts.{taken_some}
 use Rattle.proof_pure_network.proofs.HonestJobs.{honest_set, matched_honest}
 use Rattle.proof_pure_network.proofs.HonestValues.{Begin, HonestJobs, IsHonestHeld, IsInParts, IsPiece}
 use Rattle.proof_pure_network.proofs.HonestValues.{all_there, begin_more}
@@ -101,7 +101,8 @@ looked_steps V e core q honest quiet = go (found (such_receive q) core.held) ref
           allowed = ((refl, found_may V core from q t refl (λ s c. refl) quiet f), tt);
           own = (tt, tt);
           reach = same_local (view V (looked_at core q (Some t))) (after_steps from (See q a (fill V t.1) b ∷ [])) refl
-              (ap (λ (s : Status). Some (Saw s)) (found_is V q t.1 (one_held V (such_receive q) core t f honest))) refl
+              (ap (λ (s : Status). Some (Saw s)) (found_is V q t.1 (one_held V (such_receive q) core t f honest)))
+              (refl, refl)
               (λ s c. refl);
         }
 
@@ -136,7 +137,7 @@ searched_steps V e core q honest quiet = go (found (such_receive q) core.held) r
           reach = same_local (view V (searched_at core q (Some t))) (after_steps from (TakeOut q a (fill V t.1) b ∷ []))
               (map-append (request_of V) core.jobs (Probed q.group (Some t.1) ∷ []))
               (ap₂ (λ (n : ℕ) (s : Status). Some (Took (Some n) s)) (sym (length-map core.jobs (request_of V)))
-              (found_is V q t.1 (one_held V (such_receive q) core t f honest))) refl
+              (found_is V q t.1 (one_held V (such_receive q) core t f honest))) (refl, refl)
               (λ s c. less_here V t.0 t.2 t.1 core.held f.parts s c);
         }
 
@@ -186,14 +187,14 @@ taken_steps V e core k into o x jobs own = go o x
         (sym (changed_not (received_into into) rs k
         (λ y g. let same : request_of V j ≡ y = same_Some (request_of V j) y (sym (request j h) ∙ g) in subst
         (λ (z : Request). received_into into z ≡ z) same f)))
-        refl refl (λ s c. refl))
+        refl (refl, refl) (λ s c. refl))
 
     go : (o : Option Job) → slice_get core.jobs k ≡ o → Steps e from (view V (taken_at core k into o).core)
     go None h =
         none_steps e from (view V (awaits core k))
         (same_local (view V (awaits core k)) from
         (sym (changed_not (received_into into) rs k (λ y g. absurd (let n : None ≡ Some y = sym (slice_get-map (request_of V) core.jobs k ∙ ap (λ (z : Option Job). option_map (request_of V) z) h) ∙ g in grind arith))))
-        refl refl (λ s c. refl))
+        refl (refl, refl) (λ s c. refl))
     go (Some (Waiting p)) h = still (Waiting p) h refl
     go (Some (Collecting p u got)) h = still (Collecting p u got) h refl
     go (Some (Offering d basic values)) h = still (Offering d basic values) h refl
@@ -205,7 +206,7 @@ taken_steps V e core k into o x jobs own = go o x
         (same_local (view V (taken_at core k into (Some (Probed g None))).core) from
         (map-set (request_of V) core.jobs k (Over (Replaced (Some into.buffer))) ∙
         sym (changed_at (received_into into) rs k (TakenOut g None) (request (Probed g None) h)))
-        refl refl (λ s c. refl))
+        refl (refl, refl) (λ s c. refl))
     go (Some (Probed g (Some u))) h =
         finish_steps V e from k p u u.body (slice_set core.jobs k (matched_job p u u.body))
         (taken_at core k into (Some (Probed g (Some u)))).core counted
@@ -217,7 +218,7 @@ taken_steps V e core k into o x jobs own = go o x
         (map-set (request_of V) core.jobs k (matched_job p u u.body) ∙
         (sym (set-set rs k (Matched p (fill V u)) (request_of V (matched_job p u u.body))) ∙
         ap (λ (xs : List Request). slice_set xs k (request_of V (matched_job p u u.body))) (sym matched)))
-        refl refl refl (λ s c. refl)
+        refl refl (refl, refl) (λ s c. refl)
       where
         p : Receive
         p = receive_for g u into
@@ -327,14 +328,14 @@ collect_steps V e core s k o values piece honest = go (collecting s k core.jobs)
               ap (λ (u : Outcome). slice_set (map (request_of V) core.jobs) j (Finished u))
               (full_outcome V p h (got ++ values)
               (all_there (body_values V h.sender h.body) (got ++ values) (more l)
-              (eqb-true (length (got ++ values)) (count_of h.body) y ∙ hj.0)))) refl refl (λ a b. refl);
+              (eqb-true (length (got ++ values)) (count_of h.body) y ∙ hj.0)))) refl (refl, refl) (λ a b. refl);
         }
         last false y l =
             none_steps e (view V core)
             (view V (with_jobs core (slice_set core.jobs j (Collecting p h (got ++ values)))))
             (same_local (view V (with_jobs core (slice_set core.jobs j (Collecting p h (got ++ values))))) (view V core)
             (map-set (request_of V) core.jobs j (Collecting p h (got ++ values)) ∙
-            set_here (map (request_of V) core.jobs) j (Matched p (fill V h)) stands) refl refl (λ a b. refl))
+            set_here (map (request_of V) core.jobs) j (Matched p (fill V h)) stands) refl (refl, refl) (λ a b. refl))
           where
             set_here : (rs : List Request) (i : ℕ) (r : Request) → slice_get rs i ≡ Some r → slice_set rs i r ≡ rs
             set_here [] i r h = refl

@@ -103,6 +103,7 @@ learned core r i =
       blocked = core.blocked;
       known = with_number core.known r i;
       held = filter (λ h. not (is_former r i h.sender)) core.held;
+      message_limit = core.message_limit;
     }
 
 -- a word of an endpoint at a higher incarnation than the known one is learnt (own)

@@ -65,7 +65,7 @@ send_alike e m mode comm to tag from (Some c) q held is =
       requests = λ f. refl;
       communicator = rw held refl;
       types = refl;
-      counts = refl;
+      counts = λ limit. refl;
       tags = refl;
       ranks = λ n inside wrong. rw held (target_beyond n c to (λ r x at. inside comm c r x held at) wrong);
       root = refl;
@@ -83,7 +83,7 @@ receive_alike e m comm source tag into (Some c) q held is =
       requests = λ f. refl;
       communicator = rw held refl;
       types = refl;
-      counts = refl;
+      counts = λ limit. refl;
       tags = refl;
       ranks = λ n inside wrong. rw held (source_beyond n c source (λ r x at. inside comm c r x held at) wrong);
       root = refl;
@@ -100,7 +100,7 @@ look_alike e m comm source tag (Some c) q held is =
       requests = λ f. refl;
       communicator = rw held refl;
       types = refl;
-      counts = refl;
+      counts = λ limit. refl;
       tags = refl;
       ranks = λ n inside wrong. rw held (source_beyond n c source (λ r x at. inside comm c r x held at) wrong);
       root = refl;
@@ -117,7 +117,7 @@ search_alike e m comm source tag (Some c) q held is =
       requests = λ f. refl;
       communicator = rw held refl;
       types = refl;
-      counts = refl;
+      counts = λ limit. refl;
       tags = refl;
       ranks = λ n inside wrong. rw held (source_beyond n c source (λ r x at. inside comm c r x held at) wrong);
       root = refl;
@@ -134,7 +134,7 @@ judged_alike e m (Wait a) q is =
       requests = λ f. refl;
       communicator = refl;
       types = refl;
-      counts = refl;
+      counts = λ limit. refl;
       tags = refl;
       ranks =
           λ n inside wrong. absurd cc;
@@ -147,7 +147,7 @@ judged_alike e m (Test r) q is =
       requests = λ f. refl;
       communicator = refl;
       types = refl;
-      counts = refl;
+      counts = λ limit. refl;
       tags = refl;
       ranks =
           λ n inside wrong. absurd cc;
@@ -160,7 +160,7 @@ judged_alike e m (Cancel r) q is =
       requests = λ f. refl;
       communicator = refl;
       types = refl;
-      counts = refl;
+      counts = λ limit. refl;
       tags = refl;
       ranks =
           λ n inside wrong. absurd cc;
@@ -175,7 +175,7 @@ judged_alike e m (Mrecv message into) q is =
       requests = λ f. refl;
       communicator = refl;
       types = refl;
-      counts = refl;
+      counts = λ limit. refl;
       tags = refl;
       ranks =
           λ n inside wrong. absurd cc;
@@ -208,8 +208,8 @@ chain six four two one three own five seven nine eleven no_four no_seven no_nine
 pub of_both_halves : FaultIsOfBothHalves
 of_both_halves n e l m c q inside is =
     let alike : IsJudgedAlike e m c q = judged_alike e m c q is in
-    rw (alike.requests (λ k. standing (slice_get l.requests k)), alike.types, alike.counts, alike.tags)
+    rw (alike.requests (λ k. standing (slice_get l.requests k)), alike.types, alike.counts l.message_limit, alike.tags)
     (chain (is_blocked l m || is_request_wrong (λ k. standing (slice_get l.requests k)) q) (wrong_communicator m c)
-    (is_type_wrong q) (is_count_wrong q) (is_tag_wrong q) (is_rank_wrong n q)
+    (is_type_wrong q) (is_count_wrong l.message_limit q) (is_tag_wrong q) (is_rank_wrong n q)
     (wrong_rank m c) (wrong_root m c) (wrong_operation c) (wrong_incarnation l.known m c) alike.communicator alike.root
     alike.operation (alike.ranks n inside))

@@ -23,7 +23,7 @@ pub record IsJudgedAlike (e : Endpoint) (m : Membership) (c : Call) (q : queues.
   pub requests : (f : ℕ → Standing) → wrong_request f c ≡ is_request_wrong f q
   pub communicator : wrong_communicator m c ≡ false
   pub types : wrong_type e m c ≡ is_type_wrong q
-  pub counts : wrong_count e m c ≡ is_count_wrong q
+  pub counts : (limit : ℕ) → wrong_count limit e m c ≡ is_count_wrong limit q
   pub tags : wrong_tag c ≡ is_tag_wrong q
   -- whom the queues lack, the communicator lacks too
   pub ranks : (n : ℕ) → AreInWorld n m → is_rank_wrong n q ≡ true → wrong_rank m c ≡ true
@@ -42,7 +42,7 @@ fault_by_halves n l m c q =
     first_fault (
     (is_blocked l m || is_request_wrong (λ k. standing (slice_get l.requests k)) q, 6) ∷
     (is_type_wrong q, 2) ∷
-    (is_count_wrong q, 1) ∷
+    (is_count_wrong l.message_limit q, 1) ∷
     (is_tag_wrong q, 3) ∷
     (is_rank_wrong n q, 5) ∷
     (wrong_rank m c, 5) ∷

@@ -148,7 +148,7 @@ entry_keeps old new comm x (replies.Left o) g = entered_keeps old new comm x (re
 entry_keeps old new comm x (replies.Fact f) g = entered_keeps old new comm x (replies.Fact f) g
 
 -- a question changes nothing
-question_same : (old new : EngineState) (comm : Option ℕ) (question : Question) (reply : Reply) →
+pub question_same : (old new : EngineState) (comm : Option ℕ) (question : Question) (reply : Reply) →
     AskingGives old comm question reply new → new ≡ old
 question_same old new comm question (replies.Refused why back) g = g.unchanged
 question_same old new comm question (replies.Started r) g = absurd g
@@ -162,7 +162,7 @@ question_same old new comm question (replies.Left o) g = absurd g
 question_same old new comm question (replies.Fact f) g = g.unchanged
 
 -- nor does a probe that takes nothing out
-look_same : (old new : EngineState) (p : Probe) (reply : Reply) → LookingGives old p reply new → new ≡ old
+pub look_same : (old new : EngineState) (p : Probe) (reply : Reply) → LookingGives old p reply new → new ≡ old
 look_same old new p (replies.Refused why back) g = g.unchanged
 look_same old new p (replies.Started r) g = absurd g
 look_same old new p (replies.Done a) g = absurd g
@@ -333,7 +333,7 @@ heard_by (Some (OfPiece t)) old new h g =
     data_stays (is_due old.payloads h.source.rank t.transfer t.offset t.bytes)
     (whole_with old.payloads h.source.rank t.transfer t.bytes) old new h t g
 
-heard_stays : (old new : EngineState) (h : HeardText) → HeardGives old h (Ok tt) new → StaysIn old.core new.core
+pub heard_stays : (old new : EngineState) (h : HeardText) → HeardGives old h (Ok tt) new → StaysIn old.core new.core
 heard_stays old new h g = heard_by (notice_in h.lesson old.payloads h.source.rank h.word) old new h g
 
 -- what follows: one turn, and then the rest

@@ -18,11 +18,12 @@ use Rattle.proof_group_network.specs.Network.{Happening}
 use Rattle.proof_network_bridge.proofs.Closed.{engines_share_groups, following_is_each_run}
 use Rattle.proof_network_bridge.proofs.Worlds.{place_is}
 use Rattle.proof_network_bridge.specs.GoingOn.{IsFollowedBy, IsSeenBy}
-use Rattle.proof_network_bridge.specs.Joined.{network_after, opening_engines}
+use Rattle.proof_network_bridge.specs.Joined.{limit_in, network_after, opening_engines}
 use Rattle.proof_network_runs.proofs.GoingOn.{each_has_a_run, happenings_go_on, none_is_a_run}
 use Rattle.proof_network_runs.specs.Runs.{GoesOnWith, GoesWith, HasARun, IsAt, IsOneAtMost, after, rank_of}
 use Rattle.proof_pure_network.specs.Network.{here}
 use Rattle.vocabulary.specs.declared.endpoint.Endpoint.{Endpoint}
+use Rattle.vocabulary.specs.declared.message_limit.MessageLimit.{MessageLimit}
 use Rattle.world.proofs.Keys.{means_what_is_seen}
 use Rattle.world.proofs.OneEvent.{one_behind}
 use Rattle.world.proofs.Refusals.{refusal_sound_by}
@@ -32,7 +33,7 @@ use Rattle.world.specs.EventByEvent.{HasSomeRun, IsOneFor, IsSoundBy, RunGoesOn,
 use Rattle.world.specs.Headline.{IsSound, history_seen}
 use Rattle.world.specs.Steps.{ByTheEngine, ByTheWorld, ForRoom, Gave, IsRefusedBy, IsWhy, RanAt, StepGives, Went}
 use Rattle.world.specs.Steps.{entry_of}
-use Rattle.world.specs.WorldState.{WorldState, opening_world}
+use Rattle.world.specs.WorldState.{WorldState, opening_world_of}
 use Rattle.world.specs.declared.event.HistoryEntry.{HistoryEntry}
 use Rattle.world.specs.declared.event.Event.{Event}
 use Rattle.world.specs.declared.event.Failed.{Failed}
@@ -43,11 +44,13 @@ use Rattle.world.specs.declared.refusal.WorldRefusal.{WorldRefusal}
 
 -- a run that goes with what a world follows is one that the world has come by
 pub has_run : (w : WorldState) (happenings : List Happening) (run_events : List machine.Event) →
-    IsSoundBy happenings w.engines w.datagrams w.history → GoesWith (length w.engines) happenings run_events →
+    IsSoundBy happenings w.engines w.datagrams w.history →
+    GoesWith (length w.engines) (limit_in w.engines) happenings run_events →
     HasRun w run_events
 has_run w happenings run_events s g =
-    let b : IsSeenBy (length w.engines) w.engines (history_seen w.history) run_events =
-    following_is_each_run (length w.engines) happenings run_events w.engines w.datagrams (history_seen w.history)
+    let b : IsSeenBy (length w.engines) (limit_in w.engines) w.engines (history_seen w.history) run_events =
+    following_is_each_run (length w.engines) (limit_in w.engines) happenings run_events w.engines w.datagrams
+    (history_seen w.history)
     s.followed g in
     let m = b.seen in
     record {
@@ -75,7 +78,7 @@ has_run w happenings run_events s g =
 -- every sound world has come by some run
 pub has_some_run : (w : WorldState) → IsSound w.engines w.datagrams w.history → HasSomeRun w
 has_some_run w s =
-    let r : HasARun (length w.engines) s.followed.happenings = each_has_a_run (length w.engines) s.followed.happenings (omega (arith, s.followed.few)) in
+    let r : HasARun (length w.engines) (limit_in w.engines) s.followed.happenings = each_has_a_run (length w.engines) (limit_in w.engines) s.followed.happenings (omega (arith, s.followed.few)) in
     record {
       run_events = r.events;
       has =
@@ -83,17 +86,19 @@ has_some_run w s =
     }
 
 -- an opening world has come by the run of no event
-pub opening_has_none : (n : ℕ) → n ≤ 1024 → HasRun (opening_world n) []
-opening_has_none n few =
-    has_run (opening_world n) [] [] (opening_sound_by n few) (none_is_a_run (length (opening_world n).engines))
+pub opening_has_none : (l : MessageLimit) (n : ℕ) → n ≤ 1024 → HasRun (opening_world_of l n) []
+opening_has_none l n few =
+    has_run (opening_world_of l n) [] [] (opening_sound_by l n few)
+    (none_is_a_run (length (opening_world_of l n).engines) (limit_in (opening_world_of l n).engines))
 
 -- the parts of a world, by what they equal
 same_run : (a b : WorldState) (run_events : List machine.Event) → a ≡ b → HasRun b run_events → HasRun a run_events
 same_run a b run_events is h = subst (λ (w : WorldState). HasRun w run_events) (sym is) h
 
 -- so has one that is made so
-pub made_has_none : (n : ℕ) (engines : List EngineState) (datagrams : List (ℕ × List ℕ)) (history : List HistoryEntry)
-    (datagram_room entry_room : ℕ) → n ≤ 1024 → engines ≡ opening_engines n 0 n → datagrams ≡ [] → history ≡ [] →
+pub made_has_none : (l : MessageLimit) (n : ℕ) (engines : List EngineState) (datagrams : List (ℕ × List ℕ))
+    (history : List HistoryEntry)
+    (datagram_room entry_room : ℕ) → n ≤ 1024 → engines ≡ opening_engines l n 0 n → datagrams ≡ [] → history ≡ [] →
     datagram_room ≡ 0 → entry_room ≡ 0 →
     HasRun (record {
       engines = engines;
@@ -103,7 +108,7 @@ pub made_has_none : (n : ℕ) (engines : List EngineState) (datagrams : List (�
           datagram_room;
       entry_room = entry_room;
     }) []
-made_has_none n engines datagrams history datagram_room entry_room few es ds hs dr er =
+made_has_none l n engines datagrams history datagram_room entry_room few es ds hs dr er =
     same_run (record {
       engines = engines;
       datagrams = datagrams;
@@ -111,25 +116,27 @@ made_has_none n engines datagrams history datagram_room entry_room few es ds hs 
       datagram_room =
           datagram_room;
       entry_room = entry_room;
-    }) (opening_world n) []
+    }) (opening_world_of l n) []
     (λ t. record { engines = es t; datagrams = ds t; history = hs t; datagram_room = dr t; entry_room = er t })
-    (opening_has_none n few)
+    (opening_has_none l n few)
 
 -- ---- A STEP
 
 -- the endpoint of the engine at a rank is the network's
-endpoint_there : (n rank : ℕ) (happenings : List Happening) (engines : List EngineState) (d : List (ℕ × List ℕ))
-    (h : List machine.Entry) (e : EngineState) → IsFollowedBy n happenings engines d h →
+endpoint_there : (n limit rank : ℕ) (happenings : List Happening) (engines : List EngineState) (d : List (ℕ × List ℕ))
+    (h : List machine.Entry) (e : EngineState) → IsFollowedBy n limit happenings engines d h →
     slice_get engines rank ≡ Some e →
-    here (after n happenings).net rank ≡ e.sessions.place.endpoint
-endpoint_there n rank happenings engines d h e f there =
-    sym (ap (λ (p : Place). p.endpoint) (place_is n rank engines d (network_after n happenings) e f.joined there).1)
+    here (after n limit happenings).net rank ≡ e.sessions.place.endpoint
+endpoint_there n limit rank happenings engines d h e f there =
+    sym (ap (λ (p : Place). p.endpoint)
+    (place_is n rank engines d (network_after n limit happenings) e f.joined there).1)
 
 -- the run that a world has come by tells its history
 tells_of : (w : WorldState) (run_events : List machine.Event) → HasRun w run_events →
-    seen (machine_opening (length w.engines)) run_events ≡ history_seen w.history
+    seen (machine_opening (length w.engines) (limit_in w.engines)) run_events ≡ history_seen w.history
 tells_of w run_events h =
-    subst (λ (vs : List machine.Event). seen (machine_opening (length w.engines)) vs ≡ history_seen w.history) h.by
+    subst (λ (vs : List machine.Event). seen (machine_opening (length w.engines) (limit_in w.engines)) vs ≡
+    history_seen w.history) h.by
     h.headline.tells
 
 -- what an event that was taken adds to the run
@@ -141,19 +148,24 @@ record Adds (old new : WorldState) (event : Event) (run_events : List machine.Ev
 
 event_adds : (old new : WorldState) (event : Event) (run_events : List machine.Event) (h : HasRun old run_events)
     (gave : Gave) → (ran : RanAt old.datagrams event old.engines (Ok gave) new.engines) →
+    limit_in new.engines ≡ limit_in old.engines →
     IsSoundOn event ran.rank h.happenings new.engines new.datagrams new.history → Adds old new event run_events
-event_adds old new event run_events h gave ran on = go on
+event_adds old new event run_events h gave ran limit on = go on
   where
     size : length new.engines ≡ length old.engines
     size = ap length ran.others ∙ length-set old.engines ran.rank ran.next
 
-    goes_there : (happenings : List Happening) (vs : List machine.Event) → GoesWith (length old.engines) happenings vs →
-        GoesWith (length new.engines) happenings vs
-    goes_there happenings vs g = subst (λ (n : ℕ). GoesWith n happenings vs) (sym size) g
+    goes_there : (happenings : List Happening) (vs : List machine.Event) →
+        GoesWith (length old.engines) (limit_in old.engines) happenings vs →
+        GoesWith (length new.engines) (limit_in new.engines) happenings vs
+    goes_there happenings vs g = subst (λ (l : ℕ). GoesWith (length new.engines) l happenings vs) (sym limit)
+        (subst (λ (n : ℕ). GoesWith n (limit_in old.engines) happenings vs) (sym size) g)
 
-    endpoint : here (after (length old.engines) h.happenings).net ran.rank ≡ ran.engine.sessions.place.endpoint
+    endpoint : here (after (length old.engines) (limit_in old.engines) h.happenings).net ran.rank ≡
+        ran.engine.sessions.place.endpoint
     endpoint =
-        endpoint_there (length old.engines) ran.rank h.happenings old.engines old.datagrams (history_seen old.history)
+        endpoint_there (length old.engines) (limit_in old.engines) ran.rank h.happenings old.engines old.datagrams
+        (history_seen old.history)
         ran.engine h.sound.followed ran.there
 
     steps : (more : List machine.Event) → AllByRecursion (IsAt ran.engine.sessions.place.endpoint) more →
@@ -176,13 +188,15 @@ event_adds old new event run_events h gave ran on = go on
           (has_run new h.happenings run_events s (goes_there h.happenings run_events h.goes));
     }
     go (Further x at_rank no_tick s) =
-        let g : GoesOnWith (length old.engines) (h.happenings ++ x ∷ []) run_events (here (after (length old.engines) h.happenings).net (rank_of x)) =
-        happenings_go_on (length old.engines) h.happenings x run_events (omega (arith, h.sound.followed.few)) h.goes in
+        let g : GoesOnWith (length old.engines) (limit_in old.engines) (h.happenings ++ x ∷ []) run_events
+        (here (after (length old.engines) (limit_in old.engines) h.happenings).net (rank_of x)) =
+        happenings_go_on (length old.engines) (limit_in old.engines) h.happenings x run_events (omega (arith, h.sound.followed.few)) h.goes in
         record {
           more = g.more;
           own = steps g.more
               (subst (λ (e : Endpoint). AllByRecursion (IsAt e) g.more)
-              (ap (λ (r : ℕ). here (after (length old.engines) h.happenings).net r) at_rank ∙ endpoint) g.own)
+              (ap (λ (r : ℕ). here (after (length old.engines) (limit_in old.engines) h.happenings).net r) at_rank ∙
+              endpoint) g.own)
               g.one;
           still = λ tick. absurd (tick no_tick);
           has = has_run new (h.happenings ++ x ∷ []) (run_events ++ g.more) s
@@ -202,19 +216,25 @@ went_on old new event added run_events w sound h = (a.more, (a.own, one), a.has)
         (event_sound_on h.happenings old.engines new.engines old.datagrams old.history event w.gave h.sound w.allowed
         w.ran sound.world))
 
+    limit : limit_in new.engines ≡ limit_in old.engines
+    limit = w.limit
+
     a : Adds old new event run_events
-    a = event_adds old new event run_events h w.gave w.ran on
+    a = event_adds old new event run_events h w.gave w.ran limit on
 
     size : length new.engines ≡ length old.engines
     size = ap length w.ran.others ∙ length-set old.engines w.ran.rank w.ran.next
 
     one : IsOneFor event a.more
     one =
-        one_behind (length old.engines) run_events a.more old.history old.datagrams event w.ran.engine w.ran.next
+        one_behind (length old.engines) (limit_in old.engines) run_events a.more old.history old.datagrams event
+        w.ran.engine w.ran.next
         w.gave w.ran.ran a.own.one a.still (tells_of old run_events h)
-        (subst (λ (n : ℕ). seen (machine_opening n) (run_events ++ a.more) ≡
+        (subst (λ (l : ℕ). seen (machine_opening (length old.engines) l) (run_events ++ a.more) ≡
+        history_seen (old.history ++ entry_of event w.gave ∷ [])) limit
+        (subst (λ (n : ℕ). seen (machine_opening n (limit_in new.engines)) (run_events ++ a.more) ≡
         history_seen (old.history ++ entry_of event w.gave ∷ [])) size
-        (tells_of new (run_events ++ a.more) a.has ∙ ap history_seen w.history))
+        (tells_of new (run_events ++ a.more) a.has ∙ ap history_seen w.history)))
 
 -- a refusal adds nothing
 refused_stands : (old : WorldState) (event : Event) (refused : WorldRefusal) (out : List (ℕ × List ℕ))
@@ -305,13 +325,18 @@ among_held m None a h = absurd cc
 among_held m (Some i) a h = among_at m.held i a h
 
 pub shares_onwards : (w : WorldState) → SharesGroupsOnwards w
-shares_onwards w us more v size h k r x e d first second a b e_there d_there a_is b_is same =
-    engines_share_groups (length w.engines) h.happenings k.happenings us more w.engines v.engines w.datagrams
+shares_onwards w us more v size limit h k r x e d first second a b e_there d_there a_is b_is same =
+    engines_share_groups (length w.engines) (limit_in w.engines) h.happenings k.happenings us more w.engines v.engines
+    w.datagrams
     v.datagrams (history_seen w.history) (history_seen v.history) r x e d a b
     h.sound.followed h.goes
-    (subst (λ (n : ℕ). IsFollowedBy n k.happenings v.engines v.datagrams (history_seen v.history)) size
-    k.sound.followed)
-    (subst (λ (n : ℕ). GoesWith n k.happenings (us ++ more)) size k.goes) e_there d_there
+    (subst (λ (l : ℕ). IsFollowedBy (length w.engines) l k.happenings v.engines v.datagrams (history_seen v.history))
+    limit
+    (subst (λ (n : ℕ). IsFollowedBy n (limit_in v.engines) k.happenings v.engines v.datagrams (history_seen v.history))
+    size
+    k.sound.followed))
+    (subst (λ (l : ℕ). GoesWith (length w.engines) l k.happenings (us ++ more)) limit
+    (subst (λ (n : ℕ). GoesWith n (limit_in v.engines) k.happenings (us ++ more)) size k.goes)) e_there d_there
     (among_held (member_of e.groups) first a a_is) (among_held (member_of d.groups) second b b_is) same
 
 -- a step leaves the number of ranks
@@ -320,23 +345,37 @@ step_size : (old new : WorldState) (event : Event) (answer : Result Stepped Fail
 step_size old new event (Ok added) w = ap length w.ran.others ∙ length-set old.engines w.ran.rank w.ran.next
 step_size old new event (Err failed) r = ap (λ (w : WorldState). length w.engines) r.unchanged
 
+-- and the limit of messages
+step_limit : (old new : WorldState) (event : Event) (answer : Result Stepped Failed) → StepGives old event answer new →
+    limit_in new.engines ≡ limit_in old.engines
+step_limit old new event (Ok added) w = w.limit
+step_limit old new event (Err failed) r = ap (λ (w : WorldState). limit_in w.engines) r.unchanged
+
 -- a world that lies behind one that has come by a run
 record IsOnwards (w : WorldState) (us : List machine.Event) (v : WorldState) : Type 0 where
   pub more : List machine.Event
   pub has : HasRun v (us ++ more)
   pub size : length v.engines ≡ length w.engines
+  pub limit : limit_in v.engines ≡ limit_in w.engines
 
 at_once : (a v : WorldState) (us : List machine.Event) → HasRun a us → a ≡ v → IsOnwards a us v
 at_once a v us h is =
     subst (λ (x : WorldState). IsOnwards a us x) is
-    (record { more = []; has = subst (λ (vs : List machine.Event). HasRun a vs) (sym (append-nil us)) h; size = refl })
+    (record {
+      more = [];
+      has = subst (λ (vs : List machine.Event). HasRun a vs) (sym (append-nil us)) h;
+      size =
+          refl;
+      limit = refl;
+    })
 
 beyond : (a m v : WorldState) (us more : List machine.Event) → length m.engines ≡ length a.engines →
-    IsOnwards m (us ++ more) v → IsOnwards a us v
-beyond a m v us more size o = record {
+    limit_in m.engines ≡ limit_in a.engines → IsOnwards m (us ++ more) v → IsOnwards a us v
+beyond a m v us more size limit o = record {
   more = more ++ o.more;
   has = subst (λ (vs : List machine.Event). HasRun v vs) (append_assoc us more o.more) o.has;
   size = o.size ∙ size;
+  limit = o.limit ∙ limit;
 }
 
 onwards : (a : WorldState) (us : List machine.Event) (vs : List Event) (ys : List (Result Stepped Failed))
@@ -351,7 +390,8 @@ onwards a us (w ∷ vs) (y ∷ ys) [] b run j v there = absurd run
 onwards a us (w ∷ vs) (y ∷ ys) (m ∷ way) b (here, first, (more, own, rest)) zero v there =
     at_once a v us here (same_Some a v there)
 onwards a us (w ∷ vs) (y ∷ ys) (m ∷ way) b (here, first, (more, own, rest)) (suc j) v there =
-    beyond a m v us more (step_size a m w y first) (onwards m (us ++ more) vs ys way b rest j v there)
+    beyond a m v us more (step_size a m w y first) (step_limit a m w y first)
+    (onwards m (us ++ more) vs ys way b rest j v there)
 
 -- what two share they share the other way round
 shared : (w v : WorldState) → ShareGroups w v → ShareGroups v w
@@ -361,7 +401,7 @@ shared w v s r x e d first second a b e_there d_there a_is b_is same =
 -- the first world shares with all behind it
 shares_first : (a : WorldState) (us : List machine.Event) (v : WorldState) → HasRun a us → IsOnwards a us v →
     ShareGroups a v
-shares_first a us v here o = shares_onwards a us o.more v o.size here o.has
+shares_first a us v here o = shares_onwards a us o.more v o.size o.limit here o.has
 
 -- and so do any two
 all_share : (a : WorldState) (us : List machine.Event) (vs : List Event) (ys : List (Result Stepped Failed))

@@ -1,14 +1,17 @@
 -- A world that follows the pure network with communicators is seen as a run of the machine of queues and groups.
-use Rattle.std.proofs.Common.{length}
+use Rattle.std.proofs.Common.{ℕ, length, subst}
 use Rattle.proof_network_bridge.proofs.Closed.{following_is_run}
-use Rattle.proof_network_bridge.specs.Joined.{network_after}
+use Rattle.proof_network_bridge.specs.Following.{IsSeenOfMachine}
+use Rattle.proof_network_bridge.specs.Joined.{limit_in, network_after}
 use Rattle.world.proofs.Keys.{means_what_is_seen}
 use Rattle.world.specs.Headline.{IsRunOfMachine, IsSound, SessionsAreTrue, history_seen}
 use Rattle.world.specs.WorldState.{WorldState}
 
 pub is_run_of_machine : (w : WorldState) → IsSound w.engines w.datagrams w.history → IsRunOfMachine w
 is_run_of_machine w s =
-    let m = following_is_run (length w.engines) w.engines w.datagrams (history_seen w.history) s.followed in
+    let m : IsSeenOfMachine (length w.engines) (limit_in w.engines) w.engines (history_seen w.history) =
+    subst (λ (l : ℕ). IsSeenOfMachine (length w.engines) l w.engines (history_seen w.history)) s.limited
+    (following_is_run (length w.engines) w.engines w.datagrams (history_seen w.history) s.followed) in
     record {
       run_events = m.events;
       run = m.run;
@@ -30,6 +33,6 @@ pub sessions_are_true : (w : WorldState) → IsSound w.engines w.datagrams w.his
 sessions_are_true w s =
     record {
       links = s.followed.joined.texts;
-      current = (network_after (length w.engines) s.followed.happenings).net.current;
+      current = (network_after (length w.engines) s.followed.limit s.followed.happenings).net.current;
       truth = s.followed.joined.links;
     }

@@ -20,7 +20,7 @@ use Rattle.proof_session_carrying.specs.Announced.{announcements_in}
 use Rattle.observation.specs.CoreCalls.{own_serial, request_by, requests_by, serial_meant}
 use Rattle.proof_network_bridge.proofs.Worlds.{set_cases}
 use Rattle.proof_network_bridge.specs.Following.{next_place}
-use Rattle.proof_network_bridge.specs.Joined.{IsFollowed, network_after}
+use Rattle.proof_network_bridge.specs.Joined.{IsFollowed, limit_in, network_after}
 use Rattle.observation.specs.EngineCalls.{call_meant, call_seen}
 use Rattle.proof_request_keys.proofs.Engines.{calls_keep_keys, datagrams_keep_keys, given_are_named, named_are_own}
 use Rattle.proof_request_keys.proofs.Engines.{ticks_keep_keys}
@@ -145,7 +145,7 @@ given_there : (n r : ℕ) (engines : List EngineState) (datagrams : List (ℕ ×
 given_there n r engines datagrams h e f there key = go (slot_at e.core.slots key) refl
   where
     w : GroupNetwork
-    w = network_after n f.happenings
+    w = network_after n f.limit f.happenings
 
     shown : IsShown (announcements_in 0 f.joined.sessions (here w.net r)) e.core e.sessions.known
         (w.net.core (here w.net r))
@@ -239,24 +239,24 @@ restart_named h event e next gave ran n =
     (sym ran.1) (named_anew h (entry_of event (nothing_of e.sessions.place.endpoint)) e refl refl n))
 
 -- the engine to which it comes
-event_named : (size : ℕ) (d : List (ℕ × List ℕ)) (h : List HistoryEntry) (event : Event) (e next : EngineState)
-    (gave : Gave) → event_fault size d event ≡ None → EventRuns d event e (Ok gave) next →
+event_named : (size limit : ℕ) (d : List (ℕ × List ℕ)) (h : List HistoryEntry) (event : Event) (e next : EngineState)
+    (gave : Gave) → event_fault size limit d event ≡ None → EventRuns d event e (Ok gave) next →
     next.core.place ≡ next.sessions.place → e.core.place ≡ e.sessions.place → AreGiven e.core → AreNamed h e →
     AreNamed (h ++ entry_of event gave ∷ []) next
-event_named size d h (events.Call r call) e next gave allowed ran next_placed placed given n =
+event_named size limit d h (events.Call r call) e next gave allowed ran next_placed placed given n =
     call_named h r call e next gave ran next_placed placed given n
-event_named size d h (events.Deliver number) e next gave allowed ran next_placed placed given n =
+event_named size limit d h (events.Deliver number) e next gave allowed ran next_placed placed given n =
     go (slice_get d number) ran
   where
     go : (o : Option (ℕ × List ℕ)) → DeliveryRuns o e (Ok gave) next →
         AreNamed (h ++ entry_of (events.Deliver number) gave ∷ []) next
     go None g = absurd g
     go (Some (to, bytes)) g = datagram_named h (events.Deliver number) bytes e next gave g next_placed placed n
-event_named size d h (events.Stray r bytes) e next gave allowed ran next_placed placed given n =
-    absurd (stray_breaks size d r bytes allowed)
-event_named size d h (events.Tick r now) e next gave allowed ran next_placed placed given n =
+event_named size limit d h (events.Stray r bytes) e next gave allowed ran next_placed placed given n =
+    absurd (stray_breaks size limit d r bytes allowed)
+event_named size limit d h (events.Tick r now) e next gave allowed ran next_placed placed given n =
     tick_named h (events.Tick r now) now e next gave ran next_placed placed n
-event_named size d h (events.Restart r) e next gave allowed ran next_placed placed given n =
+event_named size limit d h (events.Restart r) e next gave allowed ran next_placed placed given n =
     restart_named h (events.Restart r) e next gave ran n
 
 -- the endpoint that an entry has is that of the engine that took it
@@ -275,7 +275,7 @@ gave_at d (events.Restart r) e next gave ran = ap (λ (g : Gave). g.endpoint) ra
 -- all of them
 pub all_named : (old new : List EngineState) (d d' : List (ℕ × List ℕ)) (h : List HistoryEntry) (event : Event)
     (rank : ℕ) (e next : EngineState) (gave : Gave) → slice_get old rank ≡ Some e → new ≡ slice_set old rank next →
-    event_fault (length old) d event ≡ None → EventRuns d event e (Ok gave) next →
+    event_fault (length old) (limit_in old) d event ≡ None → EventRuns d event e (Ok gave) next →
     IsFollowed (length old) old d (history_seen h) →
     IsFollowed (length new) new d' (history_seen (h ++ entry_of event gave ∷ [])) → ArePlaced old →
     ((r : ℕ) (x : EngineState) → slice_get old r ≡ Some x → AreNamed h x) →
@@ -286,7 +286,7 @@ all_named old new d d' h event rank e next gave there others allowed ran before 
     here : r ≡ rank → x ≡ next → AreNamed (h ++ entry_of event gave ∷ []) x
     here same is_next =
         subst (λ (y : EngineState). AreNamed (h ++ entry_of event gave ∷ []) y) (sym is_next)
-        (event_named (length old) d h event e next gave allowed ran
+        (event_named (length old) (limit_in old) d h event e next gave allowed ran
         (subst (λ (y : EngineState). y.core.place ≡ y.sessions.place) is_next
         (placed_there (length new) r new d' (h ++ entry_of event gave ∷ []) x after is))
         (placed_there (length old) rank old d h e before there) (given_there (length old) rank old d h e before there)

@@ -5,6 +5,7 @@ pub mod Ranks
 pub mod Asked
 pub mod Called
 pub mod Runs
+pub mod Limits
 pub mod Sound
 pub mod Strays
 pub mod Keys

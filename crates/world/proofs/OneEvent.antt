@@ -46,14 +46,14 @@ left_over [] a b is = is
 left_over (x ∷ xs) a b is = left_over xs a b (ap rest_of is)
 
 -- the entry of an event is told by the machine's events behind the run
-told_behind : (n : ℕ) (vs more : List machine.Event) (history : List HistoryEntry) (entry : HistoryEntry) →
-    seen (machine_opening n) vs ≡ history_seen history →
-    seen (machine_opening n) (vs ++ more) ≡ history_seen (history ++ entry ∷ []) →
-    seen (after_run (machine_opening n) vs) more ≡ entry_seen entry
-told_behind n vs more history entry was is =
-    left_over (history_seen history) (seen (after_run (machine_opening n) vs) more) (entry_seen entry)
-    (ap (λ (es : List Entry). es ++ seen (after_run (machine_opening n) vs) more) (sym was)
-    ∙ sym (seen_behind (machine_opening n) vs more) ∙ is
+told_behind : (n limit : ℕ) (vs more : List machine.Event) (history : List HistoryEntry) (entry : HistoryEntry) →
+    seen (machine_opening n limit) vs ≡ history_seen history →
+    seen (machine_opening n limit) (vs ++ more) ≡ history_seen (history ++ entry ∷ []) →
+    seen (after_run (machine_opening n limit) vs) more ≡ entry_seen entry
+told_behind n limit vs more history entry was is =
+    left_over (history_seen history) (seen (after_run (machine_opening n limit) vs) more) (entry_seen entry)
+    (ap (λ (es : List Entry). es ++ seen (after_run (machine_opening n limit) vs) more) (sym was)
+    ∙ sym (seen_behind (machine_opening n limit) vs more) ∙ is
     ∙ flat_map-append entry_seen history (entry ∷ [])
     ∙ ap (λ (es : List Entry). history_seen history ++ es) (append-nil (entry_seen entry)))
 
@@ -199,10 +199,11 @@ one_for s d (events.Tick r now) old next gave more ran one still is = still (λ 
 one_for s d (events.Restart r) old next gave more ran one still is = one_of_restart s more r one (ap rank_of is)
 
 -- behind a run the events that an event of the world adds are what that is
-pub one_behind : (n : ℕ) (vs more : List machine.Event) (history : List HistoryEntry) (d : List (ℕ × List ℕ))
+pub one_behind : (n limit : ℕ) (vs more : List machine.Event) (history : List HistoryEntry) (d : List (ℕ × List ℕ))
     (event : Event) (old next : EngineState) (gave : Gave) → EventRuns d event old (Ok gave) next → IsOneAtMost more →
-    ((IsNoTick event → ⊥) → more ≡ []) → seen (machine_opening n) vs ≡ history_seen history →
-    seen (machine_opening n) (vs ++ more) ≡ history_seen (history ++ entry_of event gave ∷ []) → IsOneFor event more
-one_behind n vs more history d event old next gave ran one still was is =
-    one_for (after_run (machine_opening n) vs) d event old next gave more ran one still
-    (told_behind n vs more history (entry_of event gave) was is)
+    ((IsNoTick event → ⊥) → more ≡ []) → seen (machine_opening n limit) vs ≡ history_seen history →
+    seen (machine_opening n limit) (vs ++ more) ≡ history_seen (history ++ entry_of event gave ∷ []) →
+    IsOneFor event more
+one_behind n limit vs more history d event old next gave ran one still was is =
+    one_for (after_run (machine_opening n limit) vs) d event old next gave more ran one still
+    (told_behind n limit vs more history (entry_of event gave) was is)

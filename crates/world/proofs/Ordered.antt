@@ -76,7 +76,7 @@ pub sessions_are_in_order : (engines : List EngineState) (datagrams : List (ℕ 
     IsSound engines datagrams history → SessionsAreInOrder engines
 sessions_are_in_order engines datagrams history s r x e d there other apart knows known =
     let n : ℕ = length engines in
-    let w : Network = (network_after n s.followed.happenings).net in
+    let w : Network = (network_after n s.followed.limit s.followed.happenings).net in
     let j = s.followed.joined in
     let here : Endpoint = at r (w.current r) in
     let away : Endpoint = at x (w.current x) in
@@ -106,6 +106,6 @@ pub nothing_is_held : (engines : List EngineState) (datagrams : List (ℕ × Lis
     IsSound engines datagrams history → AreQuiet (sessions_in engines) → NothingIsHeld engines
 nothing_is_held engines datagrams history s quiet r x e d there other apart knows known place =
     idle_holds_nothing (length engines) x r place (sessions_in engines) datagrams s.followed.joined.texts
-    (network_after (length engines) s.followed.happenings).net.current d.sessions e.sessions
+    (network_after (length engines) s.followed.limit s.followed.happenings).net.current d.sessions e.sessions
     s.followed.joined.links quiet (sessions_there engines x d other) (sessions_there engines r e there)
     (false_sym x r apart) known knows

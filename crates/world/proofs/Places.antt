@@ -1,11 +1,13 @@
 -- Where the engines of a world stand.
-use Rattle.std.proofs.Common.{◌≡◌, ℕ, ◌<◌, ◌≤◌, Bool, true, false, List, Some, None, refl, ap, arith}
+use Rattle.std.proofs.Common.{◌≡◌, ℕ, ◌<◌, ◌≤◌, Bool, true, false, List, length, Some, None, refl, ap, arith, ◌∙◌}
 use Rattle.std.specs.Prelude.{slice_get, ◌==◌, if◌then◌else◌}
 use Rattle.std.proofs.lemmas.Bool.{eqb-false}
 use Rattle.perfect_groups.specs.Events as machine
 use Rattle.engine_calls.specs.EngineState.{EngineState}
 use Rattle.point_to_point_calls.specs.declared.refusal.Refusal.TheVariants as lowers
 use Rattle.incarnation.specs.declared.place.Place.{Place}
+use Rattle.proof_group_network.proofs.NetworkKept.{run_limit_with_groups}
+use Rattle.proof_group_network.specs.Network.{new_group_network}
 use Rattle.proof_network_bridge.proofs.Halves.{sessions_there}
 use Rattle.proof_network_bridge.specs.Joined.{IsFollowed}
 use Rattle.world.specs.Headline.{IsSound}
@@ -43,6 +45,9 @@ pub sound_placed : (engines : List EngineState) (d : List (ℕ × List ℕ)) (h 
 sound_placed engines d h s r e there =
     let place = (s.followed.joined.links.tells r e.sessions (sessions_there engines r e there)).place in
     record {
+      limit_is = s.followed.joined.limits r e there
+          ∙ run_limit_with_groups (length engines) s.followed.happenings
+          (new_group_network (length engines) s.followed.limit) ∙ s.limited;
       size = ap (λ (p : Place). p.size) place;
       rank = ap (λ (p : Place). p.endpoint.rank) place;
       job =

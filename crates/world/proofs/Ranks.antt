@@ -1,9 +1,10 @@
 -- The engine of a rank among the others: what its event is to all of them.
-use Rattle.std.proofs.Common.{◌≡◌, ℕ, List, length, Option, Some, None, Result, refl, sym, ap, subst, ◌∙◌, arith}
+use Rattle.std.proofs.Common.{◌≡◌, ◌<◌, ℕ, List, length, get_or, Option, Some, None, Result, refl, sym, ap, subst, ◌∙◌}
+use Rattle.std.proofs.Common.{arith}
 use Rattle.std.specs.Prelude.{Err, All, slice_get, slice_set}
 use Rattle.std.proofs.lemmas.List.{length-set, set-get_or}
 use Rattle.std.proofs.lemmas.List.Elements.{All-set}
-use Rattle.std.proofs.lemmas.Option.{get_or_from_slice_get, slice_get_within}
+use Rattle.std.proofs.lemmas.Option.{get_or_from_slice_get, slice_get-get_or, slice_get_within}
 use Rattle.engine_calls.specs.EngineState.{EngineState}
 use Rattle.world.specs.Faults.{target_of}
 use Rattle.world.specs.Steps.{DeliveryRuns, EventRuns, Gave, RanAt, Rejection}
@@ -19,6 +20,11 @@ pub ran_at : (d : List (ℕ × List ℕ)) (event : Event) (old : List EngineStat
     RanAt d event old result (slice_set old rank next)
 ran_at d event old rank e next result target there ran =
     record { rank = rank; target = target; engine = e; there = there; next = next; ran = ran; others = refl }
+
+-- the engine at a rank, by what is read there
+pub there_by : (engines : List EngineState) (rank : ℕ) (e : EngineState) → rank < length engines →
+    e ≡ get_or engines rank e → slice_get engines rank ≡ Some e
+there_by engines rank e lt is = slice_get-get_or engines rank e lt ∙ ap (λ (x : EngineState). Some x) (sym is)
 
 -- what stands at a place, put there once more
 pub set_same : (xs : List EngineState) (k : ℕ) (x : EngineState) → slice_get xs k ≡ Some x → slice_set xs k x ≡ xs

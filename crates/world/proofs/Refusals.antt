@@ -21,7 +21,7 @@ use Rattle.point_to_point_calls.specs.declared.refusal.Refusal.{Refusal}
 use Rattle.proof_network_bridge.specs.Following.{RefusesDatagram}
 use Rattle.proof_group_network.specs.Network.{Happening}
 use Rattle.proof_network_bridge.specs.GoingOn.{IsFollowedBy}
-use Rattle.proof_network_bridge.specs.Joined.{IsClean}
+use Rattle.proof_network_bridge.specs.Joined.{IsClean, limit_in}
 use Rattle.proof_network_bridge.proofs.Closed.{refusals_stand}
 use Rattle.requests.specs.declared.answer.Answer.{Answer}
 use Rattle.world.specs.Faults.{event_fault, target_of}
@@ -123,41 +123,47 @@ emptied_is_old old mid bytes why clean g =
 -- ---- what it leaves of a world
 
 -- a refusal with which nothing goes out
-silent : (n : ℕ) (before : List Happening) (engines : List EngineState) (d : List (ℕ × List ℕ)) (h : List machine.Entry)
-    (out : List (ℕ × List ℕ)) → out ≡ [] → IsFollowedBy n before engines d h →
-    IsFollowedBy n before engines (d ++ out) h
-silent n before engines d h out none f =
-    subst (λ (x : List (ℕ × List ℕ)). IsFollowedBy n before engines x h)
+silent : (n limit : ℕ) (before : List Happening) (engines : List EngineState) (d : List (ℕ × List ℕ))
+    (h : List machine.Entry)
+    (out : List (ℕ × List ℕ)) → out ≡ [] → IsFollowedBy n limit before engines d h →
+    IsFollowedBy n limit before engines (d ++ out) h
+silent n limit before engines d h out none f =
+    subst (λ (x : List (ℕ × List ℕ)). IsFollowedBy n limit before engines x h)
     (sym (ap (λ (o : List (ℕ × List ℕ)). d ++ o) none ∙ append-nil d)) f
 
 -- a datagram that the engine of its rank refuses
 datagram_followed : (before : List Happening) (old : List EngineState) (d : List (ℕ × List ℕ)) (h : List machine.Entry)
     (number rank : ℕ) (bytes : List ℕ) (e next : EngineState) (refusal : Rejection) →
-    IsFollowedBy (length old) before old d h → slice_get old rank ≡ Some e → old ≡ slice_set old rank next →
+    IsFollowedBy (length old) (limit_in old) before old d h → slice_get old rank ≡ Some e →
+    old ≡ slice_set old rank next →
     slice_get d number ≡ Some (rank, bytes) → DatagramRuns e bytes (Err refusal) next →
-    IsFollowedBy (length old) before old (d ++ refusal.out) h
+    IsFollowedBy (length old) (limit_in old) before old (d ++ refusal.out) h
 datagram_followed before old d h number rank bytes e next refusal f there others emitted ran =
     let mid : EngineState = with_out e refusal.out in
     let clean : IsClean e = f.joined.clean rank e there in
     let engines_are : slice_set old rank (emptied mid) ≡ old =
     ap (slice_set old rank) (emptied_is_old e mid bytes refusal.refused clean ran.1 ∙ sym ran.0) ∙ sym others in
     let out_is : refusal.out ≡ mid.sessions.out = ap (λ (x : List (ℕ × List ℕ)). x ++ refusal.out) (sym clean.out) in
-    subst (λ (x : List (ℕ × List ℕ)). IsFollowedBy (length old) before old (d ++ x) h) (sym out_is)
-    (subst (λ (x : List EngineState). IsFollowedBy (length old) before x (d ++ mid.sessions.out) h) engines_are
-    (refusals_stand (length old) rank number bytes before old d h e mid refusal.refused f there emitted ran.1))
+    subst (λ (x : List (ℕ × List ℕ)). IsFollowedBy (length old) (limit_in old) before old (d ++ x) h) (sym out_is)
+    (subst (λ (x : List EngineState). IsFollowedBy (length old) (limit_in old) before x (d ++ mid.sessions.out) h)
+    engines_are
+    (refusals_stand (length old) (limit_in old) rank number bytes before old d h e mid refusal.refused f there emitted
+    ran.1))
 
 -- the datagram under a number
 delivery_followed : (before : List Happening) (old : List EngineState) (d : List (ℕ × List ℕ)) (h : List machine.Entry)
     (number rank : ℕ) (e next : EngineState) (refusal : Rejection) →
-    IsFollowedBy (length old) before old d h → slice_get old rank ≡ Some e → old ≡ slice_set old rank next →
+    IsFollowedBy (length old) (limit_in old) before old d h → slice_get old rank ≡ Some e →
+    old ≡ slice_set old rank next →
     target_of d (events.Deliver number) ≡ Some rank →
-    DeliveryRuns (slice_get d number) e (Err refusal) next → IsFollowedBy (length old) before old (d ++ refusal.out) h
+    DeliveryRuns (slice_get d number) e (Err refusal) next →
+    IsFollowedBy (length old) (limit_in old) before old (d ++ refusal.out) h
 delivery_followed before old d h number rank e next refusal f there others target ran =
     go (slice_get d number) refl target ran
   where
     go : (o : Option (ℕ × List ℕ)) → slice_get d number ≡ o → option_map (λ (t : ℕ × List ℕ). t.0) o ≡ Some rank →
         DeliveryRuns o e (Err refusal) next →
-        IsFollowedBy (length old) before old (d ++ refusal.out) h
+        IsFollowedBy (length old) (limit_in old) before old (d ++ refusal.out) h
     go None is t n = absurd n
     go (Some (to, bytes)) is t n =
         let to_is : to ≡ rank = same_Some to rank t in
@@ -166,23 +172,25 @@ delivery_followed before old d h number rank e next refusal f there others targe
 
 event_followed : (before : List Happening) (old : List EngineState) (d : List (ℕ × List ℕ)) (h : List machine.Entry)
     (event : Event) (rank : ℕ) (e next : EngineState) (refusal : Rejection) →
-    IsFollowedBy (length old) before old d h → event_fault (length old) d event ≡ None → slice_get old rank ≡ Some e →
+    IsFollowedBy (length old) (limit_in old) before old d h → event_fault (length old) (limit_in old) d event ≡ None →
+    slice_get old rank ≡ Some e →
     old ≡ slice_set old rank next → target_of d event ≡ Some rank →
-    EventRuns d event e (Err refusal) next → IsFollowedBy (length old) before old (d ++ refusal.out) h
+    EventRuns d event e (Err refusal) next → IsFollowedBy (length old) (limit_in old) before old (d ++ refusal.out) h
 event_followed before old d h (events.Call r call) rank e next refusal f allowed there others target ran =
-    silent (length old) before old d h refusal.out ran.1 f
+    silent (length old) (limit_in old) before old d h refusal.out ran.1 f
 event_followed before old d h (events.Deliver number) rank e next refusal f allowed there others target ran =
     delivery_followed before old d h number rank e next refusal f there others target ran
 event_followed before old d h (events.Stray r bytes) rank e next refusal f allowed there others target ran =
-    absurd (stray_breaks (length old) d r bytes allowed)
+    absurd (stray_breaks (length old) (limit_in old) d r bytes allowed)
 event_followed before old d h (events.Tick r now) rank e next refusal f allowed there others target ran =
-    silent (length old) before old d h refusal.out ran.1 f
+    silent (length old) (limit_in old) before old d h refusal.out ran.1 f
 event_followed before old d h (events.Restart r) rank e next refusal f allowed there others target ran =
-    silent (length old) before old d h refusal.out ran.1 f
+    silent (length old) (limit_in old) before old d h refusal.out ran.1 f
 
 pub refusal_sound_by : (before : List Happening) (old : List EngineState) (d : List (ℕ × List ℕ))
     (h : List HistoryEntry) (event : Event) (refusal : Rejection) →
-    IsSoundBy before old d h → event_fault (length old) d event ≡ None → RanAt d event old (Err refusal) old →
+    IsSoundBy before old d h → event_fault (length old) (limit_in old) d event ≡ None →
+    RanAt d event old (Err refusal) old →
     IsSoundBy before old (d ++ refusal.out) h
 refusal_sound_by before old d h event refusal s allowed ran =
     record {
@@ -195,7 +203,7 @@ refusal_sound_by before old d h event refusal s allowed ran =
 
 pub refusal_sound : (old : List EngineState) (d : List (ℕ × List ℕ)) (h : List HistoryEntry) (event : Event)
     (refusal : Rejection) →
-    IsSound old d h → event_fault (length old) d event ≡ None → RanAt d event old (Err refusal) old →
+    IsSound old d h → event_fault (length old) (limit_in old) d event ≡ None → RanAt d event old (Err refusal) old →
     IsSound old (d ++ refusal.out) h
 refusal_sound old d h event refusal s allowed ran =
     is_sound s.followed.happenings old (d ++ refusal.out) h
@@ -284,6 +292,7 @@ pub copied_call : (w : WorldState) (event : Event) → fault_in w event ≡ None
     IsCallWithData event
 copied_call w (events.Call r call) allowed has = has
 copied_call w (events.Deliver number) allowed has = has
-copied_call w (events.Stray r bytes) allowed has = stray_breaks (length w.engines) w.datagrams r bytes allowed
+copied_call w (events.Stray r bytes) allowed has =
+    stray_breaks (length w.engines) (limit_in w.engines) w.datagrams r bytes allowed
 copied_call w (events.Tick r now) allowed has = has
 copied_call w (events.Restart r) allowed has = has

@@ -5,10 +5,13 @@ use Rattle.std.specs.Prelude.{Ok, Err, ◌==◌, ◌&&◌, nat_le, slice_get, if
 use Rattle.std.proofs.lemmas.Option.{same_Some, slice_get_within}
 use Rattle.std.proofs.lemmas.Bool.{le-leb, leb-true, lt-leb}
 use Rattle.std.proofs.lemmas.Grind.{common_steps}
+use Rattle.vocabulary.specs.MessageLimits.{limit_of}
+use Rattle.proof_network_bridge.specs.Joined.{limit_in}
 use Rattle.datagram.specs.declared.datagram.Header.{Header}
 use Rattle.datagram.specs.declared.refusal.DatagramRefusal as reading
 use Rattle.datagram.specs.declared.refusal.DatagramRefusal.TheVariants as readings
-use Rattle.datagram.specs.Reading.{body_of, content_of, datagram_of, header_of, kind_of, number_at}
+use Rattle.datagram.proofs.Grammar.{within_parts}
+use Rattle.datagram.specs.Reading.{body_of, content_of, datagram_of, datagram_within, header_of, kind_of, number_at}
 use Rattle.datagram.specs.Spelling.{DatagramText}
 use Rattle.datagram.proofs.Fields.{bind_ok, guard_ok, ok_is}
 use Rattle.incarnation.specs.declared.judgement.Judgement.{Judgement}
@@ -79,23 +82,26 @@ same_unread readings.BadFrame = refl
 
 -- bytes that don't carry the world's job number are refused by an engine of that job, as the world refuses them
 pub stray_refused : (e : EngineState) (bytes : List ℕ) → e.sessions.place.job ≡ 1 → carries_job bytes ≡ false →
-    EngineRefuses e bytes (stray_fault bytes)
+    EngineRefuses e bytes (stray_fault (limit_of e.sessions.place.message_limit) bytes)
 unfolding heard_of
 stray_refused e bytes job other result new gives =
     subst (λ (why : WorldRefusal). (new ≡ e) × ((x : lower.Refusal) × (result ≡ Err x) × (why ≡ Engine x)))
-    (sym fault_is) (go (datagram_of bytes) refl gives)
+    (sym fault_is) (go (datagram_within limit bytes) refl gives)
   where
-    fault_is : stray_fault bytes ≡ fault_of_text (datagram_of bytes)
-    fault_is = ap (λ (b : Bool). if b then CarriesJob else fault_of_text (datagram_of bytes)) other
+    limit : ℕ
+    limit = limit_of e.sessions.place.message_limit
 
-    go : (t : Result DatagramText reading.DatagramRefusal) → datagram_of bytes ≡ t →
+    fault_is : stray_fault limit bytes ≡ fault_of_text (datagram_within limit bytes)
+    fault_is = ap (λ (b : Bool). if b then CarriesJob else fault_of_text (datagram_within limit bytes)) other
+
+    go : (t : Result DatagramText reading.DatagramRefusal) → datagram_within limit bytes ≡ t →
         HearingGives (heard_in e.sessions t bytes) e result new →
         (new ≡ e) × ((x : lower.Refusal) × (result ≡ Err x) × (fault_of_text t ≡ Engine x))
     go (Err x) is g =
         refused_plainly e new (sessions_refusals.of_datagram x) (Engine (of_datagram x)) result
         (ap Engine (same_unread x)) g
     go (Ok d) is g =
-        let read = header_read bytes d is in
+        let read = header_read bytes d (within_parts limit bytes d is).0 in
         let unlike : (number_at 16 8 bytes == 1) ≡ false = second_fails _ _ other read.0 in
         let apart : (d.header.job == e.sessions.place.job) ≡ false = ap (λ (j : ℕ). d.header.job == j) job ∙ (ap (λ (j : ℕ). j == 1) read.1 ∙ unlike) in
         refused_plainly e new sessions_refused.ForeignJob (Engine lowers.ForeignJob) result refl
@@ -103,10 +109,10 @@ stray_refused e bytes job other result new gives =
         result new) (foreign (knowledge e.sessions) d.header apart) g)
 
 -- the fault of stray bytes at a rank that is there
-stray_fault_there : (size : ℕ) (d : List (ℕ × List ℕ)) (rank : ℕ) (bytes : List ℕ) → rank < size →
-    event_fault size d (events.Stray rank bytes) ≡ Some (stray_fault bytes)
-stray_fault_there size d rank bytes inside =
-    ap (λ (b : Bool). first_fault (if b then Some NoSuchRank else None) (Some (stray_fault bytes)))
+stray_fault_there : (size limit : ℕ) (d : List (ℕ × List ℕ)) (rank : ℕ) (bytes : List ℕ) → rank < size →
+    event_fault size limit d (events.Stray rank bytes) ≡ Some (stray_fault limit bytes)
+stray_fault_there size limit d rank bytes inside =
+    ap (λ (b : Bool). first_fault (if b then Some NoSuchRank else None) (Some (stray_fault limit bytes)))
     (lt-leb size rank inside)
 
 -- what is answered stray bytes at a rank that is there
@@ -115,17 +121,21 @@ stray_alike : (old : WorldState) (r : ℕ) (bytes : List ℕ) (why : WorldRefusa
     slice_get old.engines r ≡ Some e → carries_job bytes ≡ false → EngineRefuses e bytes why
 stray_alike old r bytes why out e placed is there other = go is
   where
-    fault_is : event_fault (length old.engines) old.datagrams (events.Stray r bytes) ≡ Some (stray_fault bytes)
-    fault_is = stray_fault_there (length old.engines) old.datagrams r bytes (slice_get_within old.engines r e there)
+    fault_is : event_fault (length old.engines) (limit_in old.engines) old.datagrams (events.Stray r bytes) ≡
+        Some (stray_fault (limit_in old.engines) bytes)
+    fault_is = stray_fault_there (length old.engines) (limit_in old.engines) old.datagrams r bytes
+        (slice_get_within old.engines r e there)
 
     go : IsWhy old (events.Stray r bytes) why out → EngineRefuses e bytes why
     go (ByTheWorld fault silent) =
-        subst (λ (x : WorldRefusal). EngineRefuses e bytes x) (same_Some (stray_fault bytes) why (sym fault_is ∙ fault))
-        (stray_refused e bytes (placed r e there).job other)
+        subst (λ (x : WorldRefusal). EngineRefuses e bytes x)
+        (same_Some (stray_fault (limit_in old.engines) bytes) why (sym fault_is ∙ fault))
+        (subst (λ (l : ℕ). EngineRefuses e bytes (stray_fault l bytes)) (placed r e there).limit_is
+        (stray_refused e bytes (placed r e there).job other))
     go (ForRoom none allowed needs room silent) =
-        let clash : Some (stray_fault bytes) ≡ None = sym fault_is ∙ none in absurd cc
+        let clash : Some (stray_fault (limit_in old.engines) bytes) ≡ None = sym fault_is ∙ none in absurd cc
     go (ByTheEngine refusal none refused gives ran) =
-        let clash : Some (stray_fault bytes) ≡ None = sym fault_is ∙ none in absurd cc
+        let clash : Some (stray_fault (limit_in old.engines) bytes) ≡ None = sym fault_is ∙ none in absurd cc
 
 -- whatever is answered stray bytes is what the engine of their rank would answer
 pub alike_at_engine : (old : WorldState) (event : Event) (why : WorldRefusal) (out : List (ℕ × List ℕ)) →
@@ -139,10 +149,10 @@ alike_at_engine old (events.Stray r bytes) why out placed is =
     λ e there other. stray_alike old r bytes why out e placed is there other
 
 -- stray bytes always break a rule
-pub stray_breaks : (size : ℕ) (d : List (ℕ × List ℕ)) (r : ℕ) (bytes : List ℕ) →
-    event_fault size d (events.Stray r bytes) ≡ None → ⊥
-stray_breaks size d r bytes none = go (target_fault size (Some r)) none
+pub stray_breaks : (size limit : ℕ) (d : List (ℕ × List ℕ)) (r : ℕ) (bytes : List ℕ) →
+    event_fault size limit d (events.Stray r bytes) ≡ None → ⊥
+stray_breaks size limit d r bytes none = go (target_fault size (Some r)) none
   where
-    go : (o : Option WorldRefusal) → first_fault o (Some (stray_fault bytes)) ≡ None → ⊥
+    go : (o : Option WorldRefusal) → first_fault o (Some (stray_fault limit bytes)) ≡ None → ⊥
     go None h = absurd cc
     go (Some fault) h = absurd cc

@@ -13,6 +13,7 @@ use Rattle.perfect_groups.specs.Calls.{Call, held_at}
 use Rattle.perfect_groups.specs.Communicators.{Communicator}
 use Rattle.perfect_groups.specs.Events as machine
 use Rattle.proof_group_network.specs.Network.{Happening}
+use Rattle.proof_network_bridge.specs.Joined.{limit_in}
 use Rattle.proof_network_bridge.specs.GoingOn.{IsFollowedBy}
 use Rattle.proof_network_runs.specs.Runs.{GoesWith, IsAt, IsOneAtMost}
 use Rattle.world.specs.Faults.{target_of}
@@ -30,7 +31,7 @@ use Rattle.world.specs.declared.event.Stepped.{Stepped}
 pub record IsSoundBy (happenings : List Happening) (engines : List EngineState) (datagrams : List (ℕ × List ℕ))
     (history : List HistoryEntry) : Type 0 where
   pub world : IsWorld engines
-  pub followed : IsFollowedBy (length engines) happenings engines datagrams (history_seen history)
+  pub followed : IsFollowedBy (length engines) (limit_in engines) happenings engines datagrams (history_seen history)
   pub named : (r : ℕ) (e : EngineState) → slice_get engines r ≡ Some e → AreNamed history e
 
 -- THE RELATION THAT JOINS A WORLD TO THE MACHINE. The world has come by this run of the machine of queues and groups:
@@ -40,7 +41,7 @@ pub record HasRun (w : WorldState) (run_events : List machine.Event) : Type 0 wh
   pub by : headline.run_events ≡ run_events
   -- and behind it stand the happenings with which the run goes, and from which it goes on
   pub happenings : List Happening
-  pub goes : GoesWith (length w.engines) happenings run_events
+  pub goes : GoesWith (length w.engines) (limit_in w.engines) happenings run_events
   pub sound : IsSoundBy happenings w.engines w.datagrams w.history
 
 -- One event of the machine at most, at the endpoint at which an event of the world happens: that of the engine of its
@@ -138,6 +139,7 @@ GoesAllTheWay old events answers new =
 abbrev pub SharesGroupsOnwards : WorldState → Type 0
 SharesGroupsOnwards w =
     (run_events more : List machine.Event) (later : WorldState) → length later.engines ≡ length w.engines →
+    limit_in later.engines ≡ limit_in w.engines →
     HasRun w run_events → HasRun later (run_events ++ more) → ShareGroups w later
 
 -- every world has come by some run

@@ -21,18 +21,19 @@ target_fault size None = Some NoSuchDatagram
 target_fault size (Some rank) = if nat_le size rank then Some NoSuchRank else None
 
 -- stray bytes are refused at every rank, and nothing else is
-abbrev pub bytes_fault : Event → Option WorldRefusal
-bytes_fault (events.Call rank call) = None
-bytes_fault (events.Deliver number) = None
-bytes_fault (events.Stray rank bytes) = Some (stray_fault bytes)
-bytes_fault (events.Tick rank now) = None
-bytes_fault (events.Restart rank) = None
+abbrev pub bytes_fault : (limit : ℕ) → Event → Option WorldRefusal
+bytes_fault limit (events.Call rank call) = None
+bytes_fault limit (events.Deliver number) = None
+bytes_fault limit (events.Stray rank bytes) = Some (stray_fault limit bytes)
+bytes_fault limit (events.Tick rank now) = None
+bytes_fault limit (events.Restart rank) = None
 
 -- the first of two faults
 abbrev pub first_fault : Option WorldRefusal → Option WorldRefusal → Option WorldRefusal
 first_fault None later = later
 first_fault (Some fault) later = Some fault
 
--- the first rule of a world of so many ranks that an event breaks
-abbrev pub event_fault : (size : ℕ) → (datagrams : List (ℕ × List ℕ)) → Event → Option WorldRefusal
-event_fault size datagrams event = first_fault (target_fault size (target_of datagrams event)) (bytes_fault event)
+-- the first rule of a world of so many ranks that an event breaks, where a message has at most this many bytes
+abbrev pub event_fault : (size limit : ℕ) → (datagrams : List (ℕ × List ℕ)) → Event → Option WorldRefusal
+event_fault size limit datagrams event =
+    first_fault (target_fault size (target_of datagrams event)) (bytes_fault limit event)

@@ -31,7 +31,7 @@ use Rattle.link_truth.specs.Links.{Links}
 use Rattle.link_truth.specs.Quiet.{AreQuiet}
 use Rattle.link_truth.specs.Truth.{AreTrue}
 use Rattle.observation.specs.Faults.{AnswersNone, IsFaultless, fault_in}
-use Rattle.proof_network_bridge.specs.Joined.{IsFollowed}
+use Rattle.proof_network_bridge.specs.Joined.{IsFollowed, limit_in}
 use Rattle.observation.specs.Sessions.{sessions_in}
 use Rattle.observation.specs.EngineCalls.{call_meant, call_seen, told_call, told_completion}
 use Rattle.world.specs.Given.{AreNamed, NamesOwn}
@@ -69,15 +69,16 @@ history_seen entries = flat_map entry_seen entries
 -- and a collective whose members are all current, know each other so and have all entered it alike was left by all
 pub record IsRunOfMachine (w : WorldState) : Type 0 where
   pub run_events : List machine.Event
-  pub run : IsRun (length w.engines) (machine_opening (length w.engines)) run_events
-  pub tells : seen (machine_opening (length w.engines)) run_events ≡ history_seen w.history
+  pub run : IsRun (length w.engines) (machine_opening (length w.engines) (limit_in w.engines)) run_events
+  pub tells : seen (machine_opening (length w.engines) (limit_in w.engines)) run_events ≡ history_seen w.history
   pub now :
       (r : ℕ) (e : EngineState) → slice_get w.engines r ≡ Some e →
-      (after_run (machine_opening (length w.engines)) run_events).queues.current r ≡
+      (after_run (machine_opening (length w.engines) (limit_in w.engines)) run_events).queues.current r ≡
       e.sessions.place.endpoint.incarnation
   pub knows :
       (r : ℕ) (e : EngineState) → slice_get w.engines r ≡ Some e → (x : ℕ) →
-      ((after_run (machine_opening (length w.engines)) run_events).queues.at e.sessions.place.endpoint).known x ≡
+      ((after_run (machine_opening (length w.engines) (limit_in w.engines)) run_events).queues.at
+      e.sessions.place.endpoint).known x ≡
       slice_index e.sessions.known x
   -- a call that the engine refuses has the machine's first fault, by its number; or the machine finds none, and the
   -- number is
@@ -85,7 +86,8 @@ pub record IsRunOfMachine (w : WorldState) : Type 0 where
   pub refuses :
       (r : ℕ) (e mid : EngineState) (call back : Call) (why : Refusal) → slice_get w.engines r ≡ Some e →
       CallGives e call (replies.Refused why back) mid →
-      IsReason (fault_in (after_run (machine_opening (length w.engines)) run_events) e.sessions.place.endpoint
+      IsReason (fault_in (after_run (machine_opening (length w.engines) (limit_in w.engines)) run_events)
+      e.sessions.place.endpoint
       (call_meant e.core call)) why
   -- where a call names only requests that its own engine gave, it means there what is seen of it
   pub own_requests :
@@ -95,11 +97,14 @@ pub record IsRunOfMachine (w : WorldState) : Type 0 where
   pub takes :
       (r : ℕ) (e mid : EngineState) (call : Call) (reply : Reply) → slice_get w.engines r ≡ Some e → IsTaken reply →
       CallGives e call reply mid →
-      IsFaultless (fault_in (after_run (machine_opening (length w.engines)) run_events) e.sessions.place.endpoint
+      IsFaultless
+      (fault_in (after_run (machine_opening (length w.engines) (limit_in w.engines)) run_events)
+      e.sessions.place.endpoint
       (call_seen call)) e.core call
   pub holds :
       (r : ℕ) (e : EngineState) → slice_get w.engines r ≡ Some e →
-      ((after_run (machine_opening (length w.engines)) run_events).groups.of e.sessions.place.endpoint).held ≡
+      ((after_run (machine_opening (length w.engines) (limit_in w.engines)) run_events).groups.of
+      e.sessions.place.endpoint).held ≡
       (member_of e.groups).held
   -- communicators of two engines, or of one, that have one context are one
   pub one_group :
@@ -108,13 +113,15 @@ pub record IsRunOfMachine (w : WorldState) : Type 0 where
       held_at (member_of e.groups) first ≡ Some a → held_at (member_of d.groups) second ≡ Some b →
       a.context ≡ b.context → a ≡ b
   pub quiet : AreQuiet (sessions_in w.engines) →
-      IsAtRest (after_run (machine_opening (length w.engines)) run_events).queues
+      IsAtRest (after_run (machine_opening (length w.engines) (limit_in w.engines)) run_events).queues
   -- and then an engine answers a probe with none only where such a receive would accept no pending message of a current
   -- endpoint that the engine's rank knows as current
   pub finds : AreQuiet (sessions_in w.engines) →
-      ProbesFindAll (after_run (machine_opening (length w.engines)) run_events).queues (AnswersNone w.engines)
+      ProbesFindAll (after_run (machine_opening (length w.engines) (limit_in w.engines)) run_events).queues
+      (AnswersNone w.engines)
   pub leaves : AreQuiet (sessions_in w.engines) →
-      CollectivesAreLeft (length w.engines) (after_run (machine_opening (length w.engines)) run_events)
+      CollectivesAreLeft (length w.engines)
+      (after_run (machine_opening (length w.engines) (limit_in w.engines)) run_events)
 
 -- THE LAW OF A SESSION, for all sessions that ever were. For each two endpoints there are the frames that the one's
 -- side accepted, and how many of them were handed up at the other: a beginning. Each engine's sessions hold just these,
@@ -156,4 +163,5 @@ pub record IsSound (engines : List EngineState) (datagrams : List (ℕ × List �
     0 where
   pub world : IsWorld engines
   pub followed : IsFollowed (length engines) engines datagrams (history_seen history)
+  pub limited : followed.limit ≡ limit_in engines
   pub named : (r : ℕ) (e : EngineState) → slice_get engines r ≡ Some e → AreNamed history e

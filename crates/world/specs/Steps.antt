@@ -24,6 +24,7 @@ use Rattle.world.specs.declared.event.FailedRun.{FailedRun}
 use Rattle.world.specs.declared.event.Stepped.{Stepped}
 use Rattle.world.specs.declared.refusal.WorldRefusal.{WorldRefusal}
 use Rattle.world.specs.declared.refusal.WorldRefusal.TheVariants as refusals
+use Rattle.proof_network_bridge.specs.Joined.{limit_in}
 use Rattle.proof_network_bridge.specs.Following.{RefusesDatagram, RefusesTick, TakesDatagram, TakesTick, next_place}
 use Rattle.world.specs.Faults.{event_fault, first_fault, target_of}
 use Rattle.world.specs.Headline.{IsRunOfMachine}
@@ -159,7 +160,7 @@ pub record RanAt (datagrams : List (ℕ × List ℕ)) (event : Event) (old : Lis
 
 -- the first rule of the world that an event breaks
 abbrev pub fault_in : WorldState → Event → Option WorldRefusal
-fault_in w event = event_fault (length w.engines) w.datagrams event
+fault_in w event = event_fault (length w.engines) (limit_in w.engines) w.datagrams event
 
 -- the rule or limit by which the engine of its rank refuses it, as far as the world asks for it
 abbrev pub engine_fault : WorldState → Event → Option lower.Refusal
@@ -179,6 +180,8 @@ pub record Went (old : WorldState) (event : Event) (added : Stepped) (new : Worl
   pub datagrams : new.datagrams ≡ old.datagrams ++ gave.out
   pub history : new.history ≡ old.history ++ entry_of event gave ∷ []
   pub answered : added ≡ record { first = length old.datagrams; count = length gave.out; place = length old.history }
+  -- the limit of messages stays
+  pub limit : limit_in new.engines ≡ limit_in old.engines
 
 -- an event with data of its own, which to copy may take memory
 abbrev pub HasOwnBytes : Event → Type 0

@@ -2,7 +2,7 @@
 use Rattle.std.specs.Prelude.{◌≡◌, ℕ, ◌==◌, ◌&&◌, Bool, nat_le, List, length, Result, Ok, Err, if◌then◌else◌}
 use Rattle.datagram.specs.declared.refusal.DatagramRefusal as lowest
 use Rattle.datagram.specs.Spelling.{DatagramText}
-use Rattle.datagram.specs.Reading.{datagram_of, number_at}
+use Rattle.datagram.specs.Reading.{datagram_within, number_at}
 use Rattle.engine.specs.Datagrams.{DatagramGives}
 use Rattle.engine_calls.specs.EngineState.{EngineState}
 use Rattle.point_to_point_calls.specs.declared.refusal.Refusal as lower
@@ -21,9 +21,10 @@ abbrev pub fault_of_text : Result DatagramText lowest.DatagramRefusal → WorldR
 fault_of_text (Err e) = Engine (of_datagram e)
 fault_of_text (Ok d) = Engine engines.ForeignJob
 
--- why stray bytes are refused: they carry the world's job number (63), or by what they spell
-abbrev pub stray_fault : List ℕ → WorldRefusal
-stray_fault bytes = if carries_job bytes then CarriesJob else fault_of_text (datagram_of bytes)
+-- why stray bytes are refused: they carry the world's job number (63), or by what they spell within the job's limit of
+-- messages
+abbrev pub stray_fault : (limit : ℕ) → List ℕ → WorldRefusal
+stray_fault limit bytes = if carries_job bytes then CarriesJob else fault_of_text (datagram_within limit bytes)
 
 -- whatever memory there is, the engine would refuse the bytes by this number, and stay as it was
 abbrev pub EngineRefuses : EngineState → List ℕ → WorldRefusal → Type 0

@@ -4,9 +4,10 @@ ghost use Rattle.std.specs.Prelude.{◌≡◌, ◌≤◌, ◌<◌, ◌*◌, leng
 ghost use Rattle.std.specs.Prelude.{slice_get, vec_len};
 ghost use Rattle.point_to_point_calls.specs.declared.refusal.Refusal.TheVariants as lowers;
 ghost use Rattle.engine_calls.specs.EngineState.{opening};
-ghost use Rattle.proof_network_bridge.specs.Joined.{opening_engines};
-ghost use Rattle.link_truth.specs.Wire.{at, place_of};
+ghost use Rattle.proof_network_bridge.specs.Joined.{limit_among, limit_in, opening_engines};
+ghost use Rattle.link_truth.specs.Wire.{at, in_job, place_of};
 ghost use Rattle.vocabulary.specs.Limits.{most_ranks};
+ghost use Rattle.vocabulary.specs.MessageLimits.{limit_of};
 ghost use Rattle.world.specs.Faults.{target_of, bytes_fault, event_fault};
 ghost use Rattle.world.specs.WorldState.{IsWorld, ArePlaced};
 ghost use Rattle.world.specs.Steps.{RanAt, emitted, fault_by};
@@ -20,7 +21,7 @@ use byteorder::{BigEndian, ByteOrder};
 use datagram::Bytes;
 use engine::{Engine, Place};
 use std::alloc::Global;
-use vocabulary::Endpoint;
+use vocabulary::{Endpoint, MessageLimit};
 
 /// The job of a world.
 const JOB: u64 = 1;
@@ -49,25 +50,35 @@ fn target_of(datagrams: &[(u16, Bytes)], event: &Event) -> Option<u16>
     }
 }
 
+/// The limit of messages of the engines of a world, which all have one.
+fn limit_among(engines: &[Engine]) -> MessageLimit
+    ensures { result ≡ limit_among engines.now }
+{
+    match engines.first() {
+        Some(engine) => engine.place().message_limit,
+        None => MessageLimit::least(),
+    }
+}
+
 /// Why stray bytes are refused.
-fn fault_of_stray(bytes: &[u8]) -> WorldRefusal
-    ensures { result ≡ stray_fault bytes.now }
+fn fault_of_stray(bytes: &[u8], limit: MessageLimit) -> WorldRefusal
+    ensures { result ≡ stray_fault (limit_of limit) bytes.now }
 {
     if bytes.len() >= 24 && BigEndian::read_u64(&bytes[16..]) == JOB {
         return WorldRefusal::CarriesJob;
     }
-    match datagram::read(bytes) {
+    match datagram::read_within(bytes, limit) {
         Ok(_) => WorldRefusal::Engine(engine::Refusal::ForeignJob),
         Err(refused) => WorldRefusal::Engine(engine::Refusal::of_datagram(refused)),
     }
 }
 
 /// Why an event is refused at whatever rank it comes to: if it is one of stray bytes.
-fn fault_of_bytes(event: &Event) -> Option<WorldRefusal>
-    ensures { result ≡ bytes_fault event.now }
+fn fault_of_bytes(event: &Event, limit: MessageLimit) -> Option<WorldRefusal>
+    ensures { result ≡ bytes_fault (limit_of limit) event.now }
 {
     match event {
-        Event::Stray(_, bytes) => Some(fault_of_stray(bytes.as_slice())),
+        Event::Stray(_, bytes) => Some(fault_of_stray(bytes.as_slice(), limit)),
         Event::Call(_, _) => None,
         Event::Deliver(_) => None,
         Event::Tick(_, _) => None,
@@ -75,20 +86,26 @@ fn fault_of_bytes(event: &Event) -> Option<WorldRefusal>
     }
 }
 
-/// The rank that an event comes to, or the first rule of a world of `size` ranks that it breaks. It takes no memory.
-pub fn judge(size: usize, datagrams: &[(u16, Bytes)], event: &Event) -> Result<u16, WorldRefusal>
-    ensures allowed { IfOk result (λ rank. event_fault size datagrams.now event.now ≡ None) }
+/// The rank that an event comes to, or the first rule of a world of these ranks that it breaks. It takes no memory.
+pub fn judge(
+    engines: &[Engine],
+    datagrams: &[(u16, Bytes)],
+    event: &Event,
+) -> Result<u16, WorldRefusal>
+    ensures allowed { IfOk result (λ rank.
+        event_fault (length engines.now) (limit_in engines.now) datagrams.now event.now ≡ None) }
     ensures target { IfOk result (λ rank. target_of datagrams.now event.now ≡ Some rank) }
-    ensures there { IfOk result (λ rank. rank < size) }
-    ensures fault { IfErr result (λ fault. event_fault size datagrams.now event.now ≡ Some fault) }
+    ensures there { IfOk result (λ rank. rank < length engines.now) }
+    ensures fault { IfErr result (λ fault.
+        event_fault (length engines.now) (limit_in engines.now) datagrams.now event.now ≡ Some fault) }
 {
     let Some(rank) = target_of(datagrams, event) else {
         return Err(WorldRefusal::NoSuchDatagram);
     };
-    if rank as usize >= size {
+    if rank as usize >= engines.len() {
         return Err(WorldRefusal::NoSuchRank);
     }
-    match fault_of_bytes(event) {
+    match fault_of_bytes(event, limit_among(engines)) {
         Some(fault) => Err(fault),
         None => Ok(rank),
     }
@@ -128,10 +145,15 @@ pub fn run_event(
 }
 
 /// The engine of a rank among so many, at its first incarnation.
-fn new_engine(alloc: Global, rank: u16, size: u16) -> Result<Engine, WorldRefusal>
+fn new_engine(
+    alloc: Global,
+    rank: u16,
+    size: u16,
+    limit: MessageLimit,
+) -> Result<Engine, WorldRefusal>
     requires there { rank < size }
     requires few { size ≤ most_ranks }
-    ensures ok { IfOk result (λ engine. engine ≡ opening (place_of size (at rank 0))) }
+    ensures ok { IfOk result (λ engine. engine ≡ opening (in_job limit (place_of size (at rank 0)))) }
     ensures err { IfErr result (λ e. e ≡ WorldRefusal.Engine lowers.OutOfMemory) }
 {
     let endpoint = Endpoint {
@@ -142,6 +164,7 @@ fn new_engine(alloc: Global, rank: u16, size: u16) -> Result<Engine, WorldRefusa
         endpoint,
         size,
         job: JOB,
+        message_limit: limit,
     };
     match Engine::new(alloc, place) {
         Ok(engine) => Ok(engine),
@@ -149,16 +172,20 @@ fn new_engine(alloc: Global, rank: u16, size: u16) -> Result<Engine, WorldRefusa
     }
 }
 
-/// The engines of a world of `size` ranks.
+/// The engines of a world of `size` ranks with this limit of messages.
 #[tactic(auto, using(crate::proofs::Openings::opening_more))]
-pub fn new_engines(alloc: Global, size: u16) -> Result<Vec<Engine>, WorldRefusal>
+pub fn new_engines(
+    alloc: Global,
+    size: u16,
+    limit: MessageLimit,
+) -> Result<Vec<Engine>, WorldRefusal>
     requires { size ≤ most_ranks }
-    ensures ok { IfOk result (λ engines. engines.items ≡ opening_engines size 0 size) }
+    ensures ok { IfOk result (λ engines. engines.items ≡ opening_engines limit size 0 size) }
     ensures err { IfErr result (λ e. e ≡ WorldRefusal.Engine lowers.OutOfMemory) }
 {
     let mut engines = Vec::new(alloc);
     for rank in 0..size {
-        engines.push(new_engine(alloc, rank, size)?)?;
+        engines.push(new_engine(alloc, rank, size, limit)?)?;
     }
     Ok(engines)
 }

@@ -202,6 +202,7 @@ fn restart(alloc: Global, engine: &mut Engine) -> Result<EngineOutput, Rejected>
         },
         size: former.size,
         job: former.job,
+        message_limit: former.message_limit,
     };
     match Engine::new(alloc, place) {
         Ok(next) => {

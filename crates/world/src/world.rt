@@ -6,7 +6,7 @@ ghost use Rattle.point_to_point_calls.specs.declared.refusal.Refusal.TheVariants
 ghost use Rattle.link_truth.specs.Quiet.{AreQuiet};
 ghost use Rattle.observation.specs.Sessions.{sessions_in};
 ghost use Rattle.vocabulary.specs.Limits.{most_ranks};
-ghost use Rattle.world.specs.WorldState.{is_outside, opening_world};
+ghost use Rattle.world.specs.WorldState.{is_outside, opening_world, opening_world_of};
 ghost use Rattle.world.specs.Headline.{IsRunOfMachine, IsSound, NothingIsHeld, SessionsAreInOrder, SessionsAreTrue};
 ghost use Rattle.world.specs.EventByEvent.{GoesAllTheWay, GoesOn, GoesOnFrom, HasRun, HasSomeRun, SharesGroupsOnwards};
 ghost use Rattle.world.specs.Steps.{StepGives, RunGives, IsNotRun, entry_of, first_of};
@@ -21,7 +21,7 @@ use datagram::Bytes;
 use engine::{Engine, MOST_RANKS};
 use std::alloc::Global;
 use std::marker::Model;
-use vocabulary::Endpoint;
+use vocabulary::{Endpoint, MessageLimit};
 
 /// Ranks that share nothing but datagrams, and everything that happened to them.
 ///
@@ -175,7 +175,7 @@ fn advance(
         }) }
     ensures sound { IsSound engines.new.items datagrams.new.items history.new.items }
 {
-    let rank = match judge(engines.len(), datagrams, &event) {
+    let rank = match judge(engines, datagrams, &event) {
         Ok(rank) => rank,
         Err(refused) => return Err(plain(refused, event)),
     };
@@ -197,7 +197,8 @@ fn advance(
 }
 
 impl World {
-    /// A world of so many ranks, 1 to 1,024, in which nothing happened yet.
+    /// A world of so many ranks, 1 to 1,024, in which nothing happened yet, and whose messages have the limit of
+    /// scripts, 1,048,576 bytes.
     ///
     /// Refused with 13 for another number, and with 14. The run of the machine that it has come by is that of no event.
     pub fn new(alloc: Global, size: u16) -> Result<World, WorldRefusal>
@@ -207,10 +208,21 @@ impl World {
         ensures refused { IfErr result (λ e. (e ≡ WorldRefusal.Engine lowers.Limit) ⊎
             (e ≡ WorldRefusal.Engine lowers.OutOfMemory)) }
     {
+        World::with_limit(alloc, size, MessageLimit::least())
+    }
+
+    /// The same with this limit of messages, which stays: a send of more bytes is refused with 1.
+    pub fn with_limit(alloc: Global, size: u16, limit: MessageLimit) -> Result<World, WorldRefusal>
+        ensures opening { IfOk result (λ w. w ≡ opening_world_of limit size) }
+        ensures run { IfOk result (λ w. HasRun w []) }
+        ensures limit { (result ≡ Err (WorldRefusal.Engine lowers.Limit)) ↔ IsTrue (is_outside size) }
+        ensures refused { IfErr result (λ e. (e ≡ WorldRefusal.Engine lowers.Limit) ⊎
+            (e ≡ WorldRefusal.Engine lowers.OutOfMemory)) }
+    {
         if size == 0 || size > MOST_RANKS {
             return Err(WorldRefusal::Engine(engine::Refusal::Limit));
         }
-        let engines = new_engines(alloc, size)?;
+        let engines = new_engines(alloc, size, limit)?;
         Ok(World {
             alloc,
             engines,

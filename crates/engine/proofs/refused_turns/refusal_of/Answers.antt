@@ -1,10 +1,12 @@
 -- What is heard is refused as what its notice says.
-use Rattle.std.proofs.Common.{Err, None, Ok, Option, Some, refl, sym, ap, ◌∙◌}
+use Rattle.std.proofs.Common.{Err, None, Ok, Option, Some, refl, sym, subst, ap, ◌∙◌}
 use Rattle.collective_steps.specs.declared.step.Ending.{Ending}
 use Rattle.datagram.specs.Spelling.{clear_text, data_text, eager_text, request_text}
+use Rattle.incarnation.specs.declared.place.Place.{Place}
 use Rattle.sessions.specs.Heard.{heard_text}
 use Rattle.engine.proofs.WithoutMemory.{by_notice, piece_refused, unread}
 use Rattle.engine.specs.Datagrams.{NoticeText, OfAnnouncement, OfAnswer, OfMessage, OfPiece, notice_text, whole_in}
+use Rattle.engine.specs.Following.{WhyUnread}
 use Rattle.engine.specs.Parts.{engine_by}
 use Rattle.engine.specs.declared.notice_kinds.Notice.{Notice}
 use Rattle.engine.proofs.refused_turns.refusal_of.Goals as goal
@@ -15,8 +17,12 @@ returns-in-Some-Message-clause-exact c = λ groups ended.
     let t = eager_text c.in-Some-Message.message in
     let e = engine_by c.args.core.now.state c.args.payloads.now.state c.args.sessions.now groups ended in
     by_notice (Some (OfMessage t)) e h c.refusal_of_message.result
-    (sym (ap (λ (n : Notice). Some (notice_text n)) c.in-Some-Message.field-0-is) ∙ c.in-Some-Message.ensures)
-    (unread e h (whole_in t) t.elements c.refusal_of_message.result refl c.refusal_of_message.ensures, refl)
+    (sym (ap (λ (n : Notice). Some (notice_text n)) c.in-Some-Message.field-0-is) ∙ c.in-Some-Message.ensures) (
+      unread e h (whole_in t) t.elements c.refusal_of_message.result refl
+          (subst (λ (p : Place). WhyUnread p.size t.elements c.refusal_of_message.result) c.place.ensures.place
+          c.refusal_of_message.ensures),
+      refl,
+    )
 
 pub returns-in-Some-Announcement-clause-exact : goal.returns-in-Some-Announcement-clause-exact
 returns-in-Some-Announcement-clause-exact c = λ groups ended.

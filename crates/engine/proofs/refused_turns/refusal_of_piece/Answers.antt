@@ -1,10 +1,12 @@
 -- Data that are due are refused as their message is, or for the sessions' limit or want of memory.
 use Rattle.std.proofs.Common.{[], Option, Some, None, sym, subst, ◌∙◌}
 use Rattle.datagram.specs.Spelling.{data_text}
+use Rattle.incarnation.specs.declared.place.Place.{Place}
 use Rattle.point_to_point_calls.specs.Refusals.{IsRefusal}
 use Rattle.point_to_point_calls.specs.declared.refusal.Refusal.{Refusal}
 use Rattle.sessions.specs.Heard.{heard_text}
 use Rattle.engine.proofs.WithoutMemory.{due, not_due, of_nobody, unread}
+use Rattle.engine.specs.Following.{WhyUnread}
 use Rattle.engine.specs.Parts.{engine_by}
 use Rattle.engine.proofs.refused_turns.refusal_of_piece.Goals as goal
 
@@ -28,4 +30,5 @@ returns-clause-exact c = λ core groups ended.
     due e h (data_text c.args.piece) (Some c.in-Some.whole.whole) c.refusal_of_message-refusal.result
     (sym c.is_due.ensures ∙ c.if-not-is_due.false) c.in-Some.ensures.whole
     (unread e h c.in-Some.whole.whole c.bytes.result.now c.refusal_of_message-refusal.result c.bytes.ensures
-    c.refusal_of_message-refusal.ensures)
+    (subst (λ (p : Place). WhyUnread p.size c.bytes.result.now c.refusal_of_message-refusal.result)
+    c.place.ensures.place c.refusal_of_message-refusal.ensures))

@@ -16,5 +16,5 @@ returns-clause-fits c =
 pub overflow_cast-result : goal.overflow_cast-result
 overflow_cast-result c =
     let few = few_elements c.args.tag c.args.elements.now c.requires.sendable in
-    let counted : c.len.result ≤ 1048576 = rw c.len.ensures few in
+    let counted : c.len.result ≤ 2147483647 = rw c.len.ensures few in
     omega (arith, counted)

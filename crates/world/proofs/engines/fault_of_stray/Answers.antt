@@ -18,8 +18,8 @@ read_u64-requires c = search rules
 pub returns-then-read_u64-eq-JOB : goal.returns-then-read_u64-eq-JOB
 returns-then-read_u64-eq-JOB c = grind (arith, common_steps)
 
-pub read-requires : goal.read-requires
-read-requires c = search rules
+pub read_within-requires : goal.read_within-requires
+read_within-requires c = search rules
 
 pub of_datagram-requires : goal.of_datagram-requires
 of_datagram-requires c = search rules

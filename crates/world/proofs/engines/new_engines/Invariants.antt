@@ -3,4 +3,4 @@ use Rattle.proof_network_bridge.specs.Joined.{opening_engines}
 use Rattle.world.proofs.engines.new_engines.Given as goal
 
 abbrev pub invariant-loop-rank : goal.invariant-loop-rank
-invariant-loop-rank l = l.engines.items ≡ opening_engines l.size 0 l.rank
+invariant-loop-rank l = l.engines.items ≡ opening_engines l.limit l.size 0 l.rank

@@ -10,16 +10,14 @@ returns-in-Some c =
     rw (← c.self.view_is, c.of_rule.ensures)
     (ap (option_map of_rule) (sym c.in-Some.is)
     ∙ entry_ruled
-    (engine_with c.self.inside.parts c.self.inside.ended) c.is_blocked.result c.incarnations-known.result.now
-    c.args.comm c.args.entry.now
-    c.fault_of_entry.result
-    c.is_blocked.ensures c.incarnations-known.ensures c.fault_of_entry.ensures)
+    (engine_with c.self.inside.parts c.self.inside.ended) c.is_blocked-is_blocked.result
+    c.incarnations-known.result.now c.place.result c.args.comm c.args.entry.now c.fault_of_entry.result
+    c.is_blocked-is_blocked.ensures c.incarnations-known.ensures c.place.ensures.place c.fault_of_entry.ensures)
 
 pub returns-in-None : goal.returns-in-None
 returns-in-None c =
     rw (← c.self.view_is) (ap (option_map of_rule) (sym c.in-None.is)
     ∙ entry_ruled
-    (engine_with c.self.inside.parts c.self.inside.ended) c.is_blocked.result c.incarnations-known.result.now
-    c.args.comm c.args.entry.now
-    c.fault_of_entry.result
-    c.is_blocked.ensures c.incarnations-known.ensures c.fault_of_entry.ensures)
+    (engine_with c.self.inside.parts c.self.inside.ended) c.is_blocked-is_blocked.result
+    c.incarnations-known.result.now c.place.result c.args.comm c.args.entry.now c.fault_of_entry.result
+    c.is_blocked-is_blocked.ensures c.incarnations-known.ensures c.place.ensures.place c.fault_of_entry.ensures)

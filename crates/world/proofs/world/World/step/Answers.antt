@@ -1,3 +1,4 @@
+-- Two answers of an event that was taken or refused, by the world that it leaves.
 use Rattle.std.proofs.Common.{subst}
 use Rattle.std.specs.Prelude.{vec_capacity}
 use Rattle.world.proofs.EventByEvent.{step_goes_on}
