@@ -25,13 +25,17 @@ struct engine_rank {
     bool is_held;
 };
 
+/* The greatest message limit, in bytes. */
+enum { ENGINE_GREATEST_LIMIT = 0x7fffffff };
+
 /* Where the rank stands in its job. Job, size and message limit are the same at all ranks of a job. */
 struct engine_place {
-    uint64_t job;           /* the job's number, which each datagram carries */
-    uint64_t message_limit; /* the most bytes of a send; a collective's block has 16 fewer. For now 1,048,576 alone */
-    uint16_t rank;          /* in `world`, below the size */
-    uint16_t size;          /* 1 to 1,024 */
-    uint16_t incarnation;   /* 0 at first, one more with each restart of this rank */
+    uint64_t job; /* the job's number, which each datagram carries */
+    uint64_t
+        message_limit;    /* the most bytes of a send: 1,048,576 to 2,147,483,647; a collective's block has 16 fewer */
+    uint16_t rank;        /* in `world`, below the size */
+    uint16_t size;        /* 1 to 1,024 */
+    uint16_t incarnation; /* 0 at first, one more with each restart of this rank */
 };
 
 /* A request, or a message that a matching probe took out. */
@@ -76,10 +80,12 @@ enum engine_basic {
     ENGINE_UINT16,
     ENGINE_UINT32,
     ENGINE_UINT64,
-    ENGINE_BYTE
+    ENGINE_BYTE,
+    ENGINE_FLOAT32, /* as IEEE 754 has them */
+    ENGINE_FLOAT64
 };
 
-/* Operations of reductions (5.9.2). */
+/* Operations of reductions (5.9.2). Each is the left fold in the order of the members' ranks. */
 enum engine_operation {
     ENGINE_MAX = 1,
     ENGINE_MIN,

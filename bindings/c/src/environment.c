@@ -15,10 +15,7 @@
 #include <threads.h>
 #include <unistd.h>
 
-enum {
-    STATUS_PLACE = 2,       /* what the launcher tells of the place is wrong */
-    MESSAGE_LIMIT = 1 << 20 /* bytes of a message */
-};
+enum { STATUS_PLACE = 2 }; /* what the launcher tells of the place is wrong */
 
 struct process process = {.size = 1, .call = "MPI_Init"};
 struct engine_rank engine;
@@ -75,7 +72,7 @@ static void find_place(int *argc, char ***argv) {
 
 static void open_engine(void) {
     const struct engine_place place = {.job = process.job,
-                                       .message_limit = MESSAGE_LIMIT,
+                                       .message_limit = ENGINE_GREATEST_LIMIT,
                                        .rank = (uint16_t)process.rank,
                                        .size = (uint16_t)process.size,
                                        .incarnation = (uint16_t)process.incarnation};

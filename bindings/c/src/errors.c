@@ -75,7 +75,7 @@ static const struct {
     int class;
     const char *cause;
 } engine_numbers[] = {
-    [1] = {MPI_ERR_COUNT, "a message of more than 1,048,576 bytes"},
+    [1] = {MPI_ERR_COUNT, "a message of more than 2,147,483,647 bytes"},
     [2] = {MPI_ERR_TYPE, "the message and its receive are of different types"},
     [3] = {MPI_ERR_TAG, "no such tag"},
     [4] = {MPI_ERR_COMM, "no such communicator"},

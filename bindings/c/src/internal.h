@@ -68,7 +68,7 @@ void progress_open(void);
 enum request_kind { REQUEST_SEND, REQUEST_RECEIVE };
 
 /* Numbers of the engine that C tells apart (docs/NUMBERS.md). */
-enum { NUMBER_TRUNCATED = 10, NUMBER_NO_MEMORY = 14 };
+enum { NUMBER_COUNT = 1, NUMBER_TRUNCATED = 10, NUMBER_NO_MEMORY = 14 };
 
 /* An operation that was begun. */
 struct request {

@@ -28,9 +28,12 @@ struct found {
 uint32_t begin_send(struct request *request, uint32_t place, bool is_synchronous, const void *buf, int count,
                     const struct datatype *type, int target, int tag) {
     *request = (struct request){.kind = REQUEST_SEND, .comm = MPI_COMM_WORLD};
+    if (target == MPI_PROC_NULL) count = 0; /* its data go nowhere (3.11) */
+    size_t len = data_size(&type->layout, (size_t)count);
+    /* The engine refuses it, too, but behind a copy. */
+    if (len > ENGINE_GREATEST_LIMIT) return NUMBER_COUNT;
     void *room = NULL;
     const void *row = data_row(&type->layout, buf, (size_t)count, &room);
-    size_t len = data_size(&type->layout, (size_t)count);
     if (row == NULL && len > 0) return NUMBER_NO_MEMORY;
     const struct engine_call send = {.kind = is_synchronous ? ENGINE_ISSEND : ENGINE_ISEND,
                                      .communicator = place,
@@ -57,7 +60,7 @@ uint32_t begin_receive(struct request *request, uint32_t place, void *buf, int c
                                                                            : source,
                                         .tag = tag == MPI_ANY_TAG ? ENGINE_ANY : tag,
                                         .basic = type->basic,
-                                        .count = engine_count(type, (size_t)count)};
+                                        .count = engine_room(type, (size_t)count)};
     struct engine_answer answer;
     call_engine(&receive, NULL, 0, &answer);
     request->own = answer.request;

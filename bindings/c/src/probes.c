@@ -157,7 +157,7 @@ static int receive_message(const char *call, MPI_Message *message, const struct 
         const struct engine_call receive = {.kind = ENGINE_MRECV,
                                             .request = own->own,
                                             .basic = type->basic,
-                                            .count = engine_count(type, (size_t)room->count)};
+                                            .count = engine_room(type, (size_t)room->count)};
         free(own);
         call_engine(&receive, NULL, 0, &answer);
         await_finish(&answer);

@@ -1,4 +1,4 @@
-/* Reductions (MPI 3.1, 5.9): of integers by the engine, of floating-point numbers by a fold in rank order. */
+/* Reductions (MPI 3.1, 5.9): by the engine, but of long doubles, which C folds in the order of the ranks. */
 #include "errors.h"
 #include "internal.h"
 #include "operations.h"
@@ -50,6 +50,11 @@ static struct collective rows_of(struct reduction of, int root) {
     return (struct collective){of.comm, root, of.type->basic, of.type->unit};
 }
 
+/* Whether the engine doesn't know numbers of this type. */
+static bool is_folded_here(const struct datatype *type) {
+    return type->family == FAMILY_FLOATING && type->basic == ENGINE_BYTE;
+}
+
 int MPI_Reduce(const void *sendbuf, void *recvbuf, int count, MPI_Datatype datatype, MPI_Op op, int root,
                MPI_Comm comm) {
     const char *call = "MPI_Reduce";
@@ -65,9 +70,8 @@ int MPI_Reduce(const void *sendbuf, void *recvbuf, int count, MPI_Datatype datat
         if (sendbuf == MPI_IN_PLACE) class = raise_on(comm, call, MPI_ERR_BUFFER, "MPI_IN_PLACE is the root's alone");
     }
     if (class != MPI_SUCCESS) return class;
-    uint32_t number = of.type->family == FAMILY_FLOATING
-                          ? fold_rows(rows_of(of, root), of.type->element, of.operation, row, of.length, recvbuf)
-                          : reduce_rows(rows_of(of, root), of.operation, row, of.length, recvbuf);
+    uint32_t number = is_folded_here(of.type) ? fold_rows(rows_of(of, root), of.operation, row, of.length, recvbuf)
+                                              : reduce_rows(rows_of(of, root), of.operation, row, of.length, recvbuf);
     return number == 0 ? MPI_SUCCESS : raise_number(comm, call, number);
 }
 
@@ -79,8 +83,8 @@ int MPI_Allreduce(const void *sendbuf, void *recvbuf, int count, MPI_Datatype da
     if (class == MPI_SUCCESS) class = check_buffers(comm, call, sendbuf, recvbuf, count, of.type, &row);
     if (class != MPI_SUCCESS) return class;
     uint32_t number;
-    if (of.type->family == FAMILY_FLOATING) {
-        number = fold_rows(rows_of(of, 0), of.type->element, of.operation, row, of.length, recvbuf);
+    if (is_folded_here(of.type)) {
+        number = fold_rows(rows_of(of, 0), of.operation, row, of.length, recvbuf);
         if (number == 0) number = broadcast_row(rows_of(of, 0), recvbuf, of.length);
     } else {
         number = allreduce_rows(rows_of(of, 0), of.operation, row, of.length, recvbuf);

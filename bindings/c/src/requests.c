@@ -17,8 +17,9 @@ MPI_Status empty_status(void) {
 /* The bytes of one element of a basic type of the engine. */
 static MPI_Count size_of_basic(uint32_t basic) {
     static const unsigned char sizes[] = {
-        [ENGINE_INT8] = 1,   [ENGINE_INT16] = 2,  [ENGINE_INT32] = 4,  [ENGINE_INT64] = 8, [ENGINE_UINT8] = 1,
-        [ENGINE_UINT16] = 2, [ENGINE_UINT32] = 4, [ENGINE_UINT64] = 8, [ENGINE_BYTE] = 1};
+        [ENGINE_INT8] = 1,  [ENGINE_INT16] = 2,   [ENGINE_INT32] = 4,  [ENGINE_INT64] = 8,
+        [ENGINE_UINT8] = 1, [ENGINE_UINT16] = 2,  [ENGINE_UINT32] = 4, [ENGINE_UINT64] = 8,
+        [ENGINE_BYTE] = 1,  [ENGINE_FLOAT32] = 4, [ENGINE_FLOAT64] = 8};
     return basic < sizeof sizes ? sizes[basic] : 0;
 }
 

@@ -112,10 +112,12 @@ uint32_t scatter_rows(struct collective of, const unsigned char *all, size_t len
     return number;
 }
 
-/* Enters a reduction of the engine, part after part; the result is taken where it is wanted. */
+/* Enters a reduction of the engine, part after part; the result is taken where it is wanted. Sums of floats depend on
+ * their order, so the engine brings the parts of all members to the root. */
 static uint32_t combine_rows(enum engine_call_kind kind, struct collective of, enum engine_operation operation,
                              const void *row, size_t length, void *result) {
-    const size_t longest = part_of_block(1);
+    const bool is_float = of.basic == ENGINE_FLOAT32 || of.basic == ENGINE_FLOAT64;
+    const size_t longest = part_of_block(is_float ? of.comm->size : 1);
     struct part part = first_part(length, longest);
     do {
         struct engine_call entry = entry_of(kind, of, part.length);
@@ -139,23 +141,18 @@ uint32_t allreduce_rows(struct collective of, enum engine_operation operation, c
     return combine_rows(ENGINE_ALLREDUCE, of, operation, row, length, result);
 }
 
-static enum precision precision_of(size_t element) {
-    if (element == sizeof(float)) return PRECISION_FLOAT;
-    return element == sizeof(double) ? PRECISION_DOUBLE : PRECISION_LONG_DOUBLE;
-}
-
 /* Folds the parts that the last answer brought, in rank order, into the result. */
-static void fold_parts(struct collective of, size_t element, enum engine_operation operation, size_t length,
-                       unsigned char *result, unsigned char *room) {
+static void fold_parts(struct collective of, enum engine_operation operation, size_t length, unsigned char *result,
+                       unsigned char *room) {
     take_data(of, 0, result, length);
     for (size_t member = 1; member < (size_t)of.comm->size; member++) {
         take_data(of, member * length, room, length);
-        fold_floats(precision_of(element), operation, result, room, length / element);
+        fold_long_doubles(operation, result, room, length / sizeof(long double));
     }
 }
 
-uint32_t fold_rows(struct collective of, size_t element, enum engine_operation operation, const void *row,
-                   size_t length, void *result) {
+uint32_t fold_rows(struct collective of, enum engine_operation operation, const void *row, size_t length,
+                   void *result) {
     const size_t longest = part_of_block(of.comm->size);
     const bool is_root = of.comm->rank == of.root;
     struct part part = first_part(length, longest);
@@ -168,7 +165,7 @@ uint32_t fold_rows(struct collective of, size_t element, enum engine_operation o
         const char *own = length == 0 ? NULL : (const char *)row + part.from;
         number = enter_engine(&entry, own, part.length, &answer);
         if (number == 0 && room != NULL)
-            fold_parts(of, element, operation, part.length, (unsigned char *)result + part.from, room);
+            fold_parts(of, operation, part.length, (unsigned char *)result + part.from, room);
     } while (number == 0 && next_part(&part, length, longest));
     free(room);
     return number;

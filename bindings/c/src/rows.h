@@ -41,9 +41,8 @@ uint32_t reduce_rows(struct collective of, enum engine_operation operation, cons
 uint32_t allreduce_rows(struct collective of, enum engine_operation operation, const void *row, size_t length,
                         void *result);
 
-/* The same of floating-point numbers: gathered at the root in parts and folded there in rank order, so that the bits of
- * the result are the same in every run. */
-uint32_t fold_rows(struct collective of, size_t element, enum engine_operation operation, const void *row,
-                   size_t length, void *result);
+/* The same of long doubles: gathered at the root in parts and folded there in rank order, as the engine does with its
+ * own floats, so that the bits of the result are the same in every run. */
+uint32_t fold_rows(struct collective of, enum engine_operation operation, const void *row, size_t length, void *result);
 
 #endif

@@ -26,8 +26,7 @@
     }
 #define INTEGER(of_name, c_type, of_family) BASIC(of_name, c_type, of_family, CARRIED_OF(c_type), sizeof(c_type))
 
-/* The basic types, in the order of their handles in mpi.h. The bits of a FLOAT or a DOUBLE go as an unsigned integer of
- * their width, so that an integer or the other one isn't taken for it; a LONG DOUBLE goes as its bytes. */
+/* The basic types, in the order of their handles in mpi.h. A LONG DOUBLE goes as its bytes. */
 static struct datatype basic_types[] = {
     BASIC(BYTE, unsigned char, BYTE, ENGINE_BYTE, 1),
     INTEGER(CHAR, char, CHARACTER),
@@ -50,8 +49,8 @@ static struct datatype basic_types[] = {
     INTEGER(UINT16_T, uint16_t, INTEGER),
     INTEGER(UINT32_T, uint32_t, INTEGER),
     INTEGER(UINT64_T, uint64_t, INTEGER),
-    BASIC(FLOAT, float, FLOATING, UNSIGNED_OF(float), sizeof(float)),
-    BASIC(DOUBLE, double, FLOATING, UNSIGNED_OF(double), sizeof(double)),
+    BASIC(FLOAT, float, FLOATING, ENGINE_FLOAT32, sizeof(float)),
+    BASIC(DOUBLE, double, FLOATING, ENGINE_FLOAT64, sizeof(double)),
     BASIC(LONG_DOUBLE, long double, FLOATING, ENGINE_BYTE, 1),
     BASIC(C_BOOL, _Bool, LOGICAL, ENGINE_UINT8, 1),
     INTEGER(AINT, MPI_Aint, ADDRESS),

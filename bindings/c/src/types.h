@@ -2,6 +2,7 @@
 #ifndef KOMBAZILY_TYPES_H
 #define KOMBAZILY_TYPES_H
 
+#include "engine.h"
 #include "layouts.h"
 #include "mpi.h"
 
@@ -32,9 +33,10 @@ struct datatype *datatype_of(MPI_Datatype handle);
 void hold_type(const struct datatype *type);
 void release_type(const struct datatype *type);
 
-/* The elements of the engine in so many items. */
-static inline uint64_t engine_count(const struct datatype *type, size_t items) {
-    return (uint64_t)(items * type->layout.size / type->unit);
+/* The elements of the engine that a receive of so many items has room for: as many at most as a message may have. */
+static inline uint64_t engine_room(const struct datatype *type, size_t items) {
+    size_t bytes = data_size(&type->layout, items);
+    return (bytes < ENGINE_GREATEST_LIMIT ? bytes : ENGINE_GREATEST_LIMIT) / type->unit;
 }
 
 /* Gives all types back; the predefined ones stay. */

@@ -141,7 +141,7 @@ static void check_partial(void) {
 
 /* Addresses and differences of them (4.1.5). */
 static void check_addresses(void) {
-    int list[10];
+    int list[10] = {0};
     MPI_Aint first = 0, sixth = 0;
     MPI_Get_address(&list[0], &first);
     MPI_Get_address(&list[5], &sixth);

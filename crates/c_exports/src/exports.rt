@@ -6,6 +6,7 @@ ghost use Rattle.point_to_point_calls.specs.declared.refusal.Refusal.{Refusal};
 ghost use Rattle.sessions.specs.Peers.{IsIdlePeer};
 ghost use Rattle.c_rank.specs.Answers.{refusal};
 ghost use Rattle.c_rank.specs.Calls.{Answers};
+ghost use Rattle.c_rank.specs.Handing.{HandsNext};
 ghost use Rattle.c_rank.specs.State.{IsNoPlace, IsOpening, RankState, Ticks, number_of_result};
 ghost use Rattle.c_rank.specs.Taking.{TakesOf};
 ghost use Rattle.c_exports.specs.Holding.{OnHeld};
@@ -139,7 +140,11 @@ pub extern "C" fn kombazily_next(
     kept_too: bool,
     out: &mut OutgoingRecord,
     into: &mut [u8],
-) -> usize {
+) -> usize
+    ensures { OnHeld rank.old.held.value rank.new.held.value
+        ((result ≡ 0) × (out.new ≡ out.old) × (into.new ≡ into.old))
+        (λ r s. HandsNext r most kept_too result out.new into.old into.new s) }
+{
     match rank.take(alloc) {
         Some(mut held) => {
             let len = held.next(most, kept_too, out, into);

@@ -1,3 +1,4 @@
 pub mod Turning
-pub mod RunSteps
+pub mod HandingSteps
 pub mod Answering
+pub mod MeaningSteps

@@ -11,6 +11,7 @@ use Rattle.engine_calls.specs.declared.reply.Completion.{Completion}
 use Rattle.engine_calls.specs.declared.reply.Reply.{Reply}
 use Rattle.engine_calls.specs.declared.reply.Reply.TheVariants as replies
 use Rattle.c_rank.specs.Answers.{TellsRanks, answer_of_kind, fact_answer, refusal, told_by, told_by_completion}
+use Rattle.c_rank.specs.Kinds.{has_elements, kind_at}
 use Rattle.c_rank.specs.Meanings.{meaning}
 use Rattle.c_rank.specs.State.{RankState}
 use Rattle.c_rank.specs.declared.answers.Told.{Told}
@@ -67,6 +68,7 @@ abbrev pub AnswersAs : Result Meant ℕ → RankState → AnswerRecord → RankS
 AnswersAs (Ok m) old a new = AnswersMeant m old a new
 AnswersAs (Err n) old a new = (a ≡ refusal n) × (new ≡ old)
 
--- a call is answered so; or memory was wanting for the elements that it hands in or has room for, and nothing changed
+-- a call is answered so; or it hands elements in or has room for some, memory was wanting for them, and nothing changed
 abbrev pub Answers : RankState → CallRecord → List ℕ → AnswerRecord → RankState → Type 0
-Answers old r bytes a new = AnswersAs (meaning r bytes) old a new ⊎ ((a ≡ refusal 14) × (new ≡ old))
+Answers old r bytes a new =
+    AnswersAs (meaning r bytes) old a new ⊎ ((has_elements (kind_at r.kind) ≡ true) × (a ≡ refusal 14) × (new ≡ old))

@@ -1,5 +1,5 @@
 -- The numbers of calls.
-use Rattle.std.specs.Prelude.{ℕ, ◌==◌, Option, Some, None, if◌then◌else◌}
+use Rattle.std.specs.Prelude.{ℕ, ◌==◌, Bool, true, false, Option, Some, None, if◌then◌else◌}
 use Rattle.c_rank.specs.declared.call_kind.CallKind.{CallKind}
 use Rattle.c_rank.specs.declared.call_kind.CallKind.TheVariants as kinds
 
@@ -18,3 +18,16 @@ kind_at n =
     (if n == 4 then Some kinds.Test else (if n == 5 then Some kinds.Look else (if n == 6 then Some kinds.Cancel else
     (if n == 7 then Some kinds.Iprobe else (if n == 8 then Some kinds.Improbe else (if n == 9 then Some kinds.Mrecv else
     (if n == 10 then Some kinds.Finish else (if n == 11 then Some kinds.Barrier else later_kind_at n))))))))))
+
+-- the calls that hand elements in, or say how many there is room for
+abbrev pub has_elements : Option CallKind → Bool
+has_elements (Some kinds.Isend) = true
+has_elements (Some kinds.Issend) = true
+has_elements (Some kinds.Irecv) = true
+has_elements (Some kinds.Mrecv) = true
+has_elements (Some kinds.Bcast) = true
+has_elements (Some kinds.Gather) = true
+has_elements (Some kinds.Scatter) = true
+has_elements (Some kinds.Reduce) = true
+has_elements (Some kinds.Allreduce) = true
+has_elements _ = false

@@ -1,6 +1,6 @@
 pub mod Kinds
 pub mod Elements
-pub mod Runs
+pub mod Handing
 pub mod Meanings
 pub mod Answers
 pub mod Clocks

@@ -1,6 +1,6 @@
 -- What the numbers of a call mean, and its data: which call of the engine.
 use Rattle.std.specs.Prelude.{◌≡◌, ◌⊎◌, ◌==◌, ◌%◌, ◌^◌, ℕ, List, length, min, nat_lt, Option, Some, None, Result, Ok, Err}
-use Rattle.std.specs.Prelude.{if◌then◌else◌}
+use Rattle.std.specs.Prelude.{Bool, true, if◌then◌else◌}
 use Rattle.vocabulary.specs.BasicTypes.{size_of, type_at}
 use Rattle.vocabulary.specs.Operations.{operation_at}
 use Rattle.vocabulary.specs.declared.basic_type.BasicType.{BasicType}
@@ -33,6 +33,11 @@ use Rattle.c_rank.specs.Kinds.{kind_at}
 abbrev pub IsMeant : {A : Type 0} → (wanted got : Result A ℕ) → Type 0
 IsMeant wanted (Ok m) = wanted ≡ Ok m
 IsMeant wanted (Err n) = (wanted ≡ Err n) ⊎ (n ≡ 14)
+
+-- the same, where memory is wanted for elements alone
+abbrev pub IsMeantBy : {A : Type 0} → (has_elements : Bool) → (wanted got : Result A ℕ) → Type 0
+IsMeantBy b wanted (Ok m) = wanted ≡ Ok m
+IsMeantBy b wanted (Err n) = (wanted ≡ Err n) ⊎ ((b ≡ true) × (n ≡ 14))
 
 -- ---- numbers
 

@@ -1,42 +1,50 @@
 -- What a rank is: its engine, the data of its last answer, and what it sends.
-use Rattle.std.specs.Prelude.{◌≡◌, ◌⊎◌, ◌/◌, ℕ, [], Bool, true, false, Option, None, Result, Ok, Err}
+use Rattle.std.specs.Prelude.{◌≡◌, ◌⊎◌, ◌/◌, ◌<◌, ℕ, [], Bool, true, false, Option, None, Result, Ok, Err}
 use Rattle.incarnation.specs.declared.place.Place.{Place}
 use Rattle.engine.specs.Places.{place_fault}
 use Rattle.engine.specs.Ticks.{TickGives}
 use Rattle.engine_calls.specs.EngineState.{EngineState, opening}
 use Rattle.point_to_point_calls.specs.Refusals.{IsRefusal, number_of_refusal}
 use Rattle.point_to_point_calls.specs.declared.refusal.Refusal.{Refusal}
+use Rattle.vocabulary.specs.MessageLimits.{limit_of}
+use Rattle.vocabulary.specs.declared.message_limit.MessageLimit.{MessageLimit}
+use Rattle.outgoing_datagrams.specs.Outgoing.{SendingState}
 use Rattle.c_rank.specs.Clocks.{after_telling, waits}
 use Rattle.c_rank.specs.declared.clock.RankClock.{RankClock}
 use Rattle.c_rank.specs.declared.rank.ReceivedData.{ReceivedData}
 use Rattle.c_rank.specs.declared.records.PlaceRecord.{PlaceRecord}
-use Rattle.c_rank.specs.declared.sending.Sending.{Sending}
 
 pub record RankState : Type 0 where
   pub engine : EngineState
   -- the data of the last answer that brought any
   pub received : Option ReceivedData
   -- what was emitted and isn't handed out, or is kept back
-  pub sending : Sending
+  pub sending : SendingState
   -- what the engine was told of the time
   pub clock : RankClock
 
 -- ---- its place
 
--- the place that the numbers say
-abbrev pub place_said : PlaceRecord → Place
-place_said p = record {
+-- no job has this message limit
+abbrev pub IsNoLimit : ℕ → Type 0
+IsNoLimit bytes = (bytes < 1048576) ⊎ (2147483647 < bytes)
+
+-- the place that the numbers say, in a job of this message limit
+abbrev pub place_said : PlaceRecord → MessageLimit → Place
+place_said p limit = record {
   endpoint = record { rank = p.rank; incarnation = p.incarnation };
   size = p.size;
   job = p.job;
+  message_limit = limit;
 }
 
 -- a rank at its start: its engine is at its start, no data are there, and nothing is to be sent
 pub record IsOpening (p : PlaceRecord) (r : RankState) : Type 0 where
-  pub limit : p.message_limit ≡ 1048576
-  pub engine : r.engine ≡ opening (place_said p)
+  pub limit : MessageLimit
+  pub bytes : limit_of limit ≡ p.message_limit
+  pub engine : r.engine ≡ opening (place_said p limit)
   pub received : r.received ≡ None
-  pub out : r.sending.out.items ≡ []
+  pub waiting : r.sending.waiting ≡ []
   pub kept : r.sending.kept ≡ None
 
 -- the numbers by which it is told how an event of the engine went: 0, or that of the refusal
@@ -44,11 +52,12 @@ abbrev pub number_of_result : Result (Unit {0}) Refusal → ℕ
 number_of_result (Ok done) = 0
 number_of_result (Err refused) = number_of_refusal refused
 
--- why there is no rank: the engine has another message limit (84), or it has no such place
+-- why there is no rank: no job has such a message limit (84), or the engine has no such place
 abbrev pub IsNoPlace : PlaceRecord → ℕ → Type 0
 IsNoPlace p n =
-    ((p.message_limit ≡ 1048576 → ⊥) × (n ≡ 84)) ⊎
-    ((p.message_limit ≡ 1048576) × ((why : Refusal) × (IsRefusal (place_fault (place_said p)) why × (n ≡ number_of_refusal why))))
+    (IsNoLimit p.message_limit × (n ≡ 84)) ⊎
+    ((limit : MessageLimit) × ((limit_of limit ≡ p.message_limit) × ((why : Refusal)
+    × (IsRefusal (place_fault (place_said p limit)) why × (n ≡ number_of_refusal why)))))
 
 -- ---- its clock
 
@@ -73,5 +82,4 @@ abbrev pub Ticks : RankState → (now : ℕ) → ℕ → RankState → Type 0
 Ticks old now n new =
     EngineTicks (waits old.clock (now / 1000000)) old (now / 1000000) n new
     × (new.received ≡ old.received)
-    × (new.sending.out ≡ old.sending.out)
-    × (new.sending.kept ≡ old.sending.kept)
+    × (new.sending ≡ record old.sending { time = now })

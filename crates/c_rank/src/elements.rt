@@ -72,11 +72,11 @@ pub fn turn_elements(basic: BasicType, from: &[u8], into: &mut [u8]) -> usize
             turn_sized(2, from, into);
             from.len() / 2 * 2
         }
-        BasicType::Int32 | BasicType::Uint32 => {
+        BasicType::Int32 | BasicType::Uint32 | BasicType::Float32 => {
             turn_sized(4, from, into);
             from.len() / 4 * 4
         }
-        BasicType::Int64 | BasicType::Uint64 => {
+        BasicType::Int64 | BasicType::Uint64 | BasicType::Float64 => {
             turn_sized(8, from, into);
             from.len() / 8 * 8
         }
@@ -106,8 +106,8 @@ fn turned_bytes(alloc: Global, basic: BasicType, bytes: &[u8]) -> Result<Vec<u8>
     match basic {
         BasicType::Int8 | BasicType::Uint8 | BasicType::Byte => Vec::from_slice(alloc, bytes),
         BasicType::Int16 | BasicType::Uint16 => turned_copy(alloc, 2, bytes),
-        BasicType::Int32 | BasicType::Uint32 => turned_copy(alloc, 4, bytes),
-        BasicType::Int64 | BasicType::Uint64 => turned_copy(alloc, 8, bytes),
+        BasicType::Int32 | BasicType::Uint32 | BasicType::Float32 => turned_copy(alloc, 4, bytes),
+        BasicType::Int64 | BasicType::Uint64 | BasicType::Float64 => turned_copy(alloc, 8, bytes),
     }
 }
 

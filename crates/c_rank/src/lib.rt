@@ -2,8 +2,8 @@
 //!
 //! A rank is an engine, the data of its last answer, and what is to be sent. Here is all that C programs need of it but
 //! the handle by which they hold it: which call of the engine the numbers of a record mean, what its replies are in
-//! numbers, elements in the byte order of the machine, and which datagrams go out, of which an acknowledgement may be
-//! kept back.
+//! numbers, and elements in the byte order of the machine. Which datagrams go out together is decided below
+//! (`outgoing_datagrams`).
 #![tactic(auto)]
 
 mod answers;
@@ -13,13 +13,12 @@ mod elements;
 mod meaning;
 mod rank;
 mod records;
-mod sending;
 
 pub use answers::{Told, refusal, reply_told, told_by_completion};
 pub use call_kind::CallKind;
 pub use clock::RankClock;
 pub use elements::{elements_in, turn_elements};
 pub use meaning::{Meant, meaning_of};
+pub use outgoing_datagrams::OutgoingRecord;
 pub use rank::{Rank, ReceivedData};
-pub use records::{AnswerRecord, CallRecord, OutgoingRecord, PlaceRecord, RequestRecord};
-pub use sending::Sending;
+pub use records::{AnswerRecord, CallRecord, PlaceRecord, RequestRecord};

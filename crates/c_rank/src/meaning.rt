@@ -1,7 +1,8 @@
 //! What the numbers of a call mean.
 
-ghost use Rattle.std.specs.Prelude.{◌≡◌};
-ghost use Rattle.c_rank.specs.Meanings.{IsMeant, allreduce_meant, as_block, asking, block_handed, block_told};
+ghost use Rattle.std.specs.Prelude.{◌≡◌, Some};
+ghost use Rattle.c_rank.specs.Kinds.{has_elements, kind_at};
+ghost use Rattle.c_rank.specs.Meanings.{IsMeant, IsMeantBy, allreduce_meant, as_block, asking, block_handed, block_told};
 ghost use Rattle.c_rank.specs.Meanings.{broadcast_meant, choice_at, communicator_at, elements_handed, entering};
 ghost use Rattle.c_rank.specs.Meanings.{gather_meant, meaning, meaning_by, message_meant, peer_at, probe_at};
 ghost use Rattle.c_rank.specs.Meanings.{receive_meant, reduce_meant, reduction, reduction_to_all, request_at};
@@ -364,8 +365,9 @@ fn asking(asked: &CallRecord, question: Question) -> Meant
 }
 
 /// What a call of this kind means.
+#[tactic(auto, using(crate::proofs::MeaningSteps::meant_with))]
 fn meaning_by(alloc: Global, kind: CallKind, asked: &CallRecord, bytes: &[u8]) -> Result<Meant, u8>
-    ensures { IsMeant (meaning_by kind asked.now bytes.now) result }
+    ensures { IsMeantBy (has_elements (Some kind)) (meaning_by kind asked.now bytes.now) result }
 {
     match kind {
         CallKind::Isend => send_meant(alloc, Mode::Standard, asked, bytes),
@@ -395,9 +397,9 @@ fn meaning_by(alloc: Global, kind: CallKind, asked: &CallRecord, bytes: &[u8]) -
 
 /// What the numbers of a call mean, and its data. They mean none where there is no such call (83), no such basic type
 /// (2), the last element isn't whole or a block has 2^32 elements or more (1), or there is no such operation (9): the
-/// first of these is told. The only other error is want of memory (14).
+/// first of these is told. The only other error is want of memory (14), for elements alone.
 pub fn meaning_of(alloc: Global, asked: &CallRecord, bytes: &[u8]) -> Result<Meant, u8>
-    ensures { IsMeant (meaning asked.now bytes.now) result }
+    ensures { IsMeantBy (has_elements (kind_at asked.now.kind)) (meaning asked.now bytes.now) result }
 {
     match CallKind::from_number(asked.kind) {
         Some(kind) => meaning_by(alloc, kind, asked, bytes),

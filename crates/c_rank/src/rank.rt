@@ -1,38 +1,40 @@
 //! One rank: its engine, the data of its last answer, and what it sends.
 
-ghost use Rattle.std.specs.Prelude.{◌≡◌, ◌⊎◌, ◌↔◌, All, IfErr, IfOk, IsTrue, Result};
+ghost use Rattle.std.specs.Prelude.{◌≡◌, ◌≤◌, ◌<◌, ◌⊎◌, ◌↔◌, [], All, IfErr, IfNone, IfOk, IfSome, IsTrue, None, Result, length, true};
 ghost use Rattle.engine.specs.Looks.{type_probed};
 ghost use Rattle.engine.specs.Datagrams.{DatagramGives};
 ghost use Rattle.engine_calls.specs.Calls.{CallGives};
-ghost use Rattle.engine_calls.specs.EngineState.{completion_of, without_completion, without_out};
+ghost use Rattle.engine_calls.specs.EngineState.{completion_of, without_completion};
 ghost use Rattle.engine_calls.specs.declared.call.Call.TheVariants as calls;
 ghost use Rattle.engine_calls.specs.declared.reply.Reply.{Reply};
 ghost use Rattle.point_to_point_calls.specs.declared.refusal.Refusal.{Refusal};
 ghost use Rattle.requests.specs.Table.{finished_at};
 ghost use Rattle.sessions.specs.Peers.{IsIdlePeer};
 ghost use Rattle.c_rank.specs.Calls.{Answers, AnswersMeant, Finishes, Tells, TellsReply, look_told, type_out};
-ghost use Rattle.c_rank.specs.State.{IsNoPlace, IsOpening, TellsTime, Ticks, number_of_result, place_said};
+ghost use Rattle.c_rank.specs.Handing.{HandsFirst, HandsNext, KeepsRest, pending};
+ghost use Rattle.c_rank.specs.State.{IsNoLimit, IsNoPlace, IsOpening, TellsTime, Ticks, number_of_result, place_said};
 ghost use Rattle.c_rank.specs.Taking.{Takes, TakesOf};
+ghost use Rattle.vocabulary.specs.MessageLimits.{limit_of};
 ghost use Rattle.c_rank.specs.declared.meaning.Meant.TheVariants as meant;
 
 use crate::answers::{Told, answer_of_kind, fact_answer, refusal, reply_told, told_by_completion};
 use crate::clock::RankClock;
 use crate::elements::turn_elements;
 use crate::meaning::{Meant, meaning_of};
-use crate::records::{AnswerRecord, CallRecord, OutgoingRecord, PlaceRecord};
-use crate::sending::Sending;
+use crate::records::{AnswerRecord, CallRecord, PlaceRecord};
 use datagram::LONGEST_DATAGRAM;
 use datatypes::Buffer;
 use engine::{Call, Engine, Place, Probe, Refusal, Reply, Request};
+use outgoing_datagrams::{OutgoingRecord, Sending};
 use std::alloc::Global;
 use std::marker::Model;
-use vocabulary::{BasicType, Endpoint};
+use vocabulary::{BasicType, Endpoint, MessageLimit};
 
-/// The message limit that the engine has, in bytes.
-const MESSAGE_LIMIT: u64 = 1_048_576;
+/// The greatest message limit, in bytes.
+const GREATEST_LIMIT: u64 = 2_147_483_647;
 
-/// The number of another message limit.
-const OTHER_LIMIT: u8 = 84;
+/// The number of a message limit that no job has.
+const NO_LIMIT: u8 = 84;
 
 /// The number of a look at a request that there isn't.
 const NO_SUCH_REQUEST: u8 = 6;
@@ -87,14 +89,26 @@ impl ReceivedData {
     }
 }
 
-/// The place that the numbers say; 84 for a message limit that the engine hasn't.
-fn place_of(told: &PlaceRecord) -> Result<Place, u8>
-    ensures ok { IfOk result (λ p. (p ≡ place_said told.now) × (told.now.message_limit ≡ 1048576)) }
-    ensures err { IfErr result (λ n. (n ≡ 84) × (told.now.message_limit ≡ 1048576 → ⊥)) }
+/// The message limit of so many bytes, if a job may have it.
+fn limit_of(bytes: u64) -> Option<MessageLimit>
+    ensures some { IfSome result (λ limit. limit_of limit ≡ bytes) }
+    ensures none { IfNone result (IsNoLimit bytes) }
 {
-    if told.message_limit != MESSAGE_LIMIT {
-        return Err(OTHER_LIMIT);
+    if bytes > GREATEST_LIMIT {
+        return None;
     }
+    MessageLimit::of_bytes(bytes as u32)
+}
+
+/// The place that the numbers say; 84 for a message limit that no job has.
+fn place_of(told: &PlaceRecord) -> Result<Place, u8>
+    ensures ok { IfOk result (λ p. (p ≡ place_said told.now p.message_limit) ×
+        (limit_of p.message_limit ≡ told.now.message_limit)) }
+    ensures err { IfErr result (λ n. (n ≡ 84) × IsNoLimit told.now.message_limit) }
+{
+    let Some(message_limit) = limit_of(told.message_limit) else {
+        return Err(NO_LIMIT);
+    };
     Ok(Place {
         endpoint: Endpoint {
             rank: told.rank,
@@ -102,6 +116,7 @@ fn place_of(told: &PlaceRecord) -> Result<Place, u8>
         },
         size: told.size,
         job: told.job,
+        message_limit,
     })
 }
 
@@ -130,8 +145,8 @@ fn number_of(gone: Result<(), Refusal>) -> u8
 }
 
 impl Rank {
-    /// The rank at this place, at its start. Refused with 84 for another message limit than 1,048,576, with 5 where the
-    /// rank isn't below the size, with 13 where the size is above 1,024, and with 14.
+    /// The rank at this place, at its start. Refused with 84 for a message limit that isn't from 1,048,576 to
+    /// 2,147,483,647, with 5 where the rank isn't below the size, with 13 where the size is above 1,024, and with 14.
     pub fn new(alloc: Global, place: &PlaceRecord) -> Result<Rank, u8>
         ensures opening { IfOk result (IsOpening place.now) }
         ensures refused { IfErr result (IsNoPlace place.now) }
@@ -315,10 +330,12 @@ impl Rank {
         self.tell_time(millisecond)
     }
 
-    /// What the engine emitted takes the place of what was handed out.
+    /// Where all was handed out, what the engine emitted since waits from now on.
     fn refill(&mut self)
-        ensures engine { (self.new.engine ≡ self.old.engine) ⊎ (self.new.engine ≡ without_out self.old.engine) }
-        ensures received { self.new.received ≡ self.old.received }
+        ensures pending { pending self.new ≡ pending self.old }
+        ensures kept { self.new.sending.kept ≡ self.old.sending.kept }
+        ensures empty { self.old.sending.waiting ≡ [] → self.new.engine.sessions.out ≡ [] }
+        ensures rest { KeepsRest self.old self.new }
     {
         if self.sending.is_through() {
             let emitted = self.engine.take_out();
@@ -328,32 +345,54 @@ impl Rank {
     }
 
     /// Hands out what goes next, but for what is kept back.
-    fn hand_out(&mut self, most: u32, outgoing: &mut OutgoingRecord, into: &mut [u8]) -> usize {
+    fn hand_out(&mut self, most: u32, outgoing: &mut OutgoingRecord, into: &mut [u8]) -> usize
+        requires { 40 ≤ length into.old }
+        ensures { HandsFirst self.old most result outgoing.new into.old into.new self.new }
+    {
         self.refill();
         let len = self.sending.hand_out(most, outgoing, into);
-        if len > 0 {
+        if outgoing.count > 0 || !self.sending.is_through() {
             return len;
         }
         self.refill();
         self.sending.hand_out(most, outgoing, into)
     }
 
-    /// Hands out what goes next.
+    /// Hands out what goes next, and what is kept back where nothing else goes.
+    fn hand_out_all(
+        &mut self,
+        most: u32,
+        kept_too: bool,
+        outgoing: &mut OutgoingRecord,
+        into: &mut [u8],
+    ) -> usize
+        requires { 40 ≤ length into.old }
+        ensures went { HandsFirst self.old most result outgoing.new into.old into.new self.new }
+        ensures all { outgoing.new.count ≡ 0 → kept_too ≡ true → self.new.sending.kept ≡ None }
+    {
+        let len = self.hand_out(most, outgoing, into);
+        if outgoing.count > 0 {
+            return len;
+        }
+        self.sending.hand_out_kept(kept_too, outgoing, into)
+    }
+
+    /// Hands out what goes next: at most `most` datagrams, or one, which stand one behind the other in the slice. Answers
+    /// how many bytes they are. Nothing goes where the slice may be too short for a datagram.
     pub fn next(
         &mut self,
         most: u32,
         kept_too: bool,
         outgoing: &mut OutgoingRecord,
         into: &mut [u8],
-    ) -> usize {
+    ) -> usize
+        ensures { HandsNext self.old most kept_too result outgoing.new into.old into.new self.new }
+    {
         outgoing.count = 0;
         if into.len() < LONGEST_DATAGRAM {
             return 0;
         }
-        let mut len = self.hand_out(most, outgoing, into);
-        if len == 0 {
-            len = self.sending.hand_out_kept(kept_too, outgoing, into);
-        }
+        let len = self.hand_out_all(most, kept_too, outgoing, into);
         outgoing.kept_until = self.sending.kept_until();
         len
     }

@@ -88,17 +88,3 @@ pub struct AnswerRecord {
     /// The place of the communicator that was made, or 4,294,967,295 for MPI_COMM_NULL.
     pub communicator: u32,
 }
-
-/// What goes out together.
-#[repr(C)]
-#[derive(Clone, Copy, Debug, Default, PartialEq, Eq)]
-pub struct OutgoingRecord {
-    /// When the acknowledgement goes that is kept back, in nanoseconds; 0 where none is.
-    pub kept_until: u64,
-    /// The length of each datagram but the last, in bytes.
-    pub each: u32,
-    /// How many datagrams there are.
-    pub count: u32,
-    /// The rank that they go to.
-    pub target: u16,
-}

@@ -1,0 +1,178 @@
+-- Steps of handing out what a rank has.
+use Rattle.std.proofs.Common.{◌≡◌, ℕ, zero, suc, ◌<◌, ◌≤◌, Bool, true, false, List, [], ◌∷◌, ◌++◌, length, drop, refl, sym, ap, subst}
+use Rattle.std.proofs.Common.{◌∙◌, arith, inl, inr, append_assoc}
+use Rattle.std.specs.Prelude.{◌⊎◌, ◌||◌, if◌then◌else◌, nat_lt, not, Option, None, Some, max}
+use Rattle.std.proofs.lemmas.List.{append-nil}
+use Rattle.delayed_acknowledgements.specs.declared.delayed.DelayedAcknowledgement.{DelayedAcknowledgement}
+use Rattle.engine_calls.specs.EngineState.{EngineState, without_out}
+use Rattle.port_transport.specs.Wires.{Parcel}
+use Rattle.outgoing_datagrams.specs.Outgoing.{HandsOn, HandsOut, HandsOutKept, NoneFits, kept_going, kept_in, late_at}
+use Rattle.outgoing_datagrams.specs.Runs.{Stands, joined}
+use Rattle.outgoing_datagrams.specs.declared.record.OutgoingRecord.{OutgoingRecord}
+use Rattle.outgoing_datagrams.proofs.Handing.{hands_joined}
+use Rattle.c_rank.specs.Handing.{HandsAll, HandsFirst, KeepsRest, pending}
+use Rattle.c_rank.specs.State.{RankState}
+
+-- more waits behind
+pub hands_more : (k m : Option DelayedAcknowledgement) (ws us went out : List Parcel) → HandsOn k ws went m us →
+    HandsOn k (ws ++ out) went m (us ++ out)
+hands_more k m ws us went out p = record {
+  taken = p.taken;
+  front = ap (λ (l : List Parcel). l ++ out) p.front ∙ append_assoc p.taken us out;
+  plain = p.plain;
+  short = p.short;
+}
+
+-- a first datagram that doesn't fit stays the first one
+pub too_long_more : (ws out : List Parcel) (room : ℕ) → NoneFits ws room → (ws ≡ [] → ⊥) → NoneFits (ws ++ out) room
+too_long_more ws out room (inl none) some = absurd (some none)
+too_long_more [] out room (inr long) some = absurd (some refl)
+too_long_more (w ∷ ws) out room (inr long) some = inr long
+
+-- nothing more waits behind
+pub fits_more : (ws out : List Parcel) (room : ℕ) → NoneFits ws room → out ≡ [] → NoneFits (ws ++ out) room
+fits_more ws out room fits none =
+    subst (λ (l : List Parcel). NoneFits l room) (sym (ap (λ (l : List Parcel). ws ++ l) none ∙ append-nil ws)) fits
+
+none_in : (went : List Parcel) (n : ℕ) → n ≡ length went → n ≡ 0 → went ≡ []
+none_in [] n is none = refl
+none_in (p ∷ went) n is none = absurd (omega (arith, is, none))
+
+-- where nothing went nothing was put
+pub none_went : (went : List Parcel) (o : OutgoingRecord) (len : ℕ) (old new : List ℕ) → Stands went o len old new →
+    o.count ≡ 0 → went ≡ []
+none_went went o len old new s none = none_in went o.count s.count none
+
+nothing_put : (went : List Parcel) (o : OutgoingRecord) (len : ℕ) (old new : List ℕ) → Stands went o len old new →
+    went ≡ [] → new ≡ old
+nothing_put [] o len old new s is = s.bytes ∙ ap (λ (n : ℕ). drop n old) s.size
+nothing_put (p ∷ went) o len old new s is = absurd cc
+
+pub nothing_stands : (went : List Parcel) (o : OutgoingRecord) (len : ℕ) (old new : List ℕ) → Stands went o len old new →
+    o.count ≡ 0 → new ≡ old
+nothing_stands went o len old new s none = nothing_put went o len old new s (none_went went o len old new s none)
+
+engine_joined : (a b c : EngineState) → (b ≡ a) ⊎ (b ≡ without_out a) → (c ≡ b) ⊎ (c ≡ without_out b) →
+    (c ≡ a) ⊎ (c ≡ without_out a)
+engine_joined a b c (inl p) (inl q) = inl (q ∙ p)
+engine_joined a b c (inl p) (inr q) = inr (q ∙ ap without_out p)
+engine_joined a b c (inr p) (inl q) = inr (q ∙ p)
+engine_joined a b c (inr p) (inr q) = inr (q ∙ ap without_out p)
+
+pub rest_joined : (a b c : RankState) → KeepsRest a b → KeepsRest b c → KeepsRest a c
+rest_joined a b c p q = (engine_joined a.engine b.engine c.engine p.0 q.0, q.1 ∙ p.1, q.2 ∙ p.2)
+
+-- a rank whose datagrams and kept acknowledgement are the same hands out the same
+hands_from : (a b c : RankState) (went : List Parcel) → pending b ≡ pending a → b.sending.kept ≡ a.sending.kept →
+    HandsOn b.sending.kept (pending b) went c.sending.kept (pending c) →
+    HandsOn a.sending.kept (pending a) went c.sending.kept (pending c)
+hands_from a b c went same kept p =
+    subst (λ k. HandsOn k (pending a) went c.sending.kept (pending c)) kept
+    (subst (λ (l : List Parcel). HandsOn b.sending.kept l went c.sending.kept (pending c)) same p)
+
+-- its sending handed out, behind what it was refilled with
+pub hands_first : (a b c : RankState) (most len : ℕ) (o : OutgoingRecord) (old new : List ℕ) →
+    pending b ≡ pending a → b.sending.kept ≡ a.sending.kept → KeepsRest a b →
+    HandsOut b.sending most len o old new c.sending → c.engine ≡ b.engine → c.received ≡ b.received → c.clock ≡ b.clock →
+    (o.count ≡ 0 → NoneFits (pending c) (length old)) → HandsFirst a most len o old new c
+hands_first a b c most len o old new same kept rest h engine received clock none = record {
+  went = h.went;
+  hands = hands_from a b c h.went same kept
+      (subst (λ (l : List Parcel). HandsOn b.sending.kept (pending b) h.went c.sending.kept (c.sending.waiting ++ l))
+      (ap (λ (e : EngineState). e.sessions.out) (sym engine))
+      (hands_more b.sending.kept c.sending.kept b.sending.waiting c.sending.waiting h.went b.engine.sessions.out h.hands));
+  stands = h.stands;
+  few = h.few;
+  none = none;
+  rest = rest_joined a b c rest (inl engine, received, clock);
+}
+
+-- what is handed out behind nothing
+pub hands_second : (a b c : RankState) (most len more : ℕ) (o p : OutgoingRecord) (old mid new : List ℕ) →
+    HandsFirst a most len o old mid b → o.count ≡ 0 → HandsFirst b most more p mid new c → HandsFirst a most more p old new c
+hands_second a b c most len more o p old mid new f none s =
+    let went : f.went ≡ [] = none_went f.went o len old mid f.stands none in
+    let same : mid ≡ old = nothing_stands f.went o len old mid f.stands none in
+    record {
+      went = s.went;
+      hands = subst (λ (l : List Parcel). HandsOn a.sending.kept (pending a) (l ++ s.went) c.sending.kept (pending c)) went
+          (hands_joined a.sending.kept b.sending.kept c.sending.kept (pending a) (pending b) (pending c) f.went s.went
+          f.hands s.hands);
+      stands = subst (λ (l : List ℕ). Stands s.went p more l new) same s.stands;
+      few = s.few;
+      none = λ e. subst (λ (l : List ℕ). NoneFits (pending c) (length l)) same (s.none e);
+      rest = rest_joined a b c f.rest s.rest;
+    }
+
+-- the same, of a rank that is told as what it was refilled to
+pub hands_after : (a r b c : RankState) (most len : ℕ) (o : OutgoingRecord) (old new : List ℕ) → b ≡ r →
+    pending r ≡ pending a → r.sending.kept ≡ a.sending.kept → KeepsRest a r →
+    HandsOut b.sending most len o old new c.sending → c.engine ≡ b.engine → c.received ≡ b.received → c.clock ≡ b.clock →
+    (o.count ≡ 0 → NoneFits (pending c) (length old)) → HandsFirst a most len o old new c
+hands_after a r b c most len o old new is same kept rest h engine received clock none =
+    hands_first a b c most len o old new (subst (λ (s : RankState). pending s ≡ pending a) (sym is) same)
+    (subst (λ (s : RankState). s.sending.kept ≡ a.sending.kept) (sym is) kept)
+    (subst (λ (s : RankState). KeepsRest a s) (sym is) rest) h engine received clock none
+
+-- what is handed out behind nothing, once it was refilled a second time
+pub hands_again : (a r b s c : RankState) (most len more : ℕ) (o p : OutgoingRecord) (old mid new : List ℕ) → b ≡ r →
+    pending r ≡ pending a → r.sending.kept ≡ a.sending.kept → KeepsRest a r →
+    HandsOut b.sending most len o old mid s.sending → s.engine ≡ b.engine → s.received ≡ b.received →
+    s.clock ≡ b.clock → o.count ≡ 0 → HandsFirst s most more p mid new c → HandsFirst a most more p old new c
+hands_again a r b s c most len more o p old mid new is same kept rest h engine received clock none f =
+    let went : h.went ≡ [] = none_went h.went o len old mid h.stands none in
+    let put : mid ≡ old = nothing_stands h.went o len old mid h.stands none in
+    let first : HandsOn a.sending.kept (pending a) h.went s.sending.kept (pending s) =
+    hands_from a b s h.went (subst (λ (x : RankState). pending x ≡ pending a) (sym is) same)
+    (subst (λ (x : RankState). x.sending.kept ≡ a.sending.kept) (sym is) kept)
+    (subst (λ (l : List Parcel). HandsOn b.sending.kept (pending b) h.went s.sending.kept (s.sending.waiting ++ l))
+    (ap (λ (e : EngineState). e.sessions.out) (sym engine))
+    (hands_more b.sending.kept s.sending.kept b.sending.waiting s.sending.waiting h.went b.engine.sessions.out h.hands))
+    in
+    record {
+      went = f.went;
+      hands = subst (λ (l : List Parcel). HandsOn a.sending.kept (pending a) (l ++ f.went) c.sending.kept (pending c)) went
+          (hands_joined a.sending.kept s.sending.kept c.sending.kept (pending a) (pending s) (pending c) h.went f.went
+          first f.hands);
+      stands = subst (λ (l : List ℕ). Stands f.went p more l new) put f.stands;
+      few = f.few;
+      none = λ e. subst (λ (l : List ℕ). NoneFits (pending c) (length l)) put (f.none e);
+      rest = rest_joined a s c (rest_joined a b s (subst (λ (x : RankState). KeepsRest a x) (sym is) rest)
+          (inl engine, received, clock)) f.rest;
+    }
+
+few_of : (t : Bool) (k : Option DelayedAcknowledgement) (most : ℕ) → length (if t then kept_in k else []) ≤ max most 1
+few_of true None most = omega arith
+few_of true (Some k) zero = omega arith
+few_of true (Some k) (suc most) = omega arith
+few_of false k most = omega arith
+
+-- what was kept back goes where nothing else did
+pub kept_first : (a s b c : RankState) (most len more : ℕ) (kept_too : Bool) (o p : OutgoingRecord)
+    (old mid new : List ℕ) → HandsFirst a most len o old mid s → o.count ≡ 0 → b ≡ s →
+    HandsOutKept b.sending kept_too more p mid new c.sending → c.engine ≡ b.engine → c.received ≡ b.received →
+    c.clock ≡ b.clock → HandsFirst a most more p old new c
+kept_first a s b c most len more kept_too o p old mid new f none is h engine received clock =
+    let went : f.went ≡ [] = none_went f.went o len old mid f.stands none in
+    let put : mid ≡ old = nothing_stands f.went o len old mid f.stands none in
+    let going : List Parcel = kept_going kept_too b.sending in
+    let out : b.engine.sessions.out ≡ c.engine.sessions.out = ap (λ (e : EngineState). e.sessions.out) (sym engine) in
+    let second : HandsOn s.sending.kept (pending s) going c.sending.kept (pending c) =
+    subst (λ (x : RankState). HandsOn x.sending.kept (pending x) going c.sending.kept (pending c)) is
+    (subst (λ (l : List Parcel). HandsOn b.sending.kept (pending b) going c.sending.kept (c.sending.waiting ++ l)) out
+    (hands_more b.sending.kept c.sending.kept b.sending.waiting c.sending.waiting going b.engine.sessions.out h.hands))
+    in
+    let left : pending s ≡ pending c =
+    sym (ap pending is) ∙ ap (λ (l : List Parcel). l ++ b.engine.sessions.out) (sym h.waiting)
+    ∙ ap (λ (l : List Parcel). c.sending.waiting ++ l) out in
+    record {
+      went = going;
+      hands = subst (λ (l : List Parcel). HandsOn a.sending.kept (pending a) (l ++ going) c.sending.kept (pending c)) went
+          (hands_joined a.sending.kept s.sending.kept c.sending.kept (pending a) (pending s) (pending c) f.went going
+          f.hands second);
+      stands = subst (λ (l : List ℕ). Stands going p more l new) put h.stands;
+      few = few_of (kept_too || not (nat_lt b.sending.time (late_at b.sending.kept b.sending.since))) b.sending.kept most;
+      none = λ e. subst (λ (l : List Parcel). NoneFits l (length old)) left (f.none none);
+      rest = rest_joined a s c f.rest
+          (subst (λ (x : RankState). KeepsRest x c) is (inl engine, received, clock));
+    }

@@ -1,0 +1,24 @@
+use Rattle.std.proofs.Common.{rules, ◌≡◌, ◌+◌, [], ◌∷◌, length, subst, ◌∙◌}
+use Rattle.std.specs.Prelude.{None}
+use Rattle.outgoing_datagrams.specs.Outgoing.{HandsOn, kept_in}
+use Rattle.outgoing_datagrams.proofs.Handing.{hands_joined, one_fewer}
+use Rattle.outgoing_datagrams.proofs.sending.Sending.pass_all.Goals as goal
+
+pub returns-in-Some-clause-hands : goal.returns-in-Some-clause-hands
+returns-in-Some-clause-hands c =
+    let going = c.in-Some.going in
+    hands_joined c.args.self.now.kept c.loop.self.kept c.pass.new.self.kept c.args.self.now.waiting c.loop.self.waiting
+    c.pass.new.self.waiting [] ((going.target, going.bytes) ∷ []) c.loop.invariant.0 c.in-Some.ensures.hands
+
+pub loop-preserved : goal.loop-preserved
+loop-preserved c =
+    let none : c.pass.result ≡ None = search rules in
+    let l = c.loop in
+    let after = c.pass.new.self in
+    let hands = subst (λ o. HandsOn l.self.kept l.self.waiting (kept_in o) after.kept after.waiting) none c.pass.ensures.hands in (
+      hands_joined c.args.self.now.kept l.self.kept after.kept c.args.self.now.waiting l.self.waiting after.waiting [] []
+          l.invariant.0 hands,
+      c.pass.ensures.time ∙ l.invariant.1,
+      one_fewer l.self.waiting after.waiting l.counter c.len-end.result (c.pass.ensures.passed none) l.invariant.2
+          (search rules),
+    )

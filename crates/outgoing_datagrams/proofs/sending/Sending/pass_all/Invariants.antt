@@ -1,0 +1,9 @@
+use Rattle.std.proofs.Common.{◌≡◌, ◌+◌, ◌≤◌, List, [], length}
+use Rattle.outgoing_datagrams.specs.Outgoing.{HandsOn}
+use Rattle.outgoing_datagrams.proofs.sending.Sending.pass_all.Given as goal
+
+abbrev pub invariant-loop : goal.invariant-loop
+invariant-loop l =
+    HandsOn l.fn.self.kept l.fn.self.waiting [] l.self.kept l.self.waiting
+    × (l.self.time ≡ l.fn.self.time)
+    × (length l.self.waiting + l.counter ≡ l.end)
