@@ -2,6 +2,7 @@
 use Rattle.std.specs.Prelude.{◌≡◌, ℕ, ◌+◌, ◌<◌, ◌≤◌, Bool, true, false, ◌||◌, is_some, List, Option, Some, None}
 use Rattle.std.specs.Borrow.{Bor}
 use Rattle.numerals.specs.Numbers.{number_between}
+use Rattle.rank_addresses.specs.HostLists.{Lists}
 use Rattle.rank_environment.specs.declared.reading.EnvironmentTexts.{EnvironmentTexts}
 use Rattle.rank_environment.specs.declared.reading.FoundPlace.{FoundPlace}
 use Rattle.rank_environment.specs.declared.reading.FoundPlace.TheVariants as found
@@ -27,6 +28,11 @@ abbrev pub are_given : EnvironmentTexts → Bool
 are_given texts = is_some texts.rank || is_some texts.size || is_some texts.incarnation || is_some texts.job
     || is_some texts.base_port
 
+-- a text, if there is one, lists the addresses of so many ranks
+abbrev pub Fit : Option (Bor (List ℕ)) → ℕ → Type 0
+Fit None size = Unit {0}
+Fit (Some text) size = Lists text.now size
+
 -- the values tell this place
 pub record Tell (texts : EnvironmentTexts) (place : RankPlace) : Type 0 where
   pub rank : number_in texts.rank 0 1023 ≡ Some place.rank
@@ -37,6 +43,7 @@ pub record Tell (texts : EnvironmentTexts) (place : RankPlace) : Type 0 where
   pub patience : patience_in texts.patience ≡ Some place.patience
   pub below : place.rank < place.size
   pub ports : place.base_port + place.size ≤ 65536
+  pub hosts : Fit texts.hosts place.size
 
 -- the values tell no place
 abbrev pub TellNone : EnvironmentTexts → Type 0
@@ -51,4 +58,4 @@ Finds texts None = TellNone texts
 abbrev pub IsFound : EnvironmentTexts → FoundPlace → Type 0
 IsFound texts found.Missing = are_given texts ≡ false
 IsFound texts found.Faulty = (are_given texts ≡ true) × TellNone texts
-IsFound texts (found.At place) = (are_given texts ≡ true) × Tell texts place
+IsFound texts (found.At place hosts) = (are_given texts ≡ true) × Tell texts place × (hosts ≡ texts.hosts)

@@ -1,10 +1,11 @@
 //! What a rank reads of its environment.
 
-ghost use Rattle.std.specs.Prelude.{◌≡◌, ◌≤◌, None, IfSome};
-ghost use Rattle.rank_environment.specs.Reading.{number_in, patience_in, are_given, Finds, IsFound};
+ghost use Rattle.std.specs.Prelude.{◌≡◌, ◌≤◌, ◌↔◌, IfSome, IsTrue};
+ghost use Rattle.rank_environment.specs.Reading.{number_in, patience_in, are_given, Fit, Finds, IsFound};
 
 use crate::place::RankPlace;
 use numerals::number_between;
+use rank_addresses::is_host_list;
 
 /// The values of the variables that tell a rank its place, where they are there.
 #[derive(Clone, Copy, Debug)]
@@ -21,17 +22,20 @@ pub struct EnvironmentTexts<'a> {
     pub base_port: Option<&'a str>,
     /// `KOMBAZILY_PATIENCE`.
     pub patience: Option<&'a str>,
+    /// `KOMBAZILY_HOSTS`.
+    pub hosts: Option<&'a str>,
 }
 
 /// What an environment says of a rank's place.
 #[derive(Clone, Copy, Debug)]
-pub enum FoundPlace {
-    /// None of the variables but the patience is there: no launcher started this process.
+pub enum FoundPlace<'a> {
+    /// None of the variables but the patience and the hosts is there: no launcher started this process.
     Missing,
     /// Some are missing, or a value is none that a launcher sets.
     Faulty,
-    /// They tell this place.
-    At(RankPlace),
+    /// They tell this place, and the addresses of the ranks, as a text that lists one for each; without it all are at
+    /// 127.0.0.1.
+    At(RankPlace, Option<&'a str>),
 }
 
 /// The number that a variable spells, between these bounds.
@@ -67,6 +71,16 @@ fn are_given(texts: &EnvironmentTexts) -> bool
         || texts.base_port.is_some()
 }
 
+/// Whether a text, if there is one, lists the addresses of so many ranks.
+fn are_hosts(text: Option<&str>, size: u64) -> bool
+    ensures { IsTrue result ↔ Fit text.entry size }
+{
+    match text {
+        Some(text) => is_host_list(text.as_bytes(), size),
+        None => true,
+    }
+}
+
 /// The place that these values tell.
 fn place_of(texts: &EnvironmentTexts) -> Option<RankPlace>
     ensures { Finds texts.now result }
@@ -77,7 +91,7 @@ fn place_of(texts: &EnvironmentTexts) -> Option<RankPlace>
     let job = number_in(texts.job, 0, u64::MAX)?;
     let base_port = number_in(texts.base_port, 1, 65_535)?;
     let patience = patience_in(texts.patience)?;
-    if rank >= size || base_port + size > 65_536 {
+    if rank >= size || base_port + size > 65_536 || !are_hosts(texts.hosts, size) {
         return None;
     }
     Some(RankPlace {
@@ -91,15 +105,16 @@ fn place_of(texts: &EnvironmentTexts) -> Option<RankPlace>
 }
 
 /// The place that these values of the environment tell: each is decimal digits without leading zeros and in its
-/// range, the rank is below the size, and no port of a rank is above 65,535. It takes no memory.
-pub fn place_in(texts: &EnvironmentTexts) -> FoundPlace
+/// range, the rank is below the size, no port of a rank is above 65,535, and the hosts, where they are there, are an
+/// address for each rank, with a comma between each two. It takes no memory.
+pub fn place_in<'a>(texts: &EnvironmentTexts<'a>) -> FoundPlace<'a>
     ensures { IsFound texts.now result }
 {
     if !are_given(texts) {
         return FoundPlace::Missing;
     }
     match place_of(texts) {
-        Some(place) => FoundPlace::At(place),
+        Some(place) => FoundPlace::At(place, texts.hosts),
         None => FoundPlace::Faulty,
     }
 }

@@ -4,3 +4,4 @@ pub mod Endings
 pub mod Times
 pub mod Carrying
 pub mod Carried
+pub mod Waits

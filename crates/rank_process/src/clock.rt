@@ -14,6 +14,11 @@ pub fn millis_of(passed: Duration) -> u64
     u64::try_from(passed.as_millis()).unwrap_or(u64::MAX)
 }
 
+/// The whole microseconds of a time, as far as 64 bits hold them.
+pub(crate) fn micros_of(passed: Duration) -> u64 {
+    u64::try_from(passed.as_micros()).unwrap_or(u64::MAX)
+}
+
 /// The milliseconds since it was made.
 pub struct HostClock<'a, R: Host> {
     rt: &'a R,

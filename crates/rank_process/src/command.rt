@@ -3,11 +3,11 @@
 ghost use Rattle.std.specs.Prelude.{◌≡◌};
 
 use crate::clock::HostClock;
-use crate::environment::found_place;
+use crate::environment::FoundTexts;
 use crate::exit_status::ExitStatus;
 use crate::farewell::take_leave;
 use crate::judging::{forewarn, judged};
-use crate::places::{first_port, new_engine};
+use crate::places::{addresses_of, first_port, new_engine, trips_of};
 use crate::rank_transport::RankTransport;
 use crate::telling::{
     ErrorReport, print_help, print_version, tell, tell_of, tell_port, tell_unread, tell_usage,
@@ -130,6 +130,15 @@ fn meet<R: Wait + Print + Eprint + AllocGlobal + Clock>(
     end(rt, told, runner.runner(), udp, ended)
 }
 
+/// The rank's socket.
+fn wire_of<'a, R: Net + Env + Print + AllocGlobal + Clock>(
+    rt: &'a R,
+    settings: &Settings,
+) -> io::Result<UdpWire<'a, R>> {
+    let addresses = addresses_of(rt.alloc(), settings)?;
+    UdpWire::new(rt, rt.alloc(), addresses, settings.rank)
+}
+
 /// Opens the rank's socket, and meets the others over it.
 fn open<R: Net + Env + Wait + Print + Eprint + AllocGlobal + Clock>(
     rt: &R,
@@ -137,11 +146,16 @@ fn open<R: Net + Env + Wait + Print + Eprint + AllocGlobal + Clock>(
     runner: &mut ToldRunner<'_, R>,
     engine: &mut Engine,
 ) -> ExitStatus {
-    match UdpWire::new(rt, rt.alloc(), told.settings.port) {
+    match wire_of(rt, told.settings) {
         Ok(wire) => {
             let first = first_port(told.settings);
-            let mut udp = RankTransport::new(rt.alloc(), wire, first);
-            meet(rt, told, runner, engine, &mut udp)
+            match trips_of(rt.alloc(), told.settings) {
+                Ok(trips) => {
+                    let mut udp = RankTransport::new(rt.alloc(), wire, first, trips);
+                    meet(rt, told, runner, engine, &mut udp)
+                }
+                Err(_) => ExitStatus::OutOfMemory,
+            }
         }
         Err(error) => {
             let status = status_of(&error);
@@ -217,7 +231,8 @@ pub fn run_words<R: Net + Env + Wait + Files + Print + Eprint + AllocGlobal + Cl
     if let Some(status) = asked_aside(rt, words) {
         return status;
     }
-    match settings_in(rt.alloc(), words, found_place(rt)) {
+    let texts = FoundTexts::new(rt);
+    match settings_in(rt.alloc(), words, texts.place()) {
         Ok(settings) => {
             let status = run_rank(rt, &settings).number();
             if status == ExitStatus::OutOfMemory.number() {

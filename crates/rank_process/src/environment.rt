@@ -17,20 +17,42 @@ fn text_of(value: &Option<String>) -> Option<&str> {
     }
 }
 
-/// The place that the environment tells, as `mpirun` sets it.
-pub(crate) fn found_place<R: Env + AllocGlobal>(rt: &R) -> FoundPlace {
-    let rank = value_of(rt, "KOMBAZILY_RANK");
-    let size = value_of(rt, "KOMBAZILY_SIZE");
-    let incarnation = value_of(rt, "KOMBAZILY_INCARNATION");
-    let job = value_of(rt, "KOMBAZILY_JOB");
-    let base_port = value_of(rt, "KOMBAZILY_PORT");
-    let patience = value_of(rt, "KOMBAZILY_PATIENCE");
-    place_in(&EnvironmentTexts {
-        rank: text_of(&rank),
-        size: text_of(&size),
-        incarnation: text_of(&incarnation),
-        job: text_of(&job),
-        base_port: text_of(&base_port),
-        patience: text_of(&patience),
-    })
+/// The values of the variables that tell the rank its place, where they are there.
+#[derive(Drop)]
+pub(crate) struct FoundTexts {
+    rank: Option<String>,
+    size: Option<String>,
+    incarnation: Option<String>,
+    job: Option<String>,
+    base_port: Option<String>,
+    patience: Option<String>,
+    hosts: Option<String>,
+}
+
+impl FoundTexts {
+    /// What the environment has of them.
+    pub(crate) fn new<R: Env + AllocGlobal>(rt: &R) -> FoundTexts {
+        FoundTexts {
+            rank: value_of(rt, "KOMBAZILY_RANK"),
+            size: value_of(rt, "KOMBAZILY_SIZE"),
+            incarnation: value_of(rt, "KOMBAZILY_INCARNATION"),
+            job: value_of(rt, "KOMBAZILY_JOB"),
+            base_port: value_of(rt, "KOMBAZILY_PORT"),
+            patience: value_of(rt, "KOMBAZILY_PATIENCE"),
+            hosts: value_of(rt, "KOMBAZILY_HOSTS"),
+        }
+    }
+
+    /// The place that they tell, as `mpirun` sets them.
+    pub(crate) fn place(&self) -> FoundPlace<'_> {
+        place_in(&EnvironmentTexts {
+            rank: text_of(&self.rank),
+            size: text_of(&self.size),
+            incarnation: text_of(&self.incarnation),
+            job: text_of(&self.job),
+            base_port: text_of(&self.base_port),
+            patience: text_of(&self.patience),
+            hosts: text_of(&self.hosts),
+        })
+    }
 }

@@ -1,5 +1,5 @@
-//! One rank of a job, as a process: it runs a script, and meets the other ranks over UDP on 127.0.0.1. What the program
-//! `rank_main` does, apart from its `main`, so that a program of worked rows can run it too.
+//! One rank of a job, as a process: it runs a script, and meets the other ranks over UDP. What the program `rank_main`
+//! does, apart from its `main`, so that a program of worked rows can run it too.
 #![tactic(auto)]
 
 mod clock;

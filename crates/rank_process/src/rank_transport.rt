@@ -2,30 +2,61 @@
 
 ghost use Rattle.std.specs.Prelude.{◌≡◌, ◌+◌, ◌<◌, ◌≤◌, ◌^◌, [], None, length, IfOk, IfSome, OnOk};
 ghost use Rattle.port_transport.specs.Ports.{Passes};
+ghost use Rattle.rank_process.specs.Waits.{waits_in};
 
+use crate::clock::micros_of;
 use event_loop::{Transport, TransportFault};
 use port_transport::{PortTransport, PrintFault, Wire, WireFault};
+use round_trips::{LEAST_WAIT, RoundTrips, stay_for};
 use std::alloc::Global;
+use std::time::Instant;
 
 /// The transport of a rank over a wire: what it decides by itself is what `PortTransport` says, and each call that
-/// fails is counted.
+/// fails is counted. Where that is wanted it measures round trips, and frames wait for their acknowledgements by that.
 #[derive(Drop)]
 pub struct RankTransport<W: Wire> {
     ports: PortTransport<W>,
+    /// What was measured of round trips, where that is wanted.
+    trips: Option<RoundTrips>,
+    /// The time from which it counts, if the clock told it.
+    start: Option<Instant>,
     /// How often it has failed.
     failures: u64,
     /// Whether a line couldn't be written.
     has_lost_line: bool,
 }
 
+/// A datagram goes out at this time, where that is known: the round trip of a frame begins.
+fn note_sent(trips: &mut Option<RoundTrips>, bytes: &[u8], now: Option<u64>) {
+    if let (Some(trips), Some(now)) = (trips, now) {
+        trips.on_sent(bytes, now);
+    }
+}
+
+/// A datagram came at this time, where that is known: an acknowledgement ends round trips.
+fn note_came(trips: &mut Option<RoundTrips>, bytes: &[u8], now: Option<u64>) {
+    if let (Some(trips), Some(now)) = (trips, now) {
+        trips.on_came(bytes, now);
+    }
+}
+
 impl<W: Wire> RankTransport<W> {
-    /// A transport over this wire, of a job whose rank 0 has this port. It takes no memory.
-    pub fn new(alloc: Global, wire: W, first_port: u16) -> RankTransport<W>
+    /// A transport over this wire, of a job whose rank 0 has this port, which measures round trips where it is given
+    /// what is known of them. It takes no memory.
+    pub fn new(
+        alloc: Global,
+        wire: W,
+        first_port: u16,
+        trips: Option<RoundTrips>,
+    ) -> RankTransport<W>
         ensures none { result.failures ≡ 0 }
         ensures ports { (result.ports.wire ≡ wire) × (result.ports.first ≡ first_port) × (result.ports.kept ≡ None) }
     {
+        let start = wire.time();
         RankTransport {
             ports: PortTransport::new(alloc, wire, first_port),
+            trips,
+            start,
             failures: 0,
             has_lost_line: false,
         }
@@ -45,6 +76,28 @@ impl<W: Wire> RankTransport<W> {
     {
         self.failures += 1;
         TransportFault
+    }
+
+    /// The microseconds since it was made, where round trips are measured and the clock tells them.
+    fn micros(&self) -> Option<u64> {
+        let _measured = self.trips.as_ref()?;
+        let now = self.ports.wire().time()?;
+        Some(micros_of(now.duration_since(self.start?)))
+    }
+
+    /// How many milliseconds a rank of a job of so many ranks stays on behind its end, by the longest of the times to
+    /// send again that were measured; 0 where none is.
+    pub fn stay(&self, size: u16) -> u64 {
+        let Some(trips) = &self.trips else {
+            return 0;
+        };
+        let mut wait = LEAST_WAIT;
+        for rank in 0..size {
+            if let Some(measured) = trips.measured_wait(rank) {
+                wait = wait.max(measured);
+            }
+        }
+        stay_for(wait)
     }
 
     /// Whether its output failed.
@@ -84,21 +137,32 @@ impl<W: Wire> RankTransport<W> {
 impl<W: Wire> Transport for RankTransport<W> {
     ghost use Rattle.rank_process.specs.Carrying.{CarriesAll};
     ghost use Rattle.rank_process.specs.Carried.{carries_more, carries_none};
+    ghost use Rattle.rank_process.specs.Waits.{waits_in};
 
     ghost passed = { λ old exchanges new. CarriesAll W.did old.ports exchanges new.ports };
 
     ghost failed = { λ t. t.failures };
 
+    ghost waits = { λ t. waits_in t.trips };
+
     #[tactic(auto, using(crate::specs::Carried::came, crate::specs::Carried::call_failed))]
     fn receive(&mut self, buffer: &mut [u8]) -> Result<Option<usize>, TransportFault> {
         match self.ports.receive(buffer) {
-            Ok(found) => Ok(found),
+            Ok(found) => {
+                if let Some(len) = found {
+                    let now = self.micros();
+                    note_came(&mut self.trips, &buffer[..len], now);
+                }
+                Ok(found)
+            }
             Err(_) => Err(self.fault()),
         }
     }
 
     #[tactic(auto, using(crate::specs::Carried::went, crate::specs::Carried::call_failed))]
     fn send(&mut self, target: u16, bytes: &[u8]) -> Result<(), TransportFault> {
+        let now = self.micros();
+        note_sent(&mut self.trips, bytes, now);
         match self.ports.send(target, bytes) {
             Ok(()) => Ok(()),
             Err(_) => Err(self.fault()),
@@ -121,6 +185,14 @@ impl<W: Wire> Transport for RankTransport<W> {
         match self.ports.wait(most) {
             Ok(()) => Ok(()),
             Err(_) => Err(self.fault()),
+        }
+    }
+
+    #[tactic(auto, using(crate::specs::Waits::wait_there))]
+    fn wait_of(&self, rank: u16) -> Option<u64> {
+        match &self.trips {
+            Some(trips) => trips.wait_of(rank),
+            None => None,
         }
     }
 

@@ -11,7 +11,7 @@ use std::str;
 
 /// How the program is called.
 const USAGE: &str =
-    "usage: rank_main --rank R --size N --inc I --job J --port P [--patience MS] FILE";
+    "usage: rank_main --rank R --size N --inc I --job J --port P [--patience MS] [--hosts A,B,..] FILE";
 
 /// How the program is called that judges a script and runs nothing.
 const JUDGE_USAGE: &str = "       rank_main --judge N FILE";
@@ -26,6 +26,7 @@ const MEANINGS: &str = "  --rank R       the rank, from 0 to N - 1
   --job J        the number of the job, 0 to 18446744073709551615
   --port P       the rank's own port; rank S has port P - R + S, and each is 1 to 65535
   --patience MS  for how many milliseconds nothing may move until the rank gives up, 1 to 3600000; else 10000
+  --hosts A,B,.. the IPv4 address of each rank, in rank order; else all are at 127.0.0.1
   FILE           the script
   --judge N      judges the script for N ranks, 1 to 1024, tells what is wrong with it, and runs nothing
   --help         prints this
@@ -89,10 +90,16 @@ pub(crate) fn tell_unread(rt: &impl Eprint, settings: &Settings) {
     let _ = eprintln!(rt; "rank_main: rank {rank}: {file} can't be read");
 }
 
-/// Tells that the rank's port can't be used.
+/// Tells that the rank's port can't be used, of its own address where the settings say at which the ranks are.
 pub(crate) fn tell_port(rt: &impl Eprint, settings: &Settings) {
     let (rank, port) = (settings.rank, settings.port);
-    let _ = eprintln!(rt; "rank_main: rank {rank}: port {port} can't be used");
+    let own = settings
+        .hosts
+        .and_then(|hosts| hosts.split(',').nth(usize::from(rank)));
+    let _ = match own {
+        Some(host) => eprintln!(rt; "rank_main: rank {rank}: port {port} of {host} can't be used"),
+        None => eprintln!(rt; "rank_main: rank {rank}: port {port} can't be used"),
+    };
 }
 
 /// Tells a line of ASCII, if there was memory for it.

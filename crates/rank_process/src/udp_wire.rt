@@ -1,16 +1,17 @@
-//! Datagrams over UDP on the loopback, and bytes to the standard output.
+//! Datagrams over UDP, and bytes to the standard output.
 
-use crate::error_kinds::is_transient;
+use crate::error_kinds::{is_loss, is_of_network, is_transient};
 use crate::stop::StopInput;
 use delayed_acknowledgements::Delay;
 use mio::net::UdpSocket;
 use mio::unix::SourceFd;
 use mio::{Events, Interest, Poll, Token};
 use port_transport::{Wire, WireFault};
+use rank_addresses::RankAddresses;
 use std::alloc::Global;
 use std::io;
-use std::io::Write;
-use std::net::{Ipv4Addr, Net, SocketAddr};
+use std::io::{ErrorKind, Write};
+use std::net::{Net, SocketAddr};
 use std::rt::Env;
 use std::thread::yield_now;
 use std::time::{Clock, Duration, Instant};
@@ -18,20 +19,21 @@ use std::time::{Clock, Duration, Instant};
 /// How often a rank that waits behind a datagram lets other processes run and asks for the next one.
 const TRIES: u32 = 24;
 
-/// A socket at a port of 127.0.0.1, and the standard output.
+/// How many datagrams are passed over in one receive that don't come from the rank that they name.
+const MOST_STRANGERS: u32 = 1_024;
+
+/// A socket at the rank's own address and port, and the standard output.
 #[derive(Drop)]
 pub struct UdpWire<'a, R: Print + Clock> {
     rt: &'a R,
     socket: UdpSocket,
+    /// Where the ranks are.
+    addresses: RankAddresses,
     poll: Poll,
     events: Events<Global>,
     /// What tells the rank to stop.
     stop: StopInput,
     is_stopped: bool,
-}
-
-fn address(port: u16) -> SocketAddr {
-    SocketAddr::from((Ipv4Addr::LOCALHOST, port))
 }
 
 /// Nothing where the error says no more than that nothing can be done now.
@@ -43,12 +45,21 @@ fn unless_transient(error: &io::Error) -> Result<(), WireFault> {
 }
 
 impl<'a, R: Print + Clock> UdpWire<'a, R> {
-    /// The socket at this port. Fails where the port is taken, or where the system or memory is wanting.
-    pub fn new(rt: &'a R, alloc: Global, port: u16) -> io::Result<UdpWire<'a, R>>
+    /// The socket of this rank, at its own address and port. Fails where they can't be used, or where the system or
+    /// memory is wanting.
+    pub fn new(
+        rt: &'a R,
+        alloc: Global,
+        addresses: RankAddresses,
+        rank: u16,
+    ) -> io::Result<UdpWire<'a, R>>
     where
         R: Net + Env,
     {
-        let mut socket = UdpSocket::bind(rt, address(port))?;
+        let Some(own) = addresses.of_rank(rank) else {
+            return Err(io::Error::from(ErrorKind::AddrNotAvailable));
+        };
+        let mut socket = UdpSocket::bind(rt, SocketAddr::V4(own))?;
         let poll = Poll::new(rt)?;
         let events = Events::with_capacity(alloc, 4)?;
         poll.registry()
@@ -62,6 +73,7 @@ impl<'a, R: Print + Clock> UdpWire<'a, R> {
         Ok(UdpWire {
             rt,
             socket,
+            addresses,
             poll,
             events,
             stop,
@@ -102,20 +114,35 @@ impl<'a, R: Print + Clock> Wire for UdpWire<'a, R> {
     ghost did = { λ _ _ _. Unit {0} };
 
     fn send(&mut self, port: u16, bytes: &[u8]) -> Result<(), WireFault> {
-        match self.socket.send_to(bytes, address(port)) {
+        let Some(place) = self.addresses.of_port(port) else {
+            return Ok(());
+        };
+        match self.socket.send_to(bytes, SocketAddr::V4(place)) {
             Ok(_) => Ok(()),
-            Err(error) => unless_transient(&error),
+            Err(error) if is_loss(error.kind()) => Ok(()),
+            Err(_) => Err(WireFault),
         }
     }
 
     fn receive(&mut self, buffer: &mut [u8]) -> Result<Option<usize>, WireFault> {
-        match self.socket.recv(buffer) {
-            Ok(len) => Ok(Some(len)),
-            Err(error) => {
-                unless_transient(&error)?;
-                Ok(None)
+        for _ in 0..MOST_STRANGERS {
+            match self.socket.recv_from(buffer) {
+                Ok((length, from)) => {
+                    if self
+                        .addresses
+                        .is_own(&buffer[..length.min(buffer.len())], from)
+                    {
+                        return Ok(Some(length));
+                    }
+                }
+                Err(error) if is_of_network(error.kind()) => return Ok(None),
+                Err(error) => {
+                    unless_transient(&error)?;
+                    return Ok(None);
+                }
             }
         }
+        Ok(None)
     }
 
     fn write(&mut self, text: &[u8]) -> Result<(), WireFault> {

@@ -3,6 +3,7 @@ use Rattle.std.specs.Prelude.{◌≡◌, ℕ, ◌++◌, List, Option, Some, None
 use Rattle.std.specs.Fmt.{decimal}
 use Rattle.std.specs.Str.{bytes_eq}
 use Rattle.numerals.specs.Numbers.{number_between}
+use Rattle.rank_addresses.specs.HostLists.{Lists}
 use Rattle.rank_settings.specs.declared.faults.Wanted.{Wanted}
 use Rattle.rank_settings.specs.declared.faults.Wanted.TheVariants as wanted
 
@@ -20,10 +21,13 @@ range_of option =
 -- what may stand in the place of a word
 abbrev pub wanted_text : Wanted → List ℕ
 wanted_text (wanted.Number low high) = codes "a number from " ++ decimal low ++ codes " to " ++ decimal high
+wanted_text (wanted.Addresses count) =
+    codes "a list of " ++ decimal count ++ codes " IPv4 addresses, one a rank, with commas between them"
 wanted_text wanted.OptionOrScript =
-    codes "one of --rank, --size, --inc, --job, --port and --patience, each once, or one script"
+    codes "one of --rank, --size, --inc, --job, --port, --patience and --hosts, each once, or one script"
 
 -- a word that isn't what may stand in its place
 abbrev pub IsAtFault : List ℕ → Wanted → Type 0
 IsAtFault word (wanted.Number low high) = number_between word low high ≡ None
+IsAtFault word (wanted.Addresses count) = Lists word count → ⊥
 IsAtFault word wanted.OptionOrScript = Unit {0}

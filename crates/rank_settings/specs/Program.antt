@@ -7,7 +7,7 @@ use Rattle.clap.specs.declared.builder.action.ArgAction.TheVariants.{Set}
 abbrev pub option_rule : Text → Bool → Rule
 option_rule name is_required = record (new_rule name) { long = Some name; required = is_required; action = Some Set }
 
--- `rank_main --rank r --size n --inc i --job j --port p [--patience ms] FILE`, the options in any order
+-- `rank_main --rank r --size n --inc i --job j --port p [--patience ms] [--hosts A,B,..] FILE`, the options in any order
 abbrev pub rank_program : App
 rank_program =
     let rank = with_rule (new_app (codes "rank_main")) (option_rule (codes "rank") true) in
@@ -16,4 +16,5 @@ rank_program =
     let job = with_rule inc (option_rule (codes "job") true) in
     let port = with_rule job (option_rule (codes "port") true) in
     let patience = with_rule port (option_rule (codes "patience") false) in
-    with_rule patience (record (new_rule (codes "FILE")) { required = true })
+    let hosts = with_rule patience (option_rule (codes "hosts") false) in
+    with_rule hosts (record (new_rule (codes "FILE")) { required = true })

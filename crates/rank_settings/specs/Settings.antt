@@ -1,10 +1,12 @@
 -- The settings that words give.
 use Rattle.std.specs.Prelude.{◌≡◌, ℕ, ◌+◌, ◌<◌, ◌≤◌, List, [], Option, Some, None, Result, Ok, Err, codes}
-use Rattle.std.specs.Prelude.{option_and_then}
+use Rattle.std.specs.Prelude.{option_and_then, option_map}
+use Rattle.std.specs.Borrow.{Bor}
 use Rattle.clap.specs.Words.{Kinds, Row, Text, fault_of, first_of, matches_of}
 use Rattle.clap.specs.declared.error.kind.ErrorKind.{ErrorKind}
 use Rattle.clap.specs.declared.error.kind.ErrorKind.TheVariants as kinds
 use Rattle.numerals.specs.Numbers.{number_between}
+use Rattle.rank_addresses.specs.HostLists.{Lists}
 use Rattle.rank_settings.specs.declared.settings.Settings.{Settings}
 use Rattle.rank_settings.specs.declared.refusal.SettingsRefusal.{SettingsRefusal}
 use Rattle.rank_settings.specs.declared.refusal.SettingsRefusal.TheVariants.{OutOfMemory, Words}
@@ -28,7 +30,17 @@ patience_of (Some text) = number_between text 1 3600000
 abbrev pub ArePorts : (rank size port : ℕ) → Type 0
 ArePorts rank size port = (rank < port) × (port + size ≤ 65536 + rank)
 
--- Each number is the value that the words gave its option, in its range.
+-- the text of an option's value, where it is given
+abbrev pub text_in : Option (Bor Text) → Option Text
+text_in text = option_map (λ text. text.now) text
+
+-- a value, if there is one, lists the addresses of so many ranks
+abbrev pub AreHosts : Option Text → ℕ → Type 0
+AreHosts None size = Unit {0}
+AreHosts (Some text) size = Lists text size
+
+-- Each number is the value that the words gave its option, in its range, and the hosts, where they are given, are an
+-- address for each rank.
 pub record AreGiven (rows : List Row) (s : Settings) : Type 0 where
   pub rank : number_in rows (codes "rank") 0 1023 ≡ Some s.rank
   pub size : number_in rows (codes "size") 1 1024 ≡ Some s.size
@@ -36,9 +48,11 @@ pub record AreGiven (rows : List Row) (s : Settings) : Type 0 where
   pub job : number_in rows (codes "job") 0 18446744073709551615 ≡ Some s.job
   pub port : number_in rows (codes "port") 1 65535 ≡ Some s.port
   pub patience : patience_of (first_of (codes "patience") rows) ≡ Some s.patience
+  pub hosts : first_of (codes "hosts") rows ≡ text_in s.hosts
   pub file : first_of (codes "FILE") rows ≡ Some s.file.now
   pub below : s.rank < s.size
   pub ports : ArePorts s.rank s.size s.port
+  pub listed : AreHosts (first_of (codes "hosts") rows) s.size
 
 -- What looking for a value answers: the value, or 64 where there is none. It takes no memory.
 abbrev pub Finds : {X Y : Type 0} → (X → Y) → Result X SettingsRefusal → Option Y → Type 0

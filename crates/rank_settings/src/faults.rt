@@ -5,6 +5,7 @@ ghost use Rattle.rank_settings.specs.Faults.{IsAtFault, range_of};
 ghost use Rattle.rank_settings.specs.Settings.{ArePorts};
 
 use numerals::number_between;
+use rank_addresses::is_host_list;
 use std::convert::AsStr;
 use std::fmt;
 
@@ -13,6 +14,8 @@ use std::fmt;
 pub enum Wanted {
     /// A number between these, themselves included.
     Number(u64, u64),
+    /// So many IPv4 addresses, with a comma between each two.
+    Addresses(u64),
     /// An option that doesn't stand before it, or the script, once.
     OptionOrScript,
 }
@@ -26,8 +29,14 @@ impl fmt::Display for Wanted {
     fn fmt<W: fmt::Write>(&self, f: &mut fmt::Formatter<W>) -> fmt::Result {
         match self {
             Wanted::Number(low, high) => write!(f, "a number from {low} to {high}"),
+            Wanted::Addresses(count) => {
+                write!(
+                    f,
+                    "a list of {count} IPv4 addresses, one a rank, with commas between them"
+                )
+            }
             Wanted::OptionOrScript => f.write_str(
-                "one of --rank, --size, --inc, --job, --port and --patience, each once, or one script",
+                "one of --rank, --size, --inc, --job, --port, --patience and --hosts, each once, or one script",
             ),
         }
     }
@@ -87,12 +96,40 @@ fn is_repeated<S: AsStr>(words: &[S], place: usize, option: &str) -> bool {
         .any(|one| front_of(one.as_str()) == option)
 }
 
+/// What the value of an option has to be, as far as it alone can tell.
+#[derive(Clone, Copy)]
+enum Value {
+    /// A number between these.
+    Number(u64, u64),
+    /// Addresses.
+    Addresses,
+}
+
+/// What the value of this option has to be.
+fn value_kind(option: &str) -> Option<Value> {
+    if option == "--hosts" {
+        return Some(Value::Addresses);
+    }
+    let (low, high) = range_of(option)?;
+    Some(Value::Number(low, high))
+}
+
+/// The fault of a value of this kind, as far as it alone can tell: that of addresses depends on how many ranks there are.
+fn lone_fault<'a>(word: &'a str, kind: Value) -> Option<WordFault<'a>>
+    ensures { IfSome result (λ fault. IsAtFault fault.word.now fault.wanted) }
+{
+    match kind {
+        Value::Number(low, high) => value_fault(word, low, high),
+        Value::Addresses => None,
+    }
+}
+
 /// What a word stands for where an option or the script may stand.
 enum Position<'a> {
-    /// An option whose value is the next word, and between which numbers that lies.
-    Option(u64, u64),
+    /// An option whose value is the next word, and what that has to be.
+    Option(Value),
     /// An option with its value behind `=`.
-    Valued(&'a str, u64, u64),
+    Valued(&'a str, Value),
     /// The script.
     Script,
     /// Nothing.
@@ -106,11 +143,11 @@ fn standing_of<'a, S: AsStr>(
     word: &'a str,
     has_script: bool,
 ) -> Position<'a> {
-    match range_of(front_of(word)) {
+    match value_kind(front_of(word)) {
         Some(_) if is_repeated(words, place, front_of(word)) => Position::Fault,
-        Some((low, high)) => match word.split_once('=') {
-            Some((_, value)) => Position::Valued(value, low, high),
-            None => Position::Option(low, high),
+        Some(kind) => match word.split_once('=') {
+            Some((_, value)) => Position::Valued(value, kind),
+            None => Position::Option(kind),
         },
         None if has_script || word.starts_with('-') => Position::Fault,
         None => Position::Script,
@@ -121,12 +158,12 @@ fn standing_of<'a, S: AsStr>(
 fn scanned_fault<'a, S: AsStr>(words: &'a [S]) -> Option<WordFault<'a>>
     ensures { IfSome result (λ fault. IsAtFault fault.word.now fault.wanted) }
 {
-    let mut range = None;
+    let mut due = None;
     let mut has_script = false;
     for (place, word) in words.iter().enumerate().skip(1) {
         let word = word.as_str();
-        if let Some((low, high)) = range.take() {
-            if let Some(fault) = value_fault(word, low, high) {
+        if let Some(kind) = due.take() {
+            if let Some(fault) = lone_fault(word, kind) {
                 return Some(fault);
             }
             continue;
@@ -135,9 +172,9 @@ fn scanned_fault<'a, S: AsStr>(words: &'a [S]) -> Option<WordFault<'a>>
             return None;
         }
         match standing_of(words, place, word, has_script) {
-            Position::Option(low, high) => range = Some((low, high)),
-            Position::Valued(value, low, high) => {
-                if let Some(fault) = value_fault(value, low, high) {
+            Position::Option(kind) => due = Some(kind),
+            Position::Valued(value, kind) => {
+                if let Some(fault) = lone_fault(value, kind) {
                     return Some(fault);
                 }
             }
@@ -173,7 +210,22 @@ fn port_bounds(rank: u64, size: u64) -> (u64, u64)
     (rank + 1, 65_536 + rank - size)
 }
 
-/// A rank that isn't below the size, or a port by which some rank has none from 1 to 65,535.
+/// The fault of hosts, where they are given, that are no list of so many addresses.
+fn hosts_fault<'a, S: AsStr>(words: &'a [S], size: u64) -> Option<WordFault<'a>>
+    ensures { IfSome result (λ fault. IsAtFault fault.word.now fault.wanted) }
+{
+    let word = value_of(words, "--hosts")?;
+    if is_host_list(word.as_bytes(), size) {
+        return None;
+    }
+    Some(WordFault {
+        word,
+        wanted: Wanted::Addresses(size),
+    })
+}
+
+/// A rank that isn't below the size, a port by which some rank has none from 1 to 65,535, or hosts that aren't an
+/// address for each rank.
 fn bounds_fault<'a, S: AsStr>(words: &'a [S]) -> Option<WordFault<'a>>
     ensures { IfSome result (λ fault. IsAtFault fault.word.now fault.wanted) }
 {
@@ -185,12 +237,16 @@ fn bounds_fault<'a, S: AsStr>(words: &'a [S]) -> Option<WordFault<'a>>
         return Some(fault);
     }
     let (least, greatest) = port_bounds(rank, size);
-    value_fault(port_word, least, greatest)
+    if let Some(fault) = value_fault(port_word, least, greatest) {
+        return Some(fault);
+    }
+    hosts_fault(words, size)
 }
 
 /// The word that is at fault where `settings_of` refuses these words with 64, and what may stand in its place: from the
 /// left the first that is no option, no value in its option's range and not the script, or that stands twice; else a
-/// rank that isn't below the size, or a port by which some rank has none. None where words are missing.
+/// rank that isn't below the size, a port by which some rank has none, or hosts that aren't an address for each rank.
+/// None where words are missing.
 pub fn fault_in<'a, S: AsStr>(words: &'a [S]) -> Option<WordFault<'a>>
     ensures { IfSome result (λ fault. IsAtFault fault.word.now fault.wanted) }
 {

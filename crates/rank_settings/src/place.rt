@@ -25,9 +25,13 @@ fn bare_file<'a, S: AsStr>(words: &'a [S]) -> Option<&'a str>
     Some(file)
 }
 
-/// The settings of this place and this script; 64 where the port of some rank is above 65,535.
-fn settings_at(place: RankPlace, file: &str) -> Result<Settings<'_>, SettingsRefusal>
-    ensures { IsPlaced place file.now result }
+/// The settings of this place, with these hosts, and this script; 64 where the port of some rank is above 65,535.
+fn settings_at<'a>(
+    place: RankPlace,
+    hosts: Option<&'a str>,
+    file: &'a str,
+) -> Result<Settings<'a>, SettingsRefusal>
+    ensures { IsPlaced place hosts.entry file.now result }
 {
     let port = u32::from(place.base_port) + u32::from(place.rank);
     if place.rank >= place.size || u32::from(place.base_port) + u32::from(place.size) > 65_536 {
@@ -44,6 +48,7 @@ fn settings_at(place: RankPlace, file: &str) -> Result<Settings<'_>, SettingsRef
         job: place.job,
         port: port as u16,
         patience,
+        hosts,
         file,
     })
 }
@@ -53,13 +58,13 @@ fn settings_at(place: RankPlace, file: &str) -> Result<Settings<'_>, SettingsRef
 pub fn settings_in<'a, S: AsStr>(
     alloc: Global,
     words: &'a [S],
-    found: FoundPlace,
+    found: FoundPlace<'a>,
 ) -> Result<Settings<'a>, SettingsRefusal>
-    ensures { AnswersIn (map S.text words.entry.now) found result }
+    ensures { AnswersIn (map S.text words.entry.now) found.entry result }
 {
-    if let FoundPlace::At(place) = found {
+    if let FoundPlace::At(place, hosts) = found {
         if let Some(file) = bare_file(words) {
-            return settings_at(place, file);
+            return settings_at(place, hosts, file);
         }
     }
     settings_of(alloc, words)

@@ -23,7 +23,7 @@ fn with_option<'a>(
     command.arg(option)
 }
 
-/// `rank_main --rank r --size n --inc i --job j --port p [--patience ms] FILE`, the options in any order.
+/// `rank_main --rank r --size n --inc i --job j --port p [--patience ms] [--hosts A,B,..] FILE`, the options in any order.
 pub(crate) fn rank_program<'a>(alloc: Global) -> Result<Command<'a>, AllocError>
     ensures { IfOk result (λ c. app_of c ≡ rank_program) }
 {
@@ -34,5 +34,6 @@ pub(crate) fn rank_program<'a>(alloc: Global) -> Result<Command<'a>, AllocError>
     let program = with_option(program, alloc, "job", true)?;
     let program = with_option(program, alloc, "port", true)?;
     let program = with_option(program, alloc, "patience", false)?;
+    let program = with_option(program, alloc, "hosts", false)?;
     program.arg(Arg::new(alloc, "FILE").required(true))
 }

@@ -15,6 +15,8 @@ pub struct Settings<'a> {
     pub port: u16,
     /// For how many milliseconds nothing may move until the rank gives up: 1 to 3,600,000.
     pub patience: u64,
+    /// The addresses of the ranks, as a text that lists one for each; without it all are at 127.0.0.1.
+    pub hosts: Option<&'a str>,
     /// The name of the script's file.
     pub file: &'a str,
 }

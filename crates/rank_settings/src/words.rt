@@ -2,8 +2,8 @@
 
 ghost use Rattle.std.specs.Prelude.{◌≡◌, ◌≤◌, ◌↔◌, Err, IfOk, IsTrue, codes, map};
 ghost use Rattle.clap.specs.Words.{first_of, found_of, kind_of, rows_of};
-ghost use Rattle.rank_settings.specs.Settings.{Answers, ArePorts, Finds, RowsAnswer, number_in, patience_of};
-ghost use Rattle.rank_settings.specs.Settings.{refusal_of};
+ghost use Rattle.rank_settings.specs.Settings.{Answers, AreHosts, ArePorts, Finds, RowsAnswer, number_in, patience_of};
+ghost use Rattle.rank_settings.specs.Settings.{refusal_of, text_in};
 
 use crate::program::rank_program;
 use crate::refusal::SettingsRefusal;
@@ -11,6 +11,7 @@ use crate::settings::Settings;
 use clap::error::ErrorKind;
 use clap::{ArgMatches, Error};
 use numerals::number_between;
+use rank_addresses::is_host_list;
 use std::alloc::Global;
 use std::convert::AsStr;
 
@@ -53,6 +54,23 @@ fn patience_in(matches: &ArgMatches) -> Result<u64, SettingsRefusal>
     }
 }
 
+/// The hosts that the words give, if they give any.
+fn hosts_in<'a>(matches: &ArgMatches<'a>) -> Option<&'a str>
+    ensures { text_in result ≡ first_of (codes "hosts") (rows_of (found_of matches.now)) }
+{
+    matches.get_str("hosts")
+}
+
+/// Whether a text, if there is one, lists the addresses of so many ranks.
+fn are_hosts(text: Option<&str>, size: u64) -> bool
+    ensures { IsTrue result ↔ AreHosts (text_in text.entry) size }
+{
+    match text {
+        Some(text) => is_host_list(text.as_bytes(), size),
+        None => true,
+    }
+}
+
 /// Whether the ports of all ranks are 1 to 65,535.
 fn are_ports(rank: u64, size: u64, port: u64) -> bool
     requires rank { rank ≤ 1023 }
@@ -74,7 +92,8 @@ fn found_settings<'a>(matches: &ArgMatches<'a>) -> Result<Settings<'a>, Settings
     let port = number_of(matches, "port", 1, 65_535)?;
     let patience = patience_in(matches)?;
     let file = value_of(matches, "FILE")?;
-    if rank >= size || !are_ports(rank, size, port) {
+    let hosts = hosts_in(matches);
+    if rank >= size || !are_ports(rank, size, port) || !are_hosts(hosts, size) {
         return Err(SettingsRefusal::Words);
     }
     Ok(Settings {
@@ -84,6 +103,7 @@ fn found_settings<'a>(matches: &ArgMatches<'a>) -> Result<Settings<'a>, Settings
         job,
         port: port as u16,
         patience,
+        hosts,
         file,
     })
 }
@@ -106,11 +126,13 @@ fn refused_with<'a>(error: &Error) -> Result<Settings<'a>, SettingsRefusal>
 
 /// The settings that the words give; the first word is the program's own name.
 ///
-/// `--rank r --size n --inc i --job j --port p [--patience ms] FILE`, the options in any order, each at most once; a
-/// number is decimal digits without leading zeros.
+/// `--rank r --size n --inc i --job j --port p [--patience ms] [--hosts A,B,..] FILE`, the options in any order, each at
+/// most once; a number is decimal digits without leading zeros, and the hosts are the IPv4 addresses of the ranks, in
+/// rank order.
 ///
-/// Refused with 64 exactly where the words are others, a value is out of its range, the rank isn't below the size, or
-/// the port of some rank isn't 1 to 65,535, unless memory was wanting before that was seen: 14.
+/// Refused with 64 exactly where the words are others, a value is out of its range, the rank isn't below the size, the
+/// port of some rank isn't 1 to 65,535, or the hosts are no list of an address for each rank, unless memory was wanting
+/// before that was seen: 14.
 pub fn settings_of<'a, S: AsStr>(
     alloc: Global,
     words: &'a [S],

@@ -6,3 +6,4 @@ pub mod Lines
 pub mod Ends
 pub mod Ports
 pub mod Commands
+pub mod Hosts

@@ -7,6 +7,8 @@ use Rattle.numerals.specs.Numbers.{number_between}
 use Rattle.launch_keeper.specs.Words.{Word}
 use Rattle.run_plan.specs.declared.symbol.NumberOption.{NumberOption}
 use Rattle.run_plan.specs.declared.symbol.NumberOption.TheVariants.{Job, BasePort, Restart, Patience}
+use Rattle.run_plan.specs.declared.symbol.TextOption.{TextOption}
+use Rattle.run_plan.specs.declared.symbol.TextOption.TheVariants.{Folder, HostFile, Launcher}
 use Rattle.run_plan.specs.declared.symbol.Symbol.{Symbol}
 use Rattle.run_plan.specs.declared.symbol.Symbol.TheVariants as symbols
 use Rattle.run_plan.specs.declared.options.RunOptions.{RunOptions}
@@ -29,6 +31,8 @@ nothing_given = record {
   marks_lines = false;
   keeps_going = false;
   folder = None;
+  host_file = None;
+  launcher = None;
 }
 
 -- the number that was given of an option
@@ -48,6 +52,28 @@ with_number Job given n = record given { job = Some n }
 with_number BasePort given n = record given { base_port = Some n }
 with_number Restart given n = record given { restarts = Some n }
 with_number Patience given n = record given { patience = Some n }
+
+-- the place of the text that was given of an option
+abbrev pub text_of : TextOption → RunOptions → Option ℕ
+text_of Folder given = given.folder
+text_of HostFile given = given.host_file
+text_of Launcher given = given.launcher
+
+-- whether the option was given before
+abbrev pub has_text : TextOption → RunOptions → Bool
+has_text option given = is_some (text_of option given)
+
+-- the option's text stands at this place from now on
+abbrev pub with_text : TextOption → RunOptions → ℕ → RunOptions
+with_text Folder given place = record given { folder = Some place }
+with_text HostFile given place = record given { host_file = Some place }
+with_text Launcher given place = record given { launcher = Some place }
+
+-- what may stand where an option's text is due
+abbrev pub wanted_of : TextOption → Wanted
+wanted_of Folder = wanted.Folder
+wanted_of HostFile = wanted.HostFile
+wanted_of Launcher = wanted.Launcher
 
 -- a name of a variable isn't empty, has no `=`, and doesn't begin as those of a rank's place do
 abbrev pub is_name : Word → Bool
@@ -79,7 +105,8 @@ at_option reading place symbols.Prefix =
     unless reading.options.marks_lines (with_options (record reading.options { marks_lines = true }))
 at_option reading place symbols.KeepGoing =
     unless reading.options.keeps_going (with_options (record reading.options { keeps_going = true }))
-at_option reading place symbols.Folder = unless (is_some reading.options.folder) (due reading stages.Folder)
+at_option reading place (symbols.Text option) =
+    unless (has_text option reading.options) (due reading (stages.Text option))
 at_option reading place symbols.Variable = Ok (due reading stages.Name)
 at_option reading place symbols.Set = Ok (due reading (stages.Sets place))
 at_option reading place symbols.Other = Err wanted.OptionOrSet
@@ -93,17 +120,16 @@ number_read None reading option = Err (wanted.Number (least_of option) (greatest
 unfoldable pub at_number : Reading → NumberOption → Word → Result Reading Wanted
 at_number reading option word = number_read (number_between word (least_of option) (greatest_of option)) reading option
 
--- where a folder is due
-abbrev pub at_folder : Reading → ℕ → Word → Result Reading Wanted
-at_folder reading place word =
-    if length word == 0 then Err wanted.Folder
-    else Ok (with_options (record reading.options { folder = Some place }))
+-- where an option's text is due, which isn't empty
+abbrev pub at_text : Reading → TextOption → ℕ → Word → Result Reading Wanted
+at_text reading option place word =
+    if length word == 0 then Err (wanted_of option) else Ok (with_options (with_text option reading.options place))
 
 -- one more word, by what is due; behind the first word of the sets all words are theirs
 abbrev pub after_at : Stage → Reading → ℕ → Word → Result Reading Wanted
 after_at stages.Option reading place word = at_option reading place (symbol_of word)
 after_at (stages.Number option) reading place word = at_number reading option word
-after_at stages.Folder reading place word = at_folder reading place word
+after_at (stages.Text option) reading place word = at_text reading option place word
 after_at stages.Name reading place word = if is_name word then Ok (due reading stages.Value) else Err wanted.Name
 after_at stages.Value reading place word = Ok (due reading stages.Option)
 after_at (stages.Sets sets) reading place word = Ok reading
@@ -123,7 +149,7 @@ ended_at (stages.Sets sets) reading place = Ok (record { options = reading.optio
 ended_at stages.Option reading place = Err (record { place = place; wanted = wanted.OptionOrSet })
 ended_at (stages.Number option) reading place =
     Err (record { place = place; wanted = wanted.Number (least_of option) (greatest_of option) })
-ended_at stages.Folder reading place = Err (record { place = place; wanted = wanted.Folder })
+ended_at (stages.Text option) reading place = Err (record { place = place; wanted = wanted_of option })
 ended_at stages.Name reading place = Err (record { place = place; wanted = wanted.Name })
 ended_at stages.Value reading place = Err (record { place = place; wanted = wanted.Value })
 
@@ -144,7 +170,7 @@ abbrev pub is_value : Stage → Bool
 is_value stages.Value = true
 is_value stages.Option = false
 is_value (stages.Number option) = false
-is_value stages.Folder = false
+is_value (stages.Text option) = false
 is_value stages.Name = false
 is_value (stages.Sets sets) = false
 

@@ -4,6 +4,8 @@ use Rattle.std.specs.Str.{bytes_eq}
 use Rattle.launch_keeper.specs.Words.{Word}
 use Rattle.run_plan.specs.declared.symbol.NumberOption.{NumberOption}
 use Rattle.run_plan.specs.declared.symbol.NumberOption.TheVariants.{Job, BasePort, Restart, Patience}
+use Rattle.run_plan.specs.declared.symbol.TextOption.{TextOption}
+use Rattle.run_plan.specs.declared.symbol.TextOption.TheVariants.{Folder, HostFile, Launcher}
 use Rattle.run_plan.specs.declared.symbol.Symbol.{Symbol}
 use Rattle.run_plan.specs.declared.symbol.Symbol.TheVariants as symbols
 
@@ -16,24 +18,32 @@ number_option word =
     else (if bytes_eq word (codes "-patience") then Some Patience
     else None)))
 
+-- the option of this name whose value is a text
+unfoldable pub text_option : Word → Option TextOption
+text_option word =
+    if bytes_eq word (codes "-wdir") then Some Folder
+    else (if bytes_eq word (codes "-hostfile") then Some HostFile
+    else (if bytes_eq word (codes "-launcher") then Some Launcher
+    else None))
+
 -- any other word where an option may stand
 abbrev pub other_symbol : Word → Symbol
 other_symbol word =
     if bytes_eq word (codes "-prefix") then symbols.Prefix
     else (if bytes_eq word (codes "-keep-going") then symbols.KeepGoing
-    else (if bytes_eq word (codes "-wdir") then symbols.Folder
     else (if bytes_eq word (codes "-env") then symbols.Variable
     else (if bytes_eq word (codes "-n") || bytes_eq word (codes "-np") then symbols.Set
-    else symbols.Other))))
+    else symbols.Other)))
 
--- an option whose value is a number, or any other word
-abbrev pub symbol_by : Option NumberOption → Word → Symbol
-symbol_by (Some option) word = symbols.Number option
-symbol_by None word = other_symbol word
+-- an option whose value is a number or a text, or any other word
+abbrev pub symbol_by : Option NumberOption → Option TextOption → Word → Symbol
+symbol_by (Some option) text word = symbols.Number option
+symbol_by None (Some option) word = symbols.Text option
+symbol_by None None word = other_symbol word
 
 -- what the word is where an option may stand
 unfoldable pub symbol_of : Word → Symbol
-symbol_of word = symbol_by (number_option word) word
+symbol_of word = symbol_by (number_option word) (text_option word) word
 
 -- the least value of an option
 abbrev pub least_of : NumberOption → ℕ

@@ -10,5 +10,7 @@ wanted_text wanted.OptionOrSet = codes "an option not yet given, or a set (-n N 
 wanted_text (wanted.Number least greatest) =
     codes "a number from " ++ decimal least ++ codes " to " ++ decimal greatest
 wanted_text wanted.Folder = codes "the name of a folder"
+wanted_text wanted.HostFile = codes "the name of a file of hosts"
+wanted_text wanted.Launcher = codes "words that start a program on a host, one of them {host}"
 wanted_text wanted.Name = codes "the name of a variable, without = and not KOMBAZILY_.."
 wanted_text wanted.Value = codes "the value of a variable"

@@ -11,6 +11,10 @@ pub enum Wanted {
     Number(u64, u64),
     /// The name of a folder.
     Folder,
+    /// The name of a file of hosts.
+    HostFile,
+    /// Words that start a program on a host.
+    Launcher,
     /// The name of a variable.
     Name,
     /// The value of a variable.
@@ -39,6 +43,10 @@ impl fmt::Display for Wanted {
             ),
             Wanted::Number(least, greatest) => write!(f, "a number from {least} to {greatest}"),
             Wanted::Folder => f.write_str("the name of a folder"),
+            Wanted::HostFile => f.write_str("the name of a file of hosts"),
+            Wanted::Launcher => {
+                f.write_str("words that start a program on a host, one of them {host}")
+            }
             Wanted::Name => f.write_str("the name of a variable, without = and not KOMBAZILY_.."),
             Wanted::Value => f.write_str("the value of a variable"),
         }

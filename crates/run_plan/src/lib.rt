@@ -3,6 +3,7 @@
 
 mod commands;
 mod fault;
+mod hosts;
 mod lines;
 mod options;
 mod ports;
@@ -13,6 +14,7 @@ mod symbol;
 
 pub use commands::rank_command;
 pub use fault::{RunFault, Wanted};
+pub use hosts::{USUAL_LAUNCHER, launcher_words, set_hosts};
 pub use lines::LineBuffer;
 pub use options::RunOptions;
 pub use ports::{BLOCK, FIRST_PORT, PORT_BLOCKS, block_port, blocks_for};

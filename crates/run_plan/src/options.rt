@@ -2,9 +2,9 @@
 
 ghost use Rattle.std.specs.Prelude.{◌≡◌, ◌≤◌};
 ghost use Rattle.run_plan.specs.Symbols.{greatest_of};
-ghost use Rattle.run_plan.specs.Readings.{nothing_given, is_given, with_number};
+ghost use Rattle.run_plan.specs.Readings.{has_text, nothing_given, is_given, with_number, with_text};
 
-use crate::symbol::NumberOption;
+use crate::symbol::{NumberOption, TextOption};
 
 /// The options that were given.
 #[derive(Clone, Copy, Debug)]
@@ -23,6 +23,10 @@ pub struct RunOptions {
     pub keeps_going: bool,
     /// The place of the word, among all words, that names the folder in which the ranks start: of `-wdir`.
     pub folder: Option<usize>,
+    /// The place of the word that names the file of hosts: of `-hostfile`.
+    pub host_file: Option<usize>,
+    /// The place of the word that says how a program is started on another host: of `-launcher`.
+    pub launcher: Option<usize>,
 }
 
 impl RunOptions {
@@ -38,6 +42,8 @@ impl RunOptions {
             marks_lines: false,
             keeps_going: false,
             folder: None,
+            host_file: None,
+            launcher: None,
         }
     }
 
@@ -50,6 +56,37 @@ impl RunOptions {
             NumberOption::BasePort => self.base_port.is_some(),
             NumberOption::Restart => self.restarts.is_some(),
             NumberOption::Patience => self.patience.is_some(),
+        }
+    }
+
+    /// Whether this option was given.
+    pub(crate) fn has_text(&self, option: TextOption) -> bool
+        ensures { result ≡ has_text option self.now }
+    {
+        match option {
+            TextOption::Folder => self.folder.is_some(),
+            TextOption::HostFile => self.host_file.is_some(),
+            TextOption::Launcher => self.launcher.is_some(),
+        }
+    }
+
+    /// With the text at this place as the value of the option.
+    pub(crate) fn with_text(self, option: TextOption, place: usize) -> RunOptions
+        ensures { result ≡ with_text option self place }
+    {
+        match option {
+            TextOption::Folder => RunOptions {
+                folder: Some(place),
+                ..self
+            },
+            TextOption::HostFile => RunOptions {
+                host_file: Some(place),
+                ..self
+            },
+            TextOption::Launcher => RunOptions {
+                launcher: Some(place),
+                ..self
+            },
         }
     }
 

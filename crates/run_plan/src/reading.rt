@@ -2,12 +2,12 @@
 
 ghost use Rattle.std.specs.Prelude.{◌≡◌, IfOk};
 ghost use Rattle.std.specs.Str.{bytes_eq};
-ghost use Rattle.run_plan.specs.Readings.{after, at_option, at_number, at_folder, is_name, unless, due, with_options};
-ghost use Rattle.run_plan.specs.Readings.{ended, has_named, start, request_of, setting_places};
+ghost use Rattle.run_plan.specs.Readings.{after, at_option, at_number, at_text, is_name, unless, due, with_options};
+ghost use Rattle.run_plan.specs.Readings.{ended, has_named, start, request_of, setting_places, wanted_of};
 
 use crate::fault::{RunFault, Wanted};
 use crate::options::RunOptions;
-use crate::symbol::{NumberOption, Symbol, symbol_of};
+use crate::symbol::{NumberOption, Symbol, TextOption, symbol_of};
 use launch_keeper::Word;
 use numerals::number_between;
 use std::alloc::{AllocError, Global};
@@ -28,8 +28,8 @@ pub(crate) enum Stage {
     Option,
     /// The number of an option.
     Number(NumberOption),
-    /// The folder of `-wdir`.
-    Folder,
+    /// The text of an option.
+    Text(TextOption),
     /// The name of a variable.
     Name,
     /// The value of a variable.
@@ -59,6 +59,17 @@ fn is_name(word: &[u8]) -> bool
 {
     let (front, _) = word.split_at(word.len().min(10));
     !word.is_empty() && !is(front, b"KOMBAZILY_") && !word.contains(&b'=')
+}
+
+/// What may stand where this option's text is due.
+fn wanted_of(option: TextOption) -> Wanted
+    ensures { result ≡ wanted_of option }
+{
+    match option {
+        TextOption::Folder => Wanted::Folder,
+        TextOption::HostFile => Wanted::HostFile,
+        TextOption::Launcher => Wanted::Launcher,
+    }
 }
 
 /// This, unless the option was given before.
@@ -122,7 +133,9 @@ impl Reading {
                 };
                 unless(options.keeps_going, Reading::with(going))
             }
-            Symbol::Folder => unless(options.folder.is_some(), self.due(Stage::Folder)),
+            Symbol::Text(option) => {
+                unless(options.has_text(option), self.due(Stage::Text(option)))
+            }
             Symbol::Variable => Ok(self.due(Stage::Name)),
             Symbol::Set => Ok(self.due(Stage::Sets(place))),
             Symbol::Other => Err(Wanted::OptionOrSet),
@@ -140,17 +153,14 @@ impl Reading {
         }
     }
 
-    /// What was read with a word at this place where a folder is due, or what may stand there.
-    fn at_folder(self, place: usize, word: &[u8]) -> Result<Reading, Wanted>
-        ensures { result ≡ at_folder self place word.now }
+    /// What was read with a word at this place where this option's text is due, or what may stand there.
+    fn at_text(self, option: TextOption, place: usize, word: &[u8]) -> Result<Reading, Wanted>
+        ensures { result ≡ at_text self option place word.now }
     {
         if word.is_empty() {
-            return Err(Wanted::Folder);
+            return Err(wanted_of(option));
         }
-        Ok(Reading::with(RunOptions {
-            folder: Some(place),
-            ..self.options
-        }))
+        Ok(Reading::with(self.options.with_text(option, place)))
     }
 
     /// What was read with one more word, which stands at this place, or what may stand there.
@@ -161,7 +171,7 @@ impl Reading {
         match self.stage {
             Stage::Option => self.at_option(place, symbol_of(word)),
             Stage::Number(option) => self.at_number(option, word),
-            Stage::Folder => self.at_folder(place, word),
+            Stage::Text(option) => self.at_text(option, place, word),
             Stage::Name => {
                 if is_name(word) {
                     Ok(self.due(Stage::Value))
@@ -187,7 +197,7 @@ impl Reading {
             }
             Stage::Option => Wanted::OptionOrSet,
             Stage::Number(option) => Wanted::Number(option.least(), option.greatest()),
-            Stage::Folder => Wanted::Folder,
+            Stage::Text(option) => wanted_of(option),
             Stage::Name => Wanted::Name,
             Stage::Value => Wanted::Value,
         };
@@ -209,7 +219,7 @@ impl Reading {
 /// memory. The sets are judged by `launch_plan`.
 ///
 /// Options stand in front of the first set, which `-n` or `-np` begins: `-job J`, `-baseport P`, `-restart K`,
-/// `-patience MS`, `-prefix`, `-keep-going` and `-wdir FOLDER`, each once, and `-env NAME VALUE` any number of times.
+/// `-patience MS`, `-prefix`, `-keep-going`, `-wdir FOLDER`, `-hostfile FILE` and `-launcher WORDS`, each once, and `-env NAME VALUE` any number of times.
 pub fn request_of(words: &[Word]) -> Result<RunRequest, RunFault>
     ensures { result ≡ request_of words.now }
 {

@@ -2,7 +2,7 @@
 
 ghost use Rattle.std.specs.Prelude.{◌≡◌};
 ghost use Rattle.std.specs.Str.{bytes_eq};
-ghost use Rattle.run_plan.specs.Symbols.{least_of, greatest_of, number_option, symbol_of};
+ghost use Rattle.run_plan.specs.Symbols.{least_of, greatest_of, number_option, symbol_of, text_option};
 
 /// An option whose value is a number.
 #[derive(Clone, Copy, Debug, PartialEq, Eq)]
@@ -40,6 +40,17 @@ impl NumberOption {
     }
 }
 
+/// An option whose value is a text.
+#[derive(Clone, Copy, Debug, PartialEq, Eq)]
+pub enum TextOption {
+    /// `-wdir`: the folder in which the ranks start.
+    Folder,
+    /// `-hostfile`: the file of hosts.
+    HostFile,
+    /// `-launcher`: the words that start a program on another host.
+    Launcher,
+}
+
 /// What a word is where an option may stand.
 #[derive(Clone, Copy, Debug)]
 pub(crate) enum Symbol {
@@ -49,8 +60,8 @@ pub(crate) enum Symbol {
     Prefix,
     /// `-keep-going`.
     KeepGoing,
-    /// `-wdir`.
-    Folder,
+    /// An option whose value is a text.
+    Text(TextOption),
     /// `-env`.
     Variable,
     /// `-n` or `-np`: the first set begins.
@@ -83,6 +94,22 @@ fn number_option(word: &[u8]) -> Option<NumberOption>
     }
 }
 
+/// The option of this name whose value is a text.
+#[tactic(auto, unfolding(crate::specs::Symbols::text_option))]
+fn text_option(word: &[u8]) -> Option<TextOption>
+    ensures { result ≡ text_option word.now }
+{
+    if is(word, b"-wdir") {
+        Some(TextOption::Folder)
+    } else if is(word, b"-hostfile") {
+        Some(TextOption::HostFile)
+    } else if is(word, b"-launcher") {
+        Some(TextOption::Launcher)
+    } else {
+        None
+    }
+}
+
 /// What the word is where an option may stand.
 #[tactic(auto, unfolding(crate::specs::Symbols::symbol_of))]
 pub(crate) fn symbol_of(word: &[u8]) -> Symbol
@@ -91,12 +118,13 @@ pub(crate) fn symbol_of(word: &[u8]) -> Symbol
     if let Some(option) = number_option(word) {
         return Symbol::Number(option);
     }
+    if let Some(option) = text_option(word) {
+        return Symbol::Text(option);
+    }
     if is(word, b"-prefix") {
         Symbol::Prefix
     } else if is(word, b"-keep-going") {
         Symbol::KeepGoing
-    } else if is(word, b"-wdir") {
-        Symbol::Folder
     } else if is(word, b"-env") {
         Symbol::Variable
     } else if is(word, b"-n") || is(word, b"-np") {

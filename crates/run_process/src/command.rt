@@ -3,12 +3,15 @@
 use crate::claim::{Claim, claim_ports, random_number};
 use crate::front::{LAUNCH, run_front};
 use crate::job::{FAILED, Job};
+use crate::job_hosts::{JobHosts, hosts_by};
+use crate::keeper::{KEEPER, run_keeper};
 use crate::setup::{Setup, tell_as_own};
 use launch_diagnostics::explain;
 use launch_keeper::{Word, Words};
 use launch_plan::Plan;
 use launch_plan::planning::plan;
 use numerals::number_between;
+use process_commands::text_of;
 use run_plan::{RunFault, RunRequest, plan_words, request_of};
 use std::alloc::AllocError;
 use std::net::Net;
@@ -24,12 +27,14 @@ const REFUSED: u8 = 2;
 /// The page of usage, without the last line's end.
 const PAGE: &str = "\
 usage: mpirun [OPTION ..] -n N PROGRAM [ARGUMENT ..] [: -n N PROGRAM ..] ..\n\
-Starts N processes of each PROGRAM as the ranks of a job on this machine, and\n\
+Starts N processes of each PROGRAM as the ranks of a job, and\n\
 prints their lines as they come. Each finds its place in its environment.\n\
 \x20 -n N, -np N       so many processes, 1 to 1024\n\
 \x20 -prefix           [R] stands before each line of rank R\n\
 \x20 -wdir FOLDER      the ranks start in this folder\n\
 \x20 -env NAME VALUE   this variable has this value; as often as needed\n\
+\x20 -hostfile FILE    the ranks are on the hosts of its lines: HOST [slots=N] [local]\n\
+\x20 -launcher WORDS   start a program on a host; else ssh -o BatchMode=yes -T {host}\n\
 \x20 -keep-going       the other ranks go on when one has failed\n\
 \x20 -restart K        each rank may be started again so often; without it 0\n\
 \x20 -patience MS      so many milliseconds a rank waits before it gives up\n\
@@ -150,9 +155,57 @@ fn ports_for<R: Net + AllocGlobal>(
     }
 }
 
+/// The hosts that a request asks for, if it does; tells why there are none.
+fn hosts_for<R: Net + Files + Eprint + AllocGlobal>(
+    rt: &R,
+    words: &[Word],
+    request: &RunRequest,
+    size: u16,
+) -> Result<Option<JobHosts>, u8> {
+    let Some(place) = request.options.host_file else {
+        return Ok(None);
+    };
+    let Some(word) = words.get(place) else {
+        return Err(FAILED);
+    };
+    let Ok(file) = text_of(word) else {
+        return Err(FAILED);
+    };
+    Ok(Some(hosts_by(rt, file, size)?))
+}
+
+/// Starts the ranks of a plan on their hosts, and follows them to their ends. Answers the status.
+fn follow_on_hosts<
+    R: Net
+        + Env
+        + Files
+        + Eprint
+        + AllocGlobal
+        + Clock
+        + Processes<Started: OpenProcess<Stdout: AsRawFd, Stderr: AsRawFd>>,
+>(rt: &R, words: &[Word], request: &RunRequest, front: i32, plan: &Plan) -> io::Result<u8> {
+    let hosts = match hosts_for(rt, words, request, plan.size()) {
+        Ok(hosts) => hosts,
+        Err(status) => return Ok(status),
+    };
+    let itself = env::current_exe(rt)?;
+    let folder = env::current_dir(rt)?;
+    let setup = Setup {
+        words,
+        options: request.options,
+        front,
+        hosts: hosts.as_ref(),
+        itself: itself.as_str(),
+        folder: folder.as_str(),
+    };
+    follow(rt, &setup, plan)
+}
+
 /// Launches what these words ask for. Answers the status.
 fn launch<
     R: Net
+        + Env
+        + Files
         + Eprint
         + AllocGlobal
         + Clock
@@ -177,12 +230,15 @@ fn launch<
         Ok(plan) => plan,
         Err(status) => return Ok(status),
     };
-    let setup = Setup {
-        words,
-        options: request.options,
-        front,
-    };
-    follow(rt, &setup, &plan)
+    follow_on_hosts(rt, words, request, front, &plan)
+}
+
+/// Whether these are the words of a keeper.
+fn is_keeper(words: &[Word]) -> bool {
+    match words {
+        [word] => word.as_bytes() == KEEPER.as_bytes(),
+        _ => false,
+    }
 }
 
 /// The number of the front's process, where these are the words of the process that launches, and the words of `mpirun`.
@@ -212,6 +268,7 @@ fn begin<R: Files + Print + Eprint + AllocGlobal + Processes>(rt: &R, words: &[W
 /// Does what these words ask for, and answers the status.
 pub fn run_words<
     R: Net
+        + Env
         + Files
         + Print
         + Eprint
@@ -219,6 +276,9 @@ pub fn run_words<
         + Clock
         + Processes<Started: OpenProcess<Stdout: AsRawFd, Stderr: AsRawFd>>,
 >(rt: &R, words: &[Word]) -> u8 {
+    if is_keeper(words) {
+        return run_keeper(rt);
+    }
     let Some((front, rest)) = launching(words) else {
         return begin(rt, words);
     };

@@ -6,7 +6,7 @@ use crate::rank::Rank;
 use crate::setup::Setup;
 use crate::shell::terminate;
 use launch_decisions::{Failure, Next, Start, ending_by, first_failure};
-use launch_keeper::{EndingLine, ProgramEnding};
+use launch_keeper::{EndingLine, LostKeeperLine, ProgramEnding, Word};
 use launch_plan::Plan;
 use libc::net::poll;
 use libc::types::pollfd;
@@ -98,8 +98,38 @@ impl<
         })
     }
 
-    /// Starts the program of a rank once. Answers whether it runs.
+    /// Starts a keeper of a rank's program on this host. Answers whether it runs.
+    fn spawn_keeper(&mut self, rank: usize, host: &Word) -> io::Result<bool> {
+        let alloc = self.rt.alloc();
+        let Some(one) = self.ranks.get_mut(rank) else {
+            return Ok(true);
+        };
+        let message = self.setup.message(alloc, &one.start)?;
+        let mut command = self.setup.keeper_command(alloc, host)?;
+        match command.spawn(self.rt) {
+            Ok(child) => {
+                self.guard.begins(self.rt, child.id());
+                one.is_kept_by(child, &message);
+                Ok(true)
+            }
+            Err(_) => Ok(false),
+        }
+    }
+
+    /// Starts the program of a rank once, on its host. Answers whether it runs.
     fn spawn(&mut self, rank: usize) -> io::Result<bool> {
+        let host = match self.setup.hosts {
+            Some(hosts) => hosts.keeper_host(rank),
+            None => None,
+        };
+        match host {
+            Some(host) => self.spawn_keeper(rank, host),
+            None => self.spawn_here(rank),
+        }
+    }
+
+    /// Starts the program of a rank once, on this machine. Answers whether it runs.
+    fn spawn_here(&mut self, rank: usize) -> io::Result<bool> {
         let Some(one) = self.ranks.get_mut(rank) else {
             return Ok(true);
         };
@@ -142,14 +172,18 @@ impl<
             .any(|(other, one)| other != rank && one.child.is_some())
     }
 
-    /// Asks all programs that run to end.
+    /// Asks all programs that run to end. Where the job was interrupted, a rank of a script is told by the end of its
+    /// input, and says where it stands.
     fn ask_all(&mut self) -> io::Result<()> {
         if self.asked.is_some() {
             return Ok(());
         }
         self.asked = Some(Instant::now(self.rt)?);
         let mut running = Vec::new(self.rt.alloc());
-        for one in &self.ranks {
+        for one in self.ranks.iter_mut() {
+            if one.asks_keeper() || (self.is_interrupted && one.closes_input()) {
+                continue;
+            }
             if let Some(child) = &one.child {
                 running.push(child.id()).map_err(AllocError::from)?;
             }
@@ -186,6 +220,17 @@ impl<
         };
         let behind = ConsequenceText { consequence };
         if let Ok(text) = format!(in self.rt.alloc(); "{line}{behind}") {
+            self.setup.tell(self.rt, text.as_str());
+        }
+    }
+
+    /// Tells that the keeper of a rank ended before its report.
+    fn tell_lost(&self, rank: usize) {
+        if self.asked.is_some() {
+            return;
+        }
+        let line = LostKeeperLine { rank };
+        if let Ok(text) = format!(in self.rt.alloc(); "{line}") {
             self.setup.tell(self.rt, text.as_str());
         }
     }
@@ -238,7 +283,11 @@ impl<
         if let Some(child) = one.child.take() {
             self.guard.ends(self.rt, child.id());
         }
-        if self.take_in(rank, ending_of(status))? {
+        let ending = one.ending(ending_of(status));
+        if one.has_lost_keeper() {
+            self.tell_lost(rank);
+        }
+        if self.take_in(rank, ending)? {
             self.start(rank)?;
         }
         Ok(())

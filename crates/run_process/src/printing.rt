@@ -56,7 +56,7 @@ fn wait_to_write(fd: RawFd) {
 }
 
 /// Writes all these bytes.
-fn write_all(fd: RawFd, bytes: &[u8]) -> io::Result<()> {
+pub fn write_all(fd: RawFd, bytes: &[u8]) -> io::Result<()> {
     let mut left = bytes;
     let mut tries = 0;
     for _ in 0..u64::MAX {

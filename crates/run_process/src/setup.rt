@@ -1,9 +1,13 @@
 //! What is the same of all ranks of a job: the options, the folder, the variables.
 
+use crate::job_hosts::JobHosts;
+use crate::keeper::KEEPER;
+use crate::kept_words::words_of;
+use host_keepers::message_text;
 use launch_decisions::Start;
 use launch_keeper::Word;
-use process_commands::text_of;
-use run_plan::{RunOptions, rank_command};
+use process_commands::{command_of, text_of};
+use run_plan::{RunOptions, USUAL_LAUNCHER, launcher_words, rank_command, set_hosts};
 use std::alloc::Global;
 use std::io;
 use std::io::ErrorKind;
@@ -11,6 +15,20 @@ use std::process::{Command, Stdio};
 
 /// How long the name is with which lines of the launcher begin that speak of `mpiexec`.
 const OTHER_NAME: usize = 7;
+
+/// The program whose ranks tell where they stand once their standard input ends, where the environment asks for that.
+const SCRIPT_PROGRAM: &str = "rank_main";
+
+/// What asks for that.
+const STOPS_WITH_INPUT: &str = "RANK_STOPS_WITH_INPUT";
+
+/// Whether this program runs a rank of a script.
+fn is_script_program(program: &str) -> bool {
+    match program.rsplit_once('/') {
+        Some((_, name)) => name == SCRIPT_PROGRAM,
+        None => program == SCRIPT_PROGRAM,
+    }
+}
 
 /// What is the same of all ranks of a job.
 #[derive(Clone, Copy)]
@@ -21,6 +39,12 @@ pub struct Setup<'a> {
     pub options: RunOptions,
     /// The number of the process that the user started.
     pub front: i32,
+    /// The hosts of its ranks, where they aren't all this machine.
+    pub hosts: Option<&'a JobHosts>,
+    /// The name of this program's file.
+    pub itself: &'a str,
+    /// The folder in which this process is.
+    pub folder: &'a str,
 }
 
 /// Tells a line, which begins with the name of the other launcher, under this one's name.
@@ -46,20 +70,73 @@ impl<'a> Setup<'a> {
         Ok(())
     }
 
-    /// The command of a rank's start: its own words, the variables of `-env`, and its place.
-    pub fn command(&self, alloc: Global, rank: usize, start: &Start) -> io::Result<Command> {
+    /// The text of an option, the place of whose word this is.
+    fn text_at(&self, place: Option<usize>) -> Option<&'a str> {
+        text_of(self.words.get(place?)?).ok()
+    }
+
+    /// What a rank's start says of the program, wherever that is started: its own words, the variables of `-env`, and
+    /// its place.
+    fn own_command(&self, alloc: Global, start: &Start) -> io::Result<Command> {
         let Some(words) = start.words(alloc)? else {
             return Err(io::Error::from(ErrorKind::InvalidInput));
         };
         let has_patience = self.options.patience.is_some();
         let mut command = rank_command(alloc, start, &words, self.words, has_patience)?;
+        match self.hosts {
+            Some(hosts) => set_hosts(alloc, &mut command, &hosts.list)?,
+            None => {
+                let _removed = command.env_remove("KOMBAZILY_HOSTS")?;
+            }
+        }
+        Ok(command)
+    }
+
+    /// The folder in which ranks start on other hosts: that of `-wdir`, from this process's own on.
+    fn far_folder(&self, alloc: Global) -> io::Result<String> {
+        let own = self.folder;
+        match self.text_at(self.options.folder) {
+            Some(folder) if folder.starts_with('/') => Ok(format!(in alloc; "{folder}")?),
+            Some(folder) => Ok(format!(in alloc; "{own}/{folder}")?),
+            None => Ok(format!(in alloc; "{own}")?),
+        }
+    }
+
+    /// What is handed to the keeper of a rank's start.
+    pub fn message(&self, alloc: Global, start: &Start) -> io::Result<Vec<u8>> {
+        let command = self.own_command(alloc, start)?;
+        let folder = self.far_folder(alloc)?;
+        let words = words_of(alloc, folder.as_str(), &command)?;
+        Ok(message_text(alloc, words.as_slice())?)
+    }
+
+    /// The command that starts a keeper on this host.
+    pub fn keeper_command(&self, alloc: Global, host: &Word) -> io::Result<Command> {
+        let text = self
+            .text_at(self.options.launcher)
+            .unwrap_or(USUAL_LAUNCHER);
+        let words = launcher_words(alloc, text.as_bytes(), host.as_bytes())?;
+        let mut command = command_of(alloc, words.as_slice())?;
+        command.arg(self.itself)?;
+        command.arg(KEEPER)?;
+        command.stdin(Stdio::piped());
+        command.stdout(Stdio::piped());
+        command.stderr(Stdio::piped());
+        Ok(command)
+    }
+
+    /// The command of a rank's start on this machine.
+    pub fn command(&self, alloc: Global, rank: usize, start: &Start) -> io::Result<Command> {
+        let mut command = self.own_command(alloc, start)?;
         self.set_folder(&mut command)?;
-        let input = if rank == 0 {
-            Stdio::inherit()
+        if is_script_program(command.get_program()) {
+            let _set = command.env(STOPS_WITH_INPUT, "1")?;
+            command.stdin(Stdio::piped());
+        } else if rank == 0 {
+            command.stdin(Stdio::inherit());
         } else {
-            Stdio::null()
-        };
-        command.stdin(input);
+            command.stdin(Stdio::null());
+        }
         command.stdout(Stdio::piped());
         command.stderr(Stdio::piped());
         Ok(command)

@@ -15,5 +15,6 @@ returns c =
     let job = next _ _ _ _ c.in_ok-program-4.ensures inc in
     let port = next _ _ _ _ c.in_ok-program-5.ensures job in
     let patience = next _ _ _ _ c.in_ok-program-6.ensures port in
+    let hosts = next _ _ _ _ c.in_ok-program-7.ensures patience in
     let file_is : rule_of c.required.result ≡ record (new_rule (codes "FILE")) { required = true } = search rules in
-    IfOk-weaker c.arg.result _ _ (λ m h. h.shape (search rules) ∙ ap₂ with_rule patience file_is) c.arg.ensures
+    IfOk-weaker c.arg.result _ _ (λ m h. h.shape (search rules) ∙ ap₂ with_rule hosts file_is) c.arg.ensures

@@ -1,0 +1,13 @@
+//! The file of hosts: on which of them a job has how many ranks.
+#![tactic(auto)]
+
+mod fault;
+mod file;
+mod host;
+mod line;
+mod slots;
+
+pub use fault::{FileFault, HostFault};
+pub use file::hosts_of;
+pub use host::Host;
+pub use slots::{hosts_of_ranks, slot_count};

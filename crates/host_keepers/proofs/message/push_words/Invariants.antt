@@ -1,0 +1,6 @@
+use Rattle.std.proofs.Common.{◌≡◌, ◌++◌, drop}
+use Rattle.host_keepers.specs.Messages.{words_text}
+use Rattle.host_keepers.proofs.message.push_words.Given as goal
+
+abbrev pub invariant-loop-word : goal.invariant-loop-word
+invariant-loop-word l = l.text.items ++ words_text (drop l.word-index l.words) ≡ l.fn.text.items ++ words_text l.words

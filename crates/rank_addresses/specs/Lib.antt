@@ -1,0 +1,2 @@
+pub mod HostLists
+pub mod Addresses
