@@ -23,7 +23,7 @@ enum Fate {
 type Row = (usize, usize, u8, u8, Fate);
 
 /// The rules of docs/FORMAT.md, byte by byte.
-const ROWS: [Row; 21] = [
+const ROWS: [Row; 22] = [
     // The magic, the version and the kind; an acknowledgement or a reset has another length.
     (0, 3, 0, 255, Fate::Refused(22)),
     (4, 4, 0, 255, Fate::Refused(23)),
@@ -41,8 +41,9 @@ const ROWS: [Row; 21] = [
     (31, 31, 0, 255, Fate::Refused(31)),
     // The kind of the frame and the plane.
     (32, 33, 0, 255, Fate::Refused(30)),
-    // The type: UINT32 is as wide as INT32.
+    // The type: UINT32 and FLOAT32 are as wide as INT32.
     (34, 34, 7, 7, Fate::Taken),
+    (34, 34, 10, 10, Fate::Taken),
     (34, 34, 0, 255, Fate::Refused(30)),
     (35, 35, 0, 255, Fate::Refused(30)),
     // The tag, which has 31 bits, and the context.

@@ -3,7 +3,7 @@
 use datagram::Content;
 use engine::{Engine, Place, Refusal};
 use std::alloc::Global;
-use vocabulary::Endpoint;
+use vocabulary::{Endpoint, MessageLimit};
 
 /// What is told of bytes that came.
 #[derive(Clone, Copy, Debug, PartialEq, Eq)]
@@ -34,6 +34,7 @@ fn rank_of_two(alloc: Global, rank: u16) -> Result<Engine, Refusal> {
         },
         size: 2,
         job: 1,
+        message_limit: MessageLimit::least(),
     };
     Engine::new(alloc, place)
 }

@@ -14,6 +14,8 @@ pub(crate) fn type_name(basic: BasicType) -> &'static str {
         BasicType::Uint32 => "uint32",
         BasicType::Uint64 => "uint64",
         BasicType::Byte => "byte",
+        BasicType::Float32 => "float32",
+        BasicType::Float64 => "float64",
     }
 }
 

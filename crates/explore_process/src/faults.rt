@@ -1,6 +1,7 @@
 //! What is told on the standard error.
 
 use line_diagnostics::{explanation, line_at, script_fault};
+use script_judgement::hint_of;
 use std::alloc::Global;
 use std::{io, str};
 
@@ -30,6 +31,13 @@ fn faulty_line(alloc: Global, text: &[u8], number: usize) -> Option<Vec<u8>> {
     explanation(alloc, b"mpiexplore", &fault, line).ok()
 }
 
+/// Which word of the line of this number doesn't fit, and the form of the statement, or what else is known of it.
+fn hint(alloc: Global, text: &[u8], number: usize) -> Option<String> {
+    let line = line_at(alloc, text, number).ok()??;
+    let fault = script_fault(alloc, line).ok()?;
+    hint_of(alloc, &fault, line).ok()?
+}
+
 /// Tells that the line of this number is no line of a script, and why.
 pub(crate) fn tell_faulty<R: Eprint + AllocGlobal>(rt: &R, text: &[u8], number: usize) {
     tell(rt, 51, Some(number));
@@ -37,5 +45,8 @@ pub(crate) fn tell_faulty<R: Eprint + AllocGlobal>(rt: &R, text: &[u8], number: 
         if let Ok(told) = str::from_utf8(&line) {
             let _ = eprintln!(rt; "{told}");
         }
+    }
+    if let Some(told) = hint(rt.alloc(), text, number) {
+        let _ = eprintln!(rt; "mpiexplore: {told}");
     }
 }

@@ -164,6 +164,19 @@ pub(crate) fn told_at_once(
     Ok(page)
 }
 
+/// What is said where no rank waits for ever, though each send is synchronous.
+fn undisturbed_text(explored: &Explored) -> &'static str {
+    let has_failed = explored
+        .results
+        .iter()
+        .any(|found| found.report.verdict == Verdict::Failed);
+    if has_failed {
+        "No rank waits for ever; what a rank that failed would have done behind that isn't known.\n"
+    } else {
+        "No rank waits for ever: nothing rests on messages that are buffered.\n"
+    }
+}
+
 /// What is printed of a script whose sends are synchronous, where it ends well otherwise: what waits for ever then.
 pub fn summary_of_synchronous(
     alloc: Global,
@@ -174,10 +187,7 @@ pub fn summary_of_synchronous(
     add(&mut page, "\nWith every send synchronous: ")?;
     add_head(alloc, &mut page, size, explored)?;
     if !explored.has_deadlock {
-        add(
-            &mut page,
-            "No rank waits for ever: nothing rests on messages that are buffered.\n",
-        )?;
+        add(&mut page, undisturbed_text(explored))?;
         return Ok(page);
     }
     add(

@@ -5,7 +5,7 @@ use anyhow::bail;
 use engine::{Call, Completion, Engine, Place, Refusal, Reply, Request};
 use std::alloc::Global;
 use std::io;
-use vocabulary::Endpoint;
+use vocabulary::{Endpoint, MessageLimit};
 
 /// The engine of a rank in a job of two, at the rank's first incarnation.
 fn engine_of(alloc: Global, rank: u16) -> Result<Engine, Refusal> {
@@ -19,6 +19,7 @@ fn engine_of(alloc: Global, rank: u16) -> Result<Engine, Refusal> {
             endpoint,
             size: 2,
             job: 1,
+            message_limit: MessageLimit::least(),
         },
     )
 }

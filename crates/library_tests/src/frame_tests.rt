@@ -2,7 +2,7 @@
 
 use datagram::*;
 use std::alloc::Global;
-use vocabulary::{BasicType, Endpoint, Mode};
+use vocabulary::{BasicType, Endpoint, MessageLimit, Mode};
 
 /// The header of frame 0 from rank 0 to rank 1 in job 1, whose body is empty.
 const HEADER: [u8; 32] = [
@@ -171,7 +171,40 @@ fn is_announced(alloc: Global, count: u32) -> Option<(bool, bool)> {
         ..request(count)
     };
     let found = request_of(alloc, body.as_slice());
-    Some((found == Some(request), request.fits()))
+    Some((
+        found == Some(request),
+        request.fits() && is_of_script(Frame::RequestToSend(request)),
+    ))
+}
+
+/// Whether a frame speaks of no message above the limit of scripts.
+fn is_of_script(frame: Frame<'_>) -> bool {
+    frame.is_within(MessageLimit::least())
+}
+
+/// Whether a job whose messages have the greatest limit reads an RTS of so many bytes of data.
+fn is_announced_there(alloc: Global, count: u32) -> Option<bool> {
+    let mut body = Vec::from_slice(alloc, &REQUEST[..16]).ok()?;
+    body[2] = 9;
+    body.extend_from_slice(&count.to_be_bytes()).ok()?;
+    body.extend_from_slice(&REQUEST[20..]).ok()?;
+    let bytes = datagram_with(alloc, body.as_slice())?;
+    Some(read_within(bytes.as_slice(), MessageLimit::greatest()).is_ok())
+}
+
+#[test]
+fn the_greatest_limit_is_that_of_a_count(rt: HostRuntime) {
+    for (count, is_allowed) in [
+        (1_048_577, true),
+        (2_147_483_647, true),
+        (2_147_483_648, false),
+    ] {
+        assert_eq!(rt;
+            is_announced_there(rt.alloc(), count),
+            Some(is_allowed),
+            "{count} bytes"
+        );
+    }
 }
 
 #[test]
@@ -200,7 +233,10 @@ fn is_announced_synchronously(alloc: Global, count: u32) -> Option<(bool, bool)>
         ..request(count)
     };
     let found = request_of(alloc, body.as_slice());
-    Some((found == Some(request), request.fits()))
+    Some((
+        found == Some(request),
+        request.fits() && is_of_script(Frame::RequestToSend(request)),
+    ))
 }
 
 #[test]
@@ -228,7 +264,10 @@ fn is_carried(alloc: Global, offset: u32, count: usize) -> Option<(bool, bool)> 
         bytes: bytes.as_slice(),
     };
     let found = data_of(alloc, body.as_slice(), bytes.as_slice());
-    Some((found == Some((258, offset, true)), data.fits()))
+    Some((
+        found == Some((258, offset, true)),
+        data.fits() && is_of_script(Frame::Data(data)),
+    ))
 }
 
 #[test]
@@ -265,7 +304,7 @@ fn fault_with(alloc: Global, frame: &[u8], at: usize, byte: u8) -> Option<Datagr
 fn other_forms_are_refused(rt: HostRuntime) {
     for (frame, at, byte) in [
         (&REQUEST[..], 1, 1),
-        (&REQUEST, 2, 10),
+        (&REQUEST, 2, 12),
         (&REQUEST, 3, 2),
         (&REQUEST, 4, 0x80),
         (&REQUEST[..23], 0, 2),

@@ -19,6 +19,8 @@ fn types_have_sizes_and_codes(rt: HostRuntime) {
         (BasicType::Uint32, 7, 4),
         (BasicType::Uint64, 8, 8),
         (BasicType::Byte, 9, 1),
+        (BasicType::Float32, 10, 4),
+        (BasicType::Float64, 11, 8),
     ] {
         assert!(rt; stands(basic, code, size), "code {code}");
     }
@@ -27,7 +29,7 @@ fn types_have_sizes_and_codes(rt: HostRuntime) {
 #[test]
 fn other_codes_are_no_types(rt: HostRuntime) {
     assert_eq!(rt;
-        (BasicType::from_code(0), BasicType::from_code(10)),
+        (BasicType::from_code(0), BasicType::from_code(12)),
         (None, None)
     );
 }

@@ -3,13 +3,14 @@ use Rattle.std.specs.Prelude.{ℕ, ◌-◌, ◌==◌, Bool, true, false, not, �
 use Rattle.std.specs.Prelude.{slice_index, codes, Option, Some, None, is_some, if◌then◌else◌}
 use Rattle.std.specs.List.{list_any, position}
 use Rattle.std.specs.Str.{bytes_eq}
+use Rattle.vocabulary.specs.BasicTypes.{is_float}
 use Rattle.vocabulary.specs.declared.basic_type.BasicType.{BasicType}
 use Rattle.numerals.specs.Numbers.{is_numeral}
 use Rattle.tokens.specs.Grammar.{Word}
 use Rattle.tokens.specs.Lines.{is_text_byte, said_in}
 use Rattle.tokens.specs.Numbers.{number_up_to}
 use Rattle.tokens.specs.Words.{basic_type_of}
-use Rattle.statements.specs.Reading.{is_star, key_of, value_of}
+use Rattle.statements.specs.Reading.{integer_of, is_star, key_of}
 use Rattle.statements.specs.Words as action_verbs
 use Rattle.script_files.specs.Reading as script_verbs
 use Rattle.event_files.specs.Reading as event_verbs
@@ -67,9 +68,10 @@ element_at (Some place) word = drop 1 (drop place word)
 unfoldable pub element_in : Word → Word
 element_in word = element_at (position is_star word) word
 
--- a number, or copies of one, that the type doesn't hold
+-- a number, or copies of one, that the type doesn't hold; for a float each number has a nearest one
 unfoldable pub is_out_of_range : BasicType → Word → Bool
-is_out_of_range basic word = is_integer (element_in word) && not (is_some (value_of basic (element_in word)))
+is_out_of_range basic word =
+    not (is_float basic) && (is_integer (element_in word) && not (is_some (integer_of basic (element_in word))))
 
 abbrev pub are_elements_outside : Option BasicType → List Word → Bool
 are_elements_outside None elements = false

@@ -2,7 +2,7 @@
 
 ghost use Rattle.std.specs.Prelude.{◌≡◌, ◌||◌, is_some};
 ghost use Rattle.std.specs.List.{list_any, position};
-ghost use Rattle.statements.specs.Reading.{is_star, key_of, value_of};
+ghost use Rattle.statements.specs.Reading.{integer_of, is_star, key_of};
 ghost use Rattle.line_diagnostics.specs.Faults.{element_in, has_action_outside, has_element_outside, has_split_outside};
 ghost use Rattle.line_diagnostics.specs.Faults.{has_tick_outside, is_colour_outside, is_integer, is_key_outside};
 ghost use Rattle.line_diagnostics.specs.Faults.{is_out_of_range};
@@ -27,10 +27,9 @@ fn is_integer(word: &[u8]) -> bool
     }
 }
 
-/// Whether the word is an element of the type.
-#[tactic(auto, unfolding(statements::specs::Reading::value_of))]
+/// Whether the word is an element of the type, which is no float's.
 fn is_element(basic: BasicType, word: &[u8]) -> bool
-    ensures { result ≡ is_some (value_of basic word.now) }
+    ensures { result ≡ is_some (integer_of basic word.now) }
 {
     if !word.is_empty() && word[0] == b'-' {
         let (_, digits) = word.split_at(1);
@@ -73,7 +72,7 @@ fn is_out_of_range(basic: BasicType, word: &[u8]) -> bool
     ensures { result ≡ is_out_of_range basic word.now }
 {
     let element = element_in(word);
-    is_integer(element) && !is_element(basic, element)
+    !basic.is_float() && is_integer(element) && !is_element(basic, element)
 }
 
 fn is_any_out_of_range(basic: BasicType, words: &[Token]) -> bool

@@ -1,6 +1,7 @@
 //! What the program says on standard error.
 
 use line_diagnostics::{LineFault, event_fault, explanation, line_at, script_fault};
+use script_judgement::hint_of;
 use std::alloc::Global;
 use std::{io, str};
 
@@ -68,6 +69,13 @@ fn told_of_script(
     explanation(alloc, b"mpidraw", &fault, line).ok()
 }
 
+/// Which word of a script's line of this number doesn't fit, and the form of its statement, or what else is known of it.
+fn hint_of_script(alloc: Global, text: &[u8], number: usize) -> Option<String> {
+    let line = line_at(alloc, text, number).ok()??;
+    let fault = script_fault(alloc, line).ok()?;
+    hint_of(alloc, &fault, line).ok()?
+}
+
 /// Says at which line a file is faulty, and why, if that is known, and answers the status.
 fn faulty(rt: &impl Eprint, number: usize, why: Option<Vec<u8>>) -> u8 {
     let status = refused(rt, 51, Some(number));
@@ -96,5 +104,13 @@ pub fn faulty_script(
     number: usize,
     fault: Option<LineFault>,
 ) -> u8 {
-    faulty(rt, number, told_of_script(rt.alloc(), text, number, fault))
+    let hint = match &fault {
+        Some(_) => None,
+        None => hint_of_script(rt.alloc(), text, number),
+    };
+    let status = faulty(rt, number, told_of_script(rt.alloc(), text, number, fault));
+    if let Some(told) = hint {
+        let _told = eprintln!(rt; "mpidraw: {told}");
+    }
+    status
 }

@@ -6,7 +6,7 @@ use engine::{Call, Engine, Place, Refusal};
 use seen_sums::Sum;
 use std::alloc::Global;
 use std::mem;
-use vocabulary::Endpoint;
+use vocabulary::{Endpoint, MessageLimit};
 
 /// What became of a mutated datagram.
 #[derive(Clone, Copy, Debug, PartialEq, Eq)]
@@ -25,6 +25,7 @@ pub fn rank_of_three(alloc: Global, rank: u16, incarnation: u16) -> Option<Engin
         endpoint: Endpoint { rank, incarnation },
         size: 3,
         job: 1,
+        message_limit: MessageLimit::least(),
     };
     Engine::new(alloc, place).ok()
 }

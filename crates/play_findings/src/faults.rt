@@ -4,10 +4,10 @@ use crate::teller::Teller;
 use error_lines::{MetError, error_line};
 use play_events::ErrorAt;
 use play_faults::{Operation, OperationKind, Standing};
-use play_waits::{Leftover, Page, add_source, add_tag};
+use play_waits::{Group, Leftover, Page, add_source, add_tag};
 use script_plays::{Played, Stage};
 use std::alloc::AllocError;
-use vocabulary::Status;
+use vocabulary::{Source, Status};
 
 /// The text without the spaces in front.
 fn without_spaces(text: &[u8]) -> &[u8] {
@@ -33,6 +33,13 @@ fn named_in(line: &[u8]) -> &[u8] {
     let (_, behind) = first_word(without_spaces(line));
     let (word, _) = first_word(without_spaces(behind));
     word
+}
+
+/// Adds `rank R with tag T`, as it stands in the status of a message.
+fn add_status(page: &mut Page, status: Status) -> Result<(), AllocError> {
+    add_source(page, status.source)?;
+    page.add(" with ")?;
+    add_tag(page, status.tag)
 }
 
 fn ended_well(player: &Played) -> bool {
@@ -163,6 +170,33 @@ impl Teller<'_, '_, '_> {
         Ok(())
     }
 
+    /// Adds `rank R with tag T` of a message on this communicator, the rank by its number in `world`; behind that stands
+    /// the communicator's number for it, if that is another one.
+    fn add_status_in(
+        &self,
+        page: &mut Page,
+        status: Status,
+        place: usize,
+        group: &Group,
+    ) -> Result<(), AllocError> {
+        let renumbered = match status.source {
+            Source::Rank(member) => group.world_rank(member).filter(|rank| *rank != member),
+            Source::Any | Source::Null => None,
+        };
+        if let Some(rank) = renumbered {
+            page.add_rank(rank)?;
+            page.add(" (")?;
+            add_source(page, status.source)?;
+            page.add(" of ")?;
+            self.add_group(page, place, group)?;
+            page.add(") with ")?;
+            return add_tag(page, status.tag);
+        }
+        add_status(page, status)?;
+        page.add(" on ")?;
+        self.add_group(page, place, group)
+    }
+
     fn add_leftover(
         &self,
         page: &mut Page,
@@ -172,17 +206,13 @@ impl Teller<'_, '_, '_> {
     ) -> Result<(), AllocError> {
         page.add_rank(rank)?;
         page.add(" never received a message of ")?;
-        add_source(page, one.status.source)?;
-        page.add(" with ")?;
-        add_tag(page, one.status.tag)?;
         let Some(place) = self.communicators.group_at(rank, one.comm) else {
+            add_status(page, one.status)?;
             return page.add("\n");
         };
-        if one.comm != 0 {
-            if let Some(group) = self.communicators.groups().get(place) {
-                page.add(" on ")?;
-                self.add_group(page, place, group)?;
-            }
+        match self.communicators.groups().get(place) {
+            Some(group) if one.comm != 0 => self.add_status_in(page, one.status, place, group)?,
+            _ => add_status(page, one.status)?,
         }
         page.add("\n")?;
         let sender = self

@@ -77,12 +77,44 @@ impl Waiter<'_, '_> {
             .world_rank(member)
     }
 
-    /// Adds on which communicator ranks count, where that isn't `world`.
-    fn add_place(self, page: &mut Page, comm: Option<usize>) -> Result<(), AllocError> {
-        match comm {
-            Some(0) => Ok(()),
-            _ => page.add(" on its communicator"),
+    /// The rank in `world` of what a call names, where its communicator has another number for it.
+    fn renumbered(self, comm: Option<usize>, named: Source) -> Option<u16> {
+        match named {
+            Source::Rank(member) => self.world_rank(comm, member).filter(|rank| *rank != member),
+            Source::Any | Source::Null => None,
         }
+    }
+
+    /// Adds whom a call names: a rank by its number in `world`, and behind it that of its communicator, if that is
+    /// another one.
+    fn add_named(
+        self,
+        page: &mut Page,
+        comm: Option<usize>,
+        named: Source,
+    ) -> Result<(), AllocError> {
+        match self.renumbered(comm, named) {
+            Some(rank) => {
+                page.add_rank(rank)?;
+                page.add(" (")?;
+                add_source(page, named)?;
+                page.add(" of its communicator)")
+            }
+            None => add_source(page, named),
+        }
+    }
+
+    /// Adds that a message doesn't go on `world`, where that isn't told with the rank that is named.
+    fn add_place(
+        self,
+        page: &mut Page,
+        comm: Option<usize>,
+        named: Source,
+    ) -> Result<(), AllocError> {
+        if comm == Some(0) || self.renumbered(comm, named).is_some() {
+            return Ok(());
+        }
+        page.add(" on its communicator")
     }
 
     fn add_whom(
@@ -117,10 +149,10 @@ impl Waiter<'_, '_> {
     fn for_message(self, waiting: &mut Waiting, asked: &Receive) -> Result<(), AllocError> {
         let words = &mut waiting.words;
         words.add("a message of ")?;
-        add_source(words, asked.source)?;
+        self.add_named(words, asked.comm, asked.source)?;
         words.add(" with ")?;
         add_tag(words, asked.tag)?;
-        self.add_place(words, asked.comm)?;
+        self.add_place(words, asked.comm, asked.source)?;
         if asked.source == Source::Any {
             return self.add_others(&mut waiting.any_of, asked.comm);
         }
@@ -129,10 +161,10 @@ impl Waiter<'_, '_> {
 
     fn for_receive(self, waiting: &mut Waiting, sent: &Send) -> Result<(), AllocError> {
         let words = &mut waiting.words;
-        add_source(words, sent.target)?;
+        self.add_named(words, sent.comm, sent.target)?;
         words.add(" to receive its message with ")?;
         add_tag(words, sent.tag)?;
-        self.add_place(words, sent.comm)?;
+        self.add_place(words, sent.comm, sent.target)?;
         self.add_whom(&mut waiting.whom, sent.comm, sent.target)
     }
 
@@ -203,7 +235,7 @@ impl Waiter<'_, '_> {
         if waiting.words.is_empty() {
             return waiting
                 .words
-                .add("what another member should send, which entered otherwise");
+                .add("a message of a member that entered something different");
         }
         waiting.words.add(" to enter")
     }

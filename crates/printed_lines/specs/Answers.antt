@@ -7,7 +7,7 @@ use Rattle.vocabulary.specs.declared.envelope.Source.{Source}
 use Rattle.vocabulary.specs.declared.envelope.Source.TheVariants as sources
 use Rattle.vocabulary.specs.declared.envelope.Status.{Status}
 use Rattle.datatypes.specs.Contents.{Contents}
-use Rattle.datatypes.specs.Elements.{element_text}
+use Rattle.float_texts.specs.Texts.{value_text}
 use Rattle.printed_lines.specs.CommunicatorTexts.{communicator_text, comparison_text, members_text, position_text}
 use Rattle.printed_lines.specs.declared.outcomes.OutcomeText.{OutcomeText}
 use Rattle.printed_lines.specs.declared.outcomes.OutcomeText.TheVariants as outcomes
@@ -46,7 +46,7 @@ message_text serial s = codes "message " ++ serial_text serial ++ codes " " ++ s
 
 -- a space and its value for each element
 abbrev pub elements_text : Contents → List ℕ
-elements_text buffer = flat_map (λ number. codes " " ++ element_text buffer.basic number) buffer.values
+elements_text buffer = flat_map (λ number. codes " " ++ value_text buffer.basic number) buffer.values
 
 -- a number of copies, or none
 abbrev pub count_text : Option ℕ → List ℕ

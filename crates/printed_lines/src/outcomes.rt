@@ -1,7 +1,8 @@
 //! The texts of how operations ended.
 
 use crate::statuses::StatusText;
-use datatypes::{Buffer, Element};
+use datatypes::Buffer;
+use float_texts::ValueText;
 use std::fmt;
 use vocabulary::Status;
 
@@ -22,7 +23,7 @@ impl<'a> fmt::Display for ElementsText<'a> {
         let basic = self.buffer.basic();
         for place in 0..self.buffer.len() {
             let number = self.buffer.number(place);
-            let element = Element { basic, number };
+            let element = ValueText { basic, number };
             write!(f, " {element}")?;
         }
         Ok(())

@@ -6,6 +6,9 @@ use crate::labels::{ArrowLabel, RefusalLabel};
 use crate::picture::{Arrow, Change, Delivery, Note, Picture, Row, Tone};
 use std::alloc::{AllocError, Global};
 
+/// The mark of a failure.
+const FAILED: char = '✗';
+
 /// The rows of a picture that are written so far.
 #[derive(Drop)]
 struct Writer {
@@ -33,6 +36,18 @@ fn put_shortened(row: &mut Vec<char>, place: usize, text: &[u8], most: usize) {
     let (first, _) = text.split_at(most.saturating_sub(2).min(text.len()));
     put_text(row, place, first);
     put_text(row, place.saturating_add(first.len()), b"..");
+}
+
+/// How much of a text stands in the first of several rows of so many characters: whole words, where one has room.
+fn first_part(text: &[u8], most: usize) -> usize {
+    if text.len() <= most {
+        return text.len();
+    }
+    let (front, _) = text.split_at(most.saturating_add(1).min(text.len()));
+    match front.iter().rposition(|byte| *byte == b' ') {
+        Some(place) => place,
+        None => most,
+    }
 }
 
 /// The line of an arrow with its head.
@@ -71,7 +86,7 @@ fn put_label(columns: Columns, row: &mut Vec<char>, span: Span, is_right: bool, 
 fn own_mark(note: &Note) -> Option<char> {
     match (note.change, note.tone) {
         (Change::StartsAnew(_), _) => Some('╳'),
-        (_, Tone::Fails) => Some('✗'),
+        (_, Tone::Fails) => Some(FAILED),
         (Change::Ends, _) => Some('■'),
         _ => None,
     }
@@ -136,15 +151,39 @@ impl Writer {
         }
     }
 
-    /// Writes a text beside a rank's line of life, with a mark on the line where there is a mark of its own.
+    /// Writes a text that has no room in one row beside a rank's line of life, over several.
+    fn write_over_rows(&mut self, rank: u16, span: Span, text: &[u8]) -> Result<(), AllocError> {
+        let mut rest = text;
+        for step in 0..text.len() {
+            let part = first_part(rest, span.len()).max(1).min(rest.len());
+            let (first, behind) = rest.split_at(part);
+            let mut row = self.blank_row()?;
+            if step == 0 {
+                put(&mut row, self.columns.place_of(rank), FAILED);
+            }
+            put_text(&mut row, span.first, first);
+            self.push(&row)?;
+            rest = behind.trim_ascii_start();
+            if rest.is_empty() {
+                return Ok(());
+            }
+        }
+        Ok(())
+    }
+
+    /// Writes a text beside a rank's line of life, with a mark on the line where there is a mark of its own. What
+    /// failed is never shortened.
     fn write_beside(
         &mut self,
         rank: u16,
         text: &[u8],
         own: Option<char>,
     ) -> Result<(), AllocError> {
-        let mut row = self.blank_row()?;
         let span = self.columns.beside(rank, text.len());
+        if own == Some(FAILED) && span.len() < text.len() {
+            return self.write_over_rows(rank, span, text);
+        }
+        let mut row = self.blank_row()?;
         let place = self.columns.place_of(rank);
         let side = if place < span.first { '├' } else { '┤' };
         put(&mut row, place, own.unwrap_or(side));

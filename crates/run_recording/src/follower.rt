@@ -198,7 +198,7 @@ impl<'a> Follower<'a> {
             let Some((_, bytes)) = self.simulation.world().datagram(number) else {
                 return Ok(());
             };
-            let Ok(datagram) = datagram::read(bytes) else {
+            let Ok(datagram) = datagram::read_form(bytes) else {
                 return Ok(());
             };
             let header = datagram.header;

@@ -10,7 +10,7 @@ use script_runner::ScriptRunner;
 use std::alloc::Global;
 use std::collections::VecDeque;
 use std::mem;
-use vocabulary::Endpoint;
+use vocabulary::{Endpoint, MessageLimit};
 
 /// The script of two ranks that play ping-pong.
 pub const PING_PONG: &[u8] =
@@ -29,6 +29,7 @@ pub fn place_of_two(rank: u16) -> Place {
         },
         size: 2,
         job: 1,
+        message_limit: MessageLimit::least(),
     }
 }
 
@@ -239,9 +240,13 @@ fn put(buffer: &mut [u8], bytes: &[u8]) -> usize
 }
 
 impl Transport for Pair {
+    ghost use Rattle.std.specs.Prelude.{[]};
+
     ghost passed = { λ _ _ _. Unit {0} };
 
     ghost failed = { λ t. t.failures };
+
+    ghost waits = { λ _. [] };
 
     fn receive(&mut self, buffer: &mut [u8]) -> Result<Option<usize>, TransportFault> {
         if self.is_faulty() {
@@ -280,6 +285,10 @@ impl Transport for Pair {
             return Err(self.fail());
         }
         Ok(())
+    }
+
+    fn wait_of(&self, _rank: u16) -> Option<u64> {
+        None
     }
 
     fn failures(&self) -> u64 {

@@ -1,8 +1,8 @@
 //! What calls answer, in words.
 
 use crate::rank_lines::Manner;
-use datatypes::Element;
 use engine::{Answer, Buffer, Completion, Ending, Outcome, Reply, Source, Status};
+use float_texts::ValueText;
 use play_waits::{Page, add_source, add_tag};
 use run_drawings::Tone;
 use std::alloc::{AllocError, Global};
@@ -29,7 +29,7 @@ fn add_elements(alloc: Global, page: &mut Page, buffer: &Buffer) -> Result<(), A
     let basic = buffer.basic();
     for place in 0..buffer.len().min(MOST_ELEMENTS) {
         let number = buffer.number(place);
-        let element = Element { basic, number };
+        let element = ValueText { basic, number };
         let text = format!(in alloc; "{element}")?;
         if place > 0 {
             page.add(" ")?;

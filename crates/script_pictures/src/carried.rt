@@ -17,6 +17,8 @@ fn name_of(basic: BasicType) -> &'static str {
         BasicType::Uint32 => "uint32",
         BasicType::Uint64 => "uint64",
         BasicType::Byte => "byte",
+        BasicType::Float32 => "float32",
+        BasicType::Float64 => "float64",
     }
 }
 

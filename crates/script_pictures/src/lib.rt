@@ -4,6 +4,7 @@
 
 mod answers;
 mod carried;
+mod errors;
 mod happenings;
 mod rank_lines;
 mod standing;

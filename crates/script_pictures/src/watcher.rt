@@ -2,6 +2,7 @@
 
 use crate::answers::{Worded, error_words, words_of};
 use crate::carried::words_of as carried_words;
+use crate::errors::Errors;
 use crate::happenings::Happenings;
 use crate::rank_lines::{Manner, OwnLines, lines_of, manner_of, statement_in};
 use crate::standing::{LastStatement, Standing, standing_of, status_of};
@@ -9,11 +10,12 @@ use crate::unfollowed::{Unfollowed, reason_of};
 use crate::waits::{EndedPlay, StuckRank};
 use crate::{ScriptPicture, Shown};
 use datagram::{Content, Frame};
+use error_lines::{MetError, uncalled_error};
 use play_events::ScriptLines;
 use printed_lines::{FrameKind, LoadText};
 use run_drawings::{Change, Delivery, Emission, Note, Tone};
 use script_files::{Script, ScriptLine};
-use script_plays::Move;
+use script_plays::{Move, Stage};
 use std::alloc::{AllocError, Global};
 use stepped_plays::{PlayError, SteppedPlay};
 
@@ -30,6 +32,8 @@ pub(crate) struct Watcher<'t, 's> {
     lines: Vec<OwnLines<'s>>,
     /// What each rank did last.
     last: Vec<LastStatement>,
+    /// What is known of each rank's operations.
+    errors: Errors,
     /// The arrow of each datagram; none where it isn't drawn.
     arrows: Vec<Option<usize>>,
     /// How many arrows there are.
@@ -86,6 +90,7 @@ impl<'t, 's> Watcher<'t, 's> {
             play: SteppedPlay::new(alloc, text, size)?,
             lines,
             last: vec![in alloc; LastStatement::none(); usize::from(size)]?,
+            errors: Errors::new(alloc, size)?,
             arrows: Vec::new(alloc),
             drawn: 0,
             happenings: Happenings::new(alloc),
@@ -145,6 +150,18 @@ impl<'t, 's> Watcher<'t, 's> {
             return None;
         }
         self.lines.get(usize::from(rank))?.taken_last(now.left)
+    }
+
+    /// The number of the line that a rank took last; 0 where it took none.
+    fn number_of_line(&self, rank: u16) -> usize {
+        let left = standing_of(&self.play, rank).left;
+        match self.lines.get(usize::from(rank)) {
+            Some(lines) => match lines.taken_last(left) {
+                Some(line) => line.number,
+                None => 0,
+            },
+            None => 0,
+        }
     }
 
     /// The text of the line of this number.
@@ -210,6 +227,23 @@ impl<'t, 's> Watcher<'t, 's> {
         Ok(())
     }
 
+    /// Adds why a rank met these errors, each as a row of its own.
+    fn tell_why(&mut self, rank: u16, met: Vec<MetError>) -> Result<(), AllocError> {
+        for error in met {
+            self.tell_alone(rank, error.why.as_bytes(), Tone::Fails, Change::Stays)?;
+        }
+        Ok(())
+    }
+
+    /// Adds why the line that a rank took last printed an error, where no call was refused.
+    fn tell_why_uncalled(&mut self, rank: u16, printed: &[u8]) -> Result<(), AllocError> {
+        let text = self.texts.line(self.number_of_line(rank));
+        if let Some(error) = uncalled_error(self.alloc, text, printed)? {
+            self.tell_alone(rank, error.why.as_bytes(), Tone::Fails, Change::Stays)?;
+        }
+        Ok(())
+    }
+
     /// Adds what a rank printed, but for an error that was told.
     fn tell_printed(&mut self, rank: u16) -> Result<(), PlayError> {
         let mut last = self.last(rank);
@@ -228,12 +262,13 @@ impl<'t, 's> Watcher<'t, 's> {
             },
             None => return Ok(()),
         };
-        let tone = if words.starts_with(b"error ") {
-            Tone::Fails
-        } else {
-            Tone::Prints
-        };
+        let is_error = words.starts_with(b"error ");
+        let tone = if is_error { Tone::Fails } else { Tone::Prints };
+        let printed = Vec::from_slice(self.alloc, &words)?;
         self.answer(rank, Worded { words, tone })?;
+        if is_error {
+            self.tell_why_uncalled(rank, &printed)?;
+        }
         Ok(())
     }
 
@@ -243,15 +278,28 @@ impl<'t, 's> Watcher<'t, 's> {
             Some(player) => player.refused().last().copied().unwrap_or(0),
             None => 0,
         };
+        let line = self.number_of_line(rank);
+        let met = match self.play.player(rank) {
+            Some(player) => match player.stage() {
+                Stage::Ready(Some(reply)) => { self.errors.refused(self.alloc, rank, line, reply)? }
+                _ => Vec::new(self.alloc),
+            },
+            None => Vec::new(self.alloc),
+        };
         self.answer_learnt(rank, error_words(self.alloc, number)?)?;
+        self.tell_why(rank, met)?;
         Ok(())
     }
 
     /// Adds what the call of a rank answered, or that it is blocked.
     fn tell_reply(&mut self, rank: u16) -> Result<(), PlayError> {
         let last = self.last(rank);
-        let worded = match self.play.world().history().last() {
-            Some(entry) => words_of(self.alloc, entry, last.manner)?,
+        let line = self.number_of_line(rank);
+        let (worded, met) = match self.play.world().history().last() {
+            Some(entry) => (
+                words_of(self.alloc, entry, last.manner)?,
+                self.errors.met(self.alloc, line, entry)?,
+            ),
             None => return Ok(()),
         };
         let is_blocked = match self.play.player(rank) {
@@ -263,6 +311,7 @@ impl<'t, 's> Watcher<'t, 's> {
             _ => {}
         }
         self.answer_learnt(rank, worded)?;
+        self.tell_why(rank, met)?;
         Ok(())
     }
 
@@ -342,7 +391,7 @@ impl<'t, 's> Watcher<'t, 's> {
         let Some((_, bytes)) = self.play.world().datagram(number) else {
             return Ok(());
         };
-        let Ok(datagram) = datagram::read(bytes) else {
+        let Ok(datagram) = datagram::read_form(bytes) else {
             self.arrows.push(None)?;
             return Ok(());
         };
@@ -408,9 +457,16 @@ impl<'t, 's> Watcher<'t, 's> {
         }
         let rank = entry.endpoint.rank;
         let mut last = self.last(rank);
-        let worded = words_of(self.alloc, entry, last.manner)?;
+        let (worded, met) = match self.play.world().history().last() {
+            Some(entry) => (
+                words_of(self.alloc, entry, last.manner)?,
+                self.errors.met(self.alloc, 0, entry)?,
+            ),
+            None => return Ok(()),
+        };
         last.has_failed = worded.tone == Tone::Fails;
         self.tell(rank, b"", worded, Change::Resumes)?;
+        self.tell_why(rank, met)?;
         self.set_last(rank, last);
         Ok(())
     }
@@ -497,12 +553,13 @@ pub(crate) fn watched(
         play,
         lines,
         last,
+        errors,
         arrows,
         drawn: _,
         happenings,
         unfollowed,
     } = watcher;
-    drop((texts, play, lines, last, arrows));
+    drop((texts, play, lines, last, errors, arrows));
     Ok(ScriptPicture {
         picture: happenings.into_picture(size)?,
         unfollowed: unfollowed.map(|(_, unfollowed)| unfollowed),

@@ -28,16 +28,16 @@ use Rattle.world.specs.declared.refusal.WorldRefusal.TheVariants as refusals
 abbrev rank_fault : Bool → Option world_refusal.WorldRefusal
 rank_fault b = first_fault (if b then Some refusals.NoSuchRank else None) None
 
-no_world_fault : (n : ℕ) (ds : List (ℕ × List ℕ)) (r : ℕ) (call : Call) → r < n →
-    event_fault n ds (events.Call r call) ≡ None
-no_world_fault n ds r call h = ap rank_fault (lt-leb n r h)
+no_world_fault : (n limit : ℕ) (ds : List (ℕ × List ℕ)) (r : ℕ) (call : Call) → r < n →
+    event_fault n limit ds (events.Call r call) ≡ None
+no_world_fault n limit ds r call h = ap rank_fault (lt-leb n r h)
 
 -- it is its engine that refuses it
 pub engine_refuses : (w : WorldState) (r : ℕ) (call : Call) (refused : world_refusal.WorldRefusal)
     (out : List (ℕ × List ℕ)) → r < length w.engines → IsWhy w (events.Call r call) refused out →
     (why : lower.Refusal) × (refused ≡ refusals.Engine why)
 engine_refuses w r call refused out h (ByTheWorld fault o) =
-    absurd (none-some refused (sym (no_world_fault (length w.engines) w.datagrams r call h) ∙ fault))
+    absurd (none-some refused (sym (no_world_fault (length w.engines) 0 w.datagrams r call h) ∙ fault))
 engine_refuses w r call refused out h (ForRoom a b c e o) = (lowers.OutOfMemory, e)
 engine_refuses w r call refused out h (ByTheEngine e a is o ran) = (e.refused, is)
 

@@ -10,6 +10,7 @@ use Rattle.script_players.specs.Players.{PlayerGoes, PlayerState}
 use Rattle.script_players.specs.declared.played.Stage.TheVariants.{Ready}
 use Rattle.script_plays.proofs.Goes.{goes_so, put}
 use Rattle.script_plays.proofs.Sizes.{begin_players, move_players, move_size, opening_size}
+use Rattle.vocabulary.specs.MessageLimits.{least}
 use Rattle.script_plays.specs.Playing.{EventGives, GoGives, HasHeadline, MoveGives, PlayGives, PlayState, ScheduleGives}
 use Rattle.script_plays.specs.Playing.{players_of, with_told}
 use Rattle.script_plays.specs.declared.moves.Move.{Move}
@@ -117,7 +118,8 @@ sizes_on now mid m g h = move_players m now mid g ∙ (h ∙ sym (move_size m no
 pub sizes_begin : (scripts : List (List ScriptLine)) (w : WorldState) (players : List PlayerState) (n : ℕ) →
     w ≡ opening_world n → n ≡ length scripts → players ≡ players_of 0 scripts → length players ≡ length w.engines
 sizes_begin scripts w players n we ne pe = ap length pe ∙
-    (begin_players 0 scripts ∙ (sym ne ∙ sym (ap (λ (x : WorldState). length x.engines) we ∙ opening_size n 0 n)))
+    (begin_players 0 scripts ∙ (sym ne ∙ sym (ap (λ (x : WorldState). length x.engines) we ∙
+    opening_size least n 0 n)))
 
 -- what is played from the start
 pub play_gives : (scripts : List (List ScriptLine)) (schedule : List Move) (w : WorldState) (players : List PlayerState)

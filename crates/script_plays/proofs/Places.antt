@@ -25,6 +25,7 @@ use Rattle.script_plays.specs.Events.{AreEventsOf, IsEventOf}
 use Rattle.script_plays.specs.Playing.{HasHeadline}
 use Rattle.script_plays.specs.declared.moves.Move as schedule
 use Rattle.script_plays.specs.declared.moves.Move.TheVariants as moves
+use Rattle.proof_network_bridge.specs.Joined.{limit_in}
 use Rattle.vocabulary.specs.declared.endpoint.Endpoint.{Endpoint}
 use Rattle.world.specs.Headline.{event_seen, history_seen}
 use Rattle.world.specs.WorldState.{WorldState}
@@ -81,8 +82,10 @@ pub at_first : (w : WorldState) → HasHeadline w → HasNoRestart (history_seen
     slice_get w.engines r ≡ Some e → e.sessions.place.endpoint ≡ first_endpoint r
 at_first w h none r e there = ap₂ endpoint_of (placed w h r e there) (sym (h.run.now r e there) ∙ current)
   where
-    current : (after_run (machine_opening (length w.engines)) h.run.run_events).queues.current r ≡ 0
-    current = stays_first (length w.engines) h.run.run_events (machine_opening (length w.engines)) (λ x. refl) h.run.run
+    current : (after_run (machine_opening (length w.engines) (limit_in w.engines)) h.run.run_events).queues.current r ≡
+        0
+    current = stays_first (length w.engines) h.run.run_events (machine_opening (length w.engines) (limit_in w.engines))
+        (λ x. refl) h.run.run
         (subst HasNoRestart (sym h.run.tells) none) r
 
 -- A SCHEDULE RESTARTS NONE

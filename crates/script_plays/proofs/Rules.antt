@@ -8,7 +8,7 @@ use Rattle.engine_calls.specs.declared.reply.Reply.{Reply}
 use Rattle.perfect_groups.specs.Calls as machine
 use Rattle.perfect_groups.specs.Communicators.{first_endpoint}
 use Rattle.perfect_groups.specs.Machine.{machine_opening}
-use Rattle.perfect_groups.specs.Runs.{after_run}
+use Rattle.perfect_groups.specs.Runs.{IsRun, after_run, seen}
 use Rattle.observation.specs.Reasons.{IsReason, MachinesFault, NoRoom}
 use Rattle.observation.specs.Faults.{fault_in}
 use Rattle.observation.specs.EngineCalls.{call_meant, call_seen}
@@ -23,6 +23,8 @@ use Rattle.script_players.specs.declared.played.Stage.TheVariants.{Ready}
 use Rattle.script_plays.specs.Playing.{HasHeadline, PlayGives, PlayState}
 use Rattle.script_plays.specs.declared.moves.Move.{Move}
 use Rattle.script_runner.specs.Running.{NextGives, RunnerState}
+use Rattle.proof_network_bridge.specs.Joined.{limit_in}
+use Rattle.vocabulary.specs.Limits.{send_limit}
 use Rattle.vocabulary.specs.declared.endpoint.Endpoint.{Endpoint}
 use Rattle.world.specs.Faults.{event_fault, first_fault}
 use Rattle.world.specs.Given.{NamesOwn}
@@ -36,7 +38,7 @@ use Rattle.world.specs.declared.refusal.WorldRefusal.TheVariants as refusals
 use Rattle.script_plays.proofs.Histories.{histories_are_of_schedules}
 use Rattle.script_plays.proofs.Keeps.{calls_name_own}
 use Rattle.script_plays.proofs.Places.{at_first, schedule_fresh}
-use Rattle.script_plays.proofs.Sizes.{size_is}
+use Rattle.script_plays.proofs.Sizes.{limit_is, size_is}
 use Rattle.script_plays.proofs.Ways.{headline_of}
 
 abbrev rank_fault : Bool → Option world_refusal.WorldRefusal
@@ -65,29 +67,43 @@ rule_of found why (NoRoom (inr memory) none) a b = absurd (b (ap number_of_refus
 -- in a world
 engine_rule : (w : WorldState) (head : HasHeadline w) → HasNoRestart (history_seen w.history) →
     (r : ℕ) (e : EngineState) (call back : Call) (why : lower.Refusal) → slice_get w.engines r ≡ Some e →
-    NamesOwn w.history (first_endpoint r) call →
+    NamesOwn w.history (first_endpoint r) call → limit_in w.engines ≡ send_limit →
     Rattle.engine_calls.specs.Calls.CallGives e call
     (Rattle.engine_calls.specs.declared.reply.Reply.TheVariants.Refused why back) e →
     number_of_refusal why ≢ 13 → number_of_refusal why ≢ 14 →
     HasFault (length w.engines) (history_seen w.history) r (call_seen call) (number_of_refusal why)
-engine_rule w head fresh r e call back why there own gives a b =
-    record { events = head.run.run_events; run = head.run.run; tells = head.run.tells; fault_is = fault_is }
+engine_rule w head fresh r e call back why there own limit gives a b =
+    record {
+      events = head.run.run_events;
+      run = subst (λ (l : ℕ). IsRun n (machine_opening n l) head.run.run_events) limit head.run.run;
+      tells = subst (λ (l : ℕ). seen (machine_opening n l) head.run.run_events ≡ history_seen w.history) limit
+          head.run.tells;
+      fault_is = subst (λ (l : ℕ). fault_in (after_run (machine_opening n l) head.run.run_events) (first_endpoint r)
+          (call_seen call) ≡ Some (number_of_refusal why)) limit fault_is;
+    }
   where
+    n : ℕ
+    n = length w.engines
+
     first : e.sessions.place.endpoint ≡ first_endpoint r
     first = at_first w head fresh r e there
 
     meant : call_meant e.core call ≡ call_seen call
     meant = head.run.own_requests r e call there (subst (λ (x : Endpoint). NamesOwn w.history x call) (sym first) own)
 
-    fault_is : fault_in (after_run (machine_opening (length w.engines)) head.run.run_events) (first_endpoint r)
+    fault_is : fault_in (after_run (machine_opening (length w.engines) (limit_in w.engines)) head.run.run_events)
+        (first_endpoint r)
         (call_seen call) ≡ Some (number_of_refusal why)
     fault_is =
-        ap (fault_in (after_run (machine_opening (length w.engines)) head.run.run_events) (first_endpoint r))
+        ap (fault_in (after_run (machine_opening (length w.engines) (limit_in w.engines)) head.run.run_events)
+        (first_endpoint r))
         (sym meant)
-        ∙ (ap (λ (x : Endpoint). fault_in (after_run (machine_opening (length w.engines)) head.run.run_events) x
+        ∙ (ap (λ (x : Endpoint). fault_in
+        (after_run (machine_opening (length w.engines) (limit_in w.engines)) head.run.run_events) x
         (call_meant e.core call)) (sym first)
         ∙ rule_of
-        (fault_in (after_run (machine_opening (length w.engines)) head.run.run_events) e.sessions.place.endpoint
+        (fault_in (after_run (machine_opening (length w.engines) (limit_in w.engines)) head.run.run_events)
+        e.sessions.place.endpoint
         (call_meant e.core call)) why
         (head.run.refuses r e e call back why there gives) a b)
 
@@ -118,4 +134,4 @@ refused_by_rule scripts schedule st g head w r call failed refused p reply s is 
         subst (λ (k : ℕ). HasFault k (history_seen st.world.history) r (call_seen call) (number_of_refusal why))
         (size_is scripts schedule st g)
         (engine_rule st.world head fresh r ran.engine call ran.ran.2.0 why (ap (slice_get st.world.engines) rank ∙
-        ran.there) own gives a b)
+        ran.there) own (limit_is scripts schedule st g) gives a b)

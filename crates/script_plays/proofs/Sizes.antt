@@ -1,9 +1,12 @@
 -- A world keeps its engines, and a play its players: as many as there are scripts.
 use Rattle.std.proofs.Common.{◌≡◌, ℕ, zero, suc, List, [], ◌∷◌, length, Option, Some, None, Result, Ok, Err, slice_get}
 use Rattle.std.proofs.Common.{slice_set, refl, ap, ◌∙◌}
+use Rattle.vocabulary.specs.declared.message_limit.MessageLimit.{MessageLimit}
+use Rattle.vocabulary.specs.Limits.{send_limit}
+use Rattle.vocabulary.specs.MessageLimits.{least, limit_of}
 use Rattle.engine_calls.specs.EngineState.{EngineState}
 use Rattle.engine_calls.specs.declared.reply.Completion.{Completion}
-use Rattle.proof_network_bridge.specs.Joined.{opening_engines}
+use Rattle.proof_network_bridge.specs.Joined.{limit_in, opening_engines}
 use Rattle.event_loop.specs.declared.runner.RunnerStep.{RunnerStep}
 use Rattle.event_loop.specs.declared.runner.RunnerStep.TheVariants as steps
 use Rattle.script_runner.specs.Running.{RunnerState}
@@ -31,60 +34,99 @@ went_size : (old : WorldState) (event : Event) (added : Stepped) (new : WorldSta
     length new.engines ≡ length old.engines
 went_size old event added new w = ap length w.ran.others ∙ as_long old.engines w.ran.rank w.ran.next
 
-refused_size : (old : WorldState) (event : Event) (failed : Failed) (new : WorldState) →
-    IsRefusedBy old event failed new → length new.engines ≡ length old.engines
-refused_size old event failed new h = ap (λ (w : WorldState). length w.engines) h.unchanged
+-- a number of a world's engines that no event changes
+abbrev IsKept : (List EngineState → ℕ) → Type 0
+IsKept f =
+    (old : WorldState) (event : Event) (added : Stepped) (new : WorldState) → Went old event added new →
+    f new.engines ≡ f old.engines
 
-call_size : (old : PlayState) (r : ℕ) (p : PlayerState) (s : RunnerState) (call : _) (result : Result Stepped Failed)
-    (new : PlayState) → CallMoves old r p s call result new → length new.world.engines ≡ length old.world.engines
-call_size old r p s call (Ok added) new g = ap (λ (x : PlayState). length x.world.engines) g.4 ∙
-    went_size old.world (events.Call r call) added g.0 g.1
-call_size old r p s call (Err failed) new g = ap (λ (x : PlayState). length x.world.engines) g.4 ∙
-    refused_size old.world (events.Call r call) failed g.0 g.2
+refused_kept : (f : List EngineState → ℕ) → IsKept f →
+    (old : WorldState) (event : Event) (failed : Failed) (new : WorldState) →
+    IsRefusedBy old event failed new → f new.engines ≡ f old.engines
+refused_kept f kept old event failed new h = ap (λ (w : WorldState). f w.engines) h.unchanged
 
-step_size : (old : PlayState) (r : ℕ) (p : PlayerState) (s : RunnerState) (step : RunnerStep) (new : PlayState) →
-    StepMoves old r p s step new → length new.world.engines ≡ length old.world.engines
-step_size old r p s (steps.Print line) new g = ap (λ (x : PlayState). length x.world.engines) g
-step_size old r p s (steps.End status line) new g = ap (λ (x : PlayState). length x.world.engines) g
-step_size old r p s (steps.Call call) new g = call_size old r p s call g.0 new g.1
+call_kept : (f : List EngineState → ℕ) → IsKept f →
+    (old : PlayState) (r : ℕ) (p : PlayerState) (s : RunnerState) (call : _) (result : Result Stepped Failed)
+    (new : PlayState) → CallMoves old r p s call result new → f new.world.engines ≡ f old.world.engines
+call_kept f kept old r p s call (Ok added) new g = ap (λ (x : PlayState). f x.world.engines) g.4 ∙
+    kept old.world (events.Call r call) added g.0 g.1
+call_kept f kept old r p s call (Err failed) new g = ap (λ (x : PlayState). f x.world.engines) g.4 ∙
+    refused_kept f kept old.world (events.Call r call) failed g.0 g.2
 
-go_size : (old : PlayState) (r : ℕ) (p : PlayerState) (stage : Stage) (new : PlayState) → GoesBy old r p stage new →
-    length new.world.engines ≡ length old.world.engines
-go_size old r p (Ready reply) new g = step_size old r p g.1 g.0 new g.3
-go_size old r p (Waits call) new g = ap (λ (x : PlayState). length x.world.engines) g
-go_size old r p (Over status) new g = ap (λ (x : PlayState). length x.world.engines) g
+step_kept : (f : List EngineState → ℕ) → IsKept f →
+    (old : PlayState) (r : ℕ) (p : PlayerState) (s : RunnerState) (step : RunnerStep) (new : PlayState) →
+    StepMoves old r p s step new → f new.world.engines ≡ f old.world.engines
+step_kept f kept old r p s (steps.Print line) new g = ap (λ (x : PlayState). f x.world.engines) g
+step_kept f kept old r p s (steps.End status line) new g = ap (λ (x : PlayState). f x.world.engines) g
+step_kept f kept old r p s (steps.Call call) new g = call_kept f kept old r p s call g.0 new g.1
 
-may_size : (old : PlayState) (r : ℕ) (p : Option PlayerState) (new : PlayState) → GoGives old r p new →
-    length new.world.engines ≡ length old.world.engines
-may_size old r None new g = ap (λ (x : PlayState). length x.world.engines) g
-may_size old r (Some p) new g = go_size old r p p.stage new g
+go_kept : (f : List EngineState → ℕ) → IsKept f →
+    (old : PlayState) (r : ℕ) (p : PlayerState) (stage : Stage) (new : PlayState) → GoesBy old r p stage new →
+    f new.world.engines ≡ f old.world.engines
+go_kept f kept old r p (Ready reply) new g = step_kept f kept old r p g.1 g.0 new g.3
+go_kept f kept old r p (Waits call) new g = ap (λ (x : PlayState). f x.world.engines) g
+go_kept f kept old r p (Over status) new g = ap (λ (x : PlayState). f x.world.engines) g
 
-event_size : (event : Event) (old : PlayState) (result : Result Stepped Failed) (new : PlayState) →
-    EventGives old event result new → length new.world.engines ≡ length old.world.engines
-event_size event old (Ok added) new g = ap (λ (x : PlayState). length x.world.engines) g.2 ∙
-    went_size old.world event added g.0 g.1
-event_size event old (Err failed) new g = ap (λ (x : PlayState). length x.world.engines) g.2 ∙
-    refused_size old.world event failed g.0 g.1
+may_kept : (f : List EngineState → ℕ) → IsKept f →
+    (old : PlayState) (r : ℕ) (p : Option PlayerState) (new : PlayState) → GoGives old r p new →
+    f new.world.engines ≡ f old.world.engines
+may_kept f kept old r None new g = ap (λ (x : PlayState). f x.world.engines) g
+may_kept f kept old r (Some p) new g = go_kept f kept old r p p.stage new g
 
+event_kept : (f : List EngineState → ℕ) → IsKept f →
+    (event : Event) (old : PlayState) (result : Result Stepped Failed) (new : PlayState) →
+    EventGives old event result new → f new.world.engines ≡ f old.world.engines
+event_kept f kept event old (Ok added) new g = ap (λ (x : PlayState). f x.world.engines) g.2 ∙
+    kept old.world event added g.0 g.1
+event_kept f kept event old (Err failed) new g = ap (λ (x : PlayState). f x.world.engines) g.2 ∙
+    refused_kept f kept old.world event failed g.0 g.1
+
+move_kept : (f : List EngineState → ℕ) → IsKept f →
+    (m : Move) (old new : PlayState) → MoveGives old m new →
+    f new.world.engines ≡ f old.world.engines
+move_kept f kept (moves.Go r) old new g = may_kept f kept old r (slice_get old.players r) new g
+move_kept f kept (moves.Deliver d) old new g = event_kept f kept (events.Deliver d) old g.0 new g.1
+move_kept f kept (moves.Tick r now) old new g = event_kept f kept (events.Tick r now) old g.0 new g.1
+
+schedule_kept : (f : List EngineState → ℕ) → IsKept f →
+    (ms : List Move) (old new : PlayState) → ScheduleGives old ms new →
+    f new.world.engines ≡ f old.world.engines
+schedule_kept f kept [] old new g = ap (λ (x : PlayState). f x.world.engines) g.0
+schedule_kept f kept (m ∷ ms) old new g = schedule_kept f kept ms g.1.0 new g.1.2 ∙ move_kept f kept m old g.1.0 g.1.1
+
+-- as many engines as there were
 pub move_size : (m : Move) (old new : PlayState) → MoveGives old m new →
     length new.world.engines ≡ length old.world.engines
-move_size (moves.Go r) old new g = may_size old r (slice_get old.players r) new g
-move_size (moves.Deliver d) old new g = event_size (events.Deliver d) old g.0 new g.1
-move_size (moves.Tick r now) old new g = event_size (events.Tick r now) old g.0 new g.1
+move_size m old new g = move_kept (λ es. length es) went_size m old new g
 
-schedule_size : (ms : List Move) (old new : PlayState) → ScheduleGives old ms new →
-    length new.world.engines ≡ length old.world.engines
-schedule_size [] old new g = ap (λ (x : PlayState). length x.world.engines) g.0
-schedule_size (m ∷ ms) old new g = schedule_size ms g.1.0 new g.1.2 ∙ move_size m old g.1.0 g.1.1
+-- and their limit of messages
+went_limit : (old : WorldState) (event : Event) (added : Stepped) (new : WorldState) → Went old event added new →
+    limit_in new.engines ≡ limit_in old.engines
+went_limit old event added new w = w.limit
 
-pub opening_size : (n rank k : ℕ) → length (opening_engines n rank k) ≡ k
-opening_size n rank zero = refl
-opening_size n rank (suc k) = ap suc (opening_size n (suc rank) k)
+-- that of scripts, in bytes
+least_is : limit_of least ≡ send_limit
+unfolding limit_of
+least_is = refl
+
+opening_limit : (n k : ℕ) → limit_in (opening_engines least n 0 k) ≡ send_limit
+opening_limit n zero = least_is
+opening_limit n (suc k) = least_is
+
+pub limit_is : (scripts : List (List ScriptLine)) (schedule : List Move) (st : PlayState) →
+    ScheduleGives (play_opening scripts) schedule st → limit_in st.world.engines ≡ send_limit
+limit_is scripts schedule st g =
+    schedule_kept (λ es. limit_in es) went_limit schedule (play_opening scripts) st g ∙
+    opening_limit (length scripts) (length scripts)
+
+pub opening_size : (l : MessageLimit) (n rank k : ℕ) → length (opening_engines l n rank k) ≡ k
+opening_size l n rank zero = refl
+opening_size l n rank (suc k) = ap suc (opening_size l n (suc rank) k)
 
 pub size_is : (scripts : List (List ScriptLine)) (schedule : List Move) (st : PlayState) →
     ScheduleGives (play_opening scripts) schedule st → length st.world.engines ≡ length scripts
-size_is scripts schedule st g = schedule_size schedule (play_opening scripts) st g ∙
-    opening_size (length scripts) 0 (length scripts)
+size_is scripts schedule st g = schedule_kept (λ es. length es) went_size schedule (play_opening scripts) st g ∙
+    opening_size least (length scripts) 0 (length scripts)
 
 -- THE PLAYERS
 

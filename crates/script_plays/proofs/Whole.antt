@@ -4,6 +4,8 @@ use Rattle.std.proofs.Common.{Some, None, Result, Ok, Err, slice_get, slice_set,
 use Rattle.std.proofs.Common.{append-nil, append_assoc, arith}
 use Rattle.std.proofs.lemmas.Bool.{lt-leb}
 use Rattle.std.proofs.lemmas.Option.{none-some, same_Some}
+use Rattle.proof_network_bridge.specs.Joined.{limit_in}
+use Rattle.vocabulary.specs.Limits.{send_limit}
 use Rattle.vocabulary.specs.declared.endpoint.Endpoint.{Endpoint}
 use Rattle.engine_calls.specs.declared.call.Call.{Call}
 use Rattle.engine_calls.specs.declared.reply.Completion.{Completion}
@@ -52,7 +54,7 @@ use Rattle.script_plays.proofs.Goes.{set_same}
 use Rattle.script_plays.proofs.Histories.{worlds_have_histories}
 use Rattle.script_plays.proofs.Fitting.{Replies, replies_to}
 use Rattle.script_plays.proofs.Join.{Joined, grow, ends, prints, ready_alike, refused, replied, still}
-use Rattle.script_plays.proofs.Sizes.{size_is}
+use Rattle.script_plays.proofs.Sizes.{limit_is, size_is}
 use Rattle.script_plays.proofs.Joining.{alike_none, alike_set, answer_first, seen_more, set_there}
 use Rattle.script_plays.proofs.Keeps.{call_at}
 use Rattle.script_plays.proofs.Ways.{headline_of, one_more, player_at}
@@ -93,7 +95,7 @@ as_told (completions.Collective o) = refl
 -- who is answered was blocked
 waited : (scripts : List (List ScriptLine)) → Premises scripts →
     (st : PlayState) (j : Joined scripts st) (r : ℕ) (a : machine.Answer) →
-    IsHistory (length scripts) (history_seen st.world.history ++ Completed (first_endpoint r) a ∷ []) →
+    IsHistory (length scripts) send_limit (history_seen st.world.history ++ Completed (first_endpoint r) a ∷ []) →
     (p : PlayerState) → slice_get st.players r ≡ Some p → (call : Call) × (p.stage ≡ Waits call)
 waited scripts pre st j r a there p is = by p.stage refl
   where
@@ -113,7 +115,7 @@ waited scripts pre st j r a there p is = by p.stage refl
 answered : (scripts : List (List ScriptLine)) → Premises scripts →
     (st : PlayState) (j : Joined scripts st) (r : ℕ) (c : Completion) (w : WorldState) →
     history_seen w.history ≡ history_seen st.world.history ++ told_completion (first_endpoint r) (Some c) →
-    IsHistory (length scripts) (history_seen w.history) →
+    IsHistory (length scripts) send_limit (history_seen w.history) →
     (o : Option PlayerState) → slice_get st.players r ≡ o →
     Joined scripts (record { world = w; players = with_told st.players r (Some c) o })
 answered scripts pre st j r c w h there = go
@@ -149,7 +151,7 @@ answered scripts pre st j r c w h there = go
     go None is =
         grow scripts st j (with_player j.now r q') w st.players on (alike_none st.players r j.now q' j.alike is)
     go (Some p) is =
-        let t = waited scripts pre st j r (answer_in c) (subst (IsHistory (length scripts)) more there) p is in
+        let t = waited scripts pre st j r (answer_in c) (subst (IsHistory (length scripts) send_limit) more there) p is in
         subst (λ (stage : Stage). Joined scripts
         (record { world = w; players = slice_set st.players r (told_if stage c p) })) (sym t.1)
         (grow scripts st j (with_player j.now r q') w _ on
@@ -161,15 +163,15 @@ answered scripts pre st j r c w h there = go
 delivered : (scripts : List (List ScriptLine)) → Premises scripts → (old : PlayState) →
     (j : Joined scripts old) (event : Event) → ((e : Endpoint) (x : Option Reply) → event_seen e event x ≡ []) →
     (result : Result Stepped Failed) (new : PlayState) → EventGives old event result new →
-    IsHistory (length scripts) (history_seen new.world.history) → Joined scripts new
+    IsHistory (length scripts) send_limit (history_seen new.world.history) → Joined scripts new
 delivered scripts pre old j event silent (Err failed) new g history =
     subst (Joined scripts) (sym g.2)
     (still scripts old j g.0 (ap (λ (w : WorldState). history_seen w.history) g.1.unchanged))
 delivered scripts pre old j event silent (Ok added) new g history =
     go g.1.gave.completion refl (slice_get old.players g.1.gave.endpoint.rank) refl g.2 more
   where
-    there : IsHistory (length scripts) (history_seen g.0.history)
-    there = subst (λ (y : PlayState). IsHistory (length scripts) (history_seen y.world.history)) g.2 history
+    there : IsHistory (length scripts) send_limit (history_seen g.0.history)
+    there = subst (λ (y : PlayState). IsHistory (length scripts) send_limit (history_seen y.world.history)) g.2 history
 
     more : history_seen g.0.history ≡ history_seen old.world.history ++
         told_completion g.1.gave.endpoint g.1.gave.completion
@@ -198,7 +200,7 @@ delivered scripts pre old j event silent (Ok added) new g history =
             told_completion (first_endpoint g.1.gave.endpoint.rank) (Some c)
         first = h ∙ ap (λ (e : Endpoint). history_seen old.world.history ++ told_completion e (Some c))
             (answer_first (length scripts) (history_seen old.world.history) g.1.gave.endpoint c j.fresh
-            (subst (IsHistory (length scripts)) h there))
+            (subst (IsHistory (length scripts) send_limit) h there))
 
 -- A CALL THAT IS TAKEN
 
@@ -217,7 +219,7 @@ taken : (scripts : List (List ScriptLine)) → Premises scripts → (old : PlayS
     (j : Joined scripts old) (r : ℕ) (p : PlayerState) (reply : Option Reply) (call : Call) (s : RunnerState)
     (added : Stepped) (new : PlayState) →
     slice_get old.players r ≡ Some p → p.stage ≡ Ready reply → NextGives p.runner reply (steps.Call call) s →
-    CallMoves old r p s call (Ok added) new → IsHistory (length scripts) (history_seen new.world.history) →
+    CallMoves old r p s call (Ok added) new → IsHistory (length scripts) send_limit (history_seen new.world.history) →
     Joined scripts new
 taken scripts pre old head j r p reply call s added new is e n g history = go g.1.gave.completion refl
   where
@@ -230,8 +232,8 @@ taken scripts pre old head j r p reply call s added new is e n g history = go g.
     before : List seen_events.Entry
     before = history_seen old.world.history
 
-    there : IsHistory (length scripts) (history_seen g.0.history)
-    there = subst (λ (y : PlayState). IsHistory (length scripts) (history_seen y.world.history)) g.4 history
+    there : IsHistory (length scripts) send_limit (history_seen g.0.history)
+    there = subst (λ (y : PlayState). IsHistory (length scripts) send_limit (history_seen y.world.history)) g.4 history
 
     first : gave.endpoint ≡ first_endpoint r
     first = call_at old.world g.0 r call added head j.fresh g.1
@@ -299,10 +301,10 @@ taken scripts pre old head j r p reply call s added new is e n g history = go g.
             (told_completion (first_endpoint r) (Some c)))
             ∙ ap (λ (ys : List seen_events.Entry). ys ++ told_completion (first_endpoint r) (Some c)) (sym seen_mid)))
 
-        answer_there : IsHistory (length scripts) (history_seen half.history ++
+        answer_there : IsHistory (length scripts) send_limit (history_seen half.history ++
             Completed (first_endpoint r) (answer_in c) ∷ [])
         answer_there =
-            subst (IsHistory (length scripts))
+            subst (IsHistory (length scripts) send_limit)
             (whole ∙ ap (λ (ys : List seen_events.Entry). history_seen half.history ++ ys)
             (told_as (first_endpoint r) c)) there
 
@@ -327,7 +329,8 @@ steps_on : (scripts : List (List ScriptLine)) → Premises scripts → (done : L
     (j : Joined scripts old) (r : ℕ) (p : PlayerState) (reply : Option Reply) (step : RunnerStep) (s : RunnerState)
     (new : PlayState) →
     slice_get old.players r ≡ Some p → p.stage ≡ Ready reply → NextGives p.runner reply step s →
-    StepMoves old r p s step new → AreFine new → IsHistory (length scripts) (history_seen new.world.history) →
+    StepMoves old r p s step new → AreFine new →
+    IsHistory (length scripts) send_limit (history_seen new.world.history) →
     Joined scripts new
 steps_on scripts pre done old reached head j r p reply (steps.Print line) s new is e n g fine history =
     prints scripts old j r p reply line s new is e n g
@@ -342,7 +345,8 @@ steps_on scripts pre done old reached head j r p reply (steps.Call call) s new i
 goes : (scripts : List (List ScriptLine)) → Premises scripts → (done : List Move) (old : PlayState) →
     PlayGives scripts done old → HasHeadline old.world →
     (j : Joined scripts old) (r : ℕ) (o : Option PlayerState) (new : PlayState) → slice_get old.players r ≡ o →
-    GoGives old r o new → AreFine new → IsHistory (length scripts) (history_seen new.world.history) → Joined scripts new
+    GoGives old r o new → AreFine new → IsHistory (length scripts) send_limit (history_seen new.world.history) →
+    Joined scripts new
 goes scripts pre done old reached head j r None new is g fine history = subst (Joined scripts) (sym g) j
 goes scripts pre done old reached head j r (Some p) new is g fine history = go p.stage refl g
   where
@@ -354,7 +358,7 @@ goes scripts pre done old reached head j r (Some p) new is g fine history = go p
 moved : (scripts : List (List ScriptLine)) → Premises scripts → (done : List Move) (old : PlayState) →
     PlayGives scripts done old → HasHeadline old.world → Joined scripts old → (m : Move) (new : PlayState) →
     MoveGives old m new → AreFine new →
-    IsHistory (length scripts) (history_seen new.world.history) → Joined scripts new
+    IsHistory (length scripts) send_limit (history_seen new.world.history) → Joined scripts new
 moved scripts pre done old reached head j (moves.Go r) new g fine history =
     goes scripts pre done old reached head j r (slice_get old.players r) new refl g fine history
 moved scripts pre done old reached head j (moves.Deliver d) new g fine history =
@@ -370,9 +374,12 @@ all_moved scripts pre [] done old new reached j g fine = subst (Joined scripts) 
 all_moved scripts pre (m ∷ ms) done old new reached j g fine =
     let head : HasHeadline g.1.0.world = headline_of ms g.1.0 new g.1.2 in
     let more : PlayGives scripts (done ++ m ∷ []) g.1.0 = one_more done (play_opening scripts) old reached m g.1.0 g.1.1 head in
-    let history : IsHistory (length scripts) (history_seen g.1.0.world.history) =
-    subst (λ (k : ℕ). IsHistory k (history_seen g.1.0.world.history)) (size_is scripts (done ++ m ∷ []) g.1.0 more)
-    (worlds_have_histories g.1.0.world head.run) in
+    let history : IsHistory (length scripts) send_limit (history_seen g.1.0.world.history) =
+    subst (λ (l : ℕ). IsHistory (length scripts) l (history_seen g.1.0.world.history))
+    (limit_is scripts (done ++ m ∷ []) g.1.0 more)
+    (subst (λ (k : ℕ). IsHistory k (limit_in g.1.0.world.engines) (history_seen g.1.0.world.history))
+    (size_is scripts (done ++ m ∷ []) g.1.0 more)
+    (worlds_have_histories g.1.0.world head.run)) in
     all_moved scripts pre ms (done ++ m ∷ []) g.1.0 new more
     (moved scripts pre done old reached g.0 j m g.1.0 g.1.1 (all_back ms g.1.0 new g.1.2 fine) history) g.1.2 fine
 

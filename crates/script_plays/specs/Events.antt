@@ -1,5 +1,6 @@
 -- The events of a schedule's moves.
 use Rattle.std.specs.Prelude.{◌≡◌, ◌⊎◌, List, [], ◌∷◌, length}
+use Rattle.proof_network_bridge.specs.Joined.{limit_in}
 use Rattle.perfect_groups.specs.Runs.{IsHistory}
 use Rattle.script_files.specs.declared.script.ScriptLine.{ScriptLine}
 use Rattle.script_plays.specs.Playing.{PlayGives, PlayState}
@@ -33,4 +34,5 @@ HistoriesAreOfSchedules = (scripts : List (List ScriptLine)) (schedule : List Mo
 
 -- a world's history is at each moment one of the machine's
 abbrev pub WorldsHaveHistories : Type 0
-WorldsHaveHistories = (w : WorldState) → IsRunOfMachine w → IsHistory (length w.engines) (history_seen w.history)
+WorldsHaveHistories = (w : WorldState) → IsRunOfMachine w →
+    IsHistory (length w.engines) (limit_in w.engines) (history_seen w.history)

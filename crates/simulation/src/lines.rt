@@ -286,7 +286,7 @@ fn emission_of(number: usize, datagram: &Datagram<'_>) -> EmissionText
 pub fn print_datagram<W: Write>(number: usize, bytes: &[u8], out: &mut W) -> io::Result<()>
     ensures { OnOk result (Prints (W.contents out.old) (W.contents out.new) (datagram_lines number bytes.now)) }
 {
-    let Ok(datagram) = datagram::read(bytes) else {
+    let Ok(datagram) = datagram::read_form(bytes) else {
         return Ok(());
     };
     let emission = emission_of(number, &datagram);

@@ -2,20 +2,23 @@
 use Rattle.std.proofs.Common.{◌≡◌, ℕ, zero, suc, ◌+◌, ◌-◌, ◌/◌, ◌<◌, ◌≤◌, Bool, true, false, cond, eqb, leb, ltb, List}
 use Rattle.std.proofs.Common.{[], ◌∷◌, ◌++◌, length, get_or, take, drop, replicate, Option, Some, None, refl, sym, ap}
 use Rattle.std.proofs.Common.{subst, ◌∙◌, arith, inl, inr}
-use Rattle.std.specs.Prelude.{◌⊎◌, ◌&&◌}
-use Rattle.std.specs.List.{position}
+use Rattle.std.specs.Prelude.{◌⊎◌, ◌&&◌, not, is_some, option_map, to_bits}
+use Rattle.std.specs.Float.Ieee.{Float, binary32, binary64}
+use Rattle.fast_float.specs.Parse.{parse_float}
+use Rattle.std.specs.List.{position, position_or_len}
 use Rattle.std.specs.Char.{is_ascii_digit}
 use Rattle.std.specs.Str.{all_ascii_digits}
-use Rattle.std.proofs.lemmas.Bool.{eqb-true, eq-eqb, ltb-true, leb-true, le-leb, lt-ltb, false≢true}
+use Rattle.std.proofs.lemmas.Bool.{eqb-true, eq-eqb, ltb-true, ltb-false, leb-true, le-leb, lt-ltb, false≢true}
+use Rattle.vocabulary.specs.BasicTypes.{is_float}
 use Rattle.vocabulary.specs.declared.basic_type.BasicType.{BasicType}
 use Rattle.vocabulary.specs.declared.basic_type.BasicType.TheVariants.{Int8, Int16, Int32, Int64, Uint8, Uint16, Uint32}
-use Rattle.vocabulary.specs.declared.basic_type.BasicType.TheVariants.{Uint64, Byte}
+use Rattle.vocabulary.specs.declared.basic_type.BasicType.TheVariants.{Uint64, Byte, Float32, Float64}
 use Rattle.datatypes.specs.Elements.{has_sign, numbers_of, number_of_value}
-use Rattle.statements.specs.Grammar.{IsAbove, IsValue, AreValues, AreElements}
+use Rattle.statements.specs.Grammar.{IsAbove, IsFloat, IsValue, AreValues, AreElements, format_of}
 use Rattle.tokens.specs.Grammar.{Word, IsNumeral}
 use Rattle.tokens.specs.Numbers.{number_up_to, count_of}
 use Rattle.tokens.specs.Results.{◌>>=◌}
-use Rattle.statements.specs.Reading.{value_of, is_star, copies_of, copies_at, elements_of}
+use Rattle.statements.specs.Reading.{value_of, is_star, copies_of, copies_at, elements_of, float_of, integer_of}
 use Rattle.tokens.specs.Fields.{each}
 use Rattle.tokens.proofs.MarkLaws.{mark_here, HasNo, digits_plain, no_place, a_place, take_front, drop_front}
 use Rattle.tokens.proofs.WordLaws.{bind_ok, made, pick, no_test, count_takes, count_again, bounded_takes, bounded_again}
@@ -49,9 +52,54 @@ pub dash_front : (word : Word) → get_or word 0 0 ≡ 45 → word ≡ 45 ∷ dr
 dash_front [] e = absurd cc
 dash_front (b ∷ bs) e = ap (λ (x : ℕ). x ∷ bs) e
 
-value_takes : (basic : BasicType) (word : Word) (n : ℕ) → value_of basic word ≡ Some n → IsValue basic word n
-unfolding value_of number_of_value
-value_takes basic word n e =
+-- what is no mark's place has no mark
+no_mark : (word : Word) → length word ≤ position_or_len is_star word → HasNo 42 word
+no_mark [] le = tt
+no_mark (b ∷ bs) le = go (is_star b) refl le (λ h. no_mark bs h)
+  where
+    go : (t : Bool) → is_star b ≡ t → suc (length bs) ≤ cond (not t) (1 + position_or_len is_star bs) 0 →
+        (length bs ≤ position_or_len is_star bs → HasNo 42 bs) → (is_star b ≡ false) × HasNo 42 bs
+    go true e le rest = absurd (omega (arith, le))
+    go false e le rest = (e, rest (omega (arith, le)))
+
+place_none : (word : Word) → position is_star word ≡ None → HasNo 42 word
+place_none word e = no_mark word (ltb-false _ _ (go (ltb (position_or_len is_star word) (length word)) e))
+  where
+    go : (t : Bool) → cond t (Some (position_or_len is_star word)) None ≡ None → t ≡ false
+    go true e = absurd cc
+    go false e = refl
+
+mapped : (f : Float → ℕ) (o : Option Float) (n : ℕ) → option_map f o ≡ Some n → (x : Float) × (o ≡ Some x) × (f x ≡ n)
+mapped f None n e = absurd cc
+mapped f (Some x) n e = (x, refl, cc)
+
+-- a float in a format
+in_format : (basic : BasicType) (word : Word) (n : ℕ) (o : Option ℕ) → is_float basic ≡ true →
+    position is_star word ≡ o →
+    cond (is_some o) None (option_map (to_bits (format_of basic)) (parse_float (format_of basic) word)) ≡ Some n →
+    IsFloat basic word n
+in_format basic word n (Some place) float is e = absurd cc
+in_format basic word n None float is e =
+    let m = mapped (to_bits (format_of basic)) (parse_float (format_of basic) word) n e in
+    record { float = float; plain = place_none word is; value = m.0; says = m.1; number_is = m.2 }
+
+float_takes : (basic : BasicType) (word : Word) (n : ℕ) → float_of basic word ≡ Some n → IsFloat basic word n
+float_takes Float32 word n e = in_format Float32 word n (position is_star word) refl refl e
+float_takes Float64 word n e = in_format Float64 word n (position is_star word) refl refl e
+float_takes Int8 word n e = absurd cc
+float_takes Int16 word n e = absurd cc
+float_takes Int32 word n e = absurd cc
+float_takes Int64 word n e = absurd cc
+float_takes Uint8 word n e = absurd cc
+float_takes Uint16 word n e = absurd cc
+float_takes Uint32 word n e = absurd cc
+float_takes Uint64 word n e = absurd cc
+float_takes Byte word n e = absurd cc
+
+integer_takes : (basic : BasicType) (word : Word) (n : ℕ) → is_float basic ≡ false → integer_of basic word ≡ Some n →
+    IsValue basic word n
+unfolding number_of_value
+integer_takes basic word n whole e =
     pick (IsValue basic word) (eqb (get_or word 0 0) 45) _ _ n
     (λ t f.
     let b = bind_ok (number_up_to 18446744073709551615 (drop 1 word)) (λ magnitude. number_of_value basic true magnitude) n f in
@@ -70,8 +118,14 @@ value_takes basic word n e =
     let b = bind_ok (number_up_to 18446744073709551615 word) (λ magnitude. number_of_value basic false magnitude) n f in
     let p = bounded_takes 18446744073709551615 word b.0 b.1 in
     let q = above_takes (cond (has_sign basic) (numbers_of basic / 2) (numbers_of basic)) b.0 n b.2 in
-    inr (subst (λ (m : ℕ). IsAbove basic word m) q.0 (record { numeral = p.0; range = q.1 })))
+    inr (inl (subst (λ (m : ℕ). IsAbove basic word m) q.0 (record { no_float = whole; numeral = p.0; range = q.1 }))))
     e
+
+value_takes : (basic : BasicType) (word : Word) (n : ℕ) → value_of basic word ≡ Some n → IsValue basic word n
+unfolding value_of
+value_takes basic word n e =
+    pick (IsValue basic word) (is_float basic) (float_of basic word) (integer_of basic word) n
+    (λ t f. inr (inr (float_takes basic word n f))) (λ t f. integer_takes basic word n t f) e
 
 -- ---- copies
 
@@ -119,6 +173,8 @@ numbers_fit Uint16 = omega arith
 numbers_fit Uint32 = omega arith
 numbers_fit Uint64 = omega arith
 numbers_fit Byte = omega arith
+numbers_fit Float32 = omega arith
+numbers_fit Float64 = omega arith
 
 below_again : (N m n : ℕ) (sign : Bool) → sign ≡ true → m ≤ N / 2 → ((m ≡ 0) × (n ≡ 0)) ⊎ ((0 < m) × (n + m ≡ N)) →
     cond sign (cond (eqb m 0) (Some 0) (cond (leb m (N / 2)) (Some (N - m)) None)) None ≡ Some n
@@ -142,14 +198,12 @@ digit_front (b ∷ bs) n h =
     (ap is_ascii_digit (sym (eqb-true b 45 e)) ∙ d))
 
 dashed_is : (basic : BasicType) (digits : Word) (m n : ℕ) → number_up_to 18446744073709551615 digits ≡ Some m →
-    number_of_value basic true m ≡ Some n → value_of basic (45 ∷ digits) ≡ Some n
-unfolding value_of
+    number_of_value basic true m ≡ Some n → integer_of basic (45 ∷ digits) ≡ Some n
 dashed_is basic digits m n e f = rw e f
 
 plain_is : (basic : BasicType) (word : Word) (n : ℕ) → eqb (get_or word 0 0) 45 ≡ false →
     number_up_to 18446744073709551615 word ≡ Some n → number_of_value basic false n ≡ Some n →
-    value_of basic word ≡ Some n
-unfolding value_of
+    integer_of basic word ≡ Some n
 plain_is basic word n t e f = rw (t, e) f
 
 below_value : (basic : BasicType) (m n : ℕ) → has_sign basic ≡ true → m ≤ numbers_of basic / 2 →
@@ -167,23 +221,70 @@ bound_fits : (N : ℕ) (sign : Bool) → N ≤ 18446744073709551616 → cond sig
 bound_fits N true le = omega arith
 bound_fits N false le = le
 
+-- a type with a sign is no float's
+signed_whole : (basic : BasicType) → has_sign basic ≡ true → is_float basic ≡ false
+signed_whole Int8 h = refl
+signed_whole Int16 h = refl
+signed_whole Int32 h = refl
+signed_whole Int64 h = refl
+signed_whole Uint8 h = refl
+signed_whole Uint16 h = refl
+signed_whole Uint32 h = refl
+signed_whole Uint64 h = refl
+signed_whole Byte h = refl
+signed_whole Float32 h = absurd cc
+signed_whole Float64 h = absurd cc
+
+whole_value : (basic : BasicType) (word : Word) (n : ℕ) → is_float basic ≡ false → integer_of basic word ≡ Some n →
+    value_of basic word ≡ Some n
+unfolding value_of
+whole_value basic word n whole e = ap (λ (t : Bool). cond t (float_of basic word) (integer_of basic word)) whole ∙ e
+
+float_again : (basic : BasicType) (word : Word) (n : ℕ) → IsFloat basic word n → float_of basic word ≡ Some n
+float_again Float32 word n h =
+    let p : position is_star word ≡ None = no_place 42 word h.plain in
+    let s : parse_float binary32 word ≡ Some h.value = h.says in
+    rw (p, s) (ap (λ (k : ℕ). Some k) h.number_is)
+float_again Float64 word n h =
+    let p : position is_star word ≡ None = no_place 42 word h.plain in
+    let s : parse_float binary64 word ≡ Some h.value = h.says in
+    rw (p, s) (ap (λ (k : ℕ). Some k) h.number_is)
+float_again Int8 word n h = absurd (let z : false ≡ true = h.float in cc)
+float_again Int16 word n h = absurd (let z : false ≡ true = h.float in cc)
+float_again Int32 word n h = absurd (let z : false ≡ true = h.float in cc)
+float_again Int64 word n h = absurd (let z : false ≡ true = h.float in cc)
+float_again Uint8 word n h = absurd (let z : false ≡ true = h.float in cc)
+float_again Uint16 word n h = absurd (let z : false ≡ true = h.float in cc)
+float_again Uint32 word n h = absurd (let z : false ≡ true = h.float in cc)
+float_again Uint64 word n h = absurd (let z : false ≡ true = h.float in cc)
+float_again Byte word n h = absurd (let z : false ≡ true = h.float in cc)
+
+float_value : (basic : BasicType) (word : Word) (n : ℕ) → IsFloat basic word n → value_of basic word ≡ Some n
+unfolding value_of
+float_value basic word n h =
+    ap (λ (t : Bool). cond t (float_of basic word) (integer_of basic word)) h.float ∙ float_again basic word n h
+
 value_again : (basic : BasicType) (word : Word) (n : ℕ) → IsValue basic word n → value_of basic word ≡ Some n
 value_again basic word n (inl h) =
     let fits : h.magnitude ≤ 18446744073709551615 = omega (arith, h.range, numbers_fit basic) in
     ap (value_of basic) h.spelled
-    ∙ dashed_is basic h.digits h.magnitude n (bounded_again 18446744073709551615 h.digits h.magnitude h.numeral fits)
-    (below_value basic h.magnitude n h.signed h.range h.number_is)
-value_again basic word n (inr h) =
+    ∙ whole_value basic (45 ∷ h.digits) n (signed_whole basic h.signed)
+    (dashed_is basic h.digits h.magnitude n (bounded_again 18446744073709551615 h.digits h.magnitude h.numeral fits)
+    (below_value basic h.magnitude n h.signed h.range h.number_is))
+value_again basic word n (inr (inr h)) = float_value basic word n h
+value_again basic word n (inr (inl h)) =
     let fits : n ≤ 18446744073709551615 = omega (arith, h.range, bound_fits (numbers_of basic) (has_sign basic) (numbers_fit basic)) in
-    plain_is basic word n (digit_front word n h.numeral) (bounded_again 18446744073709551615 word n h.numeral fits)
-    (above_value basic n h.range)
+    whole_value basic word n h.no_float
+    (plain_is basic word n (digit_front word n h.numeral) (bounded_again 18446744073709551615 word n h.numeral fits)
+    (above_value basic n h.range))
 
 -- ---- copies are read again
 
 value_plain : (basic : BasicType) (word : Word) (n : ℕ) → IsValue basic word n → HasNo 42 word
 value_plain basic word n (inl h) =
     subst (HasNo 42) (sym h.spelled) (refl, digits_plain 42 h.digits refl h.numeral.digits)
-value_plain basic word n (inr h) = digits_plain 42 word refl h.numeral.digits
+value_plain basic word n (inr (inl h)) = digits_plain 42 word refl h.numeral.digits
+value_plain basic word n (inr (inr h)) = h.plain
 
 one_copy : (basic : BasicType) (word : Word) (n : ℕ) → position is_star word ≡ None → value_of basic word ≡ Some n →
     copies_of basic word ≡ Some (1, n)

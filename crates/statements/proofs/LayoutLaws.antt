@@ -34,7 +34,11 @@ old_at : (word : Word) (t : Option BasicType) (o : OldLayout) → basic_type_of 
 old_at word (Some basic) o is e = made (IsOld word) (olds.Basic basic) o (type_takes word basic is) e
 old_at word None o is e =
     let b = bind_ok (name_of word) (λ name. Some (olds.Named name)) o e in
-    made (IsOld word) (olds.Named b.0) o (named_takes word b.0 b.1) b.2
+    made (IsOld word) (olds.Named b.0) o
+    (named_takes word b.0 b.1, λ basic h. no_type (sym is ∙ (ap basic_type_of h ∙ type_again basic))) b.2
+  where
+    no_type : {x : BasicType} → None ≡ Some x → ⊥
+    no_type e = absurd cc
 
 old_takes : (word : Word) (o : OldLayout) → old_of word ≡ Some o → IsOld word o
 unfolding old_of
@@ -53,8 +57,8 @@ old_again : (word : Word) (o : OldLayout) → IsOld word o → old_of word ≡ S
 old_again word (olds.Basic basic) h = ap old_of h ∙ old_type basic
 old_again word (olds.Named name) h =
     old_name word name
-    (is_nothing (basic_type_of word) (λ basic e. h.1.no_type basic (sym h.0 ∙ type_takes word basic e)))
-    (named_again word name h)
+    (is_nothing (basic_type_of word) (λ basic e. h.1 basic (type_takes word basic e)))
+    (named_again word name h.0)
 
 -- ---- blocks
 

@@ -1,7 +1,12 @@
 -- The grammar of what ranks do: which words spell what.
-use Rattle.std.specs.Prelude.{◌≡◌, ◌⊎◌, ℤ, pos, neg_ℤ, ℕ, ◌+◌, ◌/◌, ◌<◌, ◌≤◌, true, List, [], ◌∷◌, ◌++◌, replicate}
-use Rattle.std.specs.Prelude.{codes, Option, Some, None, if◌then◌else◌}
+use Rattle.std.specs.Prelude.{◌≡◌, ◌≢◌, ◌⊎◌, ℤ, pos, neg_ℤ, ℕ, ◌+◌, ◌/◌, ◌<◌, ◌≤◌, ◌==◌, true, false, List, [], ◌∷◌}
+use Rattle.std.specs.Prelude.{◌++◌, codes, replicate, Option, Some, None, if◌then◌else◌, to_bits}
+use Rattle.std.specs.Float.Ieee.{Float, Format, binary32, binary64}
+use Rattle.std.specs.List.{AllByRecursion}
+use Rattle.fast_float.specs.Parse.{parse_float}
+use Rattle.vocabulary.specs.BasicTypes.{is_float}
 use Rattle.vocabulary.specs.declared.basic_type.BasicType.{BasicType}
+use Rattle.vocabulary.specs.declared.basic_type.BasicType.TheVariants.{Float32}
 use Rattle.vocabulary.specs.declared.envelope.Source.{Source}
 use Rattle.vocabulary.specs.declared.envelope.Source.TheVariants as sources
 use Rattle.datatypes.specs.Elements.{has_sign, numbers_of}
@@ -74,11 +79,25 @@ pub record IsBelow (basic : BasicType) (word : Word) (number : ℕ) : Type 0 whe
   pub number_is : ((magnitude ≡ 0) × (number ≡ 0)) ⊎ ((0 < magnitude) × (number + magnitude ≡ numbers_of basic))
 
 pub record IsAbove (basic : BasicType) (word : Word) (number : ℕ) : Type 0 where
+  pub no_float : is_float basic ≡ false
   pub numeral : IsNumeral word number
   pub range : number < (if has_sign basic then numbers_of basic / 2 else numbers_of basic)
 
+-- the format of a type of floats
+abbrev pub format_of : BasicType → Format
+format_of Float32 = binary32
+format_of basic = binary64
+
+-- A float: the word says a number in decimal, `inf` or `nan`, and stands for the nearest float; it has no `*`
+pub record IsFloat (basic : BasicType) (word : Word) (number : ℕ) : Type 0 where
+  pub float : is_float basic ≡ true
+  pub plain : AllByRecursion (λ byte. (byte == 42) ≡ false) word
+  pub value : Float
+  pub says : parse_float (format_of basic) word ≡ Some value
+  pub number_is : to_bits (format_of basic) value ≡ number
+
 abbrev pub IsValue : BasicType → Word → ℕ → Type 0
-IsValue basic word number = IsBelow basic word number ⊎ IsAbove basic word number
+IsValue basic word number = IsBelow basic word number ⊎ (IsAbove basic word number ⊎ IsFloat basic word number)
 
 -- `N*V`: so many copies of a value
 pub record AreCopies (basic : BasicType) (word : Word) (numbers : List ℕ) : Type 0 where
@@ -148,10 +167,10 @@ IsLanding words landing =
 
 -- ---- layouts
 
--- a type, or the name of a layout
+-- a type, or the name of a layout, which is no type's word
 abbrev pub IsOld : Word → OldLayout → Type 0
 IsOld word (olds.Basic basic) = word ≡ type_word basic
-IsOld word (olds.Named name) = NamesIt word name
+IsOld word (olds.Named name) = NamesIt word name × ((basic : BasicType) → word ≢ type_word basic)
 
 -- `LEN:DISP`
 abbrev pub IsBlock : Word → IndexedBlock → Type 0

@@ -1,9 +1,13 @@
 -- Reading the words of a line from left to right.
 use Rattle.std.specs.Prelude.{ℕ, ◌-◌, ℤ, pos, negsuc, ◌==◌, Bool, true, false, List, [], ◌∷◌, take, drop, slice_index}
-use Rattle.std.specs.Prelude.{replicate, codes, Option, Some, None, if◌then◌else◌}
+use Rattle.std.specs.Prelude.{replicate, codes, Option, Some, None, is_some, if◌then◌else◌, option_map, to_bits}
+use Rattle.std.specs.Float.Ieee.{Format, binary32, binary64}
 use Rattle.std.specs.List.{position}
 use Rattle.std.specs.Str.{bytes_eq}
+use Rattle.fast_float.specs.Parse.{parse_float}
+use Rattle.vocabulary.specs.BasicTypes.{is_float}
 use Rattle.vocabulary.specs.declared.basic_type.BasicType.{BasicType}
+use Rattle.vocabulary.specs.declared.basic_type.BasicType.TheVariants.{Float32, Float64}
 use Rattle.vocabulary.specs.declared.envelope.Source.{Source}
 use Rattle.vocabulary.specs.declared.envelope.Source.TheVariants as sources
 use Rattle.vocabulary.specs.declared.operation.Operation.{Operation}
@@ -86,14 +90,28 @@ one_request word = one requested_of word
 
 -- ---- elements
 
-unfoldable pub value_of : BasicType → Word → Option ℕ
-value_of basic word =
+abbrev pub is_star : ℕ → Bool
+is_star byte = byte == 42
+
+-- a number with its sign, where it is no float
+abbrev pub integer_of : BasicType → Word → Option ℕ
+integer_of basic word =
     if slice_index word 0 == 45
     then (number_up_to 18446744073709551615 (drop 1 word) >>= λ magnitude. number_of_value basic true magnitude)
     else (number_up_to 18446744073709551615 word >>= λ magnitude. number_of_value basic false magnitude)
 
-abbrev pub is_star : ℕ → Bool
-is_star byte = byte == 42
+-- the bits of the float of a format that is nearest to what the word says
+abbrev pub float_in : Format → Word → Option ℕ
+float_in format word = option_map (to_bits format) (parse_float format word)
+
+-- the same by the type; a word with a star is no float
+abbrev pub float_of : BasicType → Word → Option ℕ
+float_of Float32 word = if is_some (position is_star word) then None else float_in binary32 word
+float_of Float64 word = if is_some (position is_star word) then None else float_in binary64 word
+float_of basic word = None
+
+unfoldable pub value_of : BasicType → Word → Option ℕ
+value_of basic word = if is_float basic then float_of basic word else integer_of basic word
 
 abbrev pub copies_at : Option ℕ → BasicType → Word → Option (ℕ × ℕ)
 copies_at None basic word = value_of basic word >>= λ number. Some (1, number)

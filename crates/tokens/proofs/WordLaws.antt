@@ -1,19 +1,20 @@
 -- What one word stands for: reading and the grammar agree.
 use Rattle.std.proofs.Common.{◌≡◌, ◌≢◌, ℕ, ◌<◌, ◌≤◌, Bool, true, false, cond, eqb, leb, ltb, [], ◌∷◌, length, get_or}
 use Rattle.std.proofs.Common.{Option, Some, None, refl, sym, ap, subst, ◌∙◌, arith, inl, inr}
-use Rattle.std.specs.Prelude.{codes, ◌&&◌, ◌||◌, not, is_some, ◌⊎◌}
+use Rattle.std.specs.Prelude.{codes, ◌&&◌, ◌||◌, not, ◌⊎◌}
 use Rattle.std.specs.List.{list_all, AllByRecursion}
 use Rattle.std.specs.Str.{bytes_eq, all_ascii_digits}
 use Rattle.std.specs.Str.Parse.{digits_value}
 use Rattle.std.proofs.lemmas.Bool.{eqb-true, ltb-false, leb-true, le-leb, le-ltb, false≢true}
 use Rattle.std.proofs.lemmas.List.{nil_from_length}
 use Rattle.std.proofs.lemmas.Slice.Eq.{bytes_eq-Decides}
+use Rattle.vocabulary.specs.BasicTypes.{is_float}
 use Rattle.vocabulary.specs.declared.basic_type.BasicType.{BasicType}
 use Rattle.vocabulary.specs.declared.basic_type.BasicType.TheVariants.{Int8, Int16, Int32, Int64, Uint8, Uint16, Uint32}
-use Rattle.vocabulary.specs.declared.basic_type.BasicType.TheVariants.{Uint64, Byte}
+use Rattle.vocabulary.specs.declared.basic_type.BasicType.TheVariants.{Uint64, Byte, Float32, Float64}
 use Rattle.tokens.specs.Grammar.{Word, least, IsNumeral, IsCapped, IsLetter, IsDigit, type_word, IsName}
 use Rattle.tokens.specs.Numbers.{is_numeral, number_up_to, number_or, count_of}
-use Rattle.tokens.specs.Words.{is_letter, is_name_byte, basic_type_of, is_reserved, is_name}
+use Rattle.tokens.specs.Words.{is_letter, is_name_byte, basic_type_of, is_reserved, is_reserved_type, is_name}
 use Rattle.tokens.specs.Results.{◌>>=◌}
 use Rattle.numerals.proofs.Numerals.{numeral_parts}
 
@@ -163,7 +164,9 @@ types word =
     (step P (bytes_eq word (codes "uint16")) _ _ (same_word word (codes "uint16"))
     (step P (bytes_eq word (codes "uint32")) _ _ (same_word word (codes "uint32"))
     (step P (bytes_eq word (codes "uint64")) _ _ (same_word word (codes "uint64"))
-    (step P (bytes_eq word (codes "byte")) _ _ (same_word word (codes "byte")) tt))))))))
+    (step P (bytes_eq word (codes "byte")) _ _ (same_word word (codes "byte"))
+    (step P (bytes_eq word (codes "float32")) _ _ (same_word word (codes "float32"))
+    (step P (bytes_eq word (codes "float64")) _ _ (same_word word (codes "float64")) tt))))))))))
 
 pub type_takes : (word : Word) (basic : BasicType) → basic_type_of word ≡ Some basic → word ≡ type_word basic
 type_takes word basic e = yielded (λ basic. word ≡ type_word basic) (basic_type_of word) basic (types word) e
@@ -179,6 +182,8 @@ type_again Uint16 = refl
 type_again Uint32 = refl
 type_again Uint64 = refl
 type_again Byte = refl
+type_again Float32 = refl
+type_again Float64 = refl
 
 -- ---- names
 
@@ -240,22 +245,26 @@ none_of false true c d e = absurd cc
 none_of false false true d e = absurd cc
 none_of false false false true e = absurd cc
 
-is_none : {A : Type 0} (o : Option A) → ((x : A) → o ≡ Some x → ⊥) → is_some o ≡ false
-is_none None h = refl
-is_none (Some x) h = absurd (h x refl)
+no_reserved : (o : Option BasicType) → ((x : BasicType) → is_float x ≡ false → o ≡ Some x → ⊥) →
+    is_reserved_type o ≡ false
+no_reserved None h = refl
+no_reserved (Some x) h = go (is_float x) refl
+  where
+    go : (t : Bool) → is_float x ≡ t → not t ≡ false
+    go true e = refl
+    go false e = absurd (h x e refl)
 
 pub is_nothing : {A : Type 0} (o : Option A) → ((x : A) → o ≡ Some x → ⊥) → o ≡ None
 is_nothing None h = refl
 is_nothing (Some x) h = absurd (h x refl)
 
-not_some : {A : Type 0} (o : Option A) (x : A) → is_some o ≡ false → o ≡ Some x → ⊥
-not_some None x e f = absurd cc
-not_some (Some y) x e f = absurd cc
+not_reserved : (o : Option BasicType) (x : BasicType) → is_reserved_type o ≡ false → is_float x ≡ false → o ≡ Some x → ⊥
+not_reserved o x e f is = false≢true (sym e ∙ (ap is_reserved_type is ∙ ap not f))
 
 pub name_takes : (word : Word) → is_name word ≡ true → IsName word
 unfolding is_name is_reserved
 name_takes word e =
-    let t : Bool = is_some (basic_type_of word) in
+    let t : Bool = is_reserved_type (basic_type_of word) in
     let reserved : Bool = bytes_eq word (codes "world") || bytes_eq word (codes "self") || bytes_eq word (codes "null") || t in
     let g = guarded (eqb (length word) 0 || ltb 16 (length word)) (is_letter (get_or word 0 0) && list_all is_name_byte word && not reserved) e in
     let n = neither (eqb (length word) 0) (ltb 16 (length word)) g.0 in
@@ -269,7 +278,7 @@ name_takes word e =
       not_world = differs word (codes "world") r.0;
       not_self = differs word (codes "self") r.1;
       not_null = differs word (codes "null") r.2;
-      no_type = λ basic h. not_some (basic_type_of word) basic r.3 (ap basic_type_of h ∙ type_again basic);
+      no_type = λ basic f h. not_reserved (basic_type_of word) basic r.3 f (ap basic_type_of h ∙ type_again basic);
     }
 
 pub name_again : (word : Word) → IsName word → is_name word ≡ true
@@ -282,5 +291,5 @@ name_again word h =
     let t4 : bytes_eq word (codes "world") ≡ false = other_word word (codes "world") h.not_world in
     let t5 : bytes_eq word (codes "self") ≡ false = other_word word (codes "self") h.not_self in
     let t6 : bytes_eq word (codes "null") ≡ false = other_word word (codes "null") h.not_null in
-    let t7 : is_some (basic_type_of word) ≡ false = is_none (basic_type_of word) (λ basic e. h.no_type basic (type_takes word basic e)) in
+    let t7 : is_reserved_type (basic_type_of word) ≡ false = no_reserved (basic_type_of word) (λ basic f e. h.no_type basic f (type_takes word basic e)) in
     rw (t0, t1, t2, t3, t4, t5, t6, t7) refl

@@ -1,12 +1,13 @@
 -- The grammar of words: which of them are numbers, names and basic types.
-use Rattle.std.specs.Prelude.{◌≡◌, ◌≢◌, ◌⊎◌, ℕ, ◌≤◌, true, nat_le, List, [], ◌∷◌, length, slice_index, codes}
+use Rattle.std.specs.Prelude.{◌≡◌, ◌≢◌, ◌⊎◌, ℕ, ◌≤◌, true, false, nat_le, List, [], ◌∷◌, length, slice_index, codes}
 use Rattle.std.specs.Prelude.{if◌then◌else◌}
 use Rattle.std.specs.List.{AllByRecursion}
 use Rattle.std.specs.Str.{all_ascii_digits}
 use Rattle.std.specs.Str.Parse.{digits_value}
+use Rattle.vocabulary.specs.BasicTypes.{is_float}
 use Rattle.vocabulary.specs.declared.basic_type.BasicType.{BasicType}
 use Rattle.vocabulary.specs.declared.basic_type.BasicType.TheVariants.{Int8, Int16, Int32, Int64, Uint8, Uint16, Uint32}
-use Rattle.vocabulary.specs.declared.basic_type.BasicType.TheVariants.{Uint64, Byte}
+use Rattle.vocabulary.specs.declared.basic_type.BasicType.TheVariants.{Uint64, Byte, Float32, Float64}
 
 -- a word is a list of bytes
 abbrev pub Word : Type 0
@@ -59,8 +60,11 @@ type_word Uint16 = codes "uint16"
 type_word Uint32 = codes "uint32"
 type_word Uint64 = codes "uint64"
 type_word Byte = codes "byte"
+type_word Float32 = codes "float32"
+type_word Float64 = codes "float64"
 
--- a letter and then at most 15 letters or digits, and none of the language's own words
+-- a letter and then at most 15 letters or digits, and none of the language's own words; the words of floats are names,
+-- too
 pub record IsName (word : Word) : Type 0 where
   pub some : word ≢ []
   pub short : length word ≤ 16
@@ -69,7 +73,7 @@ pub record IsName (word : Word) : Type 0 where
   pub not_world : word ≢ codes "world"
   pub not_self : word ≢ codes "self"
   pub not_null : word ≢ codes "null"
-  pub no_type : (basic : BasicType) → word ≢ type_word basic
+  pub no_type : (basic : BasicType) → is_float basic ≡ false → word ≢ type_word basic
 
 abbrev pub NamesIt : Word → Word → Type 0
 NamesIt word name = (word ≡ name) × IsName name

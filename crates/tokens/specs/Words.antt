@@ -1,11 +1,12 @@
 -- What a word is.
 use Rattle.std.specs.Prelude.{ℕ, Bool, false, not, nat_le, nat_lt, ◌&&◌, ◌||◌, ◌==◌, length, slice_index, codes, Option}
-use Rattle.std.specs.Prelude.{Some, None, is_some, if◌then◌else◌}
+use Rattle.std.specs.Prelude.{Some, None, if◌then◌else◌}
 use Rattle.std.specs.List.{list_all}
 use Rattle.std.specs.Str.{bytes_eq}
+use Rattle.vocabulary.specs.BasicTypes.{is_float}
 use Rattle.vocabulary.specs.declared.basic_type.BasicType.{BasicType}
 use Rattle.vocabulary.specs.declared.basic_type.BasicType.TheVariants.{Int8, Int16, Int32, Int64, Uint8, Uint16, Uint32}
-use Rattle.vocabulary.specs.declared.basic_type.BasicType.TheVariants.{Uint64, Byte}
+use Rattle.vocabulary.specs.declared.basic_type.BasicType.TheVariants.{Uint64, Byte, Float32, Float64}
 use Rattle.tokens.specs.Grammar.{Word}
 
 -- a lower-case letter
@@ -28,13 +29,20 @@ basic_type_of word =
     else (if bytes_eq word (codes "uint32") then Some Uint32
     else (if bytes_eq word (codes "uint64") then Some Uint64
     else (if bytes_eq word (codes "byte") then Some Byte
-    else None))))))))
+    else (if bytes_eq word (codes "float32") then Some Float32
+    else (if bytes_eq word (codes "float64") then Some Float64
+    else None))))))))))
+
+-- whether the word of a type is no name; those of floats are names, too
+abbrev pub is_reserved_type : Option BasicType → Bool
+is_reserved_type None = false
+is_reserved_type (Some basic) = not (is_float basic)
 
 -- a word that stands for itself
 unfoldable pub is_reserved : Word → Bool
 is_reserved word =
     bytes_eq word (codes "world") || bytes_eq word (codes "self") || bytes_eq word (codes "null")
-    || is_some (basic_type_of word)
+    || is_reserved_type (basic_type_of word)
 
 -- a name
 unfoldable pub is_name : Word → Bool

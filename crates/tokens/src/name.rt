@@ -3,7 +3,7 @@
 ghost use Rattle.std.specs.Prelude.{◌≡◌, IfOk};
 ghost use Rattle.std.specs.List.{list_all};
 ghost use Rattle.std.specs.Str.{bytes_eq};
-ghost use Rattle.tokens.specs.Words.{is_letter, is_name_byte, is_reserved, is_name};
+ghost use Rattle.tokens.specs.Words.{basic_type_of, is_letter, is_name_byte, is_reserved, is_reserved_type, is_name};
 
 use crate::token::is;
 use crate::types::basic_type_of;
@@ -84,12 +84,22 @@ fn are_name_bytes(word: &[u8]) -> bool
     true
 }
 
+/// Whether the word is a type's and no name; the words of floats are names, too.
+fn is_type_alone(word: &[u8]) -> bool
+    ensures { result ≡ is_reserved_type (basic_type_of word.now) }
+{
+    match basic_type_of(word) {
+        Some(basic) => !basic.is_float(),
+        None => false,
+    }
+}
+
 /// Whether the word stands for itself, and is no name.
 #[tactic(auto, unfolding(crate::specs::Words::is_reserved))]
 fn is_reserved(word: &[u8]) -> bool
     ensures { result ≡ is_reserved word.now }
 {
-    is(word, b"world") || is(word, b"self") || is(word, b"null") || basic_type_of(word).is_some()
+    is(word, b"world") || is(word, b"self") || is(word, b"null") || is_type_alone(word)
 }
 
 /// Whether the word is a name: a lower-case letter and then at most 15 lower-case letters or digits, and none of the

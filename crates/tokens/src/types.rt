@@ -29,6 +29,10 @@ pub fn basic_type_of(word: &[u8]) -> Option<BasicType>
         Some(BasicType::Uint64)
     } else if is(word, b"byte") {
         Some(BasicType::Byte)
+    } else if is(word, b"float32") {
+        Some(BasicType::Float32)
+    } else if is(word, b"float64") {
+        Some(BasicType::Float64)
     } else {
         None
     }

@@ -39,6 +39,14 @@ pub is-requires-else-is-8 : goal.is-requires-else-is-8
 unfolding basic_type_of
 is-requires-else-is-8 c = search rules
 
+pub is-requires-else-is-9 : goal.is-requires-else-is-9
+unfolding basic_type_of
+is-requires-else-is-9 c = search rules
+
+pub is-requires-else-is-10 : goal.is-requires-else-is-10
+unfolding basic_type_of
+is-requires-else-is-10 c = search rules
+
 pub returns-then-is : goal.returns-then-is
 unfolding basic_type_of
 returns-then-is c = search rules
@@ -75,6 +83,14 @@ pub returns-then-is-9 : goal.returns-then-is-9
 unfolding basic_type_of
 returns-then-is-9 c = search rules
 
-pub returns-else-is-9 : goal.returns-else-is-9
+pub returns-then-is-10 : goal.returns-then-is-10
 unfolding basic_type_of
-returns-else-is-9 c = search rules
+returns-then-is-10 c = search rules
+
+pub returns-then-is-11 : goal.returns-then-is-11
+unfolding basic_type_of
+returns-then-is-11 c = search rules
+
+pub returns-else-is-11 : goal.returns-else-is-11
+unfolding basic_type_of
+returns-else-is-11 c = search rules
