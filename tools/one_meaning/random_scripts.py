@@ -2,6 +2,10 @@
 
 from meaning import TYPES
 
+import floats
+
+FLOATS = ("0", "-0", "1", "0.1", "-2e3", "9007199254740992", "-9007199254740992", "1e308", "5e-324", "inf", "-inf", "nan")
+OPERATIONS = ("max", "min", "sum", "prod", "land", "lor", "lxor", "band", "bor", "bxor")
 KINDS = [kind for kind in TYPES if kind != "byte"]
 LARGE = 1500
 
@@ -22,13 +26,25 @@ class Making:
 
     def elements(self, kind):
         """The elements of a buffer: mostly few, now and then so many that their message is a large one."""
-        size, signed, _ = TYPES[kind]
-        lowest = -(2 ** (8 * size - 1)) if signed else 0
-        draw = lambda: self.source.randint(lowest, lowest + 2 ** (8 * size) - 1) if self.source.random() < 0.3 else self.source.randint(0, 9)
         if self.source.random() < 0.1:
-            return f"{LARGE}*{draw()}", LARGE
+            return f"{LARGE}*{self.element(kind)}", LARGE
         count = self.source.choice((0, 1, 1, 2, 3, 5))
-        return " ".join(str(draw()) for _ in range(count)), count
+        return " ".join(self.element(kind) for _ in range(count)), count
+
+    def element(self, kind):
+        """An element: of the whole range of its type now and then."""
+        size, signed, _ = TYPES[kind]
+        is_wide = self.source.random() < 0.3
+        if kind in floats.FLOATS:
+            pattern = self.source.randrange(2 ** (8 * size))
+            return floats.text(kind, pattern) if is_wide else self.source.choice(FLOATS)
+        lowest = -(2 ** (8 * size - 1)) if signed else 0
+        return str(self.source.randint(lowest, lowest + 2 ** (8 * size) - 1) if is_wide else self.source.randint(0, 9))
+
+    def operation(self, kind):
+        """An operation of a reduction, mostly one that is defined on the type."""
+        is_for_floats = kind in floats.FLOATS and self.source.random() < 0.9
+        return self.source.choice(OPERATIONS[:4] if is_for_floats else OPERATIONS)
 
     def buffer(self, rank, kind, text):
         name = self.name("b")
@@ -73,11 +89,11 @@ class Making:
         """All members of a communicator enter the same."""
         comm, members = self.source.choice(list(self.comms.items()))
         what, kind, root = self.source.choice(("barrier", "bcast", "gather", "scatter", "reduce", "allreduce", "dup", "split")), self.source.choice(KINDS), self.source.randrange(len(members))
-        operation, count = self.source.choice(("max", "min", "sum", "prod", "land", "lor", "lxor", "band", "bor", "bxor")), self.source.choice((1, 1, 2, 3))
+        operation, count = self.operation(kind), self.source.choice((1, 1, 2, 3))
         made = self.name("c")
         chosen = {rank: (self.source.choice(("undefined", 0, 0, 1)), self.source.randint(-2, 2)) for rank in members}
         for place, rank in enumerate(members):
-            into, values = self.name("i"), " ".join(str(self.source.randint(0, 99)) for _ in range(count))
+            into, values = self.name("i"), " ".join(self.element(kind) for _ in range(count))
             if what == "barrier":
                 self.lines[rank].append(f"barrier {comm}")
             elif what in ("dup", "split"):

@@ -4,6 +4,7 @@ from meaning import HIGHEST_TAG, MOST_BLOCK_BYTES, MOST_BYTES, ROOTED, TYPES
 from meaning import Buffer, Communicator, Entry, Faulty, Message, NoMeaning, Refusal, Request, awaited, new_groups, room
 
 import layouts
+import reading
 import reductions
 from layouts import Layout
 
@@ -109,11 +110,7 @@ class Rank:
     # ---- buffers and layouts
 
     def do_buf(self, name, kind, *values):
-        made = []
-        for value in values:
-            times, _, one = value.rpartition("*")
-            made += [int(one)] * int(times or 1)
-        self.set_buffer(name, kind, made)
+        self.set_buffer(name, kind, reading.values(kind, values))
 
     def do_type(self, name, form, *words):
         old = Layout(words[-1], [0]) if words[-1] in TYPES else self.named(self.types, words[-1])
@@ -303,7 +300,8 @@ class Rank:
         self.lines.append(next((name for so, name in kinds if so), "unequal"))
 
     def do_print(self, name):
-        self.lines.append(" ".join(map(str, self.buffer(name).values)))
+        buffer = self.buffer(name)
+        self.lines.append(" ".join(reading.text(buffer.type, value) for value in buffer.values))
 
     def do_say(self, *words):
         self.lines.append(" ".join(words))

@@ -10,7 +10,7 @@ import functools
 from dataclasses import dataclass, field
 
 import reductions
-from reading import TYPES
+from reading import TYPES, text
 
 # Whether the engine has other communicators than world.
 ARE_THERE = True
@@ -131,8 +131,14 @@ class Present:
         """The rank of world of the member to which and from which notices go."""
         return self.communicator.ranks()[self.record.center()]
 
+    def way(self):
+        """The kind by whose form the collective goes: a reduction to a root whose operation isn't associative goes as a gather."""
+        record = self.record
+        is_ordered = record.kind == "reduce" and not reductions.is_associative(record.operation, record.type)
+        return "gather" if is_ordered else record.kind
+
     def is_in_a_tree(self):
-        return self.record.kind in IN_TREES
+        return self.way() in IN_TREES
 
     def top(self):
         """The member that stands at the top of the tree: the root of a broadcast, else member 0."""
@@ -206,7 +212,7 @@ class Communicators:
             for notice in held:
                 self.get(notice.brings)
             return []
-        if kind == "gather":
+        if present.way() == "gather":
             present.answer = "done"
         return [(present.center(), self.notice(TOWARDS, present.handed))]
 
@@ -254,7 +260,7 @@ class Communicators:
         told = []
         if present.record.kind == "bcast":
             told = present.below(self.rank)
-        elif present.record.kind == "reduce":
+        elif present.way() == "reduce":
             told = [present.center() if present.is_top(self.rank) else present.above(self.rank)]
         return [(rank, self.notice(DIFFERS)) for rank in told if rank != self.rank]
 
@@ -320,7 +326,7 @@ class Communicators:
             return []
         folded = reductions.fold(present.record.operation, present.record.type, blocks)
         self.get(folded)
-        return [(rank, self.notice(BACK, folded)) for rank in self.others()]
+        return [] if kind == "reduce" else [(rank, self.notice(BACK, folded)) for rank in self.others()]
 
     def give(self, ranks):
         """The root of a scatter gives each its block, itself too."""
@@ -337,7 +343,7 @@ class Communicators:
             present.answer = "done"
             return
         present.data = (present.record.type, values)
-        present.answer = " ".join(["data"] + [str(value) for value in values])
+        present.answer = " ".join(["data"] + [text(present.record.type, value) for value in values])
 
     def make(self, ranks):
         """Member 0 makes the new communicators, and tells each member of its own."""

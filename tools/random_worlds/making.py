@@ -7,6 +7,7 @@ What is compared later is the model on the whole text, from its first byte on.
 
 import collecting
 import communicators
+import floats
 import probing
 import reading
 import rules
@@ -141,8 +142,18 @@ class Maker(collecting.Collecting, probing.Probing):
         return self.random.choice(list(TYPES)) if self.random.random() < 0.4 else "int32"
 
     def a_value(self, kind):
+        if kind in floats.FLOATS:
+            return floats.text(kind, self.a_pattern(kind))
         low, high = reading.lowest(kind), reading.highest(kind)
         return self.random.choice([low, high, 0, 1, 2, 3, 9, self.random.randint(low, high)])
+
+    def a_pattern(self, kind):
+        """The bits of a float: of one that comes often, or any; a NaN has no payload where it is written."""
+        size = reading.TYPES[kind][0]
+        usual = ["0", "-0", "1", "-1", "0.1", "1e-45", "5e-324", "inf", "-inf", "nan", "16777216", "9007199254740992", "-9007199254740992"]
+        if self.random.random() < 0.7:
+            return floats.read(kind, self.random.choice(usual))
+        return self.random.randrange(256**size)
 
     def a_tag(self):
         return self.random.choice(TAGS + [rules.HIGHEST_TAG] if self.random.random() < 0.1 else TAGS)

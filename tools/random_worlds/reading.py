@@ -7,6 +7,8 @@ of the small classes below, and `rules.py` says what each of them does.
 import re
 from dataclasses import dataclass
 
+import floats
+
 # Each basic type by its name: its size in bytes, whether it has a sign, and its code in a frame.
 TYPES = {
     "int8": (1, True, 1),
@@ -18,9 +20,12 @@ TYPES = {
     "uint32": (4, False, 7),
     "uint64": (8, False, 8),
     "byte": (1, False, 9),
+    "float32": (4, False, 10),
+    "float64": (8, False, 11),
 }
 
-RESERVED = {"world", "self", "null"} | set(TYPES)
+# The words of floats are names, too.
+RESERVED = {"world", "self", "null"} | set(TYPES) - set(floats.FLOATS)
 NAME = re.compile(r"[a-z][a-z0-9]{0,15}")
 NUMBER = re.compile(r"0|[1-9][0-9]*")
 HEX = re.compile(r"([0-9a-f][0-9a-f])+")
@@ -296,6 +301,11 @@ def name(word):
 
 def value(type_name, word):
     """A value in the range of its type; only signed types have a `-`, and they have `-0` too."""
+    if type_name in floats.FLOATS:
+        found = floats.read(type_name, word)
+        if found is None:
+            raise Faulty
+        return found
     negative = word.startswith("-")
     if negative and not TYPES[type_name][1]:
         raise Faulty
@@ -315,6 +325,11 @@ def values(type_name, words):
         else:
             found.append(value(type_name, word))
     return found
+
+
+def text(type_name, value):
+    """A value as it is printed."""
+    return floats.text(type_name, value) if type_name in floats.FLOATS else str(value)
 
 
 def request(word):

@@ -1,23 +1,25 @@
-"""The operations of a reduction (MPI 3.1, 5.9.2), element by element on Python's integers."""
+"""The operations of a reduction (MPI 3.1, 5.9.2), element by element on Python's integers; floats are the patterns of their bits."""
 
 import functools
 
+import floats
 from reading import TYPES
 
-INTEGERS = set(TYPES) - {"byte"}
+INTEGERS = set(TYPES) - {"byte"} - set(floats.FLOATS)
+NUMBERS = INTEGERS | set(floats.FLOATS)
 
 # The types on which each operation is defined.
 DEFINED = {
-    "max": INTEGERS,
-    "min": INTEGERS,
-    "sum": INTEGERS,
-    "prod": INTEGERS,
+    "max": NUMBERS,
+    "min": NUMBERS,
+    "sum": NUMBERS,
+    "prod": NUMBERS,
     "land": INTEGERS,
     "lor": INTEGERS,
     "lxor": INTEGERS,
-    "band": set(TYPES),
-    "bor": set(TYPES),
-    "bxor": set(TYPES),
+    "band": INTEGERS | {"byte"},
+    "bor": INTEGERS | {"byte"},
+    "bxor": INTEGERS | {"byte"},
     "affine": {"uint64"},
 }
 
@@ -50,6 +52,18 @@ COMBINES = {
 }
 
 
+def is_associative(operation, kind):
+    """Whether a fold of folds is the fold: sums and products of floats are rounded."""
+    return kind not in floats.FLOATS or operation not in ("sum", "prod")
+
+
+def combined(operation, kind, one, other):
+    """What an operation makes of two elements, the lower rank's first."""
+    if kind in floats.FLOATS:
+        return floats.combined(operation, kind, one, other)
+    return wrapped(kind, COMBINES[operation](one, other))
+
+
 def fold(operation, kind, blocks):
     """What is made of the blocks of all members, in rank order and place by place, the lower ranks first."""
-    return [functools.reduce(lambda one, other: wrapped(kind, COMBINES[operation](one, other)), column) for column in zip(*blocks)]
+    return [functools.reduce(lambda one, other: combined(operation, kind, one, other), column) for column in zip(*blocks)]

@@ -158,7 +158,7 @@ def text_of(request):
     """The text of a finished request."""
     if request.values is None:
         return request.outcome
-    return " ".join([request.outcome, "data"] + [str(value) for value in request.values])
+    return " ".join([request.outcome, "data"] + [reading.text(request.type, value) for value in request.values])
 
 
 class World:
@@ -369,7 +369,7 @@ class World:
         self.check(6 if message is None else self.fault_of_region(kind, values, layout, copies))
         if message == NULL:
             names.messages[event.message] = None
-            return text_of(Request(None, FROM_NULL, values=values)), [], None
+            return text_of(Request(None, FROM_NULL, type=kind, values=values)), [], None
         self.lend(message, event, kind, values, layout, copies)
         taken, message.taken = message.taken, None
         answered = None

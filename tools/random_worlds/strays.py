@@ -50,7 +50,7 @@ def a_bad_frame(random):
     if kind == 3:
         return good[:1] + bytes([random.choice([2, 255])]) + good[2:]
     if kind == 4:
-        return good[:2] + bytes([random.choice([0, 10, 255])]) + good[3:]
+        return good[:2] + bytes([random.choice([0, 12, 255])]) + good[3:]
     if kind == 5:
         return good[:3] + bytes([random.choice([1, 255])]) + good[4:]
     if kind == 6:
