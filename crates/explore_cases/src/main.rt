@@ -64,6 +64,7 @@ fn run<W: Write>(
     let text = fs::read(rt, name)?;
     writeln!(out, "== {name}")?;
     let explored = explored_of(alloc, size, &PlayedText::as_written(&text));
+    let is_well = explored.as_ref().is_some_and(Explored::is_well);
     print(
         out,
         explored.map(|explored| summary_of(alloc, size, &explored)),
@@ -73,7 +74,7 @@ fn run<W: Write>(
         let explored = explored_of(alloc, size, &script);
         print(
             out,
-            explored.map(|explored| summary_of_synchronous(alloc, size, &explored)),
+            explored.map(|explored| summary_of_synchronous(alloc, size, &explored, is_well)),
         )?;
     }
     Ok(())

@@ -156,23 +156,24 @@ fn explored_of<R: Print + Eprint + AllocGlobal + Clock>(
     }
 }
 
-/// Explores a script with synchronous sends that ends otherwise, prints what waits for ever then, and answers whether
+/// Explores a script with synchronous sends that ends otherwise, prints what goes wrong then, and answers whether
 /// nothing does.
 fn is_safe<R: Print + Eprint + AllocGlobal + Clock>(
     rt: &R,
     settings: &Settings<'_>,
     text: &[u8],
+    is_well: bool,
     tells: bool,
 ) -> Result<bool, u8> {
     let Ok(script) = PlayedText::with_synchronous_sends(rt.alloc(), text) else {
         return Err(MEMORY);
     };
     let explored = explored_of(rt, settings, &script, tells, false)?;
-    match summary_of_synchronous(rt.alloc(), settings.size, &explored) {
+    match summary_of_synchronous(rt.alloc(), settings.size, &explored, is_well) {
         Ok(page) => print(rt, page.as_slice())?,
         Err(_) => return Err(MEMORY),
     }
-    Ok(!explored.has_deadlock)
+    Ok(explored.is_well())
 }
 
 /// Explores what these settings ask for, and answers the status.
@@ -193,12 +194,11 @@ fn run_settings<R: Files + Print + Eprint + AllocGlobal + Clock>(
     let explored = explored_of(rt, settings, &script, tells, settings.events.is_none())?;
     print_found(rt, settings, &script, &explored)?;
     let goes_on = settings.sends == Sends::Both && settings.events.is_none();
-    let is_safe = !goes_on || explored.has_deadlock || is_safe(rt, settings, &text, tells)?;
-    Ok(if is_safe && explored.is_well() {
-        0
-    } else {
-        FOUND
-    })
+    let is_well = explored.is_well();
+    let is_safe = !goes_on
+        || explored.has_deadlock
+        || is_safe(rt, settings, &text, is_well, tells)?;
+    Ok(if is_safe && is_well { 0 } else { FOUND })
 }
 
 /// Prints which program it is, and answers the status.

@@ -177,25 +177,41 @@ fn undisturbed_text(explored: &Explored) -> &'static str {
     }
 }
 
-/// What is printed of a script whose sends are synchronous, where it ends well otherwise: what waits for ever then.
+/// What is said where something goes wrong with synchronous sends, of a script that is well as it is written, or isn't.
+fn disturbed_text(explored: &Explored, is_well: bool) -> &'static str {
+    if !is_well {
+        "More goes wrong than with messages that are buffered.\n"
+    } else if explored.has_deadlock {
+        "The script works only because messages are buffered.\n"
+    } else {
+        "The script is well only because messages are buffered.\n"
+    }
+}
+
+/// Whether a result is told of synchronous sends: where a rank waits for ever, and whatever else is wrong with a script
+/// that is well as it is written.
+fn is_told(found: &ToldResult, is_well: bool) -> bool {
+    found.report.verdict == Verdict::Deadlock || is_well && !found.report.ends_well()
+}
+
+/// What is printed of a script whose sends are synchronous, where no rank waits for ever otherwise: what goes wrong
+/// then. Of a script that isn't well as it is written only what waits for ever is told.
 pub fn summary_of_synchronous(
     alloc: Global,
     size: u16,
     explored: &Explored,
+    is_well: bool,
 ) -> Result<Vec<u8>, AllocError> {
     let mut page = Vec::new(alloc);
     add(&mut page, "\nWith every send synchronous: ")?;
     add_head(alloc, &mut page, size, explored)?;
-    if !explored.has_deadlock {
+    if !explored.has_deadlock && (!is_well || explored.is_well()) {
         add(&mut page, undisturbed_text(explored))?;
         return Ok(page);
     }
-    add(
-        &mut page,
-        "The script works only because messages are buffered.\n",
-    )?;
+    add(&mut page, disturbed_text(explored, is_well))?;
     for (place, found) in explored.results.iter().enumerate() {
-        if found.report.verdict == Verdict::Deadlock {
+        if is_told(found, is_well) {
             add_result(alloc, &mut page, place + 1, explored, found)?;
         }
     }
