@@ -20,9 +20,11 @@ def many_messages(random):
     place, and one that finds nothing doesn't."""
     lines = ["world 1", "0 buf a uint8 1", "0 buf b uint8 0"]
     lines += [f"0 {random.choice(['isend', 'issend'])} q world 0 {number % 3} a" for number in range(65534)]
-    return lines + ["0 improbe m world any 1", "0 improbe n world 0 any", "0 improbe o world 0 any", "0 improbe o world 0 9", "0 improbe p world null any",
+    return lines + ["0 improbe m world any 1", "0 improbe n world 0 any", "0 improbe o world 0 any", "0 improbe o world 0 9",
+                    "0 improbe p world null any",
                     "0 iprobe world any any", "0 mrecv p b", "0 mrecv m b", "0 mrecv m b", "0 improbe o world 0 2", "0 improbe p world 0 2",
-                    "0 improbe p world 0 2147483648", "0 irecv r world 0 1 b", "0 mrecv o b", "0 irecv r world 0 1 b", "0 wait r", "0 issend q world 0 1 a"]
+                    "0 improbe p world 0 2147483648", "0 irecv r world 0 1 b", "0 mrecv o b", "0 irecv r world 0 1 b", "0 wait r",
+                    "0 issend q world 0 1 a"]
 
 
 def many_restarts(random):
@@ -81,7 +83,8 @@ def crowd_in_collectives(random):
 
 
 def crowd_in_a_split(random):
-    """A split of 1,024 ranks, most of them of one colour, so that member 0 announces what it tells them; then the new group has a barrier."""
+    """A split of 1,024 ranks, most of them of one colour, so that member 0 announces what it tells them; then the new group has a
+    barrier."""
     maker = making.Maker(random, "trees", 1024)
     entering = list(range(maker.size))
     random.shuffle(entering)
@@ -127,5 +130,6 @@ def largest_messages(random):
 
 def a_long_file(random):
     kinds = [many_communicators] if communicators.ARE_THERE else []
-    lines = random.choice(kinds + [many_requests, many_messages, many_restarts, many_frames, whole_crowd, crowd_in_collectives, crowd_in_a_split, largest_messages])(random)
+    lines = random.choice(kinds + [many_requests, many_messages, many_restarts, many_frames, whole_crowd, crowd_in_collectives,
+                                   crowd_in_a_split, largest_messages])(random)
     return ("\n".join(lines) + "\n").encode()

@@ -732,7 +732,8 @@ class World:
         """A frame that comes a whole window too early, and an acknowledgement of what wasn't sent, are outside the window."""
         if datagram.frame is not None and datagram.sequence >= session.next + WINDOW:
             return 31
-        if datagram.kind == "ACK" and (datagram.sequence > len(session.sent_at) or any(told >= len(session.sent_at) for told in datagram.told)):
+        if datagram.kind == "ACK" and (datagram.sequence > len(session.sent_at)
+                                       or any(told >= len(session.sent_at) for told in datagram.told)):
             return 31
         return None
 

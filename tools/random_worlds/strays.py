@@ -75,7 +75,8 @@ def a_transfer(random):
 
 
 def a_request(random):
-    """The announcement of a message (RTS), of a rank's calls or of a collective: of a large one, or of a synchronous send's of any length."""
+    """The announcement of a message (RTS), of a rank's calls or of a collective: of a large one, or of a synchronous send's of any
+    length."""
     plane = random.choice([0, 0, 1])
     kind = "byte" if plane == 1 else random.choice(list(TYPES))
     size, _, code = TYPES[kind]
@@ -94,7 +95,8 @@ def a_bad_request(random):
         return good + bytes(random.choice([1, 1005]))
     if kind == 2:
         size, _, code = TYPES[random.choice(list(TYPES))]
-        mode, count = random.choice([(0, 0), (0, 1024 // size), (0, 2**20 // size + 1), (0, 2**32 - 1), (1, 2**20 // size + 1), (1, 2**32 - 1)])
+        mode, count = random.choice([(0, 0), (0, 1024 // size), (0, 2**20 // size + 1), (0, 2**32 - 1), (1, 2**20 // size + 1),
+                                     (1, 2**32 - 1)])
         opening = frame(random, 0, code, count)
         return b"\x02" + opening[1:3] + bytes([mode]) + opening[4:] + a_transfer(random)
     if kind == 3:
