@@ -9,6 +9,7 @@ member 0 where a collective has no root.
 import functools
 from dataclasses import dataclass, field
 
+import errors
 import reductions
 from reading import TYPES, text
 
@@ -250,14 +251,14 @@ class Communicators:
         """The member finds that another one entered something else, and leaves with 12; where all wait for one another, it tells all."""
         if self.present.record.kind not in FOR_ALL:
             return self.is_told()
-        self.present.answer = "error 12"
+        self.present.answer = f"error {errors.MISMATCH}"
         return [(rank, self.notice(DIFFERS)) for rank in self.others()]
 
     def is_told(self):
         """The member hears of a difference, and leaves with 12. In a broadcast it tells those below it, and in a reduction the one above
         it, or member 0 the root; so does one that finds the difference."""
         present = self.present
-        present.answer = "error 12"
+        present.answer = f"error {errors.MISMATCH}"
         told = []
         if present.record.kind == "bcast":
             told = present.below(self.rank)
@@ -374,7 +375,7 @@ class Communicators:
         told counts no more."""
         self.waiting = [notice for notice in self.waiting if notice.source != rank or notice.incarnation == incarnation]
         if self.present is not None and self.present.answer is None and rank in self.present.communicator.ranks():
-            self.present.answer = "error 11"
+            self.present.answer = f"error {errors.REPLACED}"
 
     def is_left_without(self, communicator):
         """Whether a dup or split would go beyond a limit: the communicators of the rank, or at member 0 the contexts."""

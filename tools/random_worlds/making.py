@@ -13,7 +13,7 @@ import reading
 import rules
 import strays
 from communicators import Notice
-from frames import Message
+from frames import PIECE_BYTES, Message
 from reading import ANY, NULL, TYPES
 from rules import NotSet
 
@@ -86,7 +86,7 @@ class Maker(collecting.Collecting, probing.Probing):
 
     def a_size(self):
         if self.theme == "crowd":
-            return self.random.choice([6, 8, 16, 40, 100, 255, 257, 1000, 1023, 1024])
+            return self.random.choice([6, 8, 16, 40, 100, 255, 257, 1000, reading.MOST_RANKS - 1, reading.MOST_RANKS])
         if self.theme == "trees":
             return self.random.choice([3, 4, 4, 5, 6, 7, 8, 9, 12, 15, 16, 17, 24, 31, 33, 40])
         if self.theme in ("window", "queues"):
@@ -261,7 +261,7 @@ class Maker(collecting.Collecting, probing.Probing):
             buffer = self.a_buffer(rank, kind, self.a_large_length(kind))
         elif self.random.random() < 0.04:
             kind = self.a_type()
-            buffer = self.a_buffer(rank, kind, 1024 // TYPES[kind][0])
+            buffer = self.a_buffer(rank, kind, PIECE_BYTES // TYPES[kind][0])
         else:
             buffer = self.a_set_buffer(rank)
         if self.random.random() < 0.03:

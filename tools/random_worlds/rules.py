@@ -10,6 +10,7 @@ they are found when a rule grows.
 from dataclasses import dataclass, field
 
 import communicators
+import errors
 import reading
 import reasons
 import reductions
@@ -136,8 +137,8 @@ def accepts(receive, message):
 def fault_of_match(receive, message):
     """The number that a receive ends with where it gets nothing of the message that it was matched with (MPI 3.1, 3.2.4 and 3.3.1)."""
     if receive.type != message.type:
-        return 2
-    return 10 if len(message.values) > len(receive.places) else None
+        return errors.TYPE
+    return errors.TRUNCATE if len(message.values) > len(receive.places) else None
 
 
 def status_of(receive, message):
@@ -195,14 +196,14 @@ class World:
 
     def rank(self, number):
         if number >= len(self.ranks):
-            raise RefusedEvent(61)
+            raise RefusedEvent(errors.NO_SUCH_RANK)
         return self.ranks[number]
 
     def caller(self, number):
         """The rank of a call: it is there, and no earlier call of it is blocked."""
         rank = self.rank(number)
         if rank.is_blocked():
-            raise RefusedEvent(6)
+            raise RefusedEvent(errors.REQUEST)
         return rank
 
     def place_of(self, rank, word):
@@ -223,7 +224,7 @@ class World:
     def communicator(rank, place):
         """The communicator at a place; nothing can be called on MPI_COMM_NULL."""
         if place is None:
-            raise RefusedEvent(4)
+            raise RefusedEvent(errors.COMM)
         return rank.communicators.at(place)
 
     # Calls.
@@ -243,7 +244,7 @@ class World:
         old = Layout(event.old, [0]) if event.old in TYPES else self.layout(event.rank, event.old)
         made = layout_made(event, old)
         if made is None:
-            return "refused 13", [], None
+            return f"refused {errors.LIMIT}", [], None
         self.names_of(event.rank).layouts[event.name] = made
         return None, [], None
 
@@ -366,7 +367,7 @@ class World:
         message = names.found(names.messages, event.message)
         kind, values, layout, copies = self.region(event)
         rank = self.caller(event.rank)
-        self.check(6 if message is None else self.fault_of_region(kind, values, layout, copies))
+        self.check(errors.REQUEST if message is None else self.fault_of_region(kind, values, layout, copies))
         if message == NULL:
             names.messages[event.message] = None
             return text_of(Request(None, FROM_NULL, type=kind, values=values)), [], None
@@ -374,7 +375,7 @@ class World:
         taken, message.taken = message.taken, None
         answered = None
         if taken == REPLACED:
-            message.outcome = "error 11"
+            message.outcome = f"error {errors.REPLACED}"
         else:
             answered = self.match(rank, message, taken)
         answer, _, _ = self.complete(rank, Waiting("one", [message]))
@@ -406,7 +407,7 @@ class World:
         rank = self.caller(event.rank)
         active = [request.serial for request in requests if request is not None]
         if len(set(active)) < len(active):
-            raise RefusedEvent(6)
+            raise RefusedEvent(errors.REQUEST)
         return self.complete(rank, Waiting(kind, requests))
 
     def complete(self, rank, waiting):
@@ -435,7 +436,7 @@ class World:
         request = self.named(event.rank, event.request)
         rank = self.caller(event.rank)
         if request is None or not request.is_receive():
-            raise RefusedEvent(6)
+            raise RefusedEvent(errors.REQUEST)
         if any(receive is request for receive in rank.posted):
             request.outcome = "cancelled"
             rank.posted = [receive for receive in rank.posted if receive is not request]
@@ -448,33 +449,33 @@ class World:
         if named in (ANY, NULL):
             return None
         if named >= len(communicator.members):
-            return 5
-        return 11 if communicator.context != WORLD and rank.has_replaced(communicator.members[named]) else None
+            return errors.RANK
+        return errors.REPLACED if communicator.context != WORLD and rank.has_replaced(communicator.members[named]) else None
 
     def fault_of_send(self, event, rank, communicator, kind, values, layout, copies):
         if layout.type != kind:
-            return 2
+            return errors.TYPE
         if layout.count(copies) * TYPES[kind][0] > MOST_BYTES or layout.room(copies) > len(values):
-            return 1
+            return errors.COUNT
         if event.tag == ANY or event.tag > HIGHEST_TAG:
-            return 3
-        return self.fault_of_rank(rank, communicator, event.target) or (13 if self.is_full(event.rank) else None)
+            return errors.TAG
+        return self.fault_of_rank(rank, communicator, event.target) or (errors.LIMIT if self.is_full(event.rank) else None)
 
     def fault_of_receive(self, event, rank, communicator, kind, values, layout, copies):
         fault = self.fault_of_region(kind, values, layout, copies) or self.fault_of_probe(event, rank, communicator)
-        return fault or (13 if self.is_full(event.rank) else None)
+        return fault or (errors.LIMIT if self.is_full(event.rank) else None)
 
     @staticmethod
     def fault_of_region(kind, values, layout, copies):
         """What is wrong with where a receive puts its data."""
         if layout.type != kind or layout.repeats():
-            return 2
-        return 1 if layout.room(copies) > len(values) else None
+            return errors.TYPE
+        return errors.COUNT if layout.room(copies) > len(values) else None
 
     def fault_of_probe(self, event, rank, communicator):
         """What is wrong with what a receive or a probe looks for."""
         if event.tag != ANY and event.tag > HIGHEST_TAG:
-            return 3
+            return errors.TAG
         return self.fault_of_rank(rank, communicator, event.source)
 
     def is_full(self, rank):
@@ -497,9 +498,9 @@ class World:
         communicator = self.communicator(rank, place)
         self.check(broken and broken(communicator))
         if any(rank.has_replaced(member) for member in communicator.members):
-            raise RefusedEvent(11)
+            raise RefusedEvent(errors.REPLACED)
         if record.kind in ("dup", "split") and rank.communicators.is_left_without(communicator):
-            raise RefusedEvent(13)
+            raise RefusedEvent(errors.LIMIT)
         self.tell(rank, rank.communicators.enter(communicator, record, handed, name))
         answer = self.answer_of_collective(rank)
         return "blocked" if answer is None else answer, self.all_in_windows(rank), None
@@ -521,11 +522,11 @@ class World:
     def fault_of_block(record, communicator):
         """What is wrong with what is handed in: too many bytes, no such root, an operation that isn't defined on the type."""
         if record.count * TYPES[record.type][0] > MOST_BLOCK_BYTES:
-            return 1
+            return errors.COUNT
         if record.root is not None and record.root >= len(communicator.members):
-            return 7
+            return errors.ROOT
         if record.operation is not None and record.type not in reductions.DEFINED[record.operation]:
-            return 9
+            return errors.OP
         return None
 
     def move(self, event, record, handed, name):
@@ -569,9 +570,9 @@ class World:
 
         def broken(communicator):
             if given != kind:
-                return 2
+                return errors.TYPE
             if len(blocks) != len(communicator.members) * len(values):
-                return 1
+                return errors.COUNT
             return self.fault_of_block(record, communicator)
 
         return self.enter(event, record, blocks, event.into, broken)
@@ -684,7 +685,7 @@ class World:
     def on_tick(self, event):
         rank = self.rank(event.rank)
         if event.now < rank.clock:
-            raise RefusedEvent(41)
+            raise RefusedEvent(errors.CLOCK_BACK)
         rank.clock = event.now
         emitted = []
         for other in sorted(rank.sessions):
@@ -698,7 +699,7 @@ class World:
     def on_restart(self, event):
         rank = self.rank(event.rank)
         if rank.incarnation == LAST_INCARNATION:
-            raise RefusedEvent(13)
+            raise RefusedEvent(errors.LIMIT)
         self.ranks[event.rank] = self.new_rank(event.rank, rank.incarnation + 1, len(self.ranks))
         self.names.pop(event.rank, None)
         return "ok", [], None
@@ -709,14 +710,14 @@ class World:
 
     def on_deliver(self, event):
         if event.number >= len(self.datagrams):
-            raise RefusedEvent(62)
+            raise RefusedEvent(errors.NO_SUCH_DATAGRAM)
         datagram = self.datagrams[event.number]
         rank = self.ranks[datagram.target]
         known = rank.incarnation_of(datagram.source)
         if datagram.source_incarnation < known:
-            raise RefusedEvent(28)
+            raise RefusedEvent(errors.STALE_SOURCE)
         if datagram.target_incarnation < rank.incarnation:
-            raise RefusedEvent(29, self.reset_for(rank, datagram))
+            raise RefusedEvent(errors.STALE_TARGET, self.reset_for(rank, datagram))
         learns = datagram.source_incarnation > known
         session = Session() if learns else rank.session(datagram.source)
         self.check(self.fault_of_sequence(session, datagram))
@@ -731,10 +732,10 @@ class World:
     def fault_of_sequence(session, datagram):
         """A frame that comes a whole window too early, and an acknowledgement of what wasn't sent, are outside the window."""
         if datagram.frame is not None and datagram.sequence >= session.next + WINDOW:
-            return 31
+            return errors.OUT_OF_WINDOW
         if datagram.kind == "ACK" and (datagram.sequence > len(session.sent_at)
                                        or any(told >= len(session.sent_at) for told in datagram.told)):
-            return 31
+            return errors.OUT_OF_WINDOW
         return None
 
     @staticmethod
@@ -743,12 +744,12 @@ class World:
         if frame.kind == "EAGER":
             return None
         if frame.kind == "RTS":
-            return None if frame.transfer == session.announced else 30
+            return None if frame.transfer == session.announced else errors.BAD_FRAME
         if frame.kind == "CTS":
-            return None if frame.transfer in session.unanswered else 30
+            return None if frame.transfer in session.unanswered else errors.BAD_FRAME
         collection = session.collections.get(frame.transfer)
         if collection is None or frame.start != len(collection.values) or len(frame.values) != collection.due():
-            return 30
+            return errors.BAD_FRAME
         return None
 
     @staticmethod
@@ -766,11 +767,11 @@ class World:
         former = rank.session(other)
         for request in [send for send, _ in former.unanswered.values()] + [half.receive for half in former.collections.values()]:
             if request is not None:
-                request.outcome = "error 11"
+                request.outcome = f"error {errors.REPLACED}"
         rank.sessions[other] = Session()
         for receive in rank.posted:
             if receive.source == other:
-                receive.outcome = "error 11"
+                receive.outcome = f"error {errors.REPLACED}"
         rank.posted = [receive for receive in rank.posted if receive.outcome is None]
 
         def is_former(message):
@@ -882,7 +883,7 @@ def answer(text):
             try:
                 printed += world.line(event)
             except NotSet as why:
-                raise reading.Refused(51, line, str(why)) from None
+                raise reading.Refused(errors.SCRIPT, line, str(why)) from None
     except reading.Refused as refused:
         line = reading.line_at(text, refused.line)
         told = reasons.told(refused.reason or reasons.of_line(line), line)

@@ -12,6 +12,7 @@ from dataclasses import dataclass, field
 
 sys.path.insert(0, str(pathlib.Path(__file__).resolve().parents[2] / "random_worlds"))
 
+import errors
 from reading import TYPES
 
 HIGHEST_TAG = 2**31 - 1
@@ -82,9 +83,9 @@ class Request:
         """The receive ends with this message (3.2.4, 3.3.1)."""
         self.finished = True
         if self.buffer.type != message.type:
-            self.error = 2
+            self.error = errors.TYPE
         elif len(message.values) > len(self.places):
-            self.error = 10
+            self.error = errors.TRUNCATE
         else:
             for place, value in zip(self.places, message.values):
                 self.buffer.values[place] = value
@@ -160,9 +161,9 @@ def new_groups(kind, members, entries):
 def room(buffer, layout, copies):
     """The places that a call names in a buffer; it is refused with 2 or 1 where they don't fit it (3.3.1, 4.1.2)."""
     if layout.type != buffer.type:
-        raise Refusal(2)
+        raise Refusal(errors.TYPE)
     if layout.room(copies) > len(buffer.values):
-        raise Refusal(1)
+        raise Refusal(errors.COUNT)
     return layout.places(copies)
 
 

@@ -3,6 +3,7 @@
 from meaning import HIGHEST_TAG, MOST_BLOCK_BYTES, MOST_BYTES, ROOTED, TYPES
 from meaning import Buffer, Communicator, Entry, Faulty, Message, NoMeaning, Refusal, Request, awaited, new_groups, room
 
+import errors
 import layouts
 import reading
 import reductions
@@ -98,7 +99,7 @@ class Rank:
         """A communicator; 4 for MPI_COMM_NULL."""
         found = self.named(self.comms, name)
         if found is None:
-            raise Refusal(4)
+            raise Refusal(errors.COMM)
         return found
 
     def places(self, buffer, as_layout):
@@ -116,7 +117,7 @@ class Rank:
         old = Layout(words[-1], [0]) if words[-1] in TYPES else self.named(self.types, words[-1])
         made = layouts.layout_made(FormOf(form, words[:-1]), old)
         if made is None:
-            raise Refusal(13)
+            raise Refusal(errors.LIMIT)
         self.types[name] = made
 
     # ---- messages between two ranks
@@ -127,15 +128,15 @@ class Rank:
         layout, copies = self.places(buffer, as_layout)
         comm = self.comm(comm)
         if layout.type != buffer.type:
-            raise Refusal(2)
+            raise Refusal(errors.TYPE)
         if layout.count(copies) * TYPES[buffer.type][0] > MOST_BYTES:
-            raise Refusal(1)
+            raise Refusal(errors.COUNT)
         places = room(buffer, layout, copies)
         if tag == "any" or int(tag) > HIGHEST_TAG:
-            raise Refusal(3)
+            raise Refusal(errors.TAG)
         if dest != "null":
             if int(dest) >= len(comm.members):
-                raise Refusal(5)
+                raise Refusal(errors.RANK)
             values = [buffer.values[place] for place in places]
             self.world.send(comm.members[int(dest)], Message(self.rank, comm.context, int(tag), buffer.type, values))
         return Request()
@@ -147,14 +148,14 @@ class Rank:
         layout, copies = self.places(buffer, as_layout)
         comm = self.comm(comm)
         if layout.type != buffer.type or layout.repeats():
-            raise Refusal(2)
+            raise Refusal(errors.TYPE)
         places = room(buffer, layout, copies)
         if tag != "any" and int(tag) > HIGHEST_TAG:
-            raise Refusal(3)
+            raise Refusal(errors.TAG)
         if source == "null":
             return Request(status=OF_NULL, buffer=buffer)
         if int(source) >= len(comm.members):
-            raise Refusal(5)
+            raise Refusal(errors.RANK)
         request = Request(finished=False, source=comm.members[int(source)], tag="any" if tag == "any" else int(tag), comm=comm,
                           buffer=buffer, places=places)
         buffer.lent = True
@@ -197,7 +198,7 @@ class Rank:
         requests = [None if name == "null" else self.named(self.requests, name) for name in names]
         given = [request for request in requests if request]
         if len(set(map(id, given))) < len(given):
-            raise Refusal(6)
+            raise Refusal(errors.REQUEST)
         yield from self.until(lambda: all(request.finished for request in given))
         for name in names:
             if name != "null":
@@ -221,13 +222,13 @@ class Rank:
         comm = self.comm(comm)
         other_type, other_total = is_wrong(comm)
         if other_type:
-            raise Refusal(2)
+            raise Refusal(errors.TYPE)
         if (basic and count * TYPES[basic][0] > MOST_BLOCK_BYTES) or other_total:
-            raise Refusal(1)
+            raise Refusal(errors.COUNT)
         if kind in ROOTED and root >= len(comm.members):
-            raise Refusal(7)
+            raise Refusal(errors.ROOT)
         if op and basic not in reductions.DEFINED[op]:
-            raise Refusal(9)
+            raise Refusal(errors.OP)
         number = self.counts.get(comm.context, 0)
         self.counts[comm.context] = number + 1
         self.world.enter(comm.context, number, self.rank, Entry(record, values, colour, key))
