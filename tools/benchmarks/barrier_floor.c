@@ -29,7 +29,9 @@ static double now(void) {
     return t.tv_sec + t.tv_nsec * 1e-9;
 }
 
-static void give(int from, int to, size_t bytes) { sendto(sockets[from], buffer, bytes, 0, (void *)&addresses[to], sizeof addresses[to]); }
+static void give(int from, int to, size_t bytes) {
+    sendto(sockets[from], buffer, bytes, 0, (void *)&addresses[to], sizeof addresses[to]);
+}
 
 /* Waits for so many datagrams of entries, answers each if `acks` says so, and leaves acknowledgements aside. */
 static void take(int at, int count, int acks) {

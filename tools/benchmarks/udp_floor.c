@@ -1,8 +1,8 @@
 /* What plain UDP sockets take between two processes on 127.0.0.1, with blocking receives.
  *
  *   udp_floor pong COUNT ACKS CORE CORE     half a round trip of a datagram of 56 bytes, in microseconds
- *   udp_floor window COUNT ACKS CORE CORE   datagrams of 56 bytes one way, 64 at a time and then one back: datagrams a second
- *   udp_floor stream COUNT ACKS CORE CORE   the same with datagrams of 1,068 bytes, of which 1,024 are data: MB of data a second
+ *   udp_floor window COUNT ACKS CORE CORE   datagrams of 56 bytes one way, 64 at a time and then one back: a second
+ *   udp_floor stream COUNT ACKS CORE CORE   the same with datagrams of 1,068 bytes, of which 1,024 are data: MB of them
  *
  * Each process is kept on the core that is named for it, as ranks are by tools/benchmarks/rank: left to themselves
  * both mostly sit on one.
@@ -41,7 +41,8 @@ static void take(ssize_t bytes) {
 
 int main(int count, char **words) {
     if (count != 6) return 2;
-    int streams = !strcmp(words[1], "stream"), windowed = streams || !strcmp(words[1], "window"), bytes = streams ? PIECE : MESSAGE;
+    int streams = !strcmp(words[1], "stream"), windowed = streams || !strcmp(words[1], "window");
+    int bytes = streams ? PIECE : MESSAGE;
     int turns = atoi(words[2]), acks = atoi(words[3]);
     int sockets[2];
     struct sockaddr_in addresses[2];

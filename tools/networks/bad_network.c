@@ -48,7 +48,9 @@ static int64_t now(void) {
 
 static struct sockaddr_in port(int rank, int other) {
     return (struct sockaddr_in){
-        .sin_family = AF_INET, .sin_port = htons(first + rank * stride + other), .sin_addr.s_addr = htonl(INADDR_LOOPBACK)};
+        .sin_family = AF_INET,
+        .sin_port = htons(first + rank * stride + other),
+        .sin_addr.s_addr = htonl(INADDR_LOOPBACK)};
 }
 
 static int is_before(const struct Datagram *one, const struct Datagram *other) {
@@ -68,7 +70,9 @@ static void put(int from, int to, const char *bytes, int length, int64_t due) {
     memcpy(it->bytes, bytes, length);
     int place = count++;
     waiting[place] = it;
-    for (; place && is_before(waiting[place], waiting[(place - 1) / 2]); place = (place - 1) / 2) swap(place, (place - 1) / 2);
+    for (; place && is_before(waiting[place], waiting[(place - 1) / 2]); place = (place - 1) / 2) {
+        swap(place, (place - 1) / 2);
+    }
 }
 
 static struct Datagram *take(void) {

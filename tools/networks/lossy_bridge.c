@@ -36,7 +36,8 @@ static int at(const char *name) {
 
 /* Whether a frame is a UDP datagram over IPv4. */
 static int is_datagram(const unsigned char *frame, ssize_t length) {
-    return length > CHECKSUM + 1 && frame[12] == 0x08 && frame[13] == 0x00 && frame[ETHERNET] == 0x45 && frame[PROTOCOL] == UDP;
+    if (length <= CHECKSUM + 1) return 0;
+    return frame[12] == 0x08 && frame[13] == 0x00 && frame[ETHERNET] == 0x45 && frame[PROTOCOL] == UDP;
 }
 
 /* Passes the next frame of one interface on to the others, or loses it. */

@@ -18,7 +18,8 @@
 enum { ROOM = 4 << 20 };
 
 static struct sockaddr_in local(int port) {
-    return (struct sockaddr_in){.sin_family = AF_INET, .sin_port = htons(port), .sin_addr.s_addr = htonl(INADDR_LOOPBACK)};
+    struct in_addr here = {htonl(INADDR_LOOPBACK)};
+    return (struct sockaddr_in){.sin_family = AF_INET, .sin_port = htons(port), .sin_addr = here};
 }
 
 static int at(int port) {

@@ -23,7 +23,8 @@
 #include <time.h>
 #include <unistd.h>
 
-enum { MOST = 16, PLACES = 8192, LONGEST = 1280, ROOM = 16 << 20, OVERHEAD = 28, HEADER = 32, KIND = 5, FRAME = 1, SEQUENCE = 24 };
+enum { MOST = 16, PLACES = 8192, LONGEST = 1280, ROOM = 16 << 20, OVERHEAD = 28 };
+enum { HEADER = 32, KIND = 5, FRAME = 1, SEQUENCE = 24 };
 
 /* A datagram on its way: when the line is done with it, and when it comes. */
 struct packet {
@@ -62,7 +63,8 @@ static uint64_t now(void) {
 /* Where this rank sees that one. */
 static struct sockaddr_in seen(int rank, int other, int port) {
     uint32_t address = (127u << 24) | (uint32_t)(rank + 10) << 8 | (uint32_t)(other + 1);
-    return (struct sockaddr_in){.sin_family = AF_INET, .sin_port = htons((uint16_t)(port + other)), .sin_addr.s_addr = htonl(address)};
+    struct in_addr there = {htonl(address)};
+    return (struct sockaddr_in){.sin_family = AF_INET, .sin_port = htons((uint16_t)(port + other)), .sin_addr = there};
 }
 
 /* A socket at this address. */
@@ -188,8 +190,8 @@ int main(int count, char **words) {
     puts("ready");
     fflush(stdout);
     while (!is_over) go_round(&relay);
-    printf("%llu %llu %llu %llu\n", (unsigned long long)relay.frames, (unsigned long long)relay.again, (unsigned long long)relay.lost,
-           (unsigned long long)relay.full);
+    const unsigned long long counted[] = {relay.frames, relay.again, relay.lost, relay.full};
+    printf("%llu %llu %llu %llu\n", counted[0], counted[1], counted[2], counted[3]);
     for (int from = 0; from < relay.ranks; from++)
         for (int to = 0; to < relay.ranks; to++)
             if (from != to) close(relay.ways[from][to].socket), free(relay.ways[from][to].places);

@@ -11,7 +11,6 @@ such message may never come.
 """
 
 import collections
-import re
 
 WORKERS = 8
 INCARNATIONS = 4  # of each worker, that have lines in the script
