@@ -41,7 +41,8 @@ import sys
 from pathlib import Path
 
 sys.dont_write_bytecode = True
-sys.path.insert(0, str(Path(__file__).resolve().parent))
+sys.path.insert(0, str(Path(__file__).resolve().parent / "modules"))
+import bounds
 import c_programs
 import ports
 import programs
@@ -191,7 +192,7 @@ def find(names, is_proved):
         if programs.kit() is None:
             raise programs.NotBuilt(programs.NO_TOOLCHAIN)
         # It says itself what it does, and why it fails.
-        if subprocess.run([TOP / "tools" / "proved_build", *names]).returncode != 0:
+        if subprocess.run([TOP / "tools" / "build" / "proved_build", *names]).returncode != 0:
             raise Fault("the programs aren't proved")
         found = programs.proved_folders(names)
         if found is None:
@@ -219,7 +220,7 @@ class Judged(Exception):
 
 def judge(rank_main, ranks, file):
     """Lets a script be judged for so many ranks, unless their number is mpiexec's to refuse."""
-    if str(ranks).isdecimal() and 0 < int(ranks) <= 1024:
+    if str(ranks).isdecimal() and 0 < int(ranks) <= bounds.MOST_RANKS:
         words = [str(rank_main.resolve()), "--judge", str(int(ranks)), str(file)]
         if subprocess.run(words, stdin=subprocess.DEVNULL, stdout=subprocess.DEVNULL).returncode == 1:
             raise Judged
@@ -273,7 +274,8 @@ def launch(mpiexec, request, ranks):
     options = {"-job": random_below(10**15), **request.options}
     if "-baseport" not in options:
         # Numbers that are none are mpiexec's to refuse.
-        options["-baseport"] = free_ports(min(max(int(ranks), 1), 1024)) if str(ranks).isdecimal() else ports.LOWEST
+        count = min(max(int(ranks), 1), bounds.MOST_RANKS) if str(ranks).isdecimal() else None
+        options["-baseport"] = free_ports(count) if count else ports.LOWEST
     words = [short(mpiexec)]
     for option, value in options.items():
         words += [option, str(value)]

@@ -10,13 +10,14 @@ from itertools import count
 from pathlib import Path
 from threading import Lock
 
+import bounds
 import ports
 
 # What stands on a page for anything that differs from run to run: within a line, or as a line for any number of lines.
 ANYTHING = "…"
 SECONDS = 90
 # The base port that a page shows, which is the launcher's own, and more ranks than any page starts.
-SHOWN_PORT, SHOWN_RANKS = 47000, 256
+SHOWN_PORT, SHOWN_RANKS = bounds.BASE_PORT, 256
 # The launcher, with a free base port where it gets none.
 LAUNCHER = """#!/bin/sh
 launcher=%s

@@ -1,5 +1,6 @@
 """Judges stray bytes: whether they are a datagram, and of which job (docs/EVENT_FILES.md)."""
 
+import errors
 from reading import TYPES
 
 JOB = 1
@@ -55,22 +56,22 @@ def is_frame(body):
 def fault_of_bytes(data):
     """Why stray bytes are refused: they carry the world's job number, are no datagram, or are of another job."""
     if data[16:24] == JOB.to_bytes(8, "big"):
-        return 63
+        return errors.CARRIES_JOB
     if len(data) < HEADER:
-        return 21
+        return errors.SHORT
     if data[:4] != MAGIC:
-        return 22
+        return errors.MAGIC
     if data[4] != 2:
-        return 23
+        return errors.VERSION
     if data[5] not in (1, 2, 3):
-        return 24
+        return errors.KIND
     length = int.from_bytes(data[14:16], "big")
     if length != len(data) - HEADER or length > LONGEST_BODY or (data[5] != 1 and length != {2: 8, 3: 0}[data[5]]):
-        return 25
+        return errors.LENGTH
     if data[5] == 2 and data[-1] % 2 == 1:
-        return 30
+        return errors.BAD_FRAME
     if data[5] == 1 and not is_frame(data[HEADER:]):
-        return 30
+        return errors.BAD_FRAME
     if data[5] == 3 and any(data[24:32]):
-        return 30
-    return 26
+        return errors.BAD_FRAME
+    return errors.FOREIGN_JOB

@@ -98,7 +98,8 @@ class Collecting:
                 self.deliver_of_any_pair() if self.theme == "trees" else self.deliver_new()
 
     def deliver_all(self, entering):
-        """The network brings all that is on its way, or only some of it, each pair of ranks as it likes; then all clocks go on, now and then."""
+        """The network brings all that is on its way, or only some of it, each pair of ranks as it likes; then all clocks go on, now and
+        then."""
         for _ in range(self.random.choice([len(entering), 20 * len(entering), 20 * len(entering), 20 * len(entering)])):
             self.deliver_of_any_pair()
         if self.random.random() < 0.1:

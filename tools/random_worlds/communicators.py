@@ -9,6 +9,7 @@ member 0 where a collective has no root.
 import functools
 from dataclasses import dataclass, field
 
+import errors
 import reductions
 from reading import TYPES, text
 
@@ -219,7 +220,8 @@ class Communicators:
     def hear(self, notice):
         """Takes a notice in; gives those that go out. One of a collective that was left is dropped."""
         present = self.present
-        if present is None or present.answer is not None or (present.communicator.context, present.number) != (notice.context, notice.number):
+        awaited = present and present.answer is None and (present.communicator.context, present.number)
+        if awaited != (notice.context, notice.number):
             if notice.number >= self.entered.get(notice.context, 0):
                 self.waiting.append(notice)
             return []
@@ -249,14 +251,14 @@ class Communicators:
         """The member finds that another one entered something else, and leaves with 12; where all wait for one another, it tells all."""
         if self.present.record.kind not in FOR_ALL:
             return self.is_told()
-        self.present.answer = "error 12"
+        self.present.answer = f"error {errors.MISMATCH}"
         return [(rank, self.notice(DIFFERS)) for rank in self.others()]
 
     def is_told(self):
-        """The member hears of a difference, and leaves with 12. In a broadcast it tells those below it, and in a reduction the one above it,
-        or member 0 the root; so does one that finds the difference."""
+        """The member hears of a difference, and leaves with 12. In a broadcast it tells those below it, and in a reduction the one above
+        it, or member 0 the root; so does one that finds the difference."""
         present = self.present
-        present.answer = "error 12"
+        present.answer = f"error {errors.MISMATCH}"
         told = []
         if present.record.kind == "bcast":
             told = present.below(self.rank)
@@ -277,8 +279,8 @@ class Communicators:
         return [told for notice in held for told in self.descend(notice.brings)]
 
     def climb(self):
-        """A member of a barrier or a reduction goes on once those below it have: it tells the one above it, with what the operation makes of
-        its own part and of theirs. In a reduction only the root waits then, and member 0 tells it what is made of all."""
+        """A member of a barrier or a reduction goes on once those below it have: it tells the one above it, with what the operation makes
+        of its own part and of theirs. In a reduction only the root waits then, and member 0 tells it what is made of all."""
         present = self.present
         below = present.below(self.rank)
         if any(rank not in present.parts for rank in below):
@@ -286,7 +288,8 @@ class Communicators:
         if present.record.kind == "barrier":
             made = None
         else:
-            made = reductions.fold(present.record.operation, present.record.type, [present.handed] + [present.parts[rank] for rank in below])
+            made = reductions.fold(present.record.operation, present.record.type,
+                                   [present.handed] + [present.parts[rank] for rank in below])
         if not present.is_top(self.rank):
             if present.record.kind == "reduce" and present.center() != self.rank:
                 present.answer = "done"
@@ -297,7 +300,8 @@ class Communicators:
         return self.descend(made)
 
     def descend(self, values):
-        """A member leaves with what came from above it, or with what it is at the top; in a barrier and a broadcast it tells those below it."""
+        """A member leaves with what came from above it, or with what it is at the top; in a barrier and a broadcast it tells those below
+        it."""
         present = self.present
         if present.record.kind == "bcast" and present.is_top(self.rank):
             present.answer = "done"
@@ -371,7 +375,7 @@ class Communicators:
         told counts no more."""
         self.waiting = [notice for notice in self.waiting if notice.source != rank or notice.incarnation == incarnation]
         if self.present is not None and self.present.answer is None and rank in self.present.communicator.ranks():
-            self.present.answer = "error 11"
+            self.present.answer = f"error {errors.REPLACED}"
 
     def is_left_without(self, communicator):
         """Whether a dup or split would go beyond a limit: the communicators of the rank, or at member 0 the contexts."""

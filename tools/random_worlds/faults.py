@@ -18,36 +18,43 @@ ODD_LINES = [
     "0 type l contiguous -1 int8", "0 type l contiguous 01 int8", "0 type l contiguous 1048576 int8", "0 type l contiguous 1048577 int8",
     "0 type l contiguous 99999999999999999999 int8", "0 type l contiguous 2 Int8", "0 type int8 contiguous 2 int8",
     "0 type world contiguous 2 int8", "0 type l vector 2 1 3 int32", "0 type l vector 2 1 int32", "0 type l vector 2 1 3 4 int32",
-    "0 type l vector 2 1 -3 int32", "0 type l vector 2 1 99999999999999999999 int32", "0 type l indexed int32", "0 type l indexed 1:2 int32",
+    "0 type l vector 2 1 -3 int32", "0 type l vector 2 1 99999999999999999999 int32", "0 type l indexed int32",
+    "0 type l indexed 1:2 int32",
     "0 type l indexed 2:1 1:5 int32", "0 type l indexed 1 int32", "0 type l indexed 1: int32", "0 type l indexed :1 int32",
     "0 type l indexed 1:2:3 int32", "0 type l indexed 1:-2 int32", "0 type l indexed 01:2 int32", "0 type l indexed 1 :2 int32",
     "0 type l struct 1 int8", "0 type l", "0 type", "0 type l contiguous 2 world", "0 type l contiguous 2 null", "0 type l indexed 1:2",
     "0 barrier world", "0 dup d world", "0 split d world 0 0", "0 who world", "0 members world", "0 compare world self",
-    "0 dup", "0 dup d", "0 dup d world self", "0 dup world world", "0 dup self world", "0 dup null world", "0 dup byte world", "0 dup D world",
+    "0 dup", "0 dup d", "0 dup d world self", "0 dup world world", "0 dup self world", "0 dup null world", "0 dup byte world",
+    "0 dup D world",
     "0 dup d null", "0 dup d int8", "0 dup d 1", "0 dup undefined world", "0 split d world", "0 split d world 0", "0 split d world 0 0 0",
     "0 split d world undefined 0", "0 split d world Undefined 0", "0 split d world any 0", "0 split d world -1 0", "0 split d world 00 0",
     "0 split d world 4294967295 0", "0 split d world 4294967296 0", "0 split d world 0 -1", "0 split d world 0 -0", "0 split d world 0 -00",
     "0 split d world 0 2147483647", "0 split d world 0 2147483648", "0 split d world 0 -2147483648", "0 split d world 0 -2147483649",
-    "0 split d world 0 +1", "0 split d world 0 undefined", "0 split d world 0 18446744073709551616", "0 split d null 0 0", "0 split null world 0 0",
+    "0 split d world 0 +1", "0 split d world 0 undefined", "0 split d world 0 18446744073709551616", "0 split d null 0 0",
+    "0 split null world 0 0",
     "0 who", "0 who null", "0 who self", "0 who world self", "0 who World", "0 members", "0 members self", "0 members world world",
     "0 compare world", "0 compare world world", "0 compare world self world", "0 compare null world", "0 compare int8 self",
     "0 send world 0 0 b", "0 recv world 0 0 b", "0 print b", "0 status", "0 count l", "0 say hi", "0 fail", "on 0", "on all",
     "0 on all", "0 ssend world 0 0 b", "0 probe world 0 0", "0 deliver 0",
     "0 issend q world 0 0 b", "0 issend q world 1 0 b", "0 issend q world 0 0", "0 issend q world any 0 b", "0 issend q world 0 0 b as l",
     "0 issend null world 0 0 b", "0 issend q world 0 0 b b", "0 iprobe", "0 iprobe world 0", "0 iprobe world 0 0", "0 iprobe world any any",
-    "0 iprobe world null any", "0 iprobe world any null", "0 iprobe world 00 0", "0 iprobe world 0 -1", "0 iprobe null 0 0", "0 iprobe int8 0 0",
-    "0 iprobe m world 0 0", "0 iprobe world 0 0 0", "0 iprobe self any any", "0 iprobe World 0 0", "0 improbe", "0 improbe m", "0 improbe world 0 0",
+    "0 iprobe world null any", "0 iprobe world any null", "0 iprobe world 00 0", "0 iprobe world 0 -1", "0 iprobe null 0 0",
+    "0 iprobe int8 0 0",
+    "0 iprobe m world 0 0", "0 iprobe world 0 0 0", "0 iprobe self any any", "0 iprobe World 0 0", "0 improbe", "0 improbe m",
+    "0 improbe world 0 0",
     "0 improbe m world 0", "0 improbe m world 0 0", "0 improbe m world any any", "0 improbe m world null any", "0 improbe M world 0 0",
     "0 improbe null world 0 0", "0 improbe world world 0 0", "0 improbe byte world 0 0", "0 improbe m null 0 0", "0 improbe m world 0 0 0",
     "0 improbe m world any null", "0 improbe 1 world 0 0", "0 mrecv", "0 mrecv m", "0 mrecv null b", "0 mrecv world b", "0 mrecv m int8",
-    "0 mrecv m b b", "0 mrecv M b", "0 mrecv m b as l", "0 mrecv m b as l -1", "0 mrecv m b as int8 1", "0 mrecv m b at l 1", "0 mrecv m b as l 1 1",
+    "0 mrecv m b b", "0 mrecv M b", "0 mrecv m b as l", "0 mrecv m b as l -1", "0 mrecv m b as int8 1", "0 mrecv m b at l 1",
+    "0 mrecv m b as l 1 1",
     "0 mrecv - b", "0 mprobe m world 0 0", "0 imrecv q m b", "0 irsend q world 0 0 b", "0 ibsend q world 0 0 b",
     "0 barrier", "0 barrier null", "0 barrier int8", "0 barrier world self", "0 barrier self", "0 bcast world 0", "0 bcast world 0 -",
     "0 bcast world any b", "0 bcast world -1 b", "0 bcast world 00 b", "0 bcast world 0 b b", "0 bcast 0 world b", "0 gather world 0 b",
     "0 gather world 0 - b", "0 gather world 0 b -", "0 gather world null b b", "0 gather world 0 b b b", "0 scatter world 0 b",
     "0 scatter world 0 -- b", "0 scatter world 0 b -", "0 scatter world 0 null b", "0 scatter world any - b", "0 scatter null 0 - b",
     "0 reduce world 0 b b", "0 reduce world sum 0 b b", "0 reduce world 0 SUM b b", "0 reduce world 0 minloc b b", "0 reduce world 0 sum b",
-    "0 reduce world 0 sum b b b", "0 reduce world 0 sum - b", "0 allreduce world b b", "0 allreduce world 0 sum b b", "0 allreduce world Sum b b",
+    "0 reduce world 0 sum b b b", "0 reduce world 0 sum - b", "0 allreduce world b b", "0 allreduce world 0 sum b b",
+    "0 allreduce world Sum b b",
     "0 allreduce world sum b", "0 allreduce world sum int8 b", "0 ibarrier world", "0 alltoall world b b",
     "0 buf", "0 buf b", "0 buf b int32", "0 buf b int31 1", "0 buf b INT32 1", "0 buf b uint 1", "0 buf int32 int32 1",
     "0 buf world int32 1", "0 buf self byte 1", "0 buf null byte 1", "0 buf byte byte 1", "0 buf B int8 1", "0 buf 1b int8 1",
@@ -75,7 +82,8 @@ BAD_BYTES = [b"\t", b"\r", b"\x7f", b"\x80", b"\xff", b"\xc3\xa9", b"\xe2\x80\x9
 
 # First lines, good and bad.
 FIRST_LINES = [
-    "world 1", "world 2", "world 5", "world 256", "world 257", "world 1024", "world 0", "world 1025", "world 00", "world 02", "world -1", "world", "world 2 2",
+    "world 1", "world 2", "world 5", "world 256", "world 257", "world 1024", "world 0", "world 1025", "world 00", "world 02", "world -1",
+    "world", "world 2 2",
     "world two", "World 2", "world  3", " world 3 ", "worlds 2", "deliver 0", "0 buf b int8 1", "", "# first", "world 2#", "world 2 #",
     "world 18446744073709551618", "world 65537", "size 2", "\tworld 2",
 ]
@@ -215,7 +223,8 @@ def rows():
                 text = f"world 1\n0 buf a {kind} {copies}{value}\n0 isend q world 0 0 a\n0 buf b {kind} 4*1\n"
                 found.append((text + "0 irecv r world 0 0 b\n0 wait r\n").encode())
     for target in ("0", "1", "null"):
-        text = f"world 2\n0 buf a uint8 1048576*7\n0 isend q world {target} 0 a\n0 test q\n0 buf a uint8 1048577*7\n0 isend r world {target} 0 a\n"
+        text = f"world 2\n0 buf a uint8 1048576*7\n0 isend q world {target} 0 a\n0 test q\n"
+        text += f"0 buf a uint8 1048577*7\n0 isend r world {target} 0 a\n"
         found.append(text.encode())
     found += [b"", b"\n", b"# x", b"world 1", b"world 1\n", b"world 1\n\n", b"\n\nworld 1\n0 wait null"]
     return found

@@ -36,12 +36,14 @@ def nearest(kind, exact, pattern):
     """Of a pattern above zero and its neighbours the nearest to a fraction, of two the even one."""
     def distance(candidate):
         value = value_of(kind, candidate)
+        if not math.isinf(value):
+            return abs(exact - fractions.Fraction(value))
         # Infinity stands where the float behind the greatest one would.
-        _, _, bits, _ = FLOATS[kind]
-        above = 2 * fractions.Fraction(value_of(kind, candidate - 1)) - fractions.Fraction(value_of(kind, candidate - 2)) if math.isinf(value) else None
-        return abs(exact - (above if above is not None else fractions.Fraction(value)))
+        one, two = (fractions.Fraction(value_of(kind, candidate - it)) for it in (1, 2))
+        return abs(exact - (2 * one - two))
 
-    candidates = [candidate for candidate in (pattern - 1, pattern, pattern + 1) if candidate >= 0 and not math.isnan(value_of(kind, candidate))]
+    near = [it for it in (pattern - 1, pattern, pattern + 1) if it >= 0]
+    candidates = [it for it in near if not math.isnan(value_of(kind, it))]
     return min(candidates, key=lambda candidate: (distance(candidate), candidate % 2))
 
 
@@ -51,7 +53,8 @@ def read(kind, word):
         return None
     value = float(word)
     pattern = pattern_of(kind, value)
-    if kind == "float64" or math.isnan(value) or math.isinf(value) or value == 0 or math.isinf(value_of(kind, pattern)) and abs(value) > 1e39:
+    is_far_above = math.isinf(value_of(kind, pattern)) and abs(value) > 1e39
+    if kind == "float64" or math.isnan(value) or math.isinf(value) or value == 0 or is_far_above:
         return pattern
     sign = pattern & 0x80000000
     return sign | nearest(kind, abs(fractions.Fraction(decimal.Decimal(word))), pattern & 0x7FFFFFFF)

@@ -2,7 +2,8 @@
 
 import communicators
 import making
-from reading import ANY, TYPES
+from bytes_of_strays import MOST_BYTES
+from reading import ANY, MOST_RANKS, TYPES
 
 
 def many_requests(random):
@@ -20,9 +21,11 @@ def many_messages(random):
     place, and one that finds nothing doesn't."""
     lines = ["world 1", "0 buf a uint8 1", "0 buf b uint8 0"]
     lines += [f"0 {random.choice(['isend', 'issend'])} q world 0 {number % 3} a" for number in range(65534)]
-    return lines + ["0 improbe m world any 1", "0 improbe n world 0 any", "0 improbe o world 0 any", "0 improbe o world 0 9", "0 improbe p world null any",
+    return lines + ["0 improbe m world any 1", "0 improbe n world 0 any", "0 improbe o world 0 any", "0 improbe o world 0 9",
+                    "0 improbe p world null any",
                     "0 iprobe world any any", "0 mrecv p b", "0 mrecv m b", "0 mrecv m b", "0 improbe o world 0 2", "0 improbe p world 0 2",
-                    "0 improbe p world 0 2147483648", "0 irecv r world 0 1 b", "0 mrecv o b", "0 irecv r world 0 1 b", "0 wait r", "0 issend q world 0 1 a"]
+                    "0 improbe p world 0 2147483648", "0 irecv r world 0 1 b", "0 mrecv o b", "0 irecv r world 0 1 b", "0 wait r",
+                    "0 issend q world 0 1 a"]
 
 
 def many_restarts(random):
@@ -58,8 +61,8 @@ def many_frames(random):
 
 def whole_crowd(random):
     """Everyone of 1,024 ranks sends to rank 0, which takes them in another order."""
-    lines = ["world 1024", "0 buf b int32 0"]
-    for rank in range(1, 1024):
+    lines = [f"world {MOST_RANKS}", "0 buf b int32 0"]
+    for rank in range(1, MOST_RANKS):
         lines += [f"{rank} buf a int32 {rank}", f"{rank} isend q world 0 {rank % 2} a"]
     order = list(range(1023))
     random.shuffle(order)
@@ -71,7 +74,7 @@ def whole_crowd(random):
 
 def crowd_in_collectives(random):
     """Many ranks enter three collectives of world, mostly alike, while the network brings what is on its way, each pair as it likes."""
-    maker = making.Maker(random, "trees", random.choice([65, 256, 1000, 1024]))
+    maker = making.Maker(random, "trees", random.choice([65, 256, 1000, MOST_RANKS]))
     for _ in range(3):
         entering = [(rank, "world") for rank in range(maker.size)]
         random.shuffle(entering)
@@ -81,8 +84,9 @@ def crowd_in_collectives(random):
 
 
 def crowd_in_a_split(random):
-    """A split of 1,024 ranks, most of them of one colour, so that member 0 announces what it tells them; then the new group has a barrier."""
-    maker = making.Maker(random, "trees", 1024)
+    """A split of 1,024 ranks, most of them of one colour, so that member 0 announces what it tells them; then the new group has a
+    barrier."""
+    maker = making.Maker(random, "trees", MOST_RANKS)
     entering = list(range(maker.size))
     random.shuffle(entering)
     few = random.choice([0, 5, 500, 530])
@@ -107,8 +111,8 @@ def largest_messages(random):
     maker = making.Maker(random, "queues")
     kinds = [random.choice(["int32", "uint64"]) for _ in range(2)]
     for rank, kind in enumerate(kinds):
-        maker.add(f"{rank} isend q world {1 - rank} 1 {maker.a_buffer(rank, kind, 2**20 // TYPES[kind][0])}")
-        target = maker.a_buffer(1 - rank, kind, 2**20 // TYPES[kind][0] + random.choice([0, 1]))
+        maker.add(f"{rank} isend q world {1 - rank} 1 {maker.a_buffer(rank, kind, MOST_BYTES // TYPES[kind][0])}")
+        target = maker.a_buffer(1 - rank, kind, MOST_BYTES // TYPES[kind][0] + random.choice([0, 1]))
         maker.add(f"{1 - rank} irecv r world {random.choice([ANY, rank])} 1 {target}")
     now = 0
     for step in range(12000):
@@ -127,5 +131,6 @@ def largest_messages(random):
 
 def a_long_file(random):
     kinds = [many_communicators] if communicators.ARE_THERE else []
-    lines = random.choice(kinds + [many_requests, many_messages, many_restarts, many_frames, whole_crowd, crowd_in_collectives, crowd_in_a_split, largest_messages])(random)
+    lines = random.choice(kinds + [many_requests, many_messages, many_restarts, many_frames, whole_crowd, crowd_in_collectives,
+                                   crowd_in_a_split, largest_messages])(random)
     return ("\n".join(lines) + "\n").encode()

@@ -1,5 +1,5 @@
-"""Files in which five ranks reduce maps that don't commute, in each order in which they can enter and to each root, while the network brings
-what is on its way in a drawn order. All of them have to give the same: the maps in rank order."""
+"""Files in which five ranks reduce maps that don't commute, in each order in which they can enter and to each root, while the network
+brings what is on its way in a drawn order. All of them have to give the same: the maps in rank order."""
 
 import itertools
 import random

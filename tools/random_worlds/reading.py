@@ -7,6 +7,7 @@ of the small classes below, and `rules.py` says what each of them does.
 import re
 from dataclasses import dataclass
 
+import errors
 import floats
 
 # Each basic type by its name: its size in bytes, whether it has a sign, and its code in a frame.
@@ -532,7 +533,7 @@ def read(text):
             else:
                 events.append((place, event(words)))
         except Faulty:
-            raise Refused(51, place) from None
+            raise Refused(errors.SCRIPT, place) from None
     if size is None:
-        raise Refused(51, len(lines) + 1)
+        raise Refused(errors.SCRIPT, len(lines) + 1)
     return size, events

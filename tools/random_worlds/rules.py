@@ -7,161 +7,24 @@ The limits stand in constants, and what a call can break in functions of their o
 they are found when a rule grows.
 """
 
-from dataclasses import dataclass, field
-
+import collective_rules
 import communicators
+import errors
 import reading
 import reasons
-import reductions
 from bytes_of_strays import HIGHEST_TAG, MOST_BYTES, MOST_EAGER_BYTES, fault_of_bytes
-from communicators import MOST_BLOCK_BYTES, Notice, Record, WORLD
+from communicators import Notice, WORLD
 from frames import WINDOW, Collection, Datagram, Frame, Message, Session, byte_count, pieces_of
+from holding import FROM_NULL, REPLACED, Names, NotSet, Rank, RefusedEvent, Request, Waiting
+from holding import accepts, fault_of_match, fill, status_of, text_of
 from layouts import Layout, layout_made
 from reading import ANY, NULL, TYPES
 
 MOST_REQUESTS = 65536
 LAST_INCARNATION = 65535
 
-# What the null process answers, and what stands in place of a message whose sender's rank was started anew.
-FROM_NULL = "source null tag any count 0"
-REPLACED = "replaced"
 
-
-@dataclass
-class Request:
-    """A send or a receive that was started, or a message that was taken out; `outcome` is None while it isn't finished."""
-
-    serial: int
-    outcome: object = None
-    buffer_name: object = None
-    type: object = None
-    values: object = None
-    places: object = None  # where in the buffer a receive puts its data, in order
-    source: object = None  # a rank of world
-    tag: object = None
-    context: int = WORLD
-    group: object = None  # the ranks by which a status names the source; None: those of world
-    target: object = None  # where a send goes, a rank of world
-    taken: object = None  # a message that was taken out and isn't received; `REPLACED` where its sender's rank was started anew
-
-    def is_receive(self):
-        return self.values is not None
-
-
-@dataclass
-class Waiting:
-    """What a blocked call waits for: `one`, `any` or `all` of these requests; None is the null request."""
-
-    kind: str
-    requests: list
-
-
-@dataclass
-class Rank:
-    """One endpoint: what its engine holds."""
-
-    number: int
-    incarnation: int
-    communicators: object
-    clock: int = 0
-    known: dict = field(default_factory=dict)  # the incarnation of each rank that isn't known at 0
-    sessions: dict = field(default_factory=dict)
-    posted: list = field(default_factory=list)  # receives that wait, the oldest first
-    unexpected: list = field(default_factory=list)  # messages that wait, the oldest first
-    requests: dict = field(default_factory=dict)
-    serials: int = 0
-    blocked: object = None  # what the blocked call waits for
-
-    def incarnation_of(self, rank):
-        return self.incarnation if rank == self.number else self.known.get(rank, 0)
-
-    def session(self, rank):
-        return self.sessions.setdefault(rank, Session())
-
-    def is_blocked(self):
-        """Whether an earlier call is blocked: on requests, or in a collective."""
-        return self.blocked is not None or self.communicators.is_busy()
-
-    def has_replaced(self, member):
-        """Whether a member of a communicator, a rank with its incarnation, is known at another incarnation (own)."""
-        return self.incarnation_of(member[0]) != member[1]
-
-
-@dataclass
-class Names:
-    """What one rank's statements named. A request that was answered is None, which is the null request; a message that was received is
-    None, and that of the null process `NULL`; a communicator is its place, or None, which is MPI_COMM_NULL."""
-
-    buffers: dict = field(default_factory=dict)
-    layouts: dict = field(default_factory=dict)
-    requests: dict = field(default_factory=dict)
-    messages: dict = field(default_factory=dict)
-    communicators: dict = field(default_factory=dict)
-    lent: set = field(default_factory=set)
-
-    def buffer(self, name):
-        """The buffer of this name, which is set and not lent."""
-        self.check_settable(name)
-        return self.found(self.buffers, name)
-
-    def check_settable(self, name):
-        """A buffer that is to be set isn't lent."""
-        if name in self.lent:
-            raise NotSet(reasons.lent(name))
-
-    @staticmethod
-    def found(kept, name):
-        if name not in kept:
-            raise NotSet(reasons.unset(name))
-        return kept[name]
-
-
-class NotSet(Exception):
-    """A name isn't set, or is that of a buffer that is lent; its text says so."""
-
-
-class RefusedEvent(Exception):
-    """An event is refused with this number; with 29 a reset may go out."""
-
-    def __init__(self, number, emitted=()):
-        super().__init__(number)
-        self.number = number
-        self.emitted = emitted
-
-
-def accepts(receive, message):
-    return receive.context == message.context and receive.source in (ANY, message.source) and receive.tag in (ANY, message.tag)
-
-
-def fault_of_match(receive, message):
-    """The number that a receive ends with where it gets nothing of the message that it was matched with (MPI 3.1, 3.2.4 and 3.3.1)."""
-    if receive.type != message.type:
-        return 2
-    return 10 if len(message.values) > len(receive.places) else None
-
-
-def status_of(receive, message):
-    """The status of a receive, which names the source by its rank in the communicator (MPI 3.1, 3.2.5)."""
-    source = message.source if receive.group is None else receive.group.index(message.source)
-    return f"source {source} tag {message.tag} count {len(message.values)}"
-
-
-def fill(receive, message, values):
-    """A receive ends with these elements of its message in its first places."""
-    receive.outcome = status_of(receive, message)
-    receive.values = list(receive.values)
-    for place, value in zip(receive.places, values):
-        receive.values[place] = value
-
-
-def text_of(request):
-    """The text of a finished request."""
-    if request.values is None:
-        return request.outcome
-    return " ".join([request.outcome, "data"] + [reading.text(request.type, value) for value in request.values])
-
-
-class World:
+class World(collective_rules.Collectives):
     """A world of ranks, and the names of its statements."""
 
     def __init__(self, size):
@@ -195,14 +58,14 @@ class World:
 
     def rank(self, number):
         if number >= len(self.ranks):
-            raise RefusedEvent(61)
+            raise RefusedEvent(errors.NO_SUCH_RANK)
         return self.ranks[number]
 
     def caller(self, number):
         """The rank of a call: it is there, and no earlier call of it is blocked."""
         rank = self.rank(number)
         if rank.is_blocked():
-            raise RefusedEvent(6)
+            raise RefusedEvent(errors.REQUEST)
         return rank
 
     def place_of(self, rank, word):
@@ -223,7 +86,7 @@ class World:
     def communicator(rank, place):
         """The communicator at a place; nothing can be called on MPI_COMM_NULL."""
         if place is None:
-            raise RefusedEvent(4)
+            raise RefusedEvent(errors.COMM)
         return rank.communicators.at(place)
 
     # Calls.
@@ -243,7 +106,7 @@ class World:
         old = Layout(event.old, [0]) if event.old in TYPES else self.layout(event.rank, event.old)
         made = layout_made(event, old)
         if made is None:
-            return "refused 13", [], None
+            return f"refused {errors.LIMIT}", [], None
         self.names_of(event.rank).layouts[event.name] = made
         return None, [], None
 
@@ -366,7 +229,7 @@ class World:
         message = names.found(names.messages, event.message)
         kind, values, layout, copies = self.region(event)
         rank = self.caller(event.rank)
-        self.check(6 if message is None else self.fault_of_region(kind, values, layout, copies))
+        self.check(errors.REQUEST if message is None else self.fault_of_region(kind, values, layout, copies))
         if message == NULL:
             names.messages[event.message] = None
             return text_of(Request(None, FROM_NULL, type=kind, values=values)), [], None
@@ -374,7 +237,7 @@ class World:
         taken, message.taken = message.taken, None
         answered = None
         if taken == REPLACED:
-            message.outcome = "error 11"
+            message.outcome = f"error {errors.REPLACED}"
         else:
             answered = self.match(rank, message, taken)
         answer, _, _ = self.complete(rank, Waiting("one", [message]))
@@ -406,7 +269,7 @@ class World:
         rank = self.caller(event.rank)
         active = [request.serial for request in requests if request is not None]
         if len(set(active)) < len(active):
-            raise RefusedEvent(6)
+            raise RefusedEvent(errors.REQUEST)
         return self.complete(rank, Waiting(kind, requests))
 
     def complete(self, rank, waiting):
@@ -435,7 +298,7 @@ class World:
         request = self.named(event.rank, event.request)
         rank = self.caller(event.rank)
         if request is None or not request.is_receive():
-            raise RefusedEvent(6)
+            raise RefusedEvent(errors.REQUEST)
         if any(receive is request for receive in rank.posted):
             request.outcome = "cancelled"
             rank.posted = [receive for receive in rank.posted if receive is not request]
@@ -448,172 +311,37 @@ class World:
         if named in (ANY, NULL):
             return None
         if named >= len(communicator.members):
-            return 5
-        return 11 if communicator.context != WORLD and rank.has_replaced(communicator.members[named]) else None
+            return errors.RANK
+        return errors.REPLACED if communicator.context != WORLD and rank.has_replaced(communicator.members[named]) else None
 
     def fault_of_send(self, event, rank, communicator, kind, values, layout, copies):
         if layout.type != kind:
-            return 2
+            return errors.TYPE
         if layout.count(copies) * TYPES[kind][0] > MOST_BYTES or layout.room(copies) > len(values):
-            return 1
+            return errors.COUNT
         if event.tag == ANY or event.tag > HIGHEST_TAG:
-            return 3
-        return self.fault_of_rank(rank, communicator, event.target) or (13 if self.is_full(event.rank) else None)
+            return errors.TAG
+        return self.fault_of_rank(rank, communicator, event.target) or (errors.LIMIT if self.is_full(event.rank) else None)
 
     def fault_of_receive(self, event, rank, communicator, kind, values, layout, copies):
         fault = self.fault_of_region(kind, values, layout, copies) or self.fault_of_probe(event, rank, communicator)
-        return fault or (13 if self.is_full(event.rank) else None)
+        return fault or (errors.LIMIT if self.is_full(event.rank) else None)
 
     @staticmethod
     def fault_of_region(kind, values, layout, copies):
         """What is wrong with where a receive puts its data."""
         if layout.type != kind or layout.repeats():
-            return 2
-        return 1 if layout.room(copies) > len(values) else None
+            return errors.TYPE
+        return errors.COUNT if layout.room(copies) > len(values) else None
 
     def fault_of_probe(self, event, rank, communicator):
         """What is wrong with what a receive or a probe looks for."""
         if event.tag != ANY and event.tag > HIGHEST_TAG:
-            return 3
+            return errors.TAG
         return self.fault_of_rank(rank, communicator, event.source)
 
     def is_full(self, rank):
         return len(self.ranks[rank].requests) == MOST_REQUESTS
-
-    # Communicators.
-
-    def on_dup(self, event):
-        return self.enter(event, Record("dup"), None, event.name, None)
-
-    def on_split(self, event):
-        return self.enter(event, Record("split"), (event.colour, event.key), event.name, None)
-
-    def enter(self, event, record, handed, name, broken):
-        """A collective on a communicator: refused by a rule on what is handed in (`broken`, where one is broken), and with 11 where a
-        member of it was started anew, the caller included (own)."""
-        self.check_communicators()
-        place = self.place_of(event.rank, event.communicator)
-        rank = self.caller(event.rank)
-        communicator = self.communicator(rank, place)
-        self.check(broken and broken(communicator))
-        if any(rank.has_replaced(member) for member in communicator.members):
-            raise RefusedEvent(11)
-        if record.kind in ("dup", "split") and rank.communicators.is_left_without(communicator):
-            raise RefusedEvent(13)
-        self.tell(rank, rank.communicators.enter(communicator, record, handed, name))
-        answer = self.answer_of_collective(rank)
-        return "blocked" if answer is None else answer, self.all_in_windows(rank), None
-
-    # Collectives that move elements, and barrier.
-
-    def on_barrier(self, event):
-        return self.enter(event, Record("barrier"), None, None, None)
-
-    def is_root(self, event):
-        """Whether the caller is the root; where there is no such member, nobody is."""
-        place = self.place_of(event.rank, event.communicator)
-        if event.rank >= len(self.ranks) or place is None:
-            return False
-        ranks = self.ranks[event.rank].communicators.at(place).ranks()
-        return event.root < len(ranks) and ranks[event.root] == event.rank
-
-    @staticmethod
-    def fault_of_block(record, communicator):
-        """What is wrong with what is handed in: too many bytes, no such root, an operation that isn't defined on the type."""
-        if record.count * TYPES[record.type][0] > MOST_BLOCK_BYTES:
-            return 1
-        if record.root is not None and record.root >= len(communicator.members):
-            return 7
-        if record.operation is not None and record.type not in reductions.DEFINED[record.operation]:
-            return 9
-        return None
-
-    def move(self, event, record, handed, name):
-        return self.enter(event, record, handed, name, lambda communicator: self.fault_of_block(record, communicator))
-
-    def handed_in(self, event, sets):
-        """The buffer that a collective hands in. Where it sets another one, that one isn't lent, which is told first."""
-        names = self.names_of(event.rank)
-        if sets:
-            names.check_settable(event.into)
-        return names.buffer(event.buffer)
-
-    def on_bcast(self, event):
-        self.place_of(event.rank, event.communicator)
-        kind, values = self.names_of(event.rank).buffer(event.buffer)
-        return self.move(event, Record("bcast", event.root, None, kind, len(values)), values, event.buffer)
-
-    def on_gather(self, event):
-        kind, values = self.handed_in(event, self.is_root(event))
-        return self.move(event, Record("gather", event.root, None, kind, len(values)), values, event.into)
-
-    def on_reduce(self, event):
-        kind, values = self.handed_in(event, self.is_root(event))
-        return self.move(event, Record("reduce", event.root, event.operation, kind, len(values)), values, event.into)
-
-    def on_allreduce(self, event):
-        self.place_of(event.rank, event.communicator)
-        kind, values = self.handed_in(event, True)
-        return self.move(event, Record("allreduce", None, event.operation, kind, len(values)), values, event.into)
-
-    def on_scatter(self, event):
-        """The root's elements are a block for each member, of the type and count of the buffer that gets one."""
-        self.place_of(event.rank, event.communicator)
-        kind, values = self.names_of(event.rank).buffer(event.into)
-        record = Record("scatter", event.root, None, kind, len(values))
-        if not self.is_root(event):
-            return self.move(event, record, None, event.into)
-        if event.buffer is None:
-            raise NotSet(reasons.UNFIT)
-        given, blocks = self.names_of(event.rank).buffer(event.buffer)
-
-        def broken(communicator):
-            if given != kind:
-                return 2
-            if len(blocks) != len(communicator.members) * len(values):
-                return 1
-            return self.fault_of_block(record, communicator)
-
-        return self.enter(event, record, blocks, event.into, broken)
-
-    @staticmethod
-    def tell(rank, notices):
-        """Puts notices on their way."""
-        for other, notice in notices:
-            session = rank.session(other)
-            session.frames.append(World.first_frame(session, None, other, notice))
-
-    def answer_of_collective(self, rank):
-        """The answer of the present collective, where it has ended; what it gave has its name then."""
-        present = rank.communicators.present
-        if present is None or present.answer is None:
-            return None
-        rank.communicators.present = None
-        if present.data is not None:
-            self.names_of(rank.number).buffers[present.name] = present.data
-        kind, _, place = present.answer.partition(" ")
-        if kind == "comm":
-            self.names_of(rank.number).communicators[present.name] = None if place == NULL else int(place)
-        return present.answer
-
-    def asked(self, event, *words):
-        """The communicators that a question names."""
-        self.check_communicators()
-        places = [self.place_of(event.rank, word) for word in words]
-        rank = self.caller(event.rank)
-        return rank, [self.communicator(rank, place) for place in places]
-
-    def on_who(self, event):
-        rank, (communicator,) = self.asked(event, event.communicator)
-        return f"rank {communicator.ranks().index(rank.number)} of {len(communicator.members)}", [], None
-
-    def on_members(self, event):
-        _, (communicator,) = self.asked(event, event.communicator)
-        return " ".join(str(member) for member in communicator.ranks()), [], None
-
-    def on_compare(self, event):
-        _, (one, other) = self.asked(event, event.one, event.other)
-        return communicators.comparison(one, other), [], None
 
     @staticmethod
     def check(fault):
@@ -684,7 +412,7 @@ class World:
     def on_tick(self, event):
         rank = self.rank(event.rank)
         if event.now < rank.clock:
-            raise RefusedEvent(41)
+            raise RefusedEvent(errors.CLOCK_BACK)
         rank.clock = event.now
         emitted = []
         for other in sorted(rank.sessions):
@@ -698,7 +426,7 @@ class World:
     def on_restart(self, event):
         rank = self.rank(event.rank)
         if rank.incarnation == LAST_INCARNATION:
-            raise RefusedEvent(13)
+            raise RefusedEvent(errors.LIMIT)
         self.ranks[event.rank] = self.new_rank(event.rank, rank.incarnation + 1, len(self.ranks))
         self.names.pop(event.rank, None)
         return "ok", [], None
@@ -709,14 +437,14 @@ class World:
 
     def on_deliver(self, event):
         if event.number >= len(self.datagrams):
-            raise RefusedEvent(62)
+            raise RefusedEvent(errors.NO_SUCH_DATAGRAM)
         datagram = self.datagrams[event.number]
         rank = self.ranks[datagram.target]
         known = rank.incarnation_of(datagram.source)
         if datagram.source_incarnation < known:
-            raise RefusedEvent(28)
+            raise RefusedEvent(errors.STALE_SOURCE)
         if datagram.target_incarnation < rank.incarnation:
-            raise RefusedEvent(29, self.reset_for(rank, datagram))
+            raise RefusedEvent(errors.STALE_TARGET, self.reset_for(rank, datagram))
         learns = datagram.source_incarnation > known
         session = Session() if learns else rank.session(datagram.source)
         self.check(self.fault_of_sequence(session, datagram))
@@ -731,9 +459,10 @@ class World:
     def fault_of_sequence(session, datagram):
         """A frame that comes a whole window too early, and an acknowledgement of what wasn't sent, are outside the window."""
         if datagram.frame is not None and datagram.sequence >= session.next + WINDOW:
-            return 31
-        if datagram.kind == "ACK" and (datagram.sequence > len(session.sent_at) or any(told >= len(session.sent_at) for told in datagram.told)):
-            return 31
+            return errors.OUT_OF_WINDOW
+        if datagram.kind == "ACK" and (datagram.sequence > len(session.sent_at)
+                                       or any(told >= len(session.sent_at) for told in datagram.told)):
+            return errors.OUT_OF_WINDOW
         return None
 
     @staticmethod
@@ -742,12 +471,12 @@ class World:
         if frame.kind == "EAGER":
             return None
         if frame.kind == "RTS":
-            return None if frame.transfer == session.announced else 30
+            return None if frame.transfer == session.announced else errors.BAD_FRAME
         if frame.kind == "CTS":
-            return None if frame.transfer in session.unanswered else 30
+            return None if frame.transfer in session.unanswered else errors.BAD_FRAME
         collection = session.collections.get(frame.transfer)
         if collection is None or frame.start != len(collection.values) or len(frame.values) != collection.due():
-            return 30
+            return errors.BAD_FRAME
         return None
 
     @staticmethod
@@ -765,11 +494,11 @@ class World:
         former = rank.session(other)
         for request in [send for send, _ in former.unanswered.values()] + [half.receive for half in former.collections.values()]:
             if request is not None:
-                request.outcome = "error 11"
+                request.outcome = f"error {errors.REPLACED}"
         rank.sessions[other] = Session()
         for receive in rank.posted:
             if receive.source == other:
-                receive.outcome = "error 11"
+                receive.outcome = f"error {errors.REPLACED}"
         rank.posted = [receive for receive in rank.posted if receive.outcome is None]
 
         def is_former(message):
@@ -881,7 +610,7 @@ def answer(text):
             try:
                 printed += world.line(event)
             except NotSet as why:
-                raise reading.Refused(51, line, str(why)) from None
+                raise reading.Refused(errors.SCRIPT, line, str(why)) from None
     except reading.Refused as refused:
         line = reading.line_at(text, refused.line)
         told = reasons.told(refused.reason or reasons.of_line(line), line)

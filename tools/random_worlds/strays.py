@@ -1,5 +1,6 @@
 """Makes stray bytes: datagrams of another job, and what is left when one or two of their fields are spoilt."""
 
+from bytes_of_strays import MOST_BYTES, MOST_EAGER_BYTES
 from reading import TYPES
 
 
@@ -28,7 +29,7 @@ def a_whole_message(random):
     plane = random.choice([0, 0, 1])
     kind = "byte" if plane == 1 else random.choice(list(TYPES))
     size, _, code = TYPES[kind]
-    count = random.choice([0, 1, 3, 1024 // size])
+    count = random.choice([0, 1, 3, MOST_EAGER_BYTES // size])
     return frame(random, plane, code, count) + random.randbytes(count * size)
 
 
@@ -75,12 +76,13 @@ def a_transfer(random):
 
 
 def a_request(random):
-    """The announcement of a message (RTS), of a rank's calls or of a collective: of a large one, or of a synchronous send's of any length."""
+    """The announcement of a message (RTS), of a rank's calls or of a collective: of a large one, or of a synchronous send's of any
+    length."""
     plane = random.choice([0, 0, 1])
     kind = "byte" if plane == 1 else random.choice(list(TYPES))
     size, _, code = TYPES[kind]
     mode = random.choice([0, 0, 1])
-    count = random.choice([1024 // size + 1, 5000, 2**20 // size] + [0, 1, 1024 // size] * mode)
+    count = random.choice([MOST_EAGER_BYTES // size + 1, 5000, MOST_BYTES // size] + [0, 1, MOST_EAGER_BYTES // size] * mode)
     opening = frame(random, plane, code, count)
     return b"\x02" + opening[1:3] + bytes([mode]) + opening[4:] + a_transfer(random)
 
@@ -94,7 +96,8 @@ def a_bad_request(random):
         return good + bytes(random.choice([1, 1005]))
     if kind == 2:
         size, _, code = TYPES[random.choice(list(TYPES))]
-        mode, count = random.choice([(0, 0), (0, 1024 // size), (0, 2**20 // size + 1), (0, 2**32 - 1), (1, 2**20 // size + 1), (1, 2**32 - 1)])
+        most = MOST_BYTES // size
+        mode, count = random.choice([(0, 0), (0, MOST_EAGER_BYTES // size), (0, most + 1), (0, 2**32 - 1), (1, most + 1), (1, 2**32 - 1)])
         opening = frame(random, 0, code, count)
         return b"\x02" + opening[1:3] + bytes([mode]) + opening[4:] + a_transfer(random)
     if kind == 3:
@@ -123,7 +126,7 @@ def a_bad_clear(random):
 
 def a_part(random):
     """Bytes of a large message (DATA)."""
-    return part_at(random, 1024 * random.choice([0, 1, 1023]), random.choice([1, 3, 1024]))
+    return part_at(random, MOST_EAGER_BYTES * random.choice([0, 1, 1023]), random.choice([1, 3, MOST_EAGER_BYTES]))
 
 
 def part_at(random, offset, length):
@@ -135,9 +138,9 @@ def a_bad_part(random):
     if kind == 0:
         return part_at(random, 0, random.choice([0, 1025]))
     if kind == 1:
-        return part_at(random, random.choice([1, 1023, 2**20 - 1]), 1)
+        return part_at(random, random.choice([1, MOST_EAGER_BYTES - 1, MOST_BYTES - 1]), 1)
     if kind == 2:
-        return part_at(random, random.choice([2**20, 2**32 - 1024]), 1)
+        return part_at(random, random.choice([MOST_BYTES, 2**32 - MOST_EAGER_BYTES]), 1)
     if kind == 3:
         return a_part(random)[:random.randrange(1, 12)]
     good = a_part(random)

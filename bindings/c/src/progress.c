@@ -9,9 +9,9 @@
 enum {
     MILLISECOND = 1000000,   /* the following are in nanoseconds but where it is said */
     LONGEST_SPIN = 100000,   /* so long a rank that waits asks again and again before it sleeps */
-    SHORTEST_SPIN = 12000,   /* so long in any case */
+    SHORTEST_SPIN = 12000,   /* so long at least, where nobody else wants its processor */
     LONG_WAIT = 20000,       /* behind a wait of so long it looks whether others had the processor */
-    MODEST_WAITS = 100,      /* for so many waits it then asks as short as it may */
+    MODEST_WAITS = 100,      /* for so many waits it then asks but once */
     CROWDED_SPIN = 12000,    /* the longest where there are more ranks than processors */
     LONGEST_SLEEP = 5,       /* milliseconds; the engine sends again what it sent 20 ms ago */
     LAST_WORDS = 2000000000, /* so long a rank that ends waits for the last acknowledgements at most */
@@ -104,14 +104,14 @@ static bool spin(uint64_t until) {
 }
 
 /* After a wait that asking would have covered it asks for longer the next time, after a longer one for shorter. Where
- * others were given the processor meanwhile, who may be those that it waits for, it asks no longer than it must for a
- * while: then they get it at once. */
+ * others were given the processor meanwhile, who may be those that it waits for, it asks but once for a while: then
+ * they get it at once, and so does this rank, which is woken, when something comes. */
 static void learn(uint64_t waited) {
     static int modest;
     if (waited > LONG_WAIT && device_was_preempted()) modest = MODEST_WAITS;
     uint64_t next = waited < longest_spin ? 2 * spin_time : spin_time / 2;
-    if (modest > 0) modest--, next = 0;
     spin_time = next < SHORTEST_SPIN ? SHORTEST_SPIN : next > longest_spin ? longest_spin : next;
+    if (modest > 0) modest--, spin_time = 0;
 }
 
 /* A rank that was told a patience gives up where nothing came for so long. */

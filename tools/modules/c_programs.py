@@ -1,0 +1,150 @@
+"""C programs over the engine: the library libmpi.a, and programs that are linked with it.
+
+The engine is the static library of the crate c_exports: the proved one, which `rt lib` leaves in crates/c_exports/out, or one that was
+built of the same sources before any proof, which is kept in out/unproved. bindings/c/Makefile makes libmpi.a of it in out/c.
+"""
+
+import hashlib
+import os
+import shutil
+import subprocess
+import tempfile
+from pathlib import Path
+
+import programs
+
+TOP, CRATE = programs.TOP, "c_exports"
+BINDING, OUT = TOP / "bindings" / "c", TOP / "out" / "c"
+LIBRARY, ENGINE = OUT / "lib" / "libmpi.a", OUT / "libengine.a"
+PROVED = TOP / "crates" / CRATE / "out" / ("lib%s.a" % CRATE)
+UNPROVED = programs.UNPROVED / ("lib%s.a" % CRATE)
+BUILDER = TOP / "tools" / "build" / "unproved_static"
+
+
+class Fault(Exception):
+    """Why there is no library or no program."""
+
+
+def sources():
+    """All files that the library is made of."""
+    own = [it for part in ("src", "include") for it in sorted((BINDING / part).iterdir())]
+    crates = programs.crates_of(CRATE) if CRATE in programs.dependencies() else []
+    return [*own, BINDING / "Makefile", *programs.files_of(crates, ("src",))]
+
+
+def may_be_old():
+    """Whether some source is newer than the library, or there is none."""
+    if not LIBRARY.is_file():
+        return True
+    made = LIBRARY.stat().st_mtime_ns
+    return any(os.stat(it).st_mtime_ns >= made for it in sources())
+
+
+def is_proved():
+    """Whether the proved engine is there and newer than all that it was built from."""
+    if not PROVED.is_file() or CRATE not in programs.dependencies():
+        return False
+    built = PROVED.stat().st_mtime_ns
+    parts = programs.files_of(programs.crates_of(CRATE), ("src", "specs", "proofs"))
+    return all(os.stat(it).st_mtime_ns < built for it in [TOP / "crates.txt", *parts])
+
+
+def sum_of_unproved():
+    """A sum of all that the unproved engine is built from."""
+    return programs.sum_of_sources(CRATE) + " " + hashlib.sha256(BUILDER.read_bytes()).hexdigest()
+
+
+def is_built():
+    stamp = UNPROVED.with_suffix(".sum")
+    return UNPROVED.is_file() and stamp.is_file() and stamp.read_text() == sum_of_unproved()
+
+
+def need_kit():
+    if programs.kit() is None:
+        raise programs.NotBuilt(programs.NO_TOOLCHAIN)
+    return programs.kit()
+
+
+def begin_build():
+    """Begins to build the unproved engine."""
+    return programs.Build(CRATE, BUILDER, UNPROVED, sum_of_unproved())
+
+
+def build_unproved(say, names=()):
+    """Builds the unproved engine where it isn't current, and these programs beside it."""
+    if CRATE not in programs.dependencies():
+        raise Fault("crates.txt names no crate %s, which gives the engine to C" % CRATE)
+    programs.build_unproved(say, names, (), [("the engine for C", is_built, begin_build)])
+
+
+def build_with(say, names):
+    """Builds these programs and the engine side by side, where neither proved nor unproved ones are current."""
+    lacking = [it for it in names if not programs.is_proved(it)]
+    if not is_proved() and (lacking and programs.unproved_folders(lacking) is None or not is_built()):
+        build_unproved(say, lacking)
+
+
+def prove(say):
+    """Proves the engine and all below it where it isn't."""
+    if is_proved():
+        return
+    need_kit()
+    say("proving the engine for C and all below it: up to an hour on 4 processors")
+    made = subprocess.run([TOP / "tools" / "build" / "proved_build", "--library", CRATE])
+    if made.returncode != 0 or not is_proved():
+        raise Fault("the engine isn't proved")
+
+
+def take_proved():
+    """The proved engine, with the kit's piece by which it takes its memory from C."""
+    with tempfile.TemporaryDirectory() as room:
+        made = Path(room) / "libengine.a"
+        shutil.copy(PROVED, made)
+        subprocess.run(["ar", "x", need_kit() / "c" / "liblibc_c.a", "heap.pic.o"], cwd=room, check=True)
+        subprocess.run(["ar", "rs", made, Path(room) / "heap.pic.o"], check=True, stderr=subprocess.DEVNULL)
+        put_engine(made)
+
+
+def put_engine(made):
+    """Puts an engine where the library is made of it, unless the same one is there."""
+    OUT.mkdir(parents=True, exist_ok=True)
+    if ENGINE.is_file() and ENGINE.read_bytes() == made.read_bytes():
+        return
+    shutil.copy(made, ENGINE.with_suffix(".new"))
+    os.replace(ENGINE.with_suffix(".new"), ENGINE)
+
+
+def make_library(say, wants_proved=False):
+    """Makes libmpi.a current; says whether its engine is proved. Returns whether it is."""
+    if given := os.environ.get("RUN_ENGINE"):
+        say("the engine %s" % given)
+        put_engine(Path(given))
+        proved = False
+    else:
+        if wants_proved:
+            prove(say)
+        proved = is_proved()
+        if proved:
+            take_proved()
+            say("the proved engine, under a library in C")
+        else:
+            build_unproved(say)
+            put_engine(UNPROVED)
+            say("nothing is proved of this engine: it was built before any proof ('./run --proved' proves it first)")
+    made = subprocess.run(["make", "-s", "-C", BINDING, "OUT=%s" % OUT], stdin=subprocess.DEVNULL, stdout=subprocess.PIPE,
+                          stderr=subprocess.STDOUT)
+    if made.returncode != 0:
+        raise Fault("libmpi.a wasn't made:\n%s" % made.stdout.decode(errors="replace"))
+    os.utime(LIBRARY)
+    return proved
+
+
+def compiled(say, source, wants_proved=False):
+    """Compiles a C program, and returns where it stands."""
+    make_library(say, wants_proved)
+    program = OUT / "programs" / source.stem
+    program.parent.mkdir(parents=True, exist_ok=True)
+    made = subprocess.run([TOP / "tools" / "mpicc", "-O2", "-Wall", source, "-o", program, "-lm"], stdout=subprocess.DEVNULL)
+    if made.returncode != 0:
+        raise Fault("%s wasn't compiled" % source)
+    return program
