@@ -13,8 +13,8 @@ use Rattle.communicators.specs.declared.question.Question.TheVariants as questio
 use Rattle.perfect_groups.specs.Calls as machine
 use Rattle.perfect_groups.specs.Calls.{fact_of, held_at}
 use Rattle.point_to_point_calls.specs.Calls as cores
-use Rattle.point_to_point_calls.specs.declared.call.RoutedCall as core_calls
-use Rattle.point_to_point_calls.specs.declared.call.CoreReply as core_replies
+use Rattle.point_to_point_calls.specs.CoreCalls as core_calls
+use Rattle.point_to_point_calls.specs.CoreCalls as core_replies
 use Rattle.point_to_point_calls.specs.declared.refusal.Refusal.{Refusal}
 use Rattle.point_to_point_calls.specs.declared.refusal.Refusal.TheVariants as refusals
 use Rattle.point_to_point.specs.Calls.{Answers, call_frame}

@@ -10,8 +10,8 @@ use Rattle.communicators.specs.declared.question.Question.{Question}
 use Rattle.perfect_groups.specs.Calls.{held_at}
 use Rattle.perfect_groups.specs.Faults.{asks_of_none, has_replaced, is_no_target, is_source_beyond, is_within}
 use Rattle.perfect_groups.specs.Faults.{names_replaced}
-use Rattle.point_to_point_calls.specs.declared.call.RoutedCall as cores
-use Rattle.point_to_point_calls.specs.declared.call.RoutedCall.TheVariants as core_calls
+use Rattle.point_to_point_calls.specs.CoreCalls as cores
+use Rattle.point_to_point_calls.specs.CoreCalls as core_calls
 use Rattle.point_to_point_calls.specs.declared.refusal.Refusal.{Refusal}
 use Rattle.point_to_point_calls.specs.declared.refusal.Refusal.TheVariants as refusals
 use Rattle.point_to_point.specs.Calls.{argument_fault, call_frame, free_request_fault, limit_fault}

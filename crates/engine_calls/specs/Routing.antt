@@ -3,12 +3,12 @@ use Rattle.std.specs.Prelude.{ℕ, Option, Some, None, option_map}
 use Rattle.communicators.specs.Routes.{RouteText, route_on}
 use Rattle.perfect_groups.specs.Calls.{held_at}
 use Rattle.point_to_point_calls.specs.declared.call.CallRoute.{CallRoute}
-use Rattle.point_to_point_calls.specs.declared.call.RoutedCall as core_asks
-use Rattle.point_to_point_calls.specs.declared.call.RoutedCall.TheVariants as core_calls
+use Rattle.point_to_point_calls.specs.CoreCalls as core_asks
+use Rattle.point_to_point_calls.specs.CoreCalls as core_calls
 use Rattle.point_to_point_calls.specs.declared.call.RoutedProbe as core_probes
 use Rattle.point_to_point_calls.specs.declared.call.RoutedReceive as core_receives
-use Rattle.point_to_point_calls.specs.declared.call.CoreReply as core_answers
-use Rattle.point_to_point_calls.specs.declared.call.CoreReply.TheVariants as core_replies
+use Rattle.point_to_point_calls.specs.CoreCalls as core_answers
+use Rattle.point_to_point_calls.specs.CoreCalls as core_replies
 use Rattle.point_to_point_calls.specs.declared.call.RoutedSend as core_sends
 use Rattle.vocabulary.specs.declared.envelope.Source.{Source}
 use Rattle.engine_calls.specs.EngineState.{GroupsState, member_of}

@@ -18,10 +18,10 @@ use Rattle.requests.specs.declared.table.Request.{Request}
 use Rattle.point_to_point_calls.specs.declared.call.RoutedSend.{RoutedSend}
 use Rattle.point_to_point_calls.specs.declared.call.RoutedReceive.{RoutedReceive}
 use Rattle.point_to_point_calls.specs.declared.call.RoutedProbe.{RoutedProbe}
-use Rattle.point_to_point_calls.specs.declared.call.RoutedCall.{RoutedCall}
-use Rattle.point_to_point_calls.specs.declared.call.RoutedCall.TheVariants as calls
-use Rattle.point_to_point_calls.specs.declared.call.CoreReply.{CoreReply}
-use Rattle.point_to_point_calls.specs.declared.call.CoreReply.TheVariants as replies
+use Rattle.point_to_point_calls.specs.CoreCalls.{RoutedCall}
+use Rattle.point_to_point_calls.specs.CoreCalls as calls
+use Rattle.point_to_point_calls.specs.CoreCalls.{CoreReply}
+use Rattle.point_to_point_calls.specs.CoreCalls as replies
 use Rattle.point_to_point.specs.CoreState.{CoreState}
 use Rattle.perfect_queues.specs.Outcomes as machine_outcomes
 use Rattle.perfect_queues.specs.Receives as machine_receives

@@ -22,6 +22,8 @@ use Rattle.requests.specs.declared.outcome.Outcome.TheVariants.{Sent}
 use Rattle.requests.specs.Regions.{byte_count, handed_of, sent_from}
 use Rattle.incarnation.specs.declared.place.Place.{Place}
 use Rattle.point_to_point_calls.specs.declared.call.RoutedSend.{RoutedSend}
+use Rattle.point_to_point_calls.specs.declared.call.Send.{Send}
+use Rattle.point_to_point_calls.specs.declared.sends.AddressedSend.{AddressedSend}
 use Rattle.point_to_point_calls.specs.declared.sends.Destination.{Destination}
 use Rattle.point_to_point_calls.specs.declared.refusal.Refusal.{Refusal}
 use Rattle.point_to_point_calls.specs.declared.refusal.Refusal.TheVariants as refusals
@@ -135,6 +137,16 @@ abbrev pub announced_to : Place → RoutedSend → Option ℕ
 announced_to p s =
     if is_announced s.send.mode (sent_from s.send.from)
     then rank_to p (destination s.route.named s.send.tag s.route.context) else None
+
+-- so it is of a send to this destination
+abbrev pub announced_by : Place → Send → Option Destination → Option ℕ
+announced_by p s d = if is_announced s.mode (sent_from s.from) then rank_to p d else None
+
+-- where its message goes, and to whom it is announced, is decided
+pub record IsAddressed (p : Place) (s : AddressedSend) : Type 0 where
+  pub destination_is :
+      s.destination ≡ destination s.routed.route.named s.routed.send.tag s.routed.route.context
+  pub announced_is : s.announced ≡ announced_to p s.routed
 
 -- THE MESSAGE TO THE OWN RANK
 

@@ -16,8 +16,8 @@ use Rattle.perfect_groups.specs.Faults.{is_no_target, is_source_beyond}
 use Rattle.proof_engine_faults.proofs.Calm.{message_alike, one_absent_alike, receive_alike}
 use Rattle.proof_engine_faults.proofs.Rows.{calm_core}
 use Rattle.proof_network_bridge.proofs.Routed.{routed_full}
-use Rattle.point_to_point_calls.specs.declared.call.RoutedCall as cores
-use Rattle.point_to_point_calls.specs.declared.call.RoutedCall.TheVariants as core_calls
+use Rattle.point_to_point_calls.specs.CoreCalls as cores
+use Rattle.point_to_point_calls.specs.CoreCalls as core_calls
 use Rattle.point_to_point_calls.specs.declared.refusal.Refusal.{Refusal}
 use Rattle.point_to_point_calls.specs.declared.refusal.Refusal.TheVariants as refusals
 use Rattle.point_to_point.specs.Calls.{argument_fault}

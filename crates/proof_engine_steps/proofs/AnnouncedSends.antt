@@ -20,8 +20,8 @@ use Rattle.perfect_queues.specs.Refusals as rules
 use Rattle.requests.specs.Regions.{byte_count, sent_from}
 use Rattle.requests.specs.declared.table.RequestProgress.TheVariants.{Offering}
 use Rattle.requests.specs.declared.table.Request.{Request}
-use Rattle.point_to_point_calls.specs.declared.call.RoutedCall.TheVariants as calls
-use Rattle.point_to_point_calls.specs.declared.call.CoreReply.TheVariants as replies
+use Rattle.point_to_point_calls.specs.CoreCalls as calls
+use Rattle.point_to_point_calls.specs.CoreCalls as replies
 use Rattle.point_to_point_calls.specs.declared.call.RoutedSend.{RoutedSend}
 use Rattle.point_to_point_calls.specs.Calls.{IsWithin}
 use Rattle.point_to_point_calls.specs.Frames.{as_list}

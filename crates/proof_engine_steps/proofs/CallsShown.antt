@@ -2,10 +2,10 @@
 use Rattle.std.proofs.Common.{◌≡◌, ℕ, List, Option, Some, None, refl}
 use Rattle.requests.specs.declared.awaited_requests.Awaited.{Awaited}
 use Rattle.requests.specs.declared.awaited_requests.Awaited.TheVariants as awaiteds
-use Rattle.point_to_point_calls.specs.declared.call.RoutedCall.{RoutedCall}
-use Rattle.point_to_point_calls.specs.declared.call.RoutedCall.TheVariants as calls
-use Rattle.point_to_point_calls.specs.declared.call.CoreReply.{CoreReply}
-use Rattle.point_to_point_calls.specs.declared.call.CoreReply.TheVariants as replies
+use Rattle.point_to_point_calls.specs.CoreCalls.{RoutedCall}
+use Rattle.point_to_point_calls.specs.CoreCalls as calls
+use Rattle.point_to_point_calls.specs.CoreCalls.{CoreReply}
+use Rattle.point_to_point_calls.specs.CoreCalls as replies
 use Rattle.point_to_point_calls.specs.Calls.{IsWithin}
 use Rattle.point_to_point.specs.Calls.{Answers, fault_at, free_fault}
 use Rattle.point_to_point.specs.CoreState.{CoreState}

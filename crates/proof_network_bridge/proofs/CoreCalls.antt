@@ -61,10 +61,10 @@ use Rattle.proof_session_carrying.specs.Announced.{announcements_in}
 use Rattle.proof_session_carrying.specs.MessageLaws.{FramesAreSent, QueueCallsAreCarried}
 use Rattle.point_to_point_calls.specs.Frames.{as_list}
 use Rattle.point_to_point_calls.specs.Hearing.{first_of}
-use Rattle.point_to_point_calls.specs.declared.call.RoutedCall as core_asks
-use Rattle.point_to_point_calls.specs.declared.call.RoutedCall.TheVariants as core_calls
-use Rattle.point_to_point_calls.specs.declared.call.CoreReply as core_answers
-use Rattle.point_to_point_calls.specs.declared.call.CoreReply.TheVariants as core_replies
+use Rattle.point_to_point_calls.specs.CoreCalls as core_asks
+use Rattle.point_to_point_calls.specs.CoreCalls as core_calls
+use Rattle.point_to_point_calls.specs.CoreCalls as core_answers
+use Rattle.point_to_point_calls.specs.CoreCalls as core_replies
 use Rattle.point_to_point_calls.specs.declared.refusal.Refusal.{Refusal}
 use Rattle.point_to_point_calls.specs.declared.refusal.Refusal.TheVariants as refusals
 use Rattle.point_to_point.specs.Calls.{argument_fault, call_fault, call_frame, free_request_fault, limit_fault}

@@ -57,8 +57,8 @@ use Rattle.observation.specs.EngineCalls.{call_by, call_meant, call_seen}
 use Rattle.proof_pure_network.specs.Core.{Core, view}
 use Rattle.proof_pure_network.specs.Held.{blank}
 use Rattle.point_to_point_calls.specs.Refusals.{number_of_refusal}
-use Rattle.point_to_point_calls.specs.declared.call.RoutedCall as core_calls
-use Rattle.point_to_point_calls.specs.declared.call.RoutedCall.TheVariants as cores_calls
+use Rattle.point_to_point_calls.specs.CoreCalls as core_calls
+use Rattle.point_to_point_calls.specs.CoreCalls as cores_calls
 use Rattle.point_to_point_calls.specs.declared.refusal.Refusal.{Refusal}
 use Rattle.point_to_point_calls.specs.declared.refusal.Refusal.TheVariants as refusals
 use Rattle.point_to_point_calls.specs.Hearing.{first_of}

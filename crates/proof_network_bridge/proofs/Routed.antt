@@ -37,8 +37,8 @@ use Rattle.point_to_point_calls.specs.Refusals.{number_of_refusal}
 use Rattle.point_to_point_calls.specs.Sending.{announced_to, or_worn_out, send_fault}
 use Rattle.point_to_point_calls.specs.declared.call.RoutedReceive as core_receives
 use Rattle.point_to_point_calls.specs.declared.call.RoutedSend as core_sends
-use Rattle.point_to_point_calls.specs.declared.call.RoutedCall as core_calls
-use Rattle.point_to_point_calls.specs.declared.call.RoutedCall.TheVariants as calls
+use Rattle.point_to_point_calls.specs.CoreCalls as core_calls
+use Rattle.point_to_point_calls.specs.CoreCalls as calls
 use Rattle.point_to_point_calls.specs.declared.refusal.Refusal.{Refusal}
 use Rattle.point_to_point_calls.specs.declared.refusal.Refusal.TheVariants as refusals
 use Rattle.point_to_point.specs.Calls.{argument_fault, call_fault, call_frame, fault_at, free_fault, free_request_fault}

@@ -19,12 +19,12 @@ use Rattle.requests.specs.declared.table.RequestProgress.TheVariants.{Finished}
 use Rattle.requests.specs.declared.table.Request.{Request}
 use Rattle.point_to_point_calls.specs.Calls.{Starts}
 use Rattle.point_to_point_calls.specs.Hearing.{NewsText, announced_of, message_of}
-use Rattle.point_to_point_calls.specs.declared.call.RoutedCall.{RoutedCall}
-use Rattle.point_to_point_calls.specs.declared.call.RoutedCall.TheVariants as calls
+use Rattle.point_to_point_calls.specs.CoreCalls.{RoutedCall}
+use Rattle.point_to_point_calls.specs.CoreCalls as calls
 use Rattle.point_to_point_calls.specs.declared.call.RoutedProbe.{RoutedProbe}
 use Rattle.point_to_point_calls.specs.declared.call.RoutedReceive.{RoutedReceive}
-use Rattle.point_to_point_calls.specs.declared.call.CoreReply.{CoreReply}
-use Rattle.point_to_point_calls.specs.declared.call.CoreReply.TheVariants as replies
+use Rattle.point_to_point_calls.specs.CoreCalls.{CoreReply}
+use Rattle.point_to_point_calls.specs.CoreCalls as replies
 use Rattle.point_to_point_calls.specs.declared.call.RoutedSend.{RoutedSend}
 use Rattle.point_to_point_calls.specs.declared.sends.Destination.{Destination}
 use Rattle.point_to_point_calls.specs.Sending.{announced_to, destination, is_to_itself, offered_by}

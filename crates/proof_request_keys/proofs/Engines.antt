@@ -26,8 +26,8 @@ use Rattle.point_to_point_calls.specs.declared.call.Probe.{Probe}
 use Rattle.engine_calls.specs.declared.reply.Reply.{Reply}
 use Rattle.engine_calls.specs.declared.reply.Reply.TheVariants as replies
 use Rattle.observation.specs.CoreCalls.{has_serial}
-use Rattle.point_to_point_calls.specs.declared.call.CoreReply as core_answers
-use Rattle.point_to_point_calls.specs.declared.call.CoreReply.TheVariants as core_replies
+use Rattle.point_to_point_calls.specs.CoreCalls as core_answers
+use Rattle.point_to_point_calls.specs.CoreCalls as core_replies
 use Rattle.point_to_point.specs.CoreState.{CoreState}
 use Rattle.requests.specs.Table.{slot_at}
 use Rattle.requests.specs.declared.table.TableEntry.{TableEntry}

@@ -1,0 +1,15 @@
+-- A wait for all is answered, or comes back for want of memory.
+use Rattle.std.proofs.Common.{refl}
+use Rattle.engine_calls.proofs.Answering.{requests_answered, requests_lacking}
+use Rattle.point_to_point.specs.Waiting.{waited}
+use Rattle.point_to_point_calls.specs.CoreCalls as core_calls
+use Rattle.engine_calls.proofs.waits.wait_for_all.Goals as goal
+
+pub returns-in-Ok : goal.returns-in-Ok
+returns-in-Ok c = λ g allowed.
+    requests_answered c.args.core.now.state c.wait.new.core.state g (core_calls.Waitall c.args.list)
+    (waited c.wait.result) c.reply_of_wait.result tt allowed c.wait.ensures.exact c.reply_of_wait.ensures
+
+pub returns-in-Err : goal.returns-in-Err
+returns-in-Err c = λ g allowed.
+    requests_lacking c.args.core.now.state g (core_calls.Waitall c.args.list) tt tt allowed
