@@ -3,8 +3,6 @@ use Rattle.std.proofs.Common.{◌≡◌, ℕ, List, Option, Some, None, refl, sy
 use Rattle.point_to_point_calls.specs.Calls as cores
 use Rattle.point_to_point_calls.specs.CoreCalls.{RoutedCall}
 use Rattle.point_to_point_calls.specs.CoreCalls as core_calls
-use Rattle.point_to_point_calls.specs.CoreCalls as core_answers
-use Rattle.point_to_point_calls.specs.CoreCalls as core_replies
 use Rattle.point_to_point_calls.specs.declared.refusal.Refusal.{Refusal}
 use Rattle.point_to_point_calls.specs.declared.refusal.Refusal.TheVariants as refusals
 use Rattle.point_to_point_calls.specs.declared.call.RoutedProbe.{RoutedProbe}
@@ -97,7 +95,7 @@ fault_refused e call why back is handed =
 -- ---- the answer
 
 is_answered : (c d : CoreState) (g : GroupsState) (rest : Rest) (s t : SessionsState) (call : Call) (a : RoutedCall)
-    (answer : core_answers.CoreReply)
+    (answer : core_calls.CoreReply)
     (reply : Reply) → IsAsked (engine_of c g rest s) call a → core_reply reply ≡ Some answer →
     Answers c (with_group (group_of g a) a) answer d →
     t ≡ after_frame s (call_frame c (with_group (group_of g a) a)) →
@@ -118,7 +116,7 @@ is_answered c d g rest s t call a answer reply asked told_so answers sent =
     }
 
 -- what the core answers is no refusal
-answered_gives : (e new : EngineState) (call : Call) (reply : Reply) (answer : core_answers.CoreReply) →
+answered_gives : (e new : EngineState) (call : Call) (reply : Reply) (answer : core_calls.CoreReply) →
     core_reply reply ≡ Some answer → IsAnswered e call reply new → CoreGives e call reply new
 answered_gives e new call (replies.Refused why back) answer told answered = absurd cc
 answered_gives e new call (replies.Started r) answer told answered = answered
@@ -137,7 +135,7 @@ pub send_started : (c mid d : CoreState) (s t : SessionsState) (v : RoutedSend) 
     (g : GroupsState) (rest : Rest) (call : Call) → IsAsked (engine_of c g rest s) call (core_calls.Isend v) →
     CoreGives (engine_of c g rest s) call (replies.Started r) (engine_of d g rest t)
 send_started c mid d s t v r kept sending sent g rest call asked =
-    is_answered c d g rest s t call (core_calls.Isend v) (core_replies.Started r) (replies.Started r) asked refl
+    is_answered c d g rest s t call (core_calls.Isend v) (core_calls.Started r) (replies.Started r) asked refl
     (subst (λ (x : CoreState). IsSending x v r d) kept sending) sent
 
 -- so is a receive, with the group of its communicator
@@ -148,7 +146,7 @@ pub receive_started : (c mid d : CoreState) (s t : SessionsState) (v : RoutedRec
     IsAsked (engine_of c g rest s) call (core_calls.Irecv v) →
     CoreGives (engine_of c g rest s) call (replies.Started r) (engine_of d g rest t)
 receive_started c mid d s t v group r kept receiving sent g rest call same asked =
-    is_answered c d g rest s t call (core_calls.Irecv v) (core_replies.Started r) (replies.Started r) asked refl
+    is_answered c d g rest s t call (core_calls.Irecv v) (core_calls.Started r) (replies.Started r) asked refl
     (subst (λ (o : Option (List ℕ)). IsReceiving c (record v { group = o }) r d) (sym same)
     (subst (λ (x : CoreState). IsReceiving x (record v { group = group }) r d) kept receiving))
     (sent ∙ ap (after_frame s) (sym (frames_same c (group_of g (core_calls.Irecv v)) (core_calls.Irecv v))))
@@ -156,20 +154,20 @@ receive_started c mid d s t v group r kept receiving sent g rest call same asked
 -- a matching probe is answered with what it took out, if anything
 pub searched : (c mid d : CoreState) (v : RoutedProbe) (group : Option (List ℕ))
     (found : Option (Option Request × Status)) → mid ≡ c →
-    Searches mid (record v { group = group }) (core_replies.Matched found) d →
+    Searches mid (record v { group = group }) (core_calls.Matched found) d →
     (g : GroupsState) (rest : Rest) (s : SessionsState) (call : Call) → group_of g (core_calls.Improbe v) ≡ group →
     IsAsked (engine_of c g rest s) call (core_calls.Improbe v) →
     CoreGives (engine_of c g rest s) call (replies.Matched found) (engine_of d g rest s)
 searched c mid d v group found kept searches g rest s call same asked =
-    is_answered c d g rest s s call (core_calls.Improbe v) (core_replies.Matched found) (replies.Matched found) asked
+    is_answered c d g rest s s call (core_calls.Improbe v) (core_calls.Matched found) (replies.Matched found) asked
     refl
-    (subst (λ (o : Option (List ℕ)). Searches c (record v { group = o }) (core_replies.Matched found) d) (sym same)
-    (subst (λ (x : CoreState). Searches x (record v { group = group }) (core_replies.Matched found) d) kept searches))
+    (subst (λ (o : Option (List ℕ)). Searches c (record v { group = o }) (core_calls.Matched found) d) (sym same)
+    (subst (λ (x : CoreState). Searches x (record v { group = group }) (core_calls.Matched found) d) kept searches))
     refl
 
 -- the receive of a message is answered, and its frame is on its way
 pub message_received : (c mid d : CoreState) (s t : SessionsState) (q : Option Request) (into : Region)
-    (told : core_answers.CoreReply) (reply : Reply) → mid ≡ c → Receives mid q into told d →
+    (told : core_calls.CoreReply) (reply : Reply) → mid ≡ c → Receives mid q into told d →
     core_reply reply ≡ Some told → t ≡ after_frame s (call_frame c (core_calls.Mrecv q into)) →
     (g : GroupsState) (rest : Rest) (call : Call) → IsAsked (engine_of c g rest s) call (core_calls.Mrecv q into) →
     CoreGives (engine_of c g rest s) call reply (engine_of d g rest t)
@@ -179,7 +177,7 @@ message_received c mid d s t q into told reply kept receives tells sent g rest c
     (subst (λ (x : CoreState). Receives x q into told d) kept receives) sent)
 
 -- a call on requests is answered
-pub requests_answered : (c d : CoreState) (g : GroupsState) (q : RoutedCall) (told : core_answers.CoreReply)
+pub requests_answered : (c d : CoreState) (g : GroupsState) (q : RoutedCall) (told : core_calls.CoreReply)
     (reply : Reply) → IsOnRequests q →
     ((rest : Rest) (s : SessionsState) → fault_of (engine_of c g rest s) (call_of q) ≡ None) → Answers c q told d →
     core_reply reply ≡ Some told →

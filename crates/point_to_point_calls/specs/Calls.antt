@@ -8,7 +8,6 @@ use Rattle.requests.specs.Regions.{sent_from}
 use Rattle.point_to_point_calls.specs.CoreCalls.{RoutedCall}
 use Rattle.point_to_point_calls.specs.CoreCalls as calls
 use Rattle.point_to_point_calls.specs.CoreCalls.{CoreReply}
-use Rattle.point_to_point_calls.specs.CoreCalls as replies
 use Rattle.point_to_point_calls.specs.declared.call.RoutedSend.{RoutedSend}
 
 -- each element that a call sends has the width of its type, and its context has 64 bits
@@ -48,10 +47,10 @@ IsPacked s (Some elements) = elements ≡ sent_from s.send.from
 
 -- an operation is started under the request that is answered (MPI 3.1, 3.7.2)
 abbrev pub Starts : (Request → Type 0) → CoreReply → Type 0
-Starts started (replies.Started r) = started r
-Starts started (replies.Refused e back) = ⊥
-Starts started (replies.Done a) = ⊥
-Starts started replies.Pending = ⊥
-Starts started replies.Accepted = ⊥
-Starts started (replies.Matched m) = ⊥
-Starts started replies.Blocked = ⊥
+Starts started (calls.Started r) = started r
+Starts started (calls.Refused e back) = ⊥
+Starts started (calls.Done a) = ⊥
+Starts started calls.Pending = ⊥
+Starts started calls.Accepted = ⊥
+Starts started (calls.Matched m) = ⊥
+Starts started calls.Blocked = ⊥

@@ -1,5 +1,6 @@
 -- What a send is: its rules, its frame, and its message to the own rank (MPI 3.1, 3.4 and 3.7).
-use Rattle.std.specs.Prelude.{ℕ, ◌*◌, ◌≤◌, nat_lt, ◌==◌, length, Option, Some, None, Bool, true, false, if◌then◌else◌}
+use Rattle.std.specs.Prelude.{◌≡◌, ℕ, ◌*◌, ◌≤◌, nat_lt, ◌==◌, length, Option, Some, None, Bool, true, false}
+use Rattle.std.specs.Prelude.{if◌then◌else◌}
 use Rattle.vocabulary.specs.BasicTypes.{size_of}
 use Rattle.vocabulary.specs.Limits.{eager_limit, greatest_limit, highest_tag}
 use Rattle.vocabulary.specs.MessageLimits.{limit_of}
