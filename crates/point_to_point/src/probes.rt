@@ -68,7 +68,8 @@ impl Core {
     fn probed_at(&self, routed: &RoutedProbe, found: Option<usize>) -> Option<&Message>
         requires { found ≡
             place_for (probed_by routed.now.route.named routed.now.probe.tag routed.now.route.context) self.now.places }
-        ensures { option_copied result ≡
+        ensures none { found ≡ None → option_copied result ≡ None }
+        ensures exact { option_copied result ≡
             found_for self.now.state routed.now.route.named routed.now.probe.tag routed.now.route.context }
     {
         // By the route and the tag of the probe the message was found.

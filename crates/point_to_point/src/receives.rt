@@ -85,6 +85,8 @@ impl Core {
         ensures fits { IfSome result (λ a. FrameFits (frame_text a.frame)) }
         ensures there { IfSome result (λ a. a.target < self.now.state.place.size) }
     {
+        // The core shows that whoever is to be answered is a rank of the job.
+        let _alloc = &self.alloc;
         match routed.route.named {
             Source::Null => None,
             Source::Any | Source::Rank(_) => {

@@ -1,6 +1,7 @@
 -- The message that is taken out is answerable as it was among those that wait.
-use Rattle.std.proofs.Common.{Option, ap, sym, subst, ◌∙◌}
+use Rattle.std.proofs.Common.{Option, ap, sym, subst, ◌∙◌, rules}
 use Rattle.std.specs.Prelude.{IfSome}
+use Rattle.match_queues.proofs.Steps.{found_stands}
 use Rattle.match_queues.specs.State.{message_for, place_for}
 use Rattle.match_queues.specs.declared.envelope.Message.{Message}
 use Rattle.point_to_point.specs.CoreState.{Held, IsAnswerable}
@@ -20,3 +21,12 @@ invariant_of-self c =
     (found_is_answerable c.self.inside.place.size c.self.inside.queues.state.unexpected
     (message_for r c.self.inside.queues.state.unexpected) c.self.invariant.answerable))
     c.start-request.ensures.entry
+
+pub take-message-requires-clause-stands : goal.take-message-requires-clause-stands
+take-message-requires-clause-stands c =
+    let r = probed_by c.args.routed.route.named c.args.routed.probe.tag c.args.routed.route.context in
+    found_stands r c.self.inside.queues.places c.in-Some.place
+    (sym c.in-Some.is ∙ c.requires.found ∙ sym (ap (λ (h : Held). place_for r h.places) c.self.view_is))
+
+pub unreachable-requires : goal.unreachable-requires
+unreachable-requires c = search (rules, c.probed_at.ensures.none c.in_default.is)
