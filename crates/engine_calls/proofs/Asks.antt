@@ -11,7 +11,7 @@ use Rattle.point_to_point_calls.specs.CoreCalls.{RoutedCall}
 use Rattle.point_to_point_calls.specs.CoreCalls as core_calls
 use Rattle.point_to_point_calls.specs.declared.refusal.Refusal.{Refusal}
 use Rattle.point_to_point_calls.specs.declared.refusal.Refusal.TheVariants as refusals
-use Rattle.point_to_point.specs.Calls.{argument_fault, free_request_fault, limit_fault, request_fault, request_fault_at}
+use Rattle.point_to_point.specs.Calls.{argument_fault, call_frame, free_request_fault, limit_fault, request_fault, request_fault_at}
 use Rattle.point_to_point.specs.Messages.{message_fault, probe_rule, search_limit}
 use Rattle.point_to_point_calls.specs.Calls.{IsWithin}
 use Rattle.point_to_point_calls.specs.declared.call.CallRoute.{CallRoute}
@@ -111,6 +111,15 @@ receive_on v r = record { route = call_route r; group = None; receive = v }
 -- a probe on a route, before it has its group
 abbrev pub probe_on : Probe → RouteText → RoutedProbe
 probe_on p r = record { route = call_route r; group = None; probe = p }
+
+-- the incarnations that are known are those that the sessions know
+pub known_same : (g : GroupsState) (comm : Option ℕ) (named : Source) (o : Option Route) (ks known : List ℕ) →
+    ks ≡ known →
+    IfSome o (λ r. r.is_replaced ≡ names_replaced (known_by ks) (held_at (member_of g) comm) named) →
+    IfSome o (λ r. r.is_replaced ≡ names_replaced (known_by known) (held_at (member_of g) comm) named)
+known_same g comm named o ks known is left =
+    subst (λ (ns : List ℕ). IfSome o
+    (λ r. r.is_replaced ≡ names_replaced (known_by ns) (held_at (member_of g) comm) named)) is left
 
 -- whom a send names is judged by the route
 pub send_ruled : (g : GroupsState) (known : List ℕ) (comm : Option ℕ) (named : Source) (o : Option Route) (x : Route)
@@ -438,7 +447,9 @@ pub probe_refused : (c : CoreState) (g : GroupsState) (s : SessionsState) (v : P
     Some why ≡ first_fault (argument_fault c.place (route_probe v r)) (source_rule g s.known v.comm v.source r) →
     (rest : Rest) → fault_of (engine_of c g rest s) (calls.Improbe v) ≡ Some why
 probe_refused c g s v r why free route is rest =
-    probe_fault_is c g rest s v r free route ∙ stops _ _ _ (sym is)
+    probe_fault_is c g rest s v r free route ∙
+    stops (argument_fault c.place (route_probe v r)) (source_rule g s.known v.comm v.source r)
+    (first_fault (limit_fault c (route_probe v r)) (frame_limit s (call_frame c (route_probe v r)))) (sym is)
   where
     stops : (a r l : Option Refusal) → first_fault a r ≡ Some why → first_fault a (first_fault r l) ≡ Some why
     stops None None l is = absurd cc

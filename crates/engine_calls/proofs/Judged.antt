@@ -9,6 +9,10 @@ use Rattle.point_to_point_calls.specs.declared.call.Receive.{Receive}
 use Rattle.point_to_point_calls.specs.declared.call.Send.{Send}
 use Rattle.point_to_point_calls.specs.declared.refusal.Refusal.{Refusal}
 use Rattle.point_to_point_calls.specs.declared.sends.AddressedSend.{AddressedSend}
+use Rattle.point_to_point.specs.Calls.{fault_at}
+use Rattle.point_to_point.specs.Messages.{probe_rule, search_limit}
+use Rattle.point_to_point_calls.specs.Hearing.{first_of}
+use Rattle.requests.specs.declared.awaited_requests.Awaited.{Awaited}
 use Rattle.requests.specs.declared.region.Region.{Region}
 use Rattle.requests.specs.declared.table.Request.{Request}
 use Rattle.engine_calls.specs.Asks.{IsAsked, MessageJudged, ReceiveJudged, SearchJudged, SendJudged, group_of}
@@ -78,3 +82,20 @@ pub message_back : (e : EngineState) (q : Option Request) (into : Region)
     (fault_of e (calls.Mrecv q into) ≡ Some h.refused) × (h.value ≡ into)
 message_back e q into o h is judged =
     subst (λ (r : Result MessageReceive (HandedBack Region)). MessageJudged e q into r) is judged
+
+-- and meets no limit
+pub search_unlimited : (e : EngineState) (p : Probe) (j : JudgedProbe) →
+    IsAsked e (calls.Improbe p) (core_calls.Improbe j.sought.routed) →
+    search_limit j.sought.routed.route.named e.core j.sought.routed ≡ None
+search_unlimited e p j asked = by e.core.blocked asked.clear.0
+  where
+    last : (a b : Option Refusal) → first_of a b ≡ None → b ≡ None
+    last None b is = is
+    last (Some x) b is = absurd cc
+
+    by : (a : Option Awaited) → fault_at a e.core (core_calls.Improbe j.sought.routed) ≡ None →
+        search_limit j.sought.routed.route.named e.core j.sought.routed ≡ None
+    by None is =
+        last (probe_rule e.core.place.size j.sought.routed.route.named j.sought.routed.probe.tag)
+        (search_limit j.sought.routed.route.named e.core j.sought.routed) is
+    by (Some a) is = absurd cc

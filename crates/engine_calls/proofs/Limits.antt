@@ -1,4 +1,5 @@
 -- The limit that a frame meets depends on the rank that it goes to alone.
+use Rattle.point_to_point_calls.specs.declared.sends.Destination.{Destination}
 use Rattle.std.proofs.Common.{◌≡◌, ◌==◌, ℕ, [], ◌∷◌, Bool, true, false, Option, Some, None, refl, sym, ap, subst}
 use Rattle.std.proofs.lemmas.Option.{same_Some}
 use Rattle.std.specs.Prelude.{option_map}

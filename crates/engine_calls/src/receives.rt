@@ -140,11 +140,15 @@ fn start_receive(
 {
     let JudgedReceive { sought, group } = judged;
     let Ok(group) = shared(alloc, group) else {
-        return Reply::Refused(Refusal::OutOfMemory, Call::Irecv(sought.routed.receive));
+        let SoughtReceive { routed, .. } = sought;
+        return Reply::Refused(Refusal::OutOfMemory, Call::Irecv(routed.receive));
     };
     match make_way(core, sessions, &sought) {
         Ok(collection) => Reply::Started(core.receive(sought, group, collection)),
-        Err(refused) => Reply::Refused(refused, Call::Irecv(sought.routed.receive)),
+        Err(refused) => {
+            let SoughtReceive { routed, .. } = sought;
+            Reply::Refused(refused, Call::Irecv(routed.receive))
+        }
     }
 }
 

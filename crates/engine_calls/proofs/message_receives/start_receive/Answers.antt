@@ -7,7 +7,7 @@ use Rattle.engine_calls.proofs.message_receives.start_receive.Goals as goal
 
 pub returns-in-Ok : goal.returns-in-Ok
 returns-in-Ok c = λ g rest call asked.
-    message_received c.args.core.now.state c.make_way.new.core.state c.receive_message.new.core.state
+    message_received c.args.core.now.state c.make_way.new.core.state c.receive_message.new.self.state
     c.args.sessions.now c.make_way.new.sessions c.args.receive.message c.args.receive.into
     (waited c.receive_message.result) c.reply_of_wait.result c.make_way.ensures.kept c.receive_message.ensures.exact
     c.reply_of_wait.ensures c.in-Ok.ensures.sent g rest call asked

@@ -7,7 +7,7 @@ use Rattle.engine_calls.proofs.probes.fault_of_look.Goals as goal
 
 pub returns-in-Ok : goal.returns-in-Ok
 returns-in-Ok c =
-    look_allowed c.args.core.now.state (groups_of c.args.communicators.now) c.args.sessions.now c.args.probe (route_text c.in-Ok.field)
+    look_allowed c.args.core.now.state (groups_of c.args.communicators.now) c.args.sessions.now c.args.probe (route_text c.in-Ok.field-0)
     c.in-Ok.ensures
 
 pub returns-in-Err : goal.returns-in-Err

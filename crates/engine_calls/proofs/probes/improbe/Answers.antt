@@ -1,7 +1,7 @@
 -- A matching probe that was judged is answered, or refused.
 use Rattle.std.proofs.Common.{refl}
 use Rattle.engine_calls.proofs.Answering.{fault_refused}
-use Rattle.engine_calls.proofs.Judged.{blank, search_back, search_of, search_shares}
+use Rattle.engine_calls.proofs.Judged.{blank, search_back, search_of, search_shares, search_unlimited}
 use Rattle.engine_calls.specs.Asks.{engine_of, groups_of}
 use Rattle.engine_calls.specs.declared.call.Call.TheVariants as calls
 use Rattle.engine_calls.proofs.probes.improbe.Goals as goal
@@ -11,6 +11,12 @@ take_out-requires-clause-group c =
     let e = engine_of c.args.core.now.state (groups_of c.args.communicators.now) blank c.args.sessions.now in
     search_shares e c.args.probe c.in-Ok.judged
     (search_of e c.args.probe c.judge_search.result c.in-Ok.judged c.in-Ok.is (c.judge_search.ensures.judged blank))
+
+pub take_out-requires-clause-limit : goal.take_out-requires-clause-limit
+take_out-requires-clause-limit c =
+    let e = engine_of c.args.core.now.state (groups_of c.args.communicators.now) blank c.args.sessions.now in
+    search_unlimited e c.args.probe c.in-Ok.judged
+    (search_of e c.args.probe c.judge_search.result c.in-Ok.judged c.in-Ok.is (c.judge_search.ensures.judged blank)).0
 
 pub returns-in-Ok : goal.returns-in-Ok
 returns-in-Ok c = λ rest.

@@ -1,7 +1,7 @@
 -- What a matching probe meets, and what it asks.
-use Rattle.std.proofs.Common.{Some, sym, ◌∙◌}
+use Rattle.std.proofs.Common.{sym, ◌∙◌}
 use Rattle.communicators.specs.Routes.{route_text}
-use Rattle.engine_calls.proofs.Asks.{probe_asked, probe_grouped, probe_made, probed_fault}
+use Rattle.engine_calls.proofs.Asks.{probe_asked, probe_grouped, probe_made}
 use Rattle.engine_calls.specs.Asks.{groups_of}
 use Rattle.engine_calls.proofs.probes.judge_search.Goals as goal
 
@@ -17,15 +17,3 @@ returns-in-None-clause-judged c =
       probe_grouped (groups_of c.args.communicators.now) c.args.probe r c.seek_for_probe-sought.result.routed
           c.in-Ok.ensures.route_is made,
     )
-
-pub returns-in-Some-clause-judged : goal.returns-in-Some-clause-judged
-returns-in-Some-clause-judged c =
-    let r = route_text c.in-Ok.route in
-    let made = probe_made c.call_route.result c.args.probe r _ c.call_route.ensures
-    c.seek_for_probe-sought.ensures.routed in
-    probed_fault c.args.core.now.state (groups_of c.args.communicators.now) c.args.sessions.now c.args.probe r
-    c.seek_for_probe-sought.result.routed (Some c.in-Some.limit) c.in-Ok.ensures made
-    (sym c.in-Some.is ∙ c.limit_of_search.ensures)
-
-pub returns-in-Err-clause-judged : goal.returns-in-Err-clause-judged
-returns-in-Err-clause-judged c = λ rest. (c.in-Err.ensures rest).1

@@ -2,7 +2,7 @@
 use Rattle.std.proofs.Common.{Option, option_map, refl, sym, ap, ◌∙◌}
 use Rattle.communicators.specs.Routes.{route_text}
 use Rattle.communicators.specs.declared.route.Route.{Route}
-use Rattle.engine_calls.proofs.Asks.{receive_asked, receive_grouped, receive_made, receive_refused, source_ruled}
+use Rattle.engine_calls.proofs.Asks.{known_same, receive_asked, receive_grouped, receive_made, receive_refused, source_ruled}
 use Rattle.engine_calls.specs.Asks.{groups_of}
 use Rattle.engine_calls.proofs.receives.judge_receive.Goals as goal
 
@@ -13,7 +13,8 @@ returns-in-None-clause-judged c = λ rest. (
       (sym c.is_busy.ensures ∙ c.if-is_busy.false)
       (sym c.route.ensures.exact ∙ ap (λ (o : Option Route). option_map route_text o) c.in-Some.is)
       (source_ruled (groups_of c.args.communicators.now) c.args.sessions.now.known c.args.receive.comm c.args.receive.source
-      c.route.result c.in-Some.route _ c.in-Some.is c.route.ensures.beyond c.route.ensures.replaced
+      c.route.result c.in-Some.route _ c.in-Some.is c.route.ensures.beyond (known_same (groups_of c.args.communicators.now) c.args.receive.comm c.args.receive.source c.route.result _ _
+      c.incarnations.ensures c.route.ensures.replaced)
       c.rule_of_source.ensures)
       (receive_made c.call_route.result c.args.receive (route_text c.in-Some.route) _ c.call_route.ensures
       c.seek-sought.ensures.routed)
@@ -25,15 +26,16 @@ returns-in-None-clause-judged c = λ rest. (
       c.seek-sought.ensures.routed),
 )
 
-pub returns-in-Some-fault_of_receive-clause-judged : goal.returns-in-Some-fault_of_receive-clause-judged
-returns-in-Some-fault_of_receive-clause-judged c = λ rest.
+pub returns-clause-judged : goal.returns-clause-judged
+returns-clause-judged c = λ rest.
     receive_refused c.args.core.now.state (groups_of c.args.communicators.now) c.args.sessions.now c.args.receive
     (route_text c.in-Some.route) c.rule_of_source.result c.seek-sought.result.routed
     c.in-Some-fault_of_receive.refused c.seek-sought.result.routed.receive
     (sym c.is_busy.ensures ∙ c.if-is_busy.false)
     (sym c.route.ensures.exact ∙ ap (λ (o : Option Route). option_map route_text o) c.in-Some.is)
     (source_ruled (groups_of c.args.communicators.now) c.args.sessions.now.known c.args.receive.comm c.args.receive.source
-    c.route.result c.in-Some.route _ c.in-Some.is c.route.ensures.beyond c.route.ensures.replaced
+    c.route.result c.in-Some.route _ c.in-Some.is c.route.ensures.beyond (known_same (groups_of c.args.communicators.now) c.args.receive.comm c.args.receive.source c.route.result _ _
+    c.incarnations.ensures c.route.ensures.replaced)
     c.rule_of_source.ensures)
     (receive_made c.call_route.result c.args.receive (route_text c.in-Some.route) _ c.call_route.ensures
     c.seek-sought.ensures.routed)

@@ -6,7 +6,7 @@ use Rattle.engine_calls.proofs.receives.start_receive.Goals as goal
 
 pub returns-in-Ok-make_way : goal.returns-in-Ok-make_way
 returns-in-Ok-make_way c = λ g rest call same asked.
-    receive_started c.args.core.now.state c.make_way.new.core.state c.receive.new.core.state c.args.sessions.now
+    receive_started c.args.core.now.state c.make_way.new.core.state c.receive.new.self.state c.args.sessions.now
     c.make_way.new.sessions c.args.judged.sought.routed c.in-Ok.group c.receive.result c.make_way.ensures.kept
     c.receive.ensures.exact c.in-Ok-make_way.ensures.sent g rest call (same ∙ sym c.in-Ok.ensures.ok) asked
 

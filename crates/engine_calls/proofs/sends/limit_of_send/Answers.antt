@@ -1,5 +1,5 @@
 -- The frame of a send goes to the rank that it was addressed to, which is one of the job's.
-use Rattle.std.proofs.Common.{◌≡◌, ℕ, Option, sym, ap₂, subst, ◌∙◌}
+use Rattle.std.proofs.Common.{◌≡◌, ◌<◌, ℕ, Option, sym, ap₂, subst, ◌∙◌}
 use Rattle.std.specs.Prelude.{IfSome}
 use Rattle.incarnation.specs.declared.place.Place.{Place}
 use Rattle.point_to_point_calls.specs.Sending.{destination, rank_to}

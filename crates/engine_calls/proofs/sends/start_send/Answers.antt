@@ -6,7 +6,7 @@ use Rattle.engine_calls.proofs.sends.start_send.Goals as goal
 
 pub returns-in-Ok : goal.returns-in-Ok
 returns-in-Ok c = λ g rest call asked.
-    send_started c.args.core.now.state c.make_way.new.core.state c.send.new.core.state c.args.sessions.now
+    send_started c.args.core.now.state c.make_way.new.core.state c.send.new.self.state c.args.sessions.now
     c.make_way.new.sessions c.args.send.routed c.send.result c.make_way.ensures.kept c.send.ensures.exact
     c.in-Ok.ensures.sent g rest call asked
 

@@ -9,7 +9,7 @@ use Rattle.engine_calls.proofs.waits.cancel.Goals as goal
 
 pub returns-in-None : goal.returns-in-None
 returns-in-None c =
-    requests_answered c.args.core.now.state c.cancel.new.core.state (groups_of c.args.communicators.now)
+    requests_answered c.args.core.now.state c.cancel.new.self.state (groups_of c.args.communicators.now)
     (core_calls.Cancel c.args.request) core_calls.Accepted replies.Accepted tt
     (λ rest s. sym (c.fault_of_cancel.ensures rest s) ∙ c.in-None.is) (refl, c.cancel.ensures.exact) refl
 

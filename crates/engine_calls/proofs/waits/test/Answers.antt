@@ -9,7 +9,7 @@ use Rattle.engine_calls.proofs.waits.test.Goals as goal
 
 pub returns-in-None : goal.returns-in-None
 returns-in-None c =
-    requests_answered c.args.core.now.state c.test.new.core.state (groups_of c.args.communicators.now)
+    requests_answered c.args.core.now.state c.test.new.self.state (groups_of c.args.communicators.now)
     (core_calls.Test c.args.request) (tested c.test.result) c.reply_of_test.result tt
     (λ rest s. sym (c.fault_of_wait.ensures.test rest s) ∙ c.in-None.is) c.test.ensures.exact c.reply_of_test.ensures
 

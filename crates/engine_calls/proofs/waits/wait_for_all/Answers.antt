@@ -7,7 +7,7 @@ use Rattle.engine_calls.proofs.waits.wait_for_all.Goals as goal
 
 pub returns-in-Ok : goal.returns-in-Ok
 returns-in-Ok c = λ g allowed.
-    requests_answered c.args.core.now.state c.wait.new.core.state g (core_calls.Waitall c.args.list)
+    requests_answered c.args.core.now.state c.wait.new.self.state g (core_calls.Waitall c.args.list)
     (waited c.wait.result) c.reply_of_wait.result tt allowed c.wait.ensures.exact c.reply_of_wait.ensures
 
 pub returns-in-Err : goal.returns-in-Err

@@ -9,7 +9,7 @@ use Rattle.engine_calls.proofs.waits.waitany.Goals as goal
 
 pub returns-in-None : goal.returns-in-None
 returns-in-None c =
-    requests_answered c.args.core.now.state c.wait.new.core.state (groups_of c.args.communicators.now)
+    requests_answered c.args.core.now.state c.wait.new.self.state (groups_of c.args.communicators.now)
     (core_calls.Waitany c.args.list) (waited c.wait.result) c.reply_of_wait.result tt
     (λ rest s. sym (c.fault_of_list.ensures.any rest s) ∙ c.in-None.is) c.wait.ensures.exact c.reply_of_wait.ensures
 
