@@ -5,8 +5,11 @@ use Rattle.incarnation.specs.declared.place.Place.{Place}
 use Rattle.point_to_point_calls.specs.Sending.{destination, rank_to}
 use Rattle.point_to_point_calls.specs.declared.refusal.Refusal.{Refusal}
 use Rattle.point_to_point_calls.proofs.SendLaws.{rank_is_there}
+use Rattle.point_to_point.specs.Calls.{call_frame}
+use Rattle.point_to_point_calls.specs.CoreCalls as core_calls
 use Rattle.requests.specs.Regions.{sent_from}
 use Rattle.engine_calls.proofs.Limits.{target_is}
+use Rattle.engine_calls.specs.Frames.{frame_limit}
 use Rattle.engine_calls.specs.Refusals.{first_fault}
 use Rattle.engine_calls.proofs.sends.limit_of_send.Goals as goal
 
@@ -25,7 +28,10 @@ pub returns-in-None : goal.returns-in-None
 returns-in-None c =
     let s = c.args.send.now.routed in
     let core = c.args.core.now.state in
-    subst (λ (o : Option Refusal). c.limit_to.result ≡ first_fault o _) (sym c.in-None.is ∙ c.limit_of_send.ensures)
+    subst
+    (λ (o : Option Refusal). c.limit_to.result ≡
+    first_fault o (frame_limit c.args.sessions.now (call_frame core (core_calls.Isend s))))
+    (sym c.in-None.is ∙ c.limit_of_send.ensures)
     (c.limit_to.ensures _
     (target_is core.place core.transfers s.send.mode (destination s.route.named s.send.tag s.route.context)
     (sent_from s.send.from)
