@@ -12,7 +12,7 @@ type Told = Option<(u64, Source, Option<bool>)>;
 
 /// The route of a call on the communicator at a place that names this rank.
 fn route(rank: &Communicators, place: usize, named: Source, ranks: &[u16]) -> Told {
-    match rank.route(Some(place), named) {
+    match rank.route(&[0, 0], Some(place), named) {
         Some(route) => match route.group {
             Some(group) => Some((route.context, route.named, Some(group == ranks))),
             None => Some((route.context, route.named, None)),

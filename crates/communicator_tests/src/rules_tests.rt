@@ -20,38 +20,47 @@ fn a_rank_begins_with_world_and_self(rt: HostRuntime) {
     assert_eq!(rt; lacking(&rank), [false, false, true, true]);
 }
 
-/// Whether world has no such target, and whether it has no such source.
-fn missing(rank: &Communicators, named: Source) -> (bool, bool) {
-    (
-        rank.has_no_target(Some(0), named),
-        rank.has_no_source(Some(0), named),
-    )
+/// Whether world has no such rank, and nobody that it names was replaced.
+fn is_missing(rank: &Communicators, named: Source) -> Option<bool> {
+    let route = rank.route(&[0, 0], Some(0), named)?;
+    Some(route.is_beyond && !route.is_replaced)
 }
 
 #[test]
 fn ranks_behind_the_last_are_missing(rt: HostRuntime) {
     let rank = rank_of(rt.alloc(), 1, 2).expect(&rt, "a rank");
     let answers = [
-        missing(&rank, Source::Any),
-        missing(&rank, Source::Null),
-        missing(&rank, Source::Rank(1)),
-        missing(&rank, Source::Rank(2)),
+        is_missing(&rank, Source::Any),
+        is_missing(&rank, Source::Null),
+        is_missing(&rank, Source::Rank(1)),
+        is_missing(&rank, Source::Rank(2)),
     ];
     assert_eq!(rt;
         answers,
-        [(true, false), (false, false), (false, false), (true, true)]
+        [Some(false), Some(false), Some(false), Some(true)]
     );
+}
+
+/// Whether the member that a call on a communicator names was replaced.
+fn names_replaced(
+    rank: &Communicators,
+    known: &[u16],
+    place: usize,
+    named: Source,
+) -> Option<bool> {
+    let route = rank.route(known, Some(place), named)?;
+    Some(route.is_replaced)
 }
 
 /// Rank 0 of world is known at incarnation 1: whether it is replaced where world and the communicator of ranks 1 and 0
 /// name it, where the latter names rank 1, and for collectives of world, of self and of the latter.
-fn replaced(rank: &mut Communicators) -> (bool, [bool; 3], [bool; 3]) {
+fn replaced(rank: &mut Communicators) -> (bool, [Option<bool>; 3], [bool; 3]) {
     let turned = turn(rank);
     let known = [1u16, 0].as_slice();
     let named = [
-        rank.names_replaced(known, Some(0), Source::Rank(0)),
-        rank.names_replaced(known, Some(2), Source::Rank(1)),
-        rank.names_replaced(known, Some(2), Source::Rank(0)),
+        names_replaced(rank, known, 0, Source::Rank(0)),
+        names_replaced(rank, known, 2, Source::Rank(1)),
+        names_replaced(rank, known, 2, Source::Rank(0)),
     ];
     let collectives = [
         rank.has_replaced(known, Some(0)),
@@ -66,7 +75,11 @@ fn a_replaced_member_counts_off_world_and_in_collectives(rt: HostRuntime) {
     let mut rank = rank_of(rt.alloc(), 1, 2).expect(&rt, "a rank");
     assert_eq!(rt;
         replaced(&mut rank),
-        (true, [false, true, false], [true, false, true])
+        (
+            true,
+            [Some(false), Some(true), Some(false)],
+            [true, false, true]
+        )
     );
 }
 

@@ -1,210 +1,113 @@
 //! How an engine answers calls.
 
 ghost use Rattle.std.specs.Prelude.{◌≡◌, ◌≤◌, ◌+◌, ◌*◌, length};
-ghost use Rattle.engine_calls.specs.Asks.{AskGives, CanAskBy, IsOnRequests, call_of};
 ghost use Rattle.engine.specs.Answering.{IsOther};
 ghost use Rattle.engine_calls.specs.Calls.{CallGives, CoreGives, RefusedLeaves};
-ghost use Rattle.engine_calls.specs.Faults.{fault_of};
-ghost use Rattle.engine_calls.specs.declared.call.Call as engine_calls;
 ghost use Rattle.engine_calls.specs.declared.call.Call.TheVariants as calls;
 
 use crate::engine::Engine;
 use engine_calls::{
-    Call, JudgedCall, Probe, Receive, Reply, Send, answer_unless_refused, ask_for_message,
-    ask_on_requests, ask_to_probe, ask_to_receive, ask_to_send, judge,
+    Call, Probe, Receive, Reply, Send, cancel, improbe, irecv, isend, mrecv, test, wait, waitall,
+    waitany,
 };
-use point_to_point::{HandedBack, RoutedCall};
-use requests::{Region, Request};
+use requests::{Region, Request, RequestList};
 
 impl Engine {
-    /// What the core is to be asked by a send, unless it is refused by now.
-    fn asked_by_send(&self, send: Send) -> Result<RoutedCall, HandedBack<Call>>
-        ensures { AskGives self.now (calls.Isend send) result }
+    /// Answers a send.
+    fn isend(&mut self, send: Send) -> Reply
+        ensures { CoreGives self.old (calls.Isend send) result self.new }
     {
-        ask_to_send(
-            &self.parts.core,
+        isend(
+            &mut self.parts.core,
             &self.parts.communicators,
-            &self.parts.sessions,
+            &mut self.parts.sessions,
             send,
         )
     }
 
-    /// What the core is to be asked by a receive, unless it is refused by now.
-    fn asked_by_receive(&self, receive: Receive) -> Result<RoutedCall, HandedBack<Call>>
-        ensures { AskGives self.now (calls.Irecv receive) result }
+    /// Answers a receive.
+    fn irecv(&mut self, receive: Receive) -> Reply
+        ensures { CoreGives self.old (calls.Irecv receive) result self.new }
     {
-        ask_to_receive(
-            &self.parts.core,
+        irecv(
+            self.alloc,
+            &mut self.parts.core,
             &self.parts.communicators,
-            &self.parts.sessions,
+            &mut self.parts.sessions,
             receive,
         )
     }
 
-    /// What the core is to be asked by a matching probe, unless it is refused by now.
-    fn asked_by_probe(&self, probe: Probe) -> Result<RoutedCall, HandedBack<Call>>
-        ensures { AskGives self.now (calls.Improbe probe) result }
+    /// Answers a matching probe.
+    fn improbe(&mut self, probe: Probe) -> Reply
+        ensures { CoreGives self.old (calls.Improbe probe) result self.new }
     {
-        ask_to_probe(
-            &self.parts.core,
+        improbe(
+            self.alloc,
+            &mut self.parts.core,
             &self.parts.communicators,
             &self.parts.sessions,
             probe,
         )
     }
 
-    /// What the core is to be asked by the receive of a message, unless it is refused by now.
-    fn asked_for_message(
-        &self,
-        message: Option<Request>,
-        into: Region,
-    ) -> Result<RoutedCall, HandedBack<Call>>
-        ensures { AskGives self.now (calls.Mrecv message into) result }
+    /// Answers the receive of a message.
+    fn mrecv(&mut self, message: Option<Request>, into: Region) -> Reply
+        ensures { CoreGives self.old (calls.Mrecv message into) result self.new }
     {
-        ask_for_message(
-            &self.parts.core,
+        mrecv(
+            &mut self.parts.core,
             &self.parts.communicators,
-            &self.parts.sessions,
+            &mut self.parts.sessions,
             message,
             into,
         )
     }
 
-    /// What the core is to be asked by a call on requests, unless it is refused by now.
-    fn asked_on_requests(&self, call: RoutedCall) -> Result<RoutedCall, HandedBack<Call>>
-        requires { IsOnRequests call }
-        ensures { AskGives self.now (call_of call) result }
+    /// Answers a wait for a request.
+    fn wait(&mut self, request: Option<Request>) -> Reply
+        ensures { CoreGives self.old (calls.Wait request) result self.new }
     {
-        ask_on_requests(&self.parts.core, &self.parts.communicators, call)
+        wait(&mut self.parts.core, &self.parts.communicators, request)
     }
 
-    /// Answers a call by which the core is asked this, unless it was refused.
-    #[tactic(auto, using(engine_calls::proofs::Asks::can_ask))]
-    fn reply_to(&mut self, asked: Result<RoutedCall, HandedBack<Call>>) -> Reply
-        requires { CanAskBy self.old.core self.old.groups self.old.sessions asked }
-        ensures exact { (call : engine_calls.Call) → AskGives self.old call asked →
-            CoreGives self.old call result self.new }
-        ensures few { length self.new.sessions.out ≤ length self.old.sessions.out + 1 }
-        ensures placed { self.new.sessions.place ≡ self.old.sessions.place }
-        ensures core_placed { self.new.core.place ≡ self.old.core.place }
+    /// Answers a test of a request.
+    fn test(&mut self, request: Option<Request>) -> Reply
+        ensures { CoreGives self.old (calls.Test request) result self.new }
     {
-        answer_unless_refused(
+        test(&mut self.parts.core, &self.parts.communicators, request)
+    }
+
+    /// Answers a wait for any request of a list.
+    fn waitany(&mut self, list: RequestList) -> Reply
+        ensures { CoreGives self.old (calls.Waitany list) result self.new }
+    {
+        waitany(&mut self.parts.core, &self.parts.communicators, list)
+    }
+
+    /// Answers a wait for all requests of a list.
+    fn waitall(&mut self, list: RequestList) -> Reply
+        ensures { CoreGives self.old (calls.Waitall list) result self.new }
+    {
+        waitall(
             self.alloc,
             &mut self.parts.core,
             &self.parts.communicators,
-            &mut self.parts.sessions,
-            asked,
+            list,
         )
     }
 
-    /// Answers a send.
-    fn isend(&mut self, send: Send) -> Reply
-        ensures exact { CoreGives self.old (calls.Isend send) result self.new }
-        ensures unchanged { RefusedLeaves result self.old self.new }
-        ensures few { length self.new.sessions.out ≤ length self.old.sessions.out + 1 }
-        ensures placed { self.new.sessions.place ≡ self.old.sessions.place }
-        ensures core_placed { self.new.core.place ≡ self.old.core.place }
+    /// Answers a cancel.
+    fn cancel(&mut self, request: Option<Request>) -> Reply
+        ensures { CoreGives self.old (calls.Cancel request) result self.new }
     {
-        let asked = self.asked_by_send(send);
-        self.reply_to(asked)
-    }
-
-    /// Answers a receive.
-    fn irecv(&mut self, receive: Receive) -> Reply
-        ensures exact { CoreGives self.old (calls.Irecv receive) result self.new }
-        ensures unchanged { RefusedLeaves result self.old self.new }
-        ensures few { length self.new.sessions.out ≤ length self.old.sessions.out + 1 }
-        ensures placed { self.new.sessions.place ≡ self.old.sessions.place }
-        ensures core_placed { self.new.core.place ≡ self.old.core.place }
-    {
-        let asked = self.asked_by_receive(receive);
-        self.reply_to(asked)
-    }
-
-    /// Answers a matching probe.
-    fn improbe(&mut self, probe: Probe) -> Reply
-        ensures exact { CoreGives self.old (calls.Improbe probe) result self.new }
-        ensures unchanged { RefusedLeaves result self.old self.new }
-        ensures few { length self.new.sessions.out ≤ length self.old.sessions.out + 1 }
-        ensures placed { self.new.sessions.place ≡ self.old.sessions.place }
-        ensures core_placed { self.new.core.place ≡ self.old.core.place }
-    {
-        let asked = self.asked_by_probe(probe);
-        self.reply_to(asked)
-    }
-
-    /// Answers the receive of a message.
-    fn mrecv(&mut self, message: Option<Request>, into: Region) -> Reply
-        ensures exact { CoreGives self.old (calls.Mrecv message into) result self.new }
-        ensures unchanged { RefusedLeaves result self.old self.new }
-        ensures few { length self.new.sessions.out ≤ length self.old.sessions.out + 1 }
-        ensures placed { self.new.sessions.place ≡ self.old.sessions.place }
-        ensures core_placed { self.new.core.place ≡ self.old.core.place }
-    {
-        let asked = self.asked_for_message(message, into);
-        self.reply_to(asked)
-    }
-
-    /// Answers a call on requests.
-    fn call_on_requests(&mut self, call: RoutedCall) -> Reply
-        requires { IsOnRequests call }
-        ensures exact { CoreGives self.old (call_of call) result self.new }
-        ensures unchanged { RefusedLeaves result self.old self.new }
-        ensures few { length self.new.sessions.out ≤ length self.old.sessions.out + 1 }
-        ensures placed { self.new.sessions.place ≡ self.old.sessions.place }
-        ensures core_placed { self.new.core.place ≡ self.old.core.place }
-    {
-        let asked = self.asked_on_requests(call);
-        self.reply_to(asked)
-    }
-
-    /// The first rule or limit of a call on requests.
-    #[tactic(auto, using(engine_calls::proofs::Asks::judged_fault, engine_calls::proofs::Asks::judged_back))]
-    fn judge_on_requests(&self, call: RoutedCall) -> JudgedCall
-        requires { IsOnRequests call }
-        ensures fault { result.fault ≡ fault_of self.now (call_of call) }
-        ensures back { result.call ≡ call_of call }
-    {
-        judge(self.asked_on_requests(call))
-    }
-
-    /// The first rule or limit that a call would be refused by now, of 6, 4, 2, 1, 3, 5, 7, 9, 11 and 13: see `call`;
-    /// and the call as it was handed in. It takes no memory; a call that meets none is refused for want of memory (14),
-    /// and a collective also where what the rank then does of itself meets a limit (13).
-    #[tactic(auto, using(engine_calls::proofs::Asks::judged_fault, engine_calls::proofs::Asks::judged_back))]
-    pub fn judge(&self, call: Call) -> JudgedCall
-        ensures fault { result.fault ≡ fault_of self.now call }
-        ensures back { result.call ≡ call }
-    {
-        match call {
-            Call::Isend(send) => judge(self.asked_by_send(send)),
-            Call::Irecv(receive) => judge(self.asked_by_receive(receive)),
-            Call::Wait(request) => self.judge_on_requests(RoutedCall::Wait(request)),
-            Call::Test(request) => self.judge_on_requests(RoutedCall::Test(request)),
-            Call::Waitany(list) => self.judge_on_requests(RoutedCall::Waitany(list)),
-            Call::Waitall(list) => self.judge_on_requests(RoutedCall::Waitall(list)),
-            Call::Cancel(request) => self.judge_on_requests(RoutedCall::Cancel(request)),
-            Call::Enter(comm, entry) => JudgedCall {
-                fault: self.fault_of_entry(comm, &entry),
-                call: Call::Enter(comm, entry),
-            },
-            Call::Ask(comm, question) => JudgedCall {
-                fault: self.fault_of_question(comm, question),
-                call: Call::Ask(comm, question),
-            },
-            Call::Iprobe(probe) => JudgedCall {
-                fault: self.fault_of_probe(probe),
-                call: Call::Iprobe(probe),
-            },
-            Call::Improbe(probe) => judge(self.asked_by_probe(probe)),
-            Call::Mrecv(message, into) => judge(self.asked_for_message(message, into)),
-        }
+        cancel(&mut self.parts.core, &self.parts.communicators, request)
     }
 
     /// Answers a call that is neither a send, a receive nor a wait for one request.
     // These stand apart, since a function pays at its entry for the locals of all its cases.
     #[inline(never)]
-    #[tactic(auto, using(engine_calls::proofs::Answering::few_by_one))]
+    #[tactic(auto, using(engine_calls::proofs::Laws::core_leaves, engine_calls::proofs::Laws::core_few, engine_calls::proofs::Laws::core_placed, engine_calls::proofs::Laws::core_stays))]
     fn answer_other(&mut self, call: Call) -> Reply
         requires { IsOther call }
         ensures exact { CallGives self.old call result self.new }
@@ -216,10 +119,10 @@ impl Engine {
         // The place shows that the job has a rank at least.
         let _place = self.parts.sessions.place();
         match call {
-            Call::Test(request) => self.call_on_requests(RoutedCall::Test(request)),
-            Call::Waitany(list) => self.call_on_requests(RoutedCall::Waitany(list)),
-            Call::Waitall(list) => self.call_on_requests(RoutedCall::Waitall(list)),
-            Call::Cancel(request) => self.call_on_requests(RoutedCall::Cancel(request)),
+            Call::Test(request) => self.test(request),
+            Call::Waitany(list) => self.waitany(list),
+            Call::Waitall(list) => self.waitall(list),
+            Call::Cancel(request) => self.cancel(request),
             Call::Enter(comm, entry) => self.enter(comm, entry),
             Call::Ask(comm, question) => self.ask(comm, question),
             Call::Iprobe(probe) => self.iprobe(probe),
@@ -254,7 +157,7 @@ impl Engine {
     /// to the own rank emits nothing. A probe tells what such a receive would take now and changes nothing (3.8.1); a
     /// matching probe takes that message out, so that no receive finds it (3.8.2), and tells its sender nothing. The
     /// receive of that message answers its sender, and is over where its data are there, or is waited for (3.8.3).
-    #[tactic(auto, using(engine_calls::proofs::Answering::few_by_one))]
+    #[tactic(auto, using(engine_calls::proofs::Laws::core_leaves, engine_calls::proofs::Laws::core_few, engine_calls::proofs::Laws::core_placed, engine_calls::proofs::Laws::core_stays))]
     pub fn call(&mut self, call: Call) -> Reply
         ensures exact { CallGives self.old call result self.new }
         ensures unchanged { RefusedLeaves result self.old self.new }
@@ -267,7 +170,7 @@ impl Engine {
         match call {
             Call::Isend(send) => self.isend(send),
             Call::Irecv(receive) => self.irecv(receive),
-            Call::Wait(request) => self.call_on_requests(RoutedCall::Wait(request)),
+            Call::Wait(request) => self.wait(request),
             other => self.answer_other(other),
         }
     }

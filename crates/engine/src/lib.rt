@@ -21,6 +21,7 @@ mod datagrams;
 mod engine;
 mod held_frames;
 mod incoming_payloads;
+mod judgement;
 mod looks;
 mod notice_kinds;
 mod notices;

@@ -24,7 +24,12 @@ impl Engine {
     pub fn type_of_probed(&self, probe: Probe) -> Option<BasicType>
         ensures { result ≡ type_probed self.now probe }
     {
-        match self.parts.communicators.route(probe.comm, probe.source) {
+        let known = self.parts.sessions.incarnations();
+        match self
+            .parts
+            .communicators
+            .route(known, probe.comm, probe.source)
+        {
             Some(route) => self
                 .parts
                 .core

@@ -1,21 +1,26 @@
 -- What the core answers is what the engine answers.
-use Rattle.std.proofs.Common.{◌≡◌, ◌<◌, ◌≤◌, ◌+◌, ◌*◌, ℕ, List, Option, Some, None, refl, sym, ap, ap₂, subst, ◌∙◌}
-use Rattle.std.proofs.Common.{arith}
+use Rattle.std.proofs.Common.{◌≡◌, ℕ, List, Option, Some, None, refl, sym, ap, ap₂, subst, ◌∙◌}
 use Rattle.point_to_point_calls.specs.Calls as cores
-use Rattle.point_to_point_calls.specs.declared.call.RoutedCall.{RoutedCall}
-use Rattle.point_to_point_calls.specs.declared.call.RoutedCall.TheVariants as core_calls
-use Rattle.point_to_point_calls.specs.declared.call.HandedBack.{HandedBack}
-use Rattle.point_to_point_calls.specs.declared.call.CoreReply as core_answers
-use Rattle.point_to_point_calls.specs.declared.call.CoreReply.TheVariants as core_replies
+use Rattle.point_to_point_calls.specs.CoreCalls.{RoutedCall}
+use Rattle.point_to_point_calls.specs.CoreCalls as core_calls
 use Rattle.point_to_point_calls.specs.declared.refusal.Refusal.{Refusal}
 use Rattle.point_to_point_calls.specs.declared.refusal.Refusal.TheVariants as refusals
+use Rattle.point_to_point_calls.specs.declared.call.RoutedProbe.{RoutedProbe}
+use Rattle.point_to_point_calls.specs.declared.call.RoutedReceive.{RoutedReceive}
+use Rattle.point_to_point_calls.specs.declared.call.RoutedSend.{RoutedSend}
 use Rattle.point_to_point.specs.Calls.{Answers, call_frame}
+use Rattle.point_to_point.specs.Messages.{Receives, Searches}
+use Rattle.point_to_point.specs.Receiving.{IsReceiving}
+use Rattle.point_to_point.specs.Sending.{IsSending}
+use Rattle.requests.specs.declared.region.Region.{Region}
+use Rattle.requests.specs.declared.table.Request.{Request}
+use Rattle.vocabulary.specs.declared.envelope.Status.{Status}
 use Rattle.point_to_point.specs.CoreState.{CoreState}
 use Rattle.sessions.specs.SessionsState.{SessionsState}
-use Rattle.engine_calls.proofs.Clear.{within_same}
-use Rattle.engine_calls.specs.Asks.{AnswerGives, IsAsked, NeedsGroup, call_of, engine_of, group_of}
-use Rattle.engine_calls.specs.Asks.{reply_of_core, with_group}
-use Rattle.engine_calls.specs.Calls.{CoreGives, IsAnswered, LacksRoom, NeedsMemory, RefusedLeaves, WhyRefused}
+use Rattle.engine_calls.proofs.Asks.{requests_asked}
+use Rattle.engine_calls.proofs.Clear.{frames_same, within_same}
+use Rattle.engine_calls.specs.Asks.{IsAsked, IsOnRequests, call_of, engine_of, group_of, with_group}
+use Rattle.engine_calls.specs.Calls.{CoreGives, IsAnswered, LacksRoom, NeedsMemory, WhyRefused}
 use Rattle.engine_calls.specs.EngineState.{EngineState, GroupsState, Rest}
 use Rattle.engine_calls.specs.Faults.{fault_of}
 use Rattle.engine_calls.specs.Frames.{after_frame}
@@ -24,26 +29,6 @@ use Rattle.engine_calls.specs.declared.call.Call.{Call}
 use Rattle.engine_calls.specs.declared.call.Call.TheVariants as calls
 use Rattle.engine_calls.specs.declared.reply.Reply.{Reply}
 use Rattle.engine_calls.specs.declared.reply.Reply.TheVariants as replies
-
--- ---- the core
-
--- the core answers, and its frame is on its way
-pub answer_given : (c mid d : CoreState) (s t : SessionsState) (q : RoutedCall)
-    (reply : core_answers.CoreReply) → mid ≡ c → cores.IsTaken reply →
-    Answers mid q reply d → t ≡ after_frame s (call_frame c q) → AnswerGives c s q reply d t
-answer_given c mid d s t q (core_replies.Refused why back) kept taken answers sent = absurd taken
-answer_given c mid d s t q (core_replies.Started r) kept taken answers sent =
-    (subst (λ (x : CoreState). Answers x q (core_replies.Started r) d) kept answers, sent)
-answer_given c mid d s t q (core_replies.Done a) kept taken answers sent =
-    (subst (λ (x : CoreState). Answers x q (core_replies.Done a) d) kept answers, sent)
-answer_given c mid d s t q core_replies.Pending kept taken answers sent =
-    (subst (λ (x : CoreState). Answers x q core_replies.Pending d) kept answers, sent)
-answer_given c mid d s t q core_replies.Accepted kept taken answers sent =
-    (subst (λ (x : CoreState). Answers x q core_replies.Accepted d) kept answers, sent)
-answer_given c mid d s t q (core_replies.Matched found) kept taken answers sent =
-    (subst (λ (x : CoreState). Answers x q (core_replies.Matched found) d) kept answers, sent)
-answer_given c mid d s t q core_replies.Blocked kept taken answers sent =
-    (subst (λ (x : CoreState). Answers x q core_replies.Blocked d) kept answers, sent)
 
 -- ---- want of memory
 
@@ -70,57 +55,47 @@ reason_is e call q why allowed routed memory need =
     subst (λ (o : Option Refusal). WhyRefused o e call why) (sym allowed)
     (lacks_by e call why memory (subst (λ (o : Option RoutedCall). NeedsMemory o) (sym routed) need))
 
-needs : (group : Option (List ℕ)) (q : RoutedCall) → NeedsGroup q → cores.NeedsMemory (with_group group q)
-needs group (core_calls.Irecv v) need = tt
-needs group (core_calls.Isend s) need = absurd need
-needs group (core_calls.Wait q) need = absurd need
-needs group (core_calls.Test q) need = absurd need
-needs group (core_calls.Waitany qs) need = absurd need
-needs group (core_calls.Waitall qs) need = absurd need
-needs group (core_calls.Cancel q) need = absurd need
-needs group (core_calls.Improbe p) need = tt
-needs group (core_calls.Mrecv message into) need = absurd need
+-- the group has no part in it
+needs_same : (group : Option (List ℕ)) (q : RoutedCall) → cores.NeedsMemory q → cores.NeedsMemory (with_group group q)
+needs_same group (core_calls.Irecv v) need = tt
+needs_same group (core_calls.Isend s) need = tt
+needs_same group (core_calls.Wait q) need = need
+needs_same group (core_calls.Test q) need = need
+needs_same group (core_calls.Waitany qs) need = need
+needs_same group (core_calls.Waitall qs) need = tt
+needs_same group (core_calls.Cancel q) need = need
+needs_same group (core_calls.Improbe p) need = tt
+needs_same group (core_calls.Mrecv message into) need = tt
 
--- so is a receive or a probe whose group can't be made
-pub group_refused : (e : EngineState) (call : Call) (a : RoutedCall) → IsAsked e call a → NeedsGroup a →
-    CoreGives e call (replies.Refused refusals.OutOfMemory (call_of a)) e
-group_refused e call a asked need =
+-- what is asked comes back for want of memory, and nothing changed
+pub lacking : (c mid : CoreState) (s t : SessionsState) (q : RoutedCall) (why : Refusal) (back : Call) → mid ≡ c → t ≡ s →
+    why ≡ refusals.OutOfMemory → cores.NeedsMemory q → back ≡ call_of q →
+    (g : GroupsState) (rest : Rest) (call : Call) → IsAsked (engine_of c g rest s) call q →
+    CoreGives (engine_of c g rest s) call (replies.Refused why back) (engine_of mid g rest t)
+lacking c mid s t q why back kept still memory need handed g rest call asked =
     record {
-      handed = asked.back;
-      unchanged = refl;
-      reason = reason_is e call (with_group (group_of e.groups a) a) refusals.OutOfMemory
-          asked.allowed asked.routed refl
-          (needs (group_of e.groups a) a need);
+      handed = handed ∙ asked.back;
+      unchanged = ap₂ (λ (x : CoreState) (y : SessionsState). engine_of x g rest y) kept still;
+      reason = reason_is (engine_of c g rest s) call (with_group (group_of g q) q) why asked.allowed asked.routed memory
+          (needs_same (group_of g q) q need);
     }
 
 -- ---- what a rule or a limit refuses
 
-pub fault_refused : (e : EngineState) (call : Call) (h : HandedBack Call) → (fault_of e call ≡ Some h.refused) ×
-    (h.value ≡ call) →
-    CoreGives e call (replies.Refused h.refused h.value) e
-fault_refused e call h is =
+pub fault_refused : (e : EngineState) (call : Call) (why : Refusal) (back : Call) → fault_of e call ≡ Some why →
+    back ≡ call → CoreGives e call (replies.Refused why back) e
+fault_refused e call why back is handed =
     record {
-      handed = is.1;
+      handed = handed;
       unchanged = refl;
       reason =
-          subst (λ (o : Option Refusal). WhyRefused o e call h.refused) (sym is.0) refl;
+          subst (λ (o : Option Refusal). WhyRefused o e call why) (sym is) refl;
     }
 
 -- ---- the answer
 
-back_same : (group : Option (List ℕ)) (q : RoutedCall) → call_of (with_group group q) ≡ call_of q
-back_same group (core_calls.Isend s) = refl
-back_same group (core_calls.Irecv v) = refl
-back_same group (core_calls.Wait q) = refl
-back_same group (core_calls.Test q) = refl
-back_same group (core_calls.Waitany qs) = refl
-back_same group (core_calls.Waitall qs) = refl
-back_same group (core_calls.Cancel q) = refl
-back_same group (core_calls.Improbe p) = refl
-back_same group (core_calls.Mrecv message into) = refl
-
 is_answered : (c d : CoreState) (g : GroupsState) (rest : Rest) (s t : SessionsState) (call : Call) (a : RoutedCall)
-    (answer : core_answers.CoreReply)
+    (answer : core_calls.CoreReply)
     (reply : Reply) → IsAsked (engine_of c g rest s) call a → core_reply reply ≡ Some answer →
     Answers c (with_group (group_of g a) a) answer d →
     t ≡ after_frame s (call_frame c (with_group (group_of g a) a)) →
@@ -140,72 +115,110 @@ is_answered c d g rest s t call a answer reply asked told_so answers sent =
       payloads = refl;
     }
 
--- what the core answers is told
-pub told_gives : (c d : CoreState) (g : GroupsState) (rest : Rest) (s t : SessionsState) (call : Call) (a : RoutedCall)
-    (reply : core_answers.CoreReply) → IsAsked (engine_of c g rest s) call a →
-    AnswerGives c s (with_group (group_of g a) a) reply d t →
-    CoreGives (engine_of c g rest s) call (reply_of_core reply) (engine_of d g rest t)
-told_gives c d g rest s t call a (core_replies.Refused why back) asked gives =
-    record {
-      handed =
-          ap call_of gives.0 ∙ back_same (group_of g a) a ∙ asked.back;
-      unchanged = ap₂ (λ (x : CoreState) (y : SessionsState). engine_of x g rest y) gives.3 gives.4;
-      reason = reason_is (engine_of c g rest s) call (with_group (group_of g a) a) why asked.allowed
-          asked.routed gives.1 gives.2;
-    }
-told_gives c d g rest s t call a (core_replies.Started r) asked gives =
-    is_answered c d g rest s t call a (core_replies.Started r) (replies.Started r) asked refl gives.0 gives.1
-told_gives c d g rest s t call a (core_replies.Done o) asked gives =
-    is_answered c d g rest s t call a (core_replies.Done o) (replies.Done o) asked refl gives.0 gives.1
-told_gives c d g rest s t call a core_replies.Pending asked gives =
-    is_answered c d g rest s t call a core_replies.Pending replies.Pending asked refl gives.0 gives.1
-told_gives c d g rest s t call a core_replies.Accepted asked gives =
-    is_answered c d g rest s t call a core_replies.Accepted replies.Accepted asked refl gives.0 gives.1
-told_gives c d g rest s t call a (core_replies.Matched found) asked gives =
-    is_answered c d g rest s t call a (core_replies.Matched found) (replies.Matched found) asked refl gives.0 gives.1
-told_gives c d g rest s t call a core_replies.Blocked asked gives =
-    is_answered c d g rest s t call a core_replies.Blocked replies.Blocked asked refl gives.0 gives.1
+-- what the core answers is no refusal
+answered_gives : (e new : EngineState) (call : Call) (reply : Reply) (answer : core_calls.CoreReply) →
+    core_reply reply ≡ Some answer → IsAnswered e call reply new → CoreGives e call reply new
+answered_gives e new call (replies.Refused why back) answer told answered = absurd cc
+answered_gives e new call (replies.Started r) answer told answered = answered
+answered_gives e new call (replies.Done a) answer told answered = answered
+answered_gives e new call replies.Pending answer told answered = answered
+answered_gives e new call replies.Accepted answer told answered = answered
+answered_gives e new call replies.Blocked answer told answered = answered
+answered_gives e new call (replies.Left o) answer told answered = answered
+answered_gives e new call (replies.Fact f) answer told answered = answered
+answered_gives e new call (replies.Probed found) answer told answered = answered
+answered_gives e new call (replies.Matched found) answer told answered = answered
 
--- the same of what the program handed on
-pub answer_told : (c d : CoreState) (g : GroupsState) (s t : SessionsState) (a b : RoutedCall)
-    (answer : core_answers.CoreReply) (reply : Reply) →
-    b ≡ with_group (group_of g a) a → AnswerGives c s b answer d t →
-    reply ≡ reply_of_core answer →
-    (rest : Rest) (call : Call) → IsAsked (engine_of c g rest s) call a →
+-- a send is started, and its frame is on its way
+pub send_started : (c mid d : CoreState) (s t : SessionsState) (v : RoutedSend) (r : Request) → mid ≡ c →
+    IsSending mid v r d → t ≡ after_frame s (call_frame c (core_calls.Isend v)) →
+    (g : GroupsState) (rest : Rest) (call : Call) → IsAsked (engine_of c g rest s) call (core_calls.Isend v) →
+    CoreGives (engine_of c g rest s) call (replies.Started r) (engine_of d g rest t)
+send_started c mid d s t v r kept sending sent g rest call asked =
+    is_answered c d g rest s t call (core_calls.Isend v) (core_calls.Started r) (replies.Started r) asked refl
+    (subst (λ (x : CoreState). IsSending x v r d) kept sending) sent
+
+-- so is a receive, with the group of its communicator
+pub receive_started : (c mid d : CoreState) (s t : SessionsState) (v : RoutedReceive) (group : Option (List ℕ))
+    (r : Request) → mid ≡ c → IsReceiving mid (record v { group = group }) r d →
+    t ≡ after_frame s (call_frame c (core_calls.Irecv v)) →
+    (g : GroupsState) (rest : Rest) (call : Call) → group_of g (core_calls.Irecv v) ≡ group →
+    IsAsked (engine_of c g rest s) call (core_calls.Irecv v) →
+    CoreGives (engine_of c g rest s) call (replies.Started r) (engine_of d g rest t)
+receive_started c mid d s t v group r kept receiving sent g rest call same asked =
+    is_answered c d g rest s t call (core_calls.Irecv v) (core_calls.Started r) (replies.Started r) asked refl
+    (subst (λ (o : Option (List ℕ)). IsReceiving c (record v { group = o }) r d) (sym same)
+    (subst (λ (x : CoreState). IsReceiving x (record v { group = group }) r d) kept receiving))
+    (sent ∙ ap (after_frame s) (sym (frames_same c (group_of g (core_calls.Irecv v)) (core_calls.Irecv v))))
+
+-- a matching probe is answered with what it took out, if anything
+pub searched : (c mid d : CoreState) (v : RoutedProbe) (group : Option (List ℕ))
+    (found : Option (Option Request × Status)) → mid ≡ c →
+    Searches mid (record v { group = group }) (core_calls.Matched found) d →
+    (g : GroupsState) (rest : Rest) (s : SessionsState) (call : Call) → group_of g (core_calls.Improbe v) ≡ group →
+    IsAsked (engine_of c g rest s) call (core_calls.Improbe v) →
+    CoreGives (engine_of c g rest s) call (replies.Matched found) (engine_of d g rest s)
+searched c mid d v group found kept searches g rest s call same asked =
+    is_answered c d g rest s s call (core_calls.Improbe v) (core_calls.Matched found) (replies.Matched found) asked
+    refl
+    (subst (λ (o : Option (List ℕ)). Searches c (record v { group = o }) (core_calls.Matched found) d) (sym same)
+    (subst (λ (x : CoreState). Searches x (record v { group = group }) (core_calls.Matched found) d) kept searches))
+    refl
+
+-- the receive of a message is answered, and its frame is on its way
+pub message_received : (c mid d : CoreState) (s t : SessionsState) (q : Option Request) (into : Region)
+    (told : core_calls.CoreReply) (reply : Reply) → mid ≡ c → Receives mid q into told d →
+    core_reply reply ≡ Some told → t ≡ after_frame s (call_frame c (core_calls.Mrecv q into)) →
+    (g : GroupsState) (rest : Rest) (call : Call) → IsAsked (engine_of c g rest s) call (core_calls.Mrecv q into) →
     CoreGives (engine_of c g rest s) call reply (engine_of d g rest t)
-answer_told c d g s t a b answer reply is gives tells rest call asked =
-    subst (λ (r : Reply). CoreGives (engine_of c g rest s) call r (engine_of d g rest t)) (sym tells)
-    (subst
-    (λ (x : RoutedCall). AnswerGives c s x answer d t →
-    CoreGives (engine_of c g rest s) call (reply_of_core answer) (engine_of d g rest t))
-    (sym is) (told_gives c d g rest s t call a answer asked) gives)
+message_received c mid d s t q into told reply kept receives tells sent g rest call asked =
+    answered_gives _ _ call reply told tells
+    (is_answered c d g rest s t call (core_calls.Mrecv q into) told reply asked tells
+    (subst (λ (x : CoreState). Receives x q into told d) kept receives) sent)
 
-pub group_told : (c : CoreState) (g : GroupsState) (s : SessionsState) (a b : RoutedCall) (back : Call) →
-    back ≡ call_of b → b ≡ a → NeedsGroup a →
-    (rest : Rest) (call : Call) → IsAsked (engine_of c g rest s) call a →
-    CoreGives (engine_of c g rest s) call (replies.Refused refusals.OutOfMemory back) (engine_of c g rest s)
-group_told c g s a b back is same need rest call asked =
-    subst (λ (r : Call). CoreGives (engine_of c g rest s) call (replies.Refused refusals.OutOfMemory r)
-    (engine_of c g rest s))
-    (sym (is ∙ ap call_of same)) (group_refused (engine_of c g rest s) call a asked need)
+-- a call on requests is answered
+pub requests_answered : (c d : CoreState) (g : GroupsState) (q : RoutedCall) (told : core_calls.CoreReply)
+    (reply : Reply) → IsOnRequests q →
+    ((rest : Rest) (s : SessionsState) → fault_of (engine_of c g rest s) (call_of q) ≡ None) → Answers c q told d →
+    core_reply reply ≡ Some told →
+    (rest : Rest) (s : SessionsState) →
+    CoreGives (engine_of c g rest s) (call_of q) reply (engine_of d g rest s)
+requests_answered c d g q told reply on allowed answers tells rest s =
+    answered_gives _ _ (call_of q) reply told tells
+    (is_answered c d g rest s s (call_of q) q told reply
+    (requests_asked (engine_of c g rest s) q on (allowed rest s)) tells
+    (subst (λ (x : RoutedCall). Answers c x told d) (sym (grouped_same (group_of g q) q on)) answers)
+    (sym (ap (after_frame s) (no_frame c (group_of g q) q on))))
+  where
+    grouped_same : (group : Option (List ℕ)) (q : RoutedCall) → IsOnRequests q → with_group group q ≡ q
+    grouped_same group (core_calls.Isend v) on = absurd on
+    grouped_same group (core_calls.Irecv v) on = absurd on
+    grouped_same group (core_calls.Wait v) on = refl
+    grouped_same group (core_calls.Test v) on = refl
+    grouped_same group (core_calls.Waitany v) on = refl
+    grouped_same group (core_calls.Waitall v) on = refl
+    grouped_same group (core_calls.Cancel v) on = refl
+    grouped_same group (core_calls.Improbe v) on = absurd on
+    grouped_same group (core_calls.Mrecv v into) on = absurd on
 
--- ---- what a refusal leaves
+    no_frame : (c : CoreState) (group : Option (List ℕ)) (q : RoutedCall) → IsOnRequests q →
+        call_frame c (with_group group q) ≡ None
+    no_frame c group (core_calls.Isend v) on = absurd on
+    no_frame c group (core_calls.Irecv v) on = absurd on
+    no_frame c group (core_calls.Wait v) on = refl
+    no_frame c group (core_calls.Test v) on = refl
+    no_frame c group (core_calls.Waitany v) on = refl
+    no_frame c group (core_calls.Waitall v) on = refl
+    no_frame c group (core_calls.Cancel v) on = refl
+    no_frame c group (core_calls.Improbe v) on = absurd on
+    no_frame c group (core_calls.Mrecv v into) on = absurd on
 
-pub core_leaves : (old new : EngineState) (call : Call) (reply : Reply) → CoreGives old call reply new →
-    RefusedLeaves reply old new
-core_leaves old new call (replies.Refused why back) gives = gives.unchanged
-core_leaves old new call (replies.Started r) gives = tt
-core_leaves old new call (replies.Done a) gives = tt
-core_leaves old new call replies.Pending gives = tt
-core_leaves old new call replies.Accepted gives = tt
-core_leaves old new call replies.Blocked gives = tt
-core_leaves old new call (replies.Left o) gives = tt
-core_leaves old new call (replies.Fact f) gives = tt
-core_leaves old new call (replies.Probed found) gives = tt
-core_leaves old new call (replies.Matched found) gives = tt
-
--- ---- how much goes out
-
--- one datagram is few, where the job has a rank
-pub few_by_one : (new old rank size : ℕ) → rank < size → new ≤ old + 1 → new ≤ old + 65 * size
-few_by_one new old rank size there few = omega (arith, there, few)
+-- and one without memory comes back
+pub requests_lacking : (c : CoreState) (g : GroupsState) (q : RoutedCall) → IsOnRequests q → cores.NeedsMemory q →
+    ((rest : Rest) (s : SessionsState) → fault_of (engine_of c g rest s) (call_of q) ≡ None) →
+    (rest : Rest) (s : SessionsState) →
+    CoreGives (engine_of c g rest s) (call_of q) (replies.Refused refusals.OutOfMemory (call_of q))
+    (engine_of c g rest s)
+requests_lacking c g q on need allowed rest s =
+    lacking c c s s q refusals.OutOfMemory (call_of q) refl refl refl need refl g rest (call_of q)
+    (requests_asked (engine_of c g rest s) q on (allowed rest s))

@@ -6,8 +6,8 @@ use Rattle.incarnation.specs.declared.place.Place.{Place}
 use Rattle.point_to_point_calls.specs.Calls.{IsWithin}
 use Rattle.point_to_point_calls.specs.Hearing.{first_of}
 use Rattle.point_to_point_calls.specs.Sending.{announced_to, or_worn_out}
-use Rattle.point_to_point_calls.specs.declared.call.RoutedCall.{RoutedCall}
-use Rattle.point_to_point_calls.specs.declared.call.RoutedCall.TheVariants as calls
+use Rattle.point_to_point_calls.specs.CoreCalls.{RoutedCall}
+use Rattle.point_to_point_calls.specs.CoreCalls as calls
 use Rattle.point_to_point_calls.specs.declared.call.RoutedProbe.{RoutedProbe}
 use Rattle.point_to_point_calls.specs.declared.call.RoutedReceive.{RoutedReceive}
 use Rattle.point_to_point_calls.specs.declared.refusal.Refusal.{Refusal}

@@ -5,3 +5,5 @@ pub mod Looks
 pub mod Answering
 pub mod Stepping
 pub mod Ordered
+pub mod Laws
+pub mod Judged

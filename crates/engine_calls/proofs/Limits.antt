@@ -1,4 +1,5 @@
 -- The limit that a frame meets depends on the rank that it goes to alone.
+use Rattle.point_to_point_calls.specs.declared.sends.Destination.{Destination}
 use Rattle.std.proofs.Common.{◌≡◌, ◌==◌, ℕ, [], ◌∷◌, Bool, true, false, Option, Some, None, refl, sym, ap, subst}
 use Rattle.std.proofs.lemmas.Option.{same_Some}
 use Rattle.std.specs.Prelude.{option_map}
@@ -9,9 +10,9 @@ use Rattle.datagram.specs.Spelling.{FrameText, OutgoingText}
 use Rattle.datatypes.specs.Contents.{Contents}
 use Rattle.incarnation.specs.declared.place.Place.{Place}
 use Rattle.requests.specs.Regions.{sent_from}
-use Rattle.point_to_point_calls.specs.declared.call.RoutedCall.{RoutedCall}
-use Rattle.point_to_point_calls.specs.declared.call.RoutedCall.TheVariants.{Isend, Irecv, Wait, Test, Waitany, Waitall}
-use Rattle.point_to_point_calls.specs.declared.call.RoutedCall.TheVariants.{Cancel, Improbe, Mrecv}
+use Rattle.point_to_point_calls.specs.CoreCalls.{RoutedCall}
+use Rattle.point_to_point_calls.specs.CoreCalls.{Isend, Irecv, Wait, Test, Waitany, Waitall}
+use Rattle.point_to_point_calls.specs.CoreCalls.{Cancel, Improbe, Mrecv}
 use Rattle.point_to_point_calls.specs.declared.refusal.Refusal.{Refusal}
 use Rattle.point_to_point_calls.specs.Calls.{NeedsMemory}
 use Rattle.point_to_point.specs.Calls.{call_frame, call_rank}
@@ -36,7 +37,7 @@ is_unlimited None is = refl
 is_unlimited (Some e) is = absurd cc
 
 -- a frame meets the limit of its rank
-met_by : (s : SessionsState) (o : Option OutgoingText) (rank : ℕ) (limit : Option lower.SessionRefusal) →
+pub met_by : (s : SessionsState) (o : Option OutgoingText) (rank : ℕ) (limit : Option lower.SessionRefusal) →
     option_map (λ f. f.target) o ≡ Some rank →
     IsLimitTo s rank limit → fault_of_sessions limit ≡ frame_limit s o
 met_by s None rank limit is met = absurd cc
@@ -44,101 +45,18 @@ met_by s (Some f) rank limit is met =
     let same : rank ≡ f.target = sym (same_Some f.target rank is) in
     ap fault_of_sessions (subst (λ (r : ℕ). IsLimitTo s r limit) same met f.frame)
 
--- by whether the destination is the own rank
-met_unless : (s : SessionsState) (own : Bool) (t : State) (mode : Mode) (to tag context : ℕ) (m : Contents) (rank : ℕ)
-    (limit : Option lower.SessionRefusal) →
-    rank_unless own (record { rank = to; tag = tag; context = context }) ≡ Some rank → IsLimitTo s rank limit →
-    fault_of_sessions limit ≡
-    frame_limit s (frame_unless own t mode (record { rank = to; tag = tag; context = context }) m)
-met_unless s true t mode to tag context m rank limit is met = absurd cc
-met_unless s false t mode to tag context m rank limit is met =
-    met_by s (Some
-    (record { target = to; frame = frame_with t mode (record { rank = to; tag = tag; context = context }) m })) rank
-    limit is met
-
--- by the destination
-met_to : (s : SessionsState) (p : Place) (t : State) (mode : Mode) (target : Source) (tag : Option ℕ) (context : ℕ)
-    (m : Contents) (rank : ℕ) (limit : Option lower.SessionRefusal) →
-    rank_to p (destination target tag context) ≡ Some rank → IsLimitTo s rank limit →
-    fault_of_sessions limit ≡ frame_limit s (frame_to p t mode (destination target tag context) m)
-met_to s p t mode Any g context m rank limit is met = absurd cc
-met_to s p t mode Null g context m rank limit is met = absurd cc
-met_to s p t mode (Rank to) None context m rank limit is met = absurd cc
-met_to s p t mode (Rank to) (Some tag) context m rank limit is met =
-    met_unless s (to == p.endpoint.rank) t mode to tag context m rank limit is met
-
--- the limit of a frame is that of its rank
-pub limit_is_met : (s : SessionsState) (c : CoreState) (call : RoutedCall) (rank : ℕ)
-    (limit : Option lower.SessionRefusal) → call_rank c call ≡ Some rank →
-    IsLimitTo s rank limit → fault_of_sessions limit ≡ frame_limit s (call_frame c call)
-limit_is_met s c (Isend v) rank limit is met =
-    met_to s c.place c.transfers v.send.mode v.route.named v.send.tag v.route.context (sent_from v.send.from) rank limit
-    is met
-limit_is_met s c (Irecv v) rank limit is met = met_by s (receive_frame v.route.named c v) rank limit is met
-limit_is_met s c (Wait q) rank limit is met = absurd cc
-limit_is_met s c (Test q) rank limit is met = absurd cc
-limit_is_met s c (Waitany qs) rank limit is met = absurd cc
-limit_is_met s c (Waitall qs) rank limit is met = absurd cc
-limit_is_met s c (Cancel q) rank limit is met = absurd cc
-limit_is_met s c (Improbe p) rank limit is met = absurd cc
-limit_is_met s c (Mrecv message into) rank limit is met = met_by s (message_frame c message into) rank limit is met
-
 -- no frame meets no limit
-none_by : (s : SessionsState) (o : Option OutgoingText) → option_map (λ f. f.target) o ≡ None → frame_limit s o ≡ None
+pub none_by : (s : SessionsState) (o : Option OutgoingText) → option_map (λ f. f.target) o ≡ None → frame_limit s o ≡ None
 none_by s None is = refl
 none_by s (Some f) is = absurd cc
 
--- the own rank gets no frame
-none_unless : (s : SessionsState) (own : Bool) (t : State) (mode : Mode) (to tag context : ℕ) (m : Contents) →
-    rank_unless own (record { rank = to; tag = tag; context = context }) ≡ None →
-    frame_limit s (frame_unless own t mode (record { rank = to; tag = tag; context = context }) m) ≡ None
-none_unless s true t mode to tag context m is = refl
-none_unless s false t mode to tag context m is = absurd cc
+-- the frame of a send goes to the rank that it was sent to, where that is another one
+target_by : (own : Bool) (t : State) (mode : Mode) (d : Destination) (m : Contents) →
+    option_map (λ f. f.target) (frame_unless own t mode d m) ≡ rank_unless own d
+target_by true t mode d m = refl
+target_by false t mode d m = refl
 
--- nor does the null process
-none_to : (s : SessionsState) (p : Place) (t : State) (mode : Mode) (target : Source) (tag : Option ℕ) (context : ℕ)
-    (m : Contents) → rank_to p (destination target tag context) ≡ None →
-    frame_limit s (frame_to p t mode (destination target tag context) m) ≡ None
-none_to s p t mode Any g context m is = refl
-none_to s p t mode Null g context m is = refl
-none_to s p t mode (Rank to) None context m is = refl
-none_to s p t mode (Rank to) (Some tag) context m is = none_unless s (to == p.endpoint.rank) t mode to tag context m is
-
--- where no frame goes to another rank, no limit is met
-pub no_limit_is_met : (s : SessionsState) (c : CoreState) (call : RoutedCall) → call_rank c call ≡ None →
-    frame_limit s (call_frame c call) ≡ None
-no_limit_is_met s c (Isend v) is = none_to s c.place c.transfers v.send.mode v.route.named v.send.tag v.route.context
-    (sent_from v.send.from) is
-no_limit_is_met s c (Irecv v) is = none_by s (receive_frame v.route.named c v) is
-no_limit_is_met s c (Wait q) is = refl
-no_limit_is_met s c (Test q) is = refl
-no_limit_is_met s c (Waitany qs) is = refl
-no_limit_is_met s c (Waitall qs) is = refl
-no_limit_is_met s c (Cancel q) is = refl
-no_limit_is_met s c (Improbe p) is = refl
-no_limit_is_met s c (Mrecv message into) is = none_by s (message_frame c message into) is
-
--- a call that has a frame needs memory
-pub frame_needs : (c : CoreState) (call : RoutedCall) (f : OutgoingText) → call_frame c call ≡ Some f → NeedsMemory call
-frame_needs c (Isend v) f is = tt
-frame_needs c (Irecv v) f is = tt
-frame_needs c (Wait q) f is = absurd cc
-frame_needs c (Test q) f is = absurd cc
-frame_needs c (Waitany qs) f is = absurd cc
-frame_needs c (Waitall qs) f is = tt
-frame_needs c (Cancel q) f is = absurd cc
-frame_needs c (Improbe p) f is = tt
-frame_needs c (Mrecv message into) f is = tt
-
--- and so does one that meets its frame's limit
-pub limit_needs : (s : SessionsState) (c : CoreState) (call : RoutedCall) (why : Refusal) →
-    frame_limit s (call_frame c call) ≡ Some why → NeedsMemory call
-limit_needs s c (Isend v) why is = tt
-limit_needs s c (Irecv v) why is = tt
-limit_needs s c (Wait q) why is = absurd cc
-limit_needs s c (Test q) why is = absurd cc
-limit_needs s c (Waitany qs) why is = absurd cc
-limit_needs s c (Waitall qs) why is = tt
-limit_needs s c (Cancel q) why is = absurd cc
-limit_needs s c (Improbe p) why is = tt
-limit_needs s c (Mrecv message into) why is = tt
+pub target_is : (p : Place) (t : State) (mode : Mode) (d : Option Destination) (m : Contents) →
+    option_map (λ f. f.target) (frame_to p t mode d m) ≡ rank_to p d
+target_is p t mode None m = refl
+target_is p t mode (Some d) m = target_by (d.rank == p.endpoint.rank) t mode d m

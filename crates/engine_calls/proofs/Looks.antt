@@ -8,7 +8,7 @@ use Rattle.match_queues.specs.declared.envelope.Message.{Message}
 use Rattle.perfect_groups.specs.Calls.{held_at}
 use Rattle.perfect_groups.specs.Faults.{is_source_beyond, is_within}
 use Rattle.point_to_point_calls.specs.Receiving.{status_of}
-use Rattle.point_to_point_calls.specs.declared.call.RoutedCall.TheVariants as core_calls
+use Rattle.point_to_point_calls.specs.CoreCalls as core_calls
 use Rattle.point_to_point_calls.specs.declared.refusal.Refusal.{Refusal}
 use Rattle.point_to_point_calls.specs.declared.refusal.Refusal.TheVariants as refusals
 use Rattle.point_to_point.specs.Calls.{argument_fault}
@@ -19,8 +19,8 @@ use Rattle.communicator_members.specs.Statuses.{status_in}
 use Rattle.vocabulary.specs.declared.envelope.Source.{Source}
 use Rattle.vocabulary.specs.declared.envelope.Source.TheVariants as sources
 use Rattle.vocabulary.specs.declared.envelope.Status.{Status}
-use Rattle.engine_calls.proofs.Asks.{busy_is, free_is}
-use Rattle.engine_calls.specs.Asks.{LookGives, engine_of, route_probe, source_rule}
+use Rattle.engine_calls.proofs.Asks.{busy_is, free_is, source_shares}
+use Rattle.engine_calls.specs.Asks.{IsProbed, LookGives, engine_of, route_probe, source_rule}
 use Rattle.engine_calls.specs.Calls.{LookingGives, WhyRefused}
 use Rattle.engine_calls.specs.EngineState.{EngineState, GroupsState, Rest, member_of}
 use Rattle.engine_calls.specs.Faults.{broken, fault_of, free_fault, group_limit, is_busy, is_replaced, look_rules}
@@ -97,47 +97,30 @@ none_found c source tag context group none = ap (option_map (status_in group)) n
 abbrev whatever : Option Status → Option (Option Status)
 whatever o = Some o
 
+-- a probe that goes on a route breaks no rule
+pub look_allowed : (c : CoreState) (g : GroupsState) (s : SessionsState) (p : Probe) (r : RouteText) →
+    IsProbed c g s p r → (rest : Rest) → None ≡ fault_of (engine_of c g rest s) (calls.Iprobe p)
+look_allowed c g s p r goes rest = routed_look c g s p r None goes.free goes.route_is (sym goes.rules) rest
+
 -- what it finds is told
 pub look_told : (c : CoreState) (g : GroupsState) (s : SessionsState) (p : Probe) (r : RouteText)
-    (found : Option Status) →
-    ((rest : Rest) → None ≡ fault_of (engine_of c g rest s) (calls.Iprobe p)) → route_at g p.comm p.source ≡ Some r →
-    found ≡ looked c r.named p.tag r.context r.group → (rest : Rest) → LookGives (engine_of c g rest s) p (Ok found)
-look_told c g s p r found allowed route is rest = (
-  sym (allowed rest),
-  ap (λ (o : Option RouteText). option_map (λ (t : RouteText). looked c t.named p.tag t.context t.group) o) route ∙
+    (found : Option Status) → IsProbed c g s p r → found ≡ looked c r.named p.tag r.context r.group →
+    (rest : Rest) → LookGives (engine_of c g rest s) p (Ok found)
+look_told c g s p r found goes is rest = (
+  sym (look_allowed c g s p r goes rest),
+  ap (λ (o : Option RouteText). option_map (λ (t : RouteText). looked c t.named p.tag t.context t.group) o)
+      goes.route_is ∙
       ap whatever (sym is),
 )
 
--- what is allowed meets neither 6 ..
-first_not : (b : Bool) (f : Option Refusal) → first_fault (broken b refusals.Request) f ≡ None → f ≡ None
-first_not true f is = absurd cc
-first_not false f is = is
+last_none : (a b : Option Refusal) → first_fault a b ≡ None → b ≡ None
+last_none None b is = is
+last_none (Some e) b is = absurd cc
 
-last_not : (a b p g : Option Refusal) → first_fault a (first_fault b (first_fault p g)) ≡ None → g ≡ None
-last_not None None None g is = is
-last_not None None (Some e) g is = absurd cc
-last_not None (Some e) p g is = absurd cc
-last_not (Some e) b p g is = absurd cc
-
-blank : Rest
-blank = record { ended = None; payloads = record { announced = []; coming = [] } }
-
--- no fault was found
-pub no_fault : (o : Option Refusal) → ((why : Refusal) → o ≡ Some why → ⊥) → None ≡ o
-no_fault None none = refl
-no_fault (Some why) none = absurd (none why refl)
-
--- .. nor the limit of a group
+-- nor does its group meet the limit
 pub look_shares : (c : CoreState) (g : GroupsState) (s : SessionsState) (p : Probe) (r : RouteText) →
-    ((rest : Rest) → None ≡ fault_of (engine_of c g rest s) (calls.Iprobe p)) → route_at g p.comm p.source ≡ Some r →
-    group_limit r.group ≡ None
-look_shares c g s p r allowed route =
-    let e : EngineState = engine_of c g blank s in
-    let rules : free_fault e (calls.Iprobe p) ≡ None = first_not (is_busy e) (free_fault e (calls.Iprobe p)) (sym (allowed blank)) in
-    let routed : look_rules e p r ≡ None = sym (ap (λ (o : Option RouteText). on_route o (look_rules e p)) route) ∙ rules in
-    last_not (argument_fault c.place (core_calls.Improbe (probe_by p r)))
-    (broken (is_source_beyond (held_at (member_of g) p.comm) p.source) refusals.Rank)
-    (broken (is_replaced e p.comm p.source) refusals.Replaced) (group_limit r.group) routed
+    IsProbed c g s p r → group_limit r.group ≡ None
+look_shares c g s p r goes = source_shares g s.known p.comm p.source r (last_none _ _ goes.rules)
 
 -- a group that can be shared has at most 65,535 members
 pub few_members : (group : Option (List ℕ)) → group_limit group ≡ None → IfSome group (λ ranks. length ranks ≤ 65535)

@@ -1,37 +1,44 @@
 -- What the core is asked by a call, and what becomes of its answer.
-use Rattle.std.specs.Prelude.{◌≡◌, ℕ, List, Option, Some, None, Result, Ok, Err, option_map}
+use Rattle.std.specs.Prelude.{◌≡◌, ◌<◌, ◌||◌, ℕ, Bool, false, IfSome, List, Option, Some, None, Result, Ok, Err}
+use Rattle.std.specs.Prelude.{is_some, option_map}
 use Rattle.communicators.specs.Members.{Held}
-use Rattle.communicators.specs.Routes.{RouteText}
+use Rattle.communicators.specs.Routes.{RouteText, route_text}
 use Rattle.communicators.specs.Rules.{known_by}
+use Rattle.communicators.specs.declared.route.Route.{Route}
+use Rattle.datagram.specs.Spelling.{FrameFits, frame_text}
 use Rattle.perfect_groups.specs.Calls.{held_at}
-use Rattle.perfect_groups.specs.Faults.{is_no_target, is_source_beyond, names_replaced}
+use Rattle.perfect_groups.specs.Faults.{is_no_target, is_source_beyond, is_within, names_replaced}
 use Rattle.point_to_point_calls.specs.Calls as cores
-use Rattle.point_to_point_calls.specs.declared.call.RoutedCall.{RoutedCall}
-use Rattle.point_to_point_calls.specs.declared.call.RoutedCall.TheVariants as core_calls
+use Rattle.point_to_point_calls.specs.CoreCalls.{RoutedCall}
+use Rattle.point_to_point_calls.specs.CoreCalls as core_calls
 use Rattle.point_to_point_calls.specs.declared.call.HandedBack.{HandedBack}
-use Rattle.point_to_point_calls.specs.declared.call.CoreReply as core_answers
-use Rattle.point_to_point_calls.specs.declared.call.CoreReply.TheVariants as core_replies
 use Rattle.point_to_point_calls.specs.declared.refusal.Refusal.{Refusal}
 use Rattle.point_to_point_calls.specs.declared.refusal.Refusal.TheVariants as refusals
-use Rattle.point_to_point.specs.Calls.{Answers, argument_fault, call_fault, call_frame, limit_fault}
+use Rattle.point_to_point.specs.Calls.{argument_fault, call_fault, call_frame, limit_fault}
 use Rattle.point_to_point.specs.CoreState.{CoreState}
-use Rattle.point_to_point.specs.Messages.{looked}
+use Rattle.point_to_point.specs.Messages.{looked, message_frame}
 use Rattle.sessions.specs.SessionsState.{SessionsState}
 use Rattle.vocabulary.specs.declared.envelope.Source.{Source}
+use Rattle.vocabulary.specs.declared.envelope.Source.TheVariants.{Any, Null, Rank}
 use Rattle.vocabulary.specs.declared.envelope.Status.{Status}
 use Rattle.engine_calls.specs.EngineState.{EngineState, GroupsState, Rest, member_of}
 use Rattle.engine_calls.specs.Faults.{broken, fault_of, group_limit}
-use Rattle.engine_calls.specs.Frames.{after_frame, frame_limit}
+use Rattle.engine_calls.specs.Frames.{frame_limit}
 use Rattle.engine_calls.specs.Refusals.{first_fault}
 use Rattle.engine_calls.specs.Routing.{call_route, core_call, route_at, send_by}
+use Rattle.engine_calls.specs.declared.probes.JudgedProbe.{JudgedProbe}
+use Rattle.engine_calls.specs.declared.receives.JudgedReceive.{JudgedReceive}
 use Rattle.engine_calls.specs.declared.call.Call.{Call}
 use Rattle.engine_calls.specs.declared.call.Call.TheVariants as calls
+use Rattle.point_to_point_calls.specs.Frames.{addressed}
+use Rattle.point_to_point_calls.specs.Sending.{IsAddressed}
+use Rattle.point_to_point_calls.specs.declared.call.MessageReceive.{MessageReceive}
+use Rattle.point_to_point_calls.specs.declared.sends.AddressedSend.{AddressedSend}
+use Rattle.requests.specs.declared.region.Region.{Region}
+use Rattle.requests.specs.declared.table.Request.{Request}
 use Rattle.point_to_point_calls.specs.declared.call.Probe.{Probe}
 use Rattle.point_to_point_calls.specs.declared.call.Receive.{Receive}
 use Rattle.point_to_point_calls.specs.declared.call.Send.{Send}
-use Rattle.engine_calls.specs.declared.judgement.JudgedCall.{JudgedCall}
-use Rattle.engine_calls.specs.declared.reply.Reply.{Reply}
-use Rattle.engine_calls.specs.declared.reply.Reply.TheVariants as replies
 
 -- THE PARTS OF AN ENGINE
 
@@ -71,12 +78,6 @@ abbrev pub IsShareable : Option (List ℕ) → RoutedCall → Type 0
 IsShareable group (core_calls.Irecv v) = group_limit group ≡ None
 IsShareable group (core_calls.Improbe p) = group_limit group ≡ None
 IsShareable group q = Unit {0}
-
--- the call has a group
-abbrev pub NeedsGroup : RoutedCall → Type 0
-NeedsGroup (core_calls.Irecv v) = Unit {0}
-NeedsGroup (core_calls.Improbe p) = Unit {0}
-NeedsGroup q = ⊥
 
 -- a call on requests alone: it hands nothing in
 abbrev pub IsOnRequests : RoutedCall → Type 0
@@ -131,6 +132,17 @@ source_rule g known comm named r =
     (first_fault (broken (names_replaced (known_by known) (held_at (member_of g) comm) named) refusals.Replaced)
     (group_limit r.group))
 
+-- so they are told by a route: what the communicator lacks, and who was replaced
+abbrev pub rule_of_target : (beyond replaced : Bool) → Source → Option Refusal
+rule_of_target beyond replaced Any = Some refusals.Rank
+rule_of_target beyond replaced (Rank r) =
+    first_fault (broken beyond refusals.Rank) (broken replaced refusals.Replaced)
+rule_of_target beyond replaced Null = first_fault (broken beyond refusals.Rank) (broken replaced refusals.Replaced)
+
+abbrev pub rule_of_source : (beyond replaced : Bool) → (group : Option (List ℕ)) → Option Refusal
+rule_of_source beyond replaced group =
+    first_fault (broken beyond refusals.Rank) (first_fault (broken replaced refusals.Replaced) (group_limit group))
+
 -- the first rule or limit of what the core is asked, where this one comes behind those on what the call hands in
 abbrev pub asked_fault : CoreState → SessionsState → (rule : Option Refusal) → RoutedCall → Option Refusal
 asked_fault c s rule q =
@@ -150,15 +162,56 @@ pub record IsAsked (e : EngineState) (call : Call) (a : RoutedCall) : Type 0 whe
   pub within : cores.IsWithin a
   pub clear : IsClear e.core e.sessions a
 
--- the call comes back with its first rule or limit, or what the core is asked
-abbrev pub AskGives : EngineState → Call → Result RoutedCall (HandedBack Call) → Type 0
-AskGives e call (Ok a) = IsAsked e call a
-AskGives e call (Err h) = (fault_of e call ≡ Some h.refused) × (h.value ≡ call)
+-- a send comes back with its first rule or limit, or is addressed
+abbrev pub SendJudged : EngineState → Send → Result AddressedSend (HandedBack Send) → Type 0
+SendJudged e v (Ok a) = IsAsked e (calls.Isend v) (core_calls.Isend a.routed) × IsAddressed e.core.place a
+SendJudged e v (Err h) = (fault_of e (calls.Isend v) ≡ Some h.refused) × (h.value ≡ v)
 
--- so the call is judged
-abbrev pub JudgementGives : Result RoutedCall (HandedBack Call) → JudgedCall → Type 0
-JudgementGives (Ok a) j = (j.fault ≡ None) × (j.call ≡ call_of a)
-JudgementGives (Err h) j = (j.fault ≡ Some h.refused) × (j.call ≡ h.value)
+-- the group that is lent to a receive or a probe that was judged
+abbrev pub receive_group : JudgedReceive → Option (List ℕ)
+receive_group j = option_map (λ ranks. ranks.now) j.group
+
+abbrev pub probe_group : JudgedProbe → Option (List ℕ)
+probe_group j = option_map (λ ranks. ranks.now) j.group
+
+-- a receive comes back so, or is asked for with the group of its communicator
+abbrev pub ReceiveJudged : EngineState → Receive → Result JudgedReceive (HandedBack Receive) → Type 0
+ReceiveJudged e v (Ok j) =
+    IsAsked e (calls.Irecv v) (core_calls.Irecv j.sought.routed) ×
+    (group_of e.groups (core_calls.Irecv j.sought.routed) ≡ receive_group j)
+ReceiveJudged e v (Err h) = (fault_of e (calls.Irecv v) ≡ Some h.refused) × (h.value ≡ v)
+
+-- a probe goes on this route: no earlier call is blocked, and it breaks no rule by what it names
+pub record IsProbed (c : CoreState) (g : GroupsState) (s : SessionsState) (p : Probe) (r : RouteText) : Type 0 where
+  pub free : (is_some c.blocked || is_within (member_of g).present) ≡ false
+  pub route_is : route_at g p.comm p.source ≡ Some r
+  pub rules : first_fault (argument_fault c.place (route_probe p r)) (source_rule g s.known p.comm p.source r) ≡ None
+
+-- or whether it looks or takes out, this is its first rule
+abbrev pub ProbeJudged : CoreState → GroupsState → SessionsState → Probe → Result Route Refusal → Type 0
+ProbeJudged c g s p (Ok r) = IsProbed c g s p (route_text r)
+ProbeJudged c g s p (Err why) =
+    (rest : Rest) → (fault_of (engine_of c g rest s) (calls.Iprobe p) ≡ Some why) ×
+    (fault_of (engine_of c g rest s) (calls.Improbe p) ≡ Some why)
+
+-- a matching probe has this first rule or limit, or is asked for with the group of its communicator
+abbrev pub SearchJudged : EngineState → Probe → Result JudgedProbe Refusal → Type 0
+SearchJudged e p (Ok j) =
+    IsAsked e (calls.Improbe p) (core_calls.Improbe j.sought.routed) ×
+    (group_of e.groups (core_calls.Improbe j.sought.routed) ≡ probe_group j)
+SearchJudged e p (Err why) = fault_of e (calls.Improbe p) ≡ Some why
+
+-- this frame answers the sender of a message that is received
+pub record IsAnswering (c : CoreState) (m : MessageReceive) : Type 0 where
+  pub answer_is : addressed m.answer ≡ message_frame c m.message m.into
+  pub fits : IfSome m.answer (λ a. FrameFits (frame_text a.frame))
+  pub there : IfSome m.answer (λ a. a.target < c.place.size)
+
+-- the receive of a message comes back with its first rule or limit, or is asked for
+abbrev pub MessageJudged : EngineState → (message : Option Request) → Region →
+    Result MessageReceive (HandedBack Region) → Type 0
+MessageJudged e message into (Ok m) = IsAsked e (calls.Mrecv message into) (core_calls.Mrecv m.message m.into)
+MessageJudged e message into (Err h) = (fault_of e (calls.Mrecv message into) ≡ Some h.refused) × (h.value ≡ into)
 
 -- A probe that takes nothing out is refused by its first rule, whatever memory there is; or this is what such a receive
 -- would take now, with the status by the group of its communicator
@@ -167,45 +220,3 @@ LookGives e p (Err why) = fault_of e (calls.Iprobe p) ≡ Some why
 LookGives e p (Ok found) =
     (fault_of e (calls.Iprobe p) ≡ None)
     × (option_map (λ r. looked e.core r.named p.tag r.context r.group) (route_at e.groups p.comm p.source) ≡ Some found)
-
--- the core can be asked so
-abbrev pub CanAsk : CoreState → GroupsState → SessionsState → RoutedCall → Type 0
-CanAsk c g s a = IsShareable (group_of g a) a × IsClear c s a
-
--- where it is asked at all
-abbrev pub CanAskBy : CoreState → GroupsState → SessionsState → Result RoutedCall (HandedBack Call) → Type 0
-CanAskBy c g s (Ok a) = CanAsk c g s a
-CanAskBy c g s (Err h) = Unit {0}
-
--- the same of what the core is asked
-abbrev pub JudgingGives : CoreState → SessionsState → (rule : Option Refusal) → RoutedCall →
-    Result RoutedCall (HandedBack Call) → Type 0
-JudgingGives c s rule a (Ok b) = (b ≡ a) × (asked_fault c s rule a ≡ None) × cores.IsWithin a × IsClear c s a
-JudgingGives c s rule a (Err h) = (asked_fault c s rule a ≡ Some h.refused) × (h.value ≡ call_of a)
-
--- ITS ANSWER
-
--- what is clear is answered, and its frame, if it has one, is on its way; or it comes back for want of memory, and
--- nothing changed
-abbrev pub AnswerGives : CoreState → SessionsState → RoutedCall → core_answers.CoreReply → CoreState →
-    SessionsState → Type 0
-AnswerGives c s q (core_replies.Refused why back) d t =
-    (back ≡ q) × (why ≡ refusals.OutOfMemory) × cores.NeedsMemory q × (d ≡ c) × (t ≡ s)
-AnswerGives c s q (core_replies.Started r) d t = Answers c q (core_replies.Started r) d ×
-    (t ≡ after_frame s (call_frame c q))
-AnswerGives c s q (core_replies.Done a) d t = Answers c q (core_replies.Done a) d × (t ≡ after_frame s (call_frame c q))
-AnswerGives c s q core_replies.Pending d t = Answers c q core_replies.Pending d × (t ≡ after_frame s (call_frame c q))
-AnswerGives c s q core_replies.Accepted d t = Answers c q core_replies.Accepted d × (t ≡ after_frame s (call_frame c q))
-AnswerGives c s q (core_replies.Matched found) d t = Answers c q (core_replies.Matched found) d ×
-    (t ≡ after_frame s (call_frame c q))
-AnswerGives c s q core_replies.Blocked d t = Answers c q core_replies.Blocked d × (t ≡ after_frame s (call_frame c q))
-
--- the core's answer as the engine's
-abbrev pub reply_of_core : core_answers.CoreReply → Reply
-reply_of_core (core_replies.Started r) = replies.Started r
-reply_of_core (core_replies.Done a) = replies.Done a
-reply_of_core core_replies.Pending = replies.Pending
-reply_of_core core_replies.Accepted = replies.Accepted
-reply_of_core (core_replies.Matched found) = replies.Matched found
-reply_of_core core_replies.Blocked = replies.Blocked
-reply_of_core (core_replies.Refused why back) = replies.Refused why (call_of back)

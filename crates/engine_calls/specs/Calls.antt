@@ -13,8 +13,7 @@ use Rattle.communicators.specs.declared.question.Question.TheVariants as questio
 use Rattle.perfect_groups.specs.Calls as machine
 use Rattle.perfect_groups.specs.Calls.{fact_of, held_at}
 use Rattle.point_to_point_calls.specs.Calls as cores
-use Rattle.point_to_point_calls.specs.declared.call.RoutedCall as core_calls
-use Rattle.point_to_point_calls.specs.declared.call.CoreReply as core_replies
+use Rattle.point_to_point_calls.specs.CoreCalls as core_calls
 use Rattle.point_to_point_calls.specs.declared.refusal.Refusal.{Refusal}
 use Rattle.point_to_point_calls.specs.declared.refusal.Refusal.TheVariants as refusals
 use Rattle.point_to_point.specs.Calls.{Answers, call_frame}
@@ -117,7 +116,7 @@ pub record IsAnswered (old : EngineState) (call : Call) (reply : Reply) (new : E
   pub asked : core_calls.RoutedCall
   pub routed : core_call old.groups call ≡ Some asked
   pub within : cores.IsWithin asked
-  pub answer : core_replies.CoreReply
+  pub answer : core_calls.CoreReply
   pub told : core_reply reply ≡ Some answer
   pub core : Answers old.core asked answer new.core
   pub sessions : new.sessions ≡ after_frame old.sessions (call_frame old.core asked)

@@ -10,8 +10,7 @@ use Rattle.communicators.specs.declared.question.Question.{Question}
 use Rattle.perfect_groups.specs.Calls.{held_at}
 use Rattle.perfect_groups.specs.Faults.{asks_of_none, has_replaced, is_no_target, is_source_beyond, is_within}
 use Rattle.perfect_groups.specs.Faults.{names_replaced}
-use Rattle.point_to_point_calls.specs.declared.call.RoutedCall as cores
-use Rattle.point_to_point_calls.specs.declared.call.RoutedCall.TheVariants as core_calls
+use Rattle.point_to_point_calls.specs.CoreCalls as core_calls
 use Rattle.point_to_point_calls.specs.declared.refusal.Refusal.{Refusal}
 use Rattle.point_to_point_calls.specs.declared.refusal.Refusal.TheVariants as refusals
 use Rattle.point_to_point.specs.Calls.{argument_fault, call_frame, free_request_fault, limit_fault}
@@ -43,7 +42,7 @@ group_limit None = None
 group_limit (Some group) = broken (nat_lt 65535 (length group)) refusals.Limit
 
 -- the limits that a call with a route meets (13): of the core, and of its frame
-abbrev pub routed_limit : EngineState → cores.RoutedCall → Option Refusal
+abbrev pub routed_limit : EngineState → core_calls.RoutedCall → Option Refusal
 routed_limit e q = first_fault (limit_fault e.core q) (frame_limit e.sessions (call_frame e.core q))
 
 -- of a send with a route: 2, 1, 3, 5, 11, 13
@@ -74,7 +73,7 @@ abbrev pub probe_rules : EngineState → Probe → RouteText → Option Refusal
 probe_rules e p r = first_fault (look_rules e p r) (routed_limit e (core_calls.Improbe (probe_by p r)))
 
 -- of the receive of a message: 6, 2, 1, 13
-abbrev pub message_rules : EngineState → cores.RoutedCall → Option Refusal
+abbrev pub message_rules : EngineState → core_calls.RoutedCall → Option Refusal
 message_rules e q =
     first_fault (free_request_fault e.core q) (first_fault (argument_fault e.core.place q) (routed_limit e q))
 

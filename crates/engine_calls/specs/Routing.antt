@@ -3,12 +3,9 @@ use Rattle.std.specs.Prelude.{ℕ, Option, Some, None, option_map}
 use Rattle.communicators.specs.Routes.{RouteText, route_on}
 use Rattle.perfect_groups.specs.Calls.{held_at}
 use Rattle.point_to_point_calls.specs.declared.call.CallRoute.{CallRoute}
-use Rattle.point_to_point_calls.specs.declared.call.RoutedCall as core_asks
-use Rattle.point_to_point_calls.specs.declared.call.RoutedCall.TheVariants as core_calls
+use Rattle.point_to_point_calls.specs.CoreCalls as core_calls
 use Rattle.point_to_point_calls.specs.declared.call.RoutedProbe as core_probes
 use Rattle.point_to_point_calls.specs.declared.call.RoutedReceive as core_receives
-use Rattle.point_to_point_calls.specs.declared.call.CoreReply as core_answers
-use Rattle.point_to_point_calls.specs.declared.call.CoreReply.TheVariants as core_replies
 use Rattle.point_to_point_calls.specs.declared.call.RoutedSend as core_sends
 use Rattle.vocabulary.specs.declared.envelope.Source.{Source}
 use Rattle.engine_calls.specs.EngineState.{GroupsState, member_of}
@@ -42,7 +39,7 @@ probe_by p r = record { route = call_route r; group = r.group; probe = p }
 
 -- what the core is asked; of a collective, and of a question, it is asked nothing, and a probe that takes nothing out
 -- only looks
-abbrev pub core_call : GroupsState → Call → Option core_asks.RoutedCall
+abbrev pub core_call : GroupsState → Call → Option core_calls.RoutedCall
 core_call g (calls.Isend s) = option_map (λ r. core_calls.Isend (send_by s r)) (route_at g s.comm s.target)
 core_call g (calls.Irecv v) = option_map (λ r. core_calls.Irecv (receive_by v r)) (route_at g v.comm v.source)
 core_call g (calls.Wait q) = Some (core_calls.Wait q)
@@ -57,14 +54,14 @@ core_call g (calls.Improbe p) = option_map (λ r. core_calls.Improbe (probe_by p
 core_call g (calls.Mrecv message into) = Some (core_calls.Mrecv message into)
 
 -- the core's answer that a reply is, if it is one
-abbrev pub core_reply : Reply → Option core_answers.CoreReply
-core_reply (replies.Started r) = Some (core_replies.Started r)
-core_reply (replies.Done a) = Some (core_replies.Done a)
-core_reply replies.Pending = Some core_replies.Pending
-core_reply replies.Accepted = Some core_replies.Accepted
-core_reply replies.Blocked = Some core_replies.Blocked
+abbrev pub core_reply : Reply → Option core_calls.CoreReply
+core_reply (replies.Started r) = Some (core_calls.Started r)
+core_reply (replies.Done a) = Some (core_calls.Done a)
+core_reply replies.Pending = Some core_calls.Pending
+core_reply replies.Accepted = Some core_calls.Accepted
+core_reply replies.Blocked = Some core_calls.Blocked
 core_reply (replies.Left o) = None
 core_reply (replies.Fact f) = None
 core_reply (replies.Probed found) = None
-core_reply (replies.Matched found) = Some (core_replies.Matched found)
+core_reply (replies.Matched found) = Some (core_calls.Matched found)
 core_reply (replies.Refused why back) = None

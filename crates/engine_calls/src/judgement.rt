@@ -1,27 +1,27 @@
-//! The first rule or limit that a call meets.
+//! What all calls of point to point are judged by.
 
-ghost use Rattle.std.specs.Prelude.{◌≡◌, ◌||◌, Option, None, is_some};
+ghost use Rattle.std.specs.Option.{option_copied};
+ghost use Rattle.std.specs.Prelude.{◌≡◌, ◌||◌, ◌<◌, IfErr, IfOk, IfSome, Option, Some, None, OnErr, OnOk};
+ghost use Rattle.std.specs.Prelude.{is_some, option_map};
 ghost use Rattle.communicators.specs.Routes.{route_text};
+ghost use Rattle.datagram.specs.Spelling.{FrameFits, OutgoingText, frame_text};
 ghost use Rattle.perfect_groups.specs.Faults.{is_within};
-ghost use Rattle.point_to_point_calls.specs.Calls.{IsWithin};
-ghost use Rattle.point_to_point.specs.Calls.{argument_fault, call_fault, call_frame, limit_fault, request_fault};
-ghost use Rattle.sessions.specs.SessionsState.{SessionsState};
-ghost use Rattle.engine_calls.specs.Asks.{AskGives, IsOnRequests, JudgementGives, JudgingGives, asked_fault};
-ghost use Rattle.engine_calls.specs.Asks.{call_of, engine_of, groups_of, source_rule, target_rule};
-ghost use Rattle.engine_calls.specs.EngineState.{Rest, member_of};
+ghost use Rattle.point_to_point_calls.specs.Frames.{addressed};
+ghost use Rattle.engine_calls.specs.Asks.{groups_of, rule_of_source, rule_of_target};
+ghost use Rattle.engine_calls.specs.EngineState.{member_of};
 ghost use Rattle.engine_calls.specs.Faults.{group_limit};
-ghost use Rattle.engine_calls.specs.Frames.{frame_limit};
-ghost use Rattle.engine_calls.specs.Refusals.{first_fault};
-ghost use Rattle.engine_calls.specs.declared.call.Call.TheVariants as calls;
+ghost use Rattle.engine_calls.specs.Frames.{after_frame, frame_limit};
+ghost use Rattle.engine_calls.specs.Routing.{call_route};
 
 use crate::call::Call;
 use crate::refusal::of_sessions;
-use crate::routed_call::{call_of, route_probe, route_receive, route_send};
+use communicator_members::Members;
 use communicators::{Communicators, Route};
-use point_to_point::{Core, HandedBack, Refusal, RoutedCall};
-use point_to_point_calls::{Probe, Receive, Send};
-use requests::{Region, Request};
+use datagram::Outgoing;
+use point_to_point::{Core, Refusal};
+use point_to_point_calls::CallRoute;
 use sessions::Sessions;
+use std::alloc::Global;
 use vocabulary::Source;
 
 /// A call, with the first rule or limit that it meets.
@@ -40,277 +40,121 @@ pub(crate) fn is_busy(core: &Core, communicators: &Communicators) -> bool
     core.is_blocked() || communicators.is_inside()
 }
 
-/// The rule that a send breaks by the rank that it names: 5 or 11.
-fn rule_of_target(
-    communicators: &Communicators,
-    sessions: &Sessions,
-    comm: Option<usize>,
-    target: Source,
-) -> Option<Refusal>
-    ensures { result ≡ target_rule (groups_of communicators.now) sessions.now.known comm target }
+/// What of a route the core looks at.
+pub(crate) fn call_route(route: Route<'_>) -> CallRoute
+    ensures { result ≡ call_route (route_text route.entry) }
 {
-    if communicators.has_no_target(comm, target) {
+    CallRoute {
+        named: route.named,
+        context: route.context,
+    }
+}
+
+/// The rule that a send on a route breaks by the rank that it names: 5 or 11.
+pub(crate) fn rule_of_target(route: Route<'_>, target: Source) -> Option<Refusal>
+    ensures { result ≡ rule_of_target route.entry.is_beyond route.entry.is_replaced target }
+{
+    if let Source::Any = target {
         return Some(Refusal::Rank);
     }
-    if communicators.names_replaced(sessions.incarnations(), comm, target) {
+    if route.is_beyond {
+        return Some(Refusal::Rank);
+    }
+    if route.is_replaced {
         return Some(Refusal::Replaced);
     }
     None
 }
 
 /// The limit that a group meets which receives are to share: 65,535 members.
-fn limit_of_group(route: Route<'_>) -> Option<Refusal>
-    ensures { result ≡ group_limit (route_text route.entry).group }
+fn limit_of_group(group: Option<&[u16]>) -> Option<Refusal>
+    ensures { result ≡ group_limit (option_copied group.entry) }
 {
-    match route.group {
+    match group {
         Some(ranks) if 65_535 < ranks.len() => Some(Refusal::Limit),
         _ => None,
     }
 }
 
-/// The rule that a receive or a probe breaks by the rank that it names, or the limit that its group meets: 5, 11 or 13.
-pub(crate) fn rule_of_source(
-    communicators: &Communicators,
-    sessions: &Sessions,
-    comm: Option<usize>,
-    source: Source,
-    route: Route<'_>,
-) -> Option<Refusal>
-    ensures { result ≡ source_rule (groups_of communicators.now) sessions.now.known comm source
-        (route_text route.entry) }
+/// The rule that a receive or a probe on a route breaks by the rank that it names, or the limit that its group meets: 5,
+/// 11 or 13.
+pub(crate) fn rule_of_source(route: Route<'_>) -> Option<Refusal>
+    ensures { result ≡ rule_of_source route.entry.is_beyond route.entry.is_replaced (route_text route.entry).group }
 {
-    if communicators.has_no_source(comm, source) {
+    if route.is_beyond {
         return Some(Refusal::Rank);
     }
-    if communicators.names_replaced(sessions.incarnations(), comm, source) {
+    if route.is_replaced {
         return Some(Refusal::Replaced);
     }
-    limit_of_group(route)
+    limit_of_group(route.group)
 }
 
-/// The limit that the frame of a call meets, if the call has one.
-#[tactic(auto, using(crate::proofs::Limits::no_limit_is_met))]
-fn limit_of_frame(core: &Core, sessions: &Sessions, call: &RoutedCall) -> Option<Refusal>
-    requires allowed { call_fault core.now.state call.now ≡ None }
-    requires place { core.now.state.place ≡ sessions.now.place }
-    ensures { result ≡ frame_limit sessions.now (call_frame core.now.state call.now) }
+/// The limit that a frame to a rank meets.
+fn limit_to_rank(sessions: &Sessions, rank: u16) -> Option<Refusal>
+    requires { rank < sessions.now.place.size }
+    ensures { (f : Option OutgoingText) → option_map (λ t. t.target) f ≡ Some rank → result ≡ frame_limit sessions.now f }
 {
-    let Some(rank) = core.rank_of(call) else {
-        return None;
-    };
     match sessions.limit_to(rank) {
         Some(limit) => Some(of_sessions(limit)),
         None => None,
     }
 }
 
-/// The limit that what the core is asked meets: of the core, or of its frame.
-#[tactic(auto, using(crate::proofs::Clear::allowed_by))]
-fn limit_of_asked(core: &Core, sessions: &Sessions, call: &RoutedCall) -> Option<Refusal>
-    requires free { request_fault core.now.state call.now ≡ None }
-    requires arguments { argument_fault core.now.state.place call.now ≡ None }
-    requires place { core.now.state.place ≡ sessions.now.place }
-    ensures { result ≡
-        first_fault (limit_fault core.now.state call.now)
-        (frame_limit sessions.now (call_frame core.now.state call.now)) }
+/// The limit that a frame to another rank meets, where one goes to this rank.
+pub(crate) fn limit_to(sessions: &Sessions, rank: Option<u16>) -> Option<Refusal>
+    requires { IfSome rank (λ r. r < sessions.now.place.size) }
+    ensures { (f : Option OutgoingText) → option_map (λ t. t.target) f ≡ rank → result ≡ frame_limit sessions.now f }
 {
-    if let Some(limit) = core.limit_of(call) {
-        return Some(limit);
-    }
-    limit_of_frame(core, sessions, call)
-}
-
-/// The first rule or limit of what the core is asked, where a rule of its communicator stands between the two.
-fn fault_of_asked(
-    core: &Core,
-    sessions: &Sessions,
-    rule: Option<Refusal>,
-    call: &RoutedCall,
-) -> Option<Refusal>
-    requires free { request_fault core.now.state call.now ≡ None }
-    requires place { core.now.state.place ≡ sessions.now.place }
-    ensures exact { result ≡ asked_fault core.now.state sessions.now rule call.now }
-    ensures within { IsWithin call.now }
-{
-    if let Some(fault) = core.fault_of_arguments(call) {
-        return Some(fault);
-    }
-    match rule {
-        Some(rule) => Some(rule),
-        None => limit_of_asked(core, sessions, call),
+    match rank {
+        Some(rank) => limit_to_rank(sessions, rank),
+        None => None,
     }
 }
 
-/// What the core is to be asked, unless a rule is broken or a limit met.
-#[tactic(auto, using(crate::proofs::Clear::is_clear))]
-fn asked_unless_refused(
-    core: &Core,
-    sessions: &Sessions,
-    rule: Option<Refusal>,
-    asked: RoutedCall,
-) -> Result<RoutedCall, HandedBack<Call>>
-    requires free { request_fault core.now.state asked ≡ None }
-    requires place { core.now.state.place ≡ sessions.now.place }
-    ensures { JudgingGives core.now.state sessions.now rule asked result }
+/// The limit that a frame meets, if there is one.
+pub(crate) fn limit_of_frame(sessions: &Sessions, frame: Option<Outgoing<'_>>) -> Option<Refusal>
+    requires { IfSome frame (λ a. a.target < sessions.now.place.size) }
+    ensures { result ≡ frame_limit sessions.now (addressed frame.entry) }
 {
-    match fault_of_asked(core, sessions, rule, &asked) {
-        None => Ok(asked),
-        Some(refused) => Err(HandedBack {
-            refused,
-            value: call_of(asked),
-        }),
+    match frame {
+        Some(frame) => limit_to_rank(sessions, frame.target),
+        None => None,
     }
 }
 
-/// What the core is to be asked by a send, unless it is refused by now.
-pub fn ask_to_send(
-    core: &Core,
-    communicators: &Communicators,
-    sessions: &Sessions,
-    send: Send,
-) -> Result<RoutedCall, HandedBack<Call>>
-    requires place { core.now.state.place ≡ sessions.now.place }
-    ensures { (rest : Rest) →
-        AskGives (engine_of core.now.state (groups_of communicators.now) rest sessions.now) (calls.Isend send) result }
+/// The group by which a status names the source, to be shared among receives. It fails for want of memory alone.
+pub(crate) fn shared(alloc: Global, group: Option<&[u16]>) -> Result<Option<Members>, Refusal>
+    requires { group_limit (option_copied group) ≡ None }
+    ensures ok { IfOk result (λ members. members ≡ option_copied group.entry) }
+    ensures err { IfErr result (λ e. e ≡ Refusal.OutOfMemory) }
 {
-    if is_busy(core, communicators) {
-        return Err(HandedBack {
-            refused: Refusal::Request,
-            value: Call::Isend(send),
-        });
-    }
-    let Some(route) = communicators.route(send.comm, send.target) else {
-        return Err(HandedBack {
-            refused: Refusal::Communicator,
-            value: Call::Isend(send),
-        });
-    };
-    let rule = rule_of_target(communicators, sessions, send.comm, send.target);
-    asked_unless_refused(core, sessions, rule, route_send(send, route))
-}
-
-/// What the core is to be asked by a receive, unless it is refused by now.
-pub fn ask_to_receive(
-    core: &Core,
-    communicators: &Communicators,
-    sessions: &Sessions,
-    receive: Receive,
-) -> Result<RoutedCall, HandedBack<Call>>
-    requires place { core.now.state.place ≡ sessions.now.place }
-    ensures { (rest : Rest) →
-        AskGives (engine_of core.now.state (groups_of communicators.now) rest sessions.now)
-        (calls.Irecv receive) result }
-{
-    if is_busy(core, communicators) {
-        return Err(HandedBack {
-            refused: Refusal::Request,
-            value: Call::Irecv(receive),
-        });
-    }
-    let Some(route) = communicators.route(receive.comm, receive.source) else {
-        return Err(HandedBack {
-            refused: Refusal::Communicator,
-            value: Call::Irecv(receive),
-        });
-    };
-    let rule = rule_of_source(communicators, sessions, receive.comm, receive.source, route);
-    asked_unless_refused(core, sessions, rule, route_receive(receive, route))
-}
-
-/// What the core is to be asked by a matching probe, unless it is refused by now.
-pub fn ask_to_probe(
-    core: &Core,
-    communicators: &Communicators,
-    sessions: &Sessions,
-    probe: Probe,
-) -> Result<RoutedCall, HandedBack<Call>>
-    requires place { core.now.state.place ≡ sessions.now.place }
-    ensures { (rest : Rest) →
-        AskGives (engine_of core.now.state (groups_of communicators.now) rest sessions.now)
-        (calls.Improbe probe) result }
-{
-    if is_busy(core, communicators) {
-        return Err(HandedBack {
-            refused: Refusal::Request,
-            value: Call::Improbe(probe),
-        });
-    }
-    let Some(route) = communicators.route(probe.comm, probe.source) else {
-        return Err(HandedBack {
-            refused: Refusal::Communicator,
-            value: Call::Improbe(probe),
-        });
-    };
-    let rule = rule_of_source(communicators, sessions, probe.comm, probe.source, route);
-    asked_unless_refused(core, sessions, rule, route_probe(probe, route))
-}
-
-/// What the core is to be asked by the receive of a message that was taken out, unless it is refused by now.
-pub fn ask_for_message(
-    core: &Core,
-    communicators: &Communicators,
-    sessions: &Sessions,
-    message: Option<Request>,
-    into: Region,
-) -> Result<RoutedCall, HandedBack<Call>>
-    requires place { core.now.state.place ≡ sessions.now.place }
-    ensures { (rest : Rest) →
-        AskGives (engine_of core.now.state (groups_of communicators.now) rest sessions.now) (calls.Mrecv message into)
-        result }
-{
-    let asked = RoutedCall::Mrecv(message, into);
-    if is_busy(core, communicators) {
-        return Err(HandedBack {
-            refused: Refusal::Request,
-            value: call_of(asked),
-        });
-    }
-    match core.fault_of_requests(&asked) {
-        None => asked_unless_refused(core, sessions, None, asked),
-        Some(refused) => Err(HandedBack {
-            refused,
-            value: call_of(asked),
-        }),
-    }
-}
-
-/// What the core is to be asked by a call on requests, unless it is refused by now.
-pub fn ask_on_requests(
-    core: &Core,
-    communicators: &Communicators,
-    asked: RoutedCall,
-) -> Result<RoutedCall, HandedBack<Call>>
-    requires { IsOnRequests asked }
-    ensures { (rest : Rest) (s : SessionsState) →
-        AskGives (engine_of core.now.state (groups_of communicators.now) rest s) (call_of asked) result }
-{
-    if is_busy(core, communicators) {
-        return Err(HandedBack {
-            refused: Refusal::Request,
-            value: call_of(asked),
-        });
-    }
-    match core.fault_of_requests(&asked) {
-        None => Ok(asked),
-        Some(refused) => Err(HandedBack {
-            refused,
-            value: call_of(asked),
-        }),
-    }
-}
-
-/// So the call is judged.
-pub fn judge(asked: Result<RoutedCall, HandedBack<Call>>) -> JudgedCall
-    ensures { JudgementGives asked result }
-{
-    match asked {
-        Ok(asked) => JudgedCall {
-            fault: None,
-            call: call_of(asked),
+    match group {
+        Some(ranks) => match Members::from_slice(alloc, ranks) {
+            Ok(members) => Ok(Some(members)),
+            Err(_) => Err(Refusal::OutOfMemory),
         },
-        Err(handed) => JudgedCall {
-            fault: Some(handed.refused),
-            call: handed.value,
-        },
+        None => Ok(None),
+    }
+}
+
+/// Sends a frame to another rank, if there is one, which meets no limit.
+pub(crate) fn send_frame(
+    sessions: &mut Sessions,
+    frame: Option<Outgoing<'_>>,
+) -> Result<(), Refusal>
+    requires fits { IfSome frame (λ a. FrameFits (frame_text a.frame)) }
+    requires there { IfSome frame (λ a. a.target < sessions.old.place.size) }
+    requires limit { frame_limit sessions.old (addressed frame) ≡ None }
+    ensures sent { OnOk result (sessions.new ≡ after_frame sessions.old (addressed frame.entry)) }
+    ensures unchanged { OnErr result (sessions.new ≡ sessions.old) }
+    ensures err { IfErr result (λ e. e ≡ Refusal.OutOfMemory) }
+{
+    let Some(frame) = frame else {
+        return Ok(());
+    };
+    match sessions.carry_out_judged(None, &[frame]) {
+        Ok(()) => Ok(()),
+        Err(_) => Err(Refusal::OutOfMemory),
     }
 }

@@ -7,22 +7,27 @@
 //! of a collective, and the refusals of all parts as those of one engine.
 #![tactic(auto)]
 
-mod answers;
 mod call;
 mod frames;
 mod judgement;
+mod message_receives;
 mod probes;
+mod receives;
 mod refusal;
 mod reply;
-mod routed_call;
+mod sends;
+mod waits;
 
-pub use answers::answer_unless_refused;
 pub use call::Call;
 pub use frames::send_step;
-pub use judgement::{
-    JudgedCall, ask_for_message, ask_on_requests, ask_to_probe, ask_to_receive, ask_to_send, judge,
-};
+pub use judgement::JudgedCall;
+pub use message_receives::{judge_message, mrecv};
 pub use point_to_point_calls::{Probe, Receive, Send};
-pub use probes::{fault_of_look, look};
+pub use probes::{JudgedProbe, fault_of_look, improbe, judge_search, look};
+pub use receives::{JudgedReceive, irecv, judge_receive};
 pub use refusal::{of_collectives, of_rule, of_sessions};
 pub use reply::{Completion, Fact, Reply};
+pub use sends::{isend, judge_send};
+pub use waits::{
+    cancel, fault_of_cancel, fault_of_list, fault_of_wait, test, wait, waitall, waitany,
+};

@@ -18,10 +18,9 @@ use Rattle.requests.specs.declared.table.Request.{Request}
 use Rattle.point_to_point_calls.specs.declared.call.RoutedSend.{RoutedSend}
 use Rattle.point_to_point_calls.specs.declared.call.RoutedReceive.{RoutedReceive}
 use Rattle.point_to_point_calls.specs.declared.call.RoutedProbe.{RoutedProbe}
-use Rattle.point_to_point_calls.specs.declared.call.RoutedCall.{RoutedCall}
-use Rattle.point_to_point_calls.specs.declared.call.RoutedCall.TheVariants as calls
-use Rattle.point_to_point_calls.specs.declared.call.CoreReply.{CoreReply}
-use Rattle.point_to_point_calls.specs.declared.call.CoreReply.TheVariants as replies
+use Rattle.point_to_point_calls.specs.CoreCalls.{RoutedCall}
+use Rattle.point_to_point_calls.specs.CoreCalls as calls
+use Rattle.point_to_point_calls.specs.CoreCalls.{CoreReply}
 use Rattle.point_to_point.specs.CoreState.{CoreState}
 use Rattle.perfect_queues.specs.Outcomes as machine_outcomes
 use Rattle.perfect_queues.specs.Receives as machine_receives
@@ -129,14 +128,14 @@ match_seen found = option_map (λ t. (request_by own_serial t.0, t.1)) found
 -- what is seen of a call at an endpoint that was answered so; of a refused one nothing is
 abbrev pub told_call : Endpoint → RoutedCall → Option CoreReply → List Entry
 told_call e call None = []
-told_call e call (Some (replies.Started q)) = Called e (call_seen call) (machine.Started q.serial) ∷ []
-told_call e call (Some (replies.Done a)) = Called e (call_seen call) (machine.Done (answer_seen a)) ∷ []
-told_call e call (Some replies.Pending) = Called e (call_seen call) machine.Pending ∷ []
-told_call e call (Some replies.Accepted) = Called e (call_seen call) machine.Accepted ∷ []
-told_call e call (Some (replies.Matched found)) =
+told_call e call (Some (calls.Started q)) = Called e (call_seen call) (machine.Started q.serial) ∷ []
+told_call e call (Some (calls.Done a)) = Called e (call_seen call) (machine.Done (answer_seen a)) ∷ []
+told_call e call (Some calls.Pending) = Called e (call_seen call) machine.Pending ∷ []
+told_call e call (Some calls.Accepted) = Called e (call_seen call) machine.Accepted ∷ []
+told_call e call (Some (calls.Matched found)) =
     Called e (call_seen call) (machine.Done (completions.ForMatch (match_seen found))) ∷ []
-told_call e call (Some replies.Blocked) = Called e (call_seen call) machine.Blocked ∷ []
-told_call e call (Some (replies.Refused why back)) = []
+told_call e call (Some calls.Blocked) = Called e (call_seen call) machine.Blocked ∷ []
+told_call e call (Some (calls.Refused why back)) = []
 
 -- what is seen of the answer to a call that was blocked
 abbrev pub told_completion : Endpoint → Option Answer → List Entry

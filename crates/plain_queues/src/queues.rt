@@ -18,7 +18,7 @@ use std::marker::Model;
 use vocabulary::OutOfMemory;
 
 /// What a rank has posted and not yet received, and what came and was not yet wanted, as two lists. The oldest stand
-/// first. Each call has the contract that it has at `Queues`.
+/// first. Each call has the contract that it has at `Queues`, but that it searches for itself what it takes.
 #[derive(Drop)]
 pub struct PlainQueues {
     posted: VecDeque<PostedReceive>,
@@ -26,7 +26,7 @@ pub struct PlainQueues {
 }
 
 impl Model for PlainQueues {
-    ghost use Rattle.std.specs.Prelude.{◌-◌};
+    ghost use Rattle.std.specs.Prelude.{◌-◌, []};
     ghost use Rattle.std.specs.VecDeque.{deque_len, deque_capacity};
     ghost use Rattle.match_queues.specs.State.{Held};
 
@@ -34,6 +34,7 @@ impl Model for PlainQueues {
 
     ghost view = { λ q. record {
       state = record { posted = q.posted.items; unexpected = q.unexpected.items };
+      places = [];
       receives = deque_capacity q.posted - deque_len q.posted;
       messages = deque_capacity q.unexpected - deque_len q.unexpected;
     } };

@@ -9,11 +9,12 @@ use Rattle.vocabulary.specs.Limits.{greatest_limit}
 use Rattle.datatypes.specs.Contents.{Contents}
 use Rattle.requests.specs.Regions.{CanReceive, handed_of, is_unfit_to_receive, sent_from}
 use Rattle.requests.specs.Table.{is_full}
-use Rattle.point_to_point_calls.specs.declared.call.RoutedCall.{RoutedCall}
-use Rattle.point_to_point_calls.specs.declared.call.RoutedCall.TheVariants.{Isend, Irecv, Mrecv}
+use Rattle.point_to_point_calls.specs.CoreCalls.{RoutedCall}
+use Rattle.point_to_point_calls.specs.CoreCalls.{Isend, Irecv, Mrecv}
 use Rattle.point_to_point_calls.specs.declared.call.RoutedReceive.{RoutedReceive}
 use Rattle.point_to_point_calls.specs.declared.call.RoutedSend.{RoutedSend}
 use Rattle.point_to_point_calls.specs.declared.refusal.Refusal.{Refusal}
+use Rattle.point_to_point_calls.specs.declared.refusal.Refusal.TheVariants as refusals
 use Rattle.point_to_point.specs.Calls.{call_fault, fault_at, free_fault}
 use Rattle.point_to_point.specs.CoreState.{CoreState}
 use Rattle.point_to_point.specs.Receiving.{receive_fault}
@@ -116,6 +117,21 @@ pub send_room : (c : CoreState) (s : RoutedSend) → call_fault c (Isend s) ≡ 
     ≡ false
 send_room c s none = long_enough c.place s (sendable c s none)
 
+-- and its request can be started
+pub send_starts : (c : CoreState) (s : RoutedSend) → call_fault c (Isend s) ≡ None → is_full c.slots c.serial ≡ false
+send_starts c s none =
+    not_full (send_fault c.place s) c
+    (no_limit (or_full (send_fault c.place s) c) (announced_to c.place s) c.transfers
+    (unblocked c.blocked c (Isend s) none))
+  where
+    full_by : (b : Bool) → (if b then Some refusals.Limit else None) ≡ None → b ≡ false
+    full_by true h = absurd cc
+    full_by false h = refl
+
+    not_full : (fault : Option Refusal) (c : CoreState) → or_full fault c ≡ None → is_full c.slots c.serial ≡ false
+    not_full None c h = full_by (is_full c.slots c.serial) h
+    not_full (Some e) c h = absurd cc
+
 -- its frame goes to a rank of the job
 pub send_there : (c : CoreState) (s : RoutedSend) → call_fault c (Isend s) ≡ None →
     IfSome (rank_to c.place (destination s.route.named s.send.tag s.route.context)) (λ (rank : ℕ). rank < c.place.size)
@@ -161,3 +177,12 @@ message_fits c q into none =
 pub receive_starts : (c : CoreState) (v : RoutedReceive) → call_fault c (Irecv v) ≡ None →
     is_full c.slots c.serial ≡ false
 receive_starts c v none = free c v (unblocked c.blocked c (Irecv v) none)
+
+-- while it is allowed no earlier call is blocked
+pub none_blocked : (c : CoreState) (q : Option Request) (into : Region) → call_fault c (Mrecv q into) ≡ None →
+    c.blocked ≡ None
+none_blocked c q into none = blocked_by c.blocked none
+  where
+    blocked_by : (a : Option Awaited) → fault_at a c (Mrecv q into) ≡ None → a ≡ None
+    blocked_by None h = refl
+    blocked_by (Some a) h = absurd cc

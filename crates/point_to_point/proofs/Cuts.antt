@@ -6,8 +6,8 @@ use Rattle.requests.specs.declared.awaited_requests.Awaited.{Awaited}
 use Rattle.requests.specs.Regions.{handed_of, is_unfit_to_receive}
 use Rattle.requests.specs.Table.{is_full}
 use Rattle.rendezvous.specs.State.{State}
-use Rattle.point_to_point_calls.specs.declared.call.RoutedCall.{RoutedCall}
-use Rattle.point_to_point_calls.specs.declared.call.RoutedCall.TheVariants as calls
+use Rattle.point_to_point_calls.specs.CoreCalls.{RoutedCall}
+use Rattle.point_to_point_calls.specs.CoreCalls as calls
 use Rattle.point_to_point_calls.specs.declared.call.RoutedReceive.{RoutedReceive}
 use Rattle.point_to_point_calls.specs.declared.refusal.Refusal.{Refusal}
 use Rattle.point_to_point_calls.specs.declared.refusal.Refusal.TheVariants.{WrongType, Count, Tag, Rank, Limit}

@@ -1,21 +1,28 @@
 -- What a call does to the core.
-use Rattle.std.specs.Prelude.{◌≡◌, ◌<◌, ℕ, true, length, Option, Some, None, option_map, is_some}
-use Rattle.datagram.specs.Spelling.{OutgoingText}
+use Rattle.std.specs.Prelude.{◌≡◌, ◌<◌, ℕ, true, IfSome, List, Option, Some, None, option_map, is_some}
+use Rattle.datagram.specs.Spelling.{FrameFits, OutgoingText, frame_text}
+use Rattle.datatypes.specs.Contents.{Contents}
+use Rattle.match_queues.specs.State.{place_for}
+use Rattle.match_queues.specs.declared.envelope.Message.{Message}
+use Rattle.match_queues.specs.declared.envelope.PostedReceive.{PostedReceive}
 use Rattle.vocabulary.specs.declared.envelope.Source.{Source}
 use Rattle.vocabulary.specs.declared.envelope.Source.TheVariants as sources
 use Rattle.requests.specs.declared.awaited_requests.Awaited.{Awaited}
 use Rattle.requests.specs.declared.awaited_requests.Awaited.TheVariants.{One, AnyOf, AllOf}
-use Rattle.point_to_point_calls.specs.declared.call.RoutedCall.{RoutedCall}
-use Rattle.point_to_point_calls.specs.declared.call.RoutedCall.TheVariants as calls
-use Rattle.point_to_point_calls.specs.declared.call.CoreReply.{CoreReply}
+use Rattle.point_to_point_calls.specs.CoreCalls.{RoutedCall}
+use Rattle.point_to_point_calls.specs.CoreCalls as calls
+use Rattle.point_to_point_calls.specs.CoreCalls.{CoreReply}
 use Rattle.point_to_point_calls.specs.declared.call.RoutedReceive.{RoutedReceive}
 use Rattle.point_to_point_calls.specs.declared.call.RoutedProbe.{RoutedProbe}
-use Rattle.point_to_point_calls.specs.declared.prepared_call.PreparedCall.{PreparedCall}
+use Rattle.point_to_point_calls.specs.declared.call.SoughtProbe.{SoughtProbe}
+use Rattle.point_to_point_calls.specs.declared.call.SoughtReceive.{SoughtReceive}
+use Rattle.point_to_point_calls.specs.declared.call.RoutedSend.{RoutedSend}
+use Rattle.point_to_point_calls.specs.Frames.{addressed}
 use Rattle.point_to_point_calls.specs.declared.refusal.Refusal.{Refusal}
 use Rattle.point_to_point_calls.specs.declared.refusal.Refusal.TheVariants as refusals
 use Rattle.point_to_point.specs.CoreState.{CoreState, Held, CanStart}
 use Rattle.rendezvous.specs.Collecting.{Collecting}
-use Rattle.point_to_point_calls.specs.Receiving.{collection_on_post}
+use Rattle.point_to_point_calls.specs.Receiving.{collection_on_post, posted_by}
 use Rattle.point_to_point.specs.Receiving.{found_by, receive_fault, receive_frame, receive_rule, IsReceiving}
 use Rattle.incarnation.specs.declared.place.Place.{Place}
 use Rattle.point_to_point_calls.specs.Hearing.{first_of}
@@ -23,9 +30,9 @@ use Rattle.point_to_point_calls.specs.Sending.{send_fault, destination, is_to_it
 use Rattle.point_to_point_calls.specs.Sending.{rank_to}
 use Rattle.point_to_point.specs.Sending.{or_full, frame_of, IsSending}
 use Rattle.point_to_point.specs.Messages.{Receives, Searches, collection_on_message, found_for, message_fault}
-use Rattle.point_to_point.specs.Messages.{message_frame, probe_rule, region_rule, search_limit}
+use Rattle.point_to_point.specs.Messages.{message_frame, probe_rule, probed_by, region_rule, search_limit}
 use Rattle.point_to_point.specs.Waiting.{cancel_fault, wait_fault, Cancels, Tests, Waits}
-use Rattle.point_to_point_calls.specs.Calls.{IsPacked, HasOutcomeRoom, place_in, Starts}
+use Rattle.point_to_point_calls.specs.Calls.{IsPacked, Starts}
 
 -- the first rule or limit that a call meets while no earlier one is blocked
 abbrev pub free_fault : CoreState → RoutedCall → Option Refusal
@@ -141,9 +148,9 @@ collection_on_receive sources.Any c key v = collection_on_post v.receive.into ke
 collection_on_receive (sources.Rank rank) c key v = collection_on_post v.receive.into key (found_by c v)
 collection_on_receive sources.Null c key v = None
 
--- what a receive begins to collect, if it does: the place for its data is ready, and can be kept
-pub record CanCollect (c : Option Collecting) (h : Held) (p : PreparedCall) : Type 0 where
-  pub place : place_in p ≡ c
+-- what a receive begins to collect, if it does: this is the place for its data, and it can be kept
+pub record CanCollect (c : Option Collecting) (h : Held) (ready : Option Collecting) : Type 0 where
+  pub place : ready ≡ c
   pub room : is_some c ≡ true → 0 < h.collections
 
 -- a matching probe has a place for the message that it finds
@@ -153,20 +160,40 @@ CanSearch sources.Any h q = is_some (found_for h.state sources.Any q.probe.tag q
 CanSearch (sources.Rank rank) h q =
     is_some (found_for h.state (sources.Rank rank) q.probe.tag q.route.context) ≡ true → CanStart h
 
--- what a call takes is there without memory
-abbrev pub CanAnswer : Held → RoutedCall → PreparedCall → Type 0
-CanAnswer h (calls.Isend s) p =
-    CanStart h × IsPacked s p × (is_to_itself h.state.place s ≡ true → 0 < h.messages)
-    × (is_some (announced_to h.state.place s) ≡ true → 0 < h.offers)
-CanAnswer h (calls.Irecv v) p = CanStart h × CanPost v.route.named h ×
-    CanCollect (collection_on_receive v.route.named h.state h.vacant v) h p
-CanAnswer h (calls.Wait q) p = Unit {0}
-CanAnswer h (calls.Test q) p = Unit {0}
-CanAnswer h (calls.Waitany qs) p = Unit {0}
-CanAnswer h (calls.Waitall qs) p = HasOutcomeRoom (length qs) p
-CanAnswer h (calls.Cancel q) p = Unit {0}
-CanAnswer h (calls.Improbe q) p = CanSearch q.route.named h q
-CanAnswer h (calls.Mrecv q into) p = CanCollect (collection_on_message h.state q into) h p
+-- a send can be started, with its data packed or not: there is a place for its request, for its message where that comes
+-- to the own rank, and for its offer where it is announced
+pub record CanSend (h : Held) (s : RoutedSend) (packed : Option Contents) : Type 0 where
+  pub start : CanStart h
+  pub packed_is : IsPacked s packed
+  pub own : is_to_itself h.state.place s ≡ true → 0 < h.messages
+  pub offer : is_some (announced_to h.state.place s) ≡ true → 0 < h.offers
+
+-- a receive can be started: there is a place for its request, in the queue, and for the data that it collects
+pub record CanReceiveNow (h : Held) (v : RoutedReceive) (ready : Option Collecting) : Type 0 where
+  pub start : CanStart h
+  pub post : CanPost v.route.named h
+  pub collect : CanCollect (collection_on_receive v.route.named h.state h.vacant v) h ready
+
+-- ---- what is found for it
+
+-- where the message stands that such a receive would take now; from the null process it takes none
+abbrev pub sought_at : Source → PostedReceive → List (Option Message) → Option ℕ
+sought_at sources.Any r places = place_for r places
+sought_at (sources.Rank rank) r places = place_for r places
+sought_at sources.Null r places = None
+
+-- this is the message that a receive would take now, and the frame that answers it
+pub record IsSought (h : Held) (v : SoughtReceive) : Type 0 where
+  pub found_is : v.found ≡ sought_at v.routed.route.named (posted_by 0 v.routed) h.places
+  pub answer_is : addressed v.answer ≡ receive_frame v.routed.route.named h.state v.routed
+  pub fits : IfSome v.answer (λ a. FrameFits (frame_text a.frame))
+  pub there : IfSome v.answer (λ a. a.target < h.state.place.size)
+
+-- this is the message that a probe finds now
+abbrev pub IsSoughtProbe : Held → SoughtProbe → Type 0
+IsSoughtProbe h p =
+    p.found ≡
+    sought_at p.routed.route.named (probed_by p.routed.route.named p.routed.probe.tag p.routed.route.context) h.places
 
 -- ---- the answer
 

@@ -78,6 +78,8 @@ opening p = record {
 -- what a core holds, and what it has memory for
 pub record Held : Type 0 where
   pub state : CoreState
+  -- the messages that wait for a receive, each at its place: one whose message is gone is empty
+  pub places : List (Option Message)
   -- the key that the next request gets
   pub vacant : ℕ
   -- for how many requests, those that stand in the table included

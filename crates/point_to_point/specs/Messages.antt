@@ -23,8 +23,8 @@ use Rattle.requests.specs.Regions.{handed_of, is_unfit_to_receive}
 use Rattle.requests.specs.Table.{IsSet, after_answer, after_receive, is_full, is_message, message_in, progress_at}
 use Rattle.requests.specs.Table.{slot_at}
 use Rattle.point_to_point_calls.specs.declared.call.RoutedProbe.{RoutedProbe}
-use Rattle.point_to_point_calls.specs.declared.call.CoreReply.{CoreReply}
-use Rattle.point_to_point_calls.specs.declared.call.CoreReply.TheVariants as replies
+use Rattle.point_to_point_calls.specs.CoreCalls.{CoreReply}
+use Rattle.point_to_point_calls.specs.CoreCalls as replies
 use Rattle.point_to_point_calls.specs.declared.refusal.Refusal.{Refusal}
 use Rattle.point_to_point_calls.specs.declared.refusal.Refusal.TheVariants as refusals
 use Rattle.rendezvous.specs.Collecting.{Collecting}

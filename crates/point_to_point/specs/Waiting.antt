@@ -12,8 +12,8 @@ use Rattle.requests.specs.declared.table.RequestProgress.TheVariants.{Finished}
 use Rattle.requests.specs.Completions.{awaited_requests, completion, without}
 use Rattle.requests.specs.Lists.{is_one_absent, is_twice}
 use Rattle.requests.specs.Table.{after_cancel, is_receive, progress_at}
-use Rattle.point_to_point_calls.specs.declared.call.CoreReply.{CoreReply}
-use Rattle.point_to_point_calls.specs.declared.call.CoreReply.TheVariants as replies
+use Rattle.point_to_point_calls.specs.CoreCalls.{CoreReply}
+use Rattle.point_to_point_calls.specs.CoreCalls as replies
 use Rattle.point_to_point_calls.specs.declared.refusal.Refusal.{Refusal}
 use Rattle.point_to_point_calls.specs.declared.refusal.Refusal.TheVariants as refusals
 use Rattle.point_to_point.specs.CoreState.{CoreState}
@@ -43,6 +43,11 @@ WaitsBy old a (Some (answer, used)) reply new = (reply ≡ replies.Done answer) 
 abbrev pub Waits : CoreState → Awaited → CoreReply → CoreState → Type 0
 Waits old a reply new = WaitsBy old a (completion old.slots a) reply new
 
+-- what a wait tells: its answer, or that it is blocked
+abbrev pub waited : Option Answer → CoreReply
+waited None = replies.Blocked
+waited (Some answer) = replies.Done answer
+
 -- ---- tests
 
 -- by whether its answer is ready: a test never blocks
@@ -54,6 +59,11 @@ TestsBy old (Some (answer, used)) reply new = (reply ≡ replies.Done answer) ×
 -- what a test answers and leaves
 abbrev pub Tests : CoreState → Option Request → CoreReply → CoreState → Type 0
 Tests old q reply new = TestsBy old (completion old.slots (One q)) reply new
+
+-- what a test tells: its answer, or that its request is unfinished
+abbrev pub tested : Option Answer → CoreReply
+tested None = replies.Pending
+tested (Some answer) = replies.Done answer
 
 -- ---- cancels
 

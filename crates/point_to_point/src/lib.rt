@@ -8,17 +8,20 @@
 
 mod answering_frames;
 mod arrivals;
-mod call_preparation;
-mod calls;
-mod faults;
 mod looks;
+mod message_receives;
 mod news_preparation;
+mod probes;
 mod rank;
+mod receives;
+mod rules;
+mod sends;
 mod transfer_numbers;
+mod waits;
 
-pub use faults::faults_are_cut;
 pub use point_to_point_calls::{
-    CoreReply, HandedBack, News, PreparedCall, PreparedNews, Refusal, RoutedCall, RoutedProbe,
-    RoutedReceive, RoutedSend,
+    AddressedSend, HandedBack, MessageReceive, News, PreparedNews, Refusal, RoutedProbe,
+    RoutedReceive, RoutedSend, SoughtProbe, SoughtReceive, address, show_widths,
 };
 pub use rank::Core;
+pub use rules::{faults_are_cut, rule_of_probe, rule_of_receive, rule_of_region};

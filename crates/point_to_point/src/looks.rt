@@ -4,7 +4,7 @@ ghost use Rattle.std.specs.Prelude.{◌≡◌};
 ghost use Rattle.point_to_point.specs.Looks.{type_found, type_taken_out};
 ghost use Rattle.requests.specs.Table.{finished_at};
 
-use crate::calls::probed_by;
+use crate::probes::probed_by;
 use crate::rank::Core;
 use requests::Request;
 use vocabulary::{BasicType, Source};

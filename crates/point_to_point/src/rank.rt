@@ -46,6 +46,7 @@ impl Model for Core {
         blocked = c.blocked;
         completion = c.completion;
       };
+      places = c.queues.places;
       vacant = c.requests.vacant;
       requests = c.requests.capacity;
       receives = c.queues.receives;

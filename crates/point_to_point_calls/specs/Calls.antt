@@ -1,18 +1,14 @@
 -- What is known of calls, and of what is made ready for them.
-use Rattle.std.specs.Prelude.{◌≡◌, ◌≤◌, ◌<◌, ◌^◌, ℕ, Option, Some, None}
+use Rattle.std.specs.Prelude.{◌≡◌, ◌<◌, ◌^◌, Option, Some, None}
 use Rattle.vocabulary.specs.BasicTypes.{size_of}
-use Rattle.datatypes.specs.Contents.{AreWithin}
+use Rattle.datatypes.specs.Contents.{AreWithin, Contents}
 use Rattle.requests.specs.declared.region.Places.TheVariants as places
 use Rattle.requests.specs.declared.table.Request.{Request}
 use Rattle.requests.specs.Regions.{sent_from}
-use Rattle.point_to_point_calls.specs.declared.call.RoutedCall.{RoutedCall}
-use Rattle.point_to_point_calls.specs.declared.call.RoutedCall.TheVariants as calls
-use Rattle.point_to_point_calls.specs.declared.call.CoreReply.{CoreReply}
-use Rattle.point_to_point_calls.specs.declared.call.CoreReply.TheVariants as replies
+use Rattle.point_to_point_calls.specs.CoreCalls.{RoutedCall}
+use Rattle.point_to_point_calls.specs.CoreCalls as calls
+use Rattle.point_to_point_calls.specs.CoreCalls.{CoreReply}
 use Rattle.point_to_point_calls.specs.declared.call.RoutedSend.{RoutedSend}
-use Rattle.point_to_point_calls.specs.declared.prepared_call.PreparedCall.{PreparedCall}
-use Rattle.point_to_point_calls.specs.declared.prepared_call.PreparedCall.TheVariants as prepareds
-use Rattle.rendezvous.specs.Collecting.{Collecting}
 
 -- each element that a call sends has the width of its type, and its context has 64 bits
 abbrev pub IsWithin : RoutedCall → Type 0
@@ -43,44 +39,18 @@ NeedsMemory (calls.Mrecv q into) = Unit {0}
 -- ---- what is made ready for it
 
 -- the data of a send stand in its buffer, or were packed
-abbrev pub IsPacked : RoutedSend → PreparedCall → Type 0
-IsPacked s prepareds.Nothing = s.send.from.places ≡ places.All
-IsPacked s (prepareds.Packed elements) = elements ≡ sent_from s.send.from
-IsPacked s (prepareds.Room count) = ⊥
-IsPacked s (prepareds.Place c) = ⊥
-
--- there is room for so many outcomes
-abbrev pub HasOutcomeRoom : ℕ → PreparedCall → Type 0
-HasOutcomeRoom needed prepareds.Nothing = ⊥
-HasOutcomeRoom needed (prepareds.Packed elements) = ⊥
-HasOutcomeRoom needed (prepareds.Room count) = needed ≤ count
-HasOutcomeRoom needed (prepareds.Place c) = ⊥
-
--- the place for data that is ready, if one is
-abbrev pub place_in : PreparedCall → Option Collecting
-place_in prepareds.Nothing = None
-place_in (prepareds.Packed elements) = None
-place_in (prepareds.Room count) = None
-place_in (prepareds.Place c) = Some c
+abbrev pub IsPacked : RoutedSend → Option Contents → Type 0
+IsPacked s None = s.send.from.places ≡ places.All
+IsPacked s (Some elements) = elements ≡ sent_from s.send.from
 
 -- ---- the answer
 
--- the call was taken: its reply is no refusal
-abbrev pub IsTaken : CoreReply → Type 0
-IsTaken (replies.Refused e back) = ⊥
-IsTaken (replies.Started r) = Unit {0}
-IsTaken (replies.Done a) = Unit {0}
-IsTaken replies.Pending = Unit {0}
-IsTaken replies.Accepted = Unit {0}
-IsTaken (replies.Matched m) = Unit {0}
-IsTaken replies.Blocked = Unit {0}
-
 -- an operation is started under the request that is answered (MPI 3.1, 3.7.2)
 abbrev pub Starts : (Request → Type 0) → CoreReply → Type 0
-Starts started (replies.Started r) = started r
-Starts started (replies.Refused e back) = ⊥
-Starts started (replies.Done a) = ⊥
-Starts started replies.Pending = ⊥
-Starts started replies.Accepted = ⊥
-Starts started (replies.Matched m) = ⊥
-Starts started replies.Blocked = ⊥
+Starts started (calls.Started r) = started r
+Starts started (calls.Refused e back) = ⊥
+Starts started (calls.Done a) = ⊥
+Starts started calls.Pending = ⊥
+Starts started calls.Accepted = ⊥
+Starts started (calls.Matched m) = ⊥
+Starts started calls.Blocked = ⊥

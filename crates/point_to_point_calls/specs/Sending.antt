@@ -1,5 +1,6 @@
 -- What a send is: its rules, its frame, and its message to the own rank (MPI 3.1, 3.4 and 3.7).
-use Rattle.std.specs.Prelude.{ℕ, ◌*◌, ◌≤◌, nat_lt, ◌==◌, length, Option, Some, None, Bool, true, false, if◌then◌else◌}
+use Rattle.std.specs.Prelude.{◌≡◌, ℕ, ◌*◌, ◌≤◌, nat_lt, ◌==◌, length, Option, Some, None, Bool, true, false}
+use Rattle.std.specs.Prelude.{if◌then◌else◌}
 use Rattle.vocabulary.specs.BasicTypes.{size_of}
 use Rattle.vocabulary.specs.Limits.{eager_limit, greatest_limit, highest_tag}
 use Rattle.vocabulary.specs.MessageLimits.{limit_of}
@@ -22,6 +23,8 @@ use Rattle.requests.specs.declared.outcome.Outcome.TheVariants.{Sent}
 use Rattle.requests.specs.Regions.{byte_count, handed_of, sent_from}
 use Rattle.incarnation.specs.declared.place.Place.{Place}
 use Rattle.point_to_point_calls.specs.declared.call.RoutedSend.{RoutedSend}
+use Rattle.point_to_point_calls.specs.declared.call.Send.{Send}
+use Rattle.point_to_point_calls.specs.declared.sends.AddressedSend.{AddressedSend}
 use Rattle.point_to_point_calls.specs.declared.sends.Destination.{Destination}
 use Rattle.point_to_point_calls.specs.declared.refusal.Refusal.{Refusal}
 use Rattle.point_to_point_calls.specs.declared.refusal.Refusal.TheVariants as refusals
@@ -135,6 +138,16 @@ abbrev pub announced_to : Place → RoutedSend → Option ℕ
 announced_to p s =
     if is_announced s.send.mode (sent_from s.send.from)
     then rank_to p (destination s.route.named s.send.tag s.route.context) else None
+
+-- so it is of a send to this destination
+abbrev pub announced_by : Place → Send → Option Destination → Option ℕ
+announced_by p s d = if is_announced s.mode (sent_from s.from) then rank_to p d else None
+
+-- where its message goes, and to whom it is announced, is decided
+pub record IsAddressed (p : Place) (s : AddressedSend) : Type 0 where
+  pub destination_is :
+      s.destination ≡ destination s.routed.route.named s.routed.send.tag s.routed.route.context
+  pub announced_is : s.announced ≡ announced_to p s.routed
 
 -- THE MESSAGE TO THE OWN RANK
 

@@ -3,10 +3,11 @@
 ghost use Rattle.std.specs.Prelude.{◌≡◌, IfOk};
 
 use crate::refusal::Refusal;
-use communicator_members::{Members, share_group};
-use requests::{Answer, Region, Request, RequestList};
+use communicator_members::Members;
+use datagram::Outgoing;
+use requests::{Region, Request};
 use std::alloc::{AllocError, Global};
-use vocabulary::{Mode, Source, Status};
+use vocabulary::{Mode, Source};
 
 /// A send (MPI 3.1, 3.4 and 3.7.2).
 #[derive(Drop)]
@@ -89,47 +90,35 @@ pub struct RoutedProbe {
     pub probe: Probe,
 }
 
-/// What the core of a rank is asked by a call of point to point, or on requests. Where a request is named, none is the
-/// null request. What the call handed in stands in it whole, so that it can be handed back.
+/// A receive with its route, and the message that it would take.
 #[derive(Drop)]
-pub enum RoutedCall {
-    /// Starts a send.
-    Isend(RoutedSend),
-    /// Starts a receive.
-    Irecv(RoutedReceive),
-    /// Waits until the request is finished, and ends it (MPI 3.1, 3.7.3).
-    Wait(Option<Request>),
-    /// Ends the request, if it is finished (3.7.3).
-    Test(Option<Request>),
-    /// Waits until a request of the list is finished, and ends the first in the list that is (3.7.5).
-    Waitany(RequestList),
-    /// Waits until each request of the list is finished, and ends them all (3.7.5).
-    Waitall(RequestList),
-    /// Ends a receive that waits as cancelled; one that was matched goes on (3.8.4).
-    Cancel(Option<Request>),
-    /// Takes a message out of matching that such a receive would take, if there is one (3.8.2).
-    Improbe(RoutedProbe),
-    /// Receives a message that was taken out; `None` is that of the null process (3.8.3).
-    Mrecv(Option<Request>, Region),
+pub struct SoughtReceive {
+    /// The receive.
+    pub routed: RoutedReceive,
+    /// Where that message stands among those that came unexpected: it is looked for once.
+    pub found: Option<usize>,
+    /// The frame that answers it, where it was announced by another rank.
+    pub answer: Option<Outgoing<'static>>,
 }
 
-/// What a call answers.
+/// A probe with its route, and the message that such a receive would take.
 #[derive(Drop)]
-pub enum CoreReply {
-    /// The operation is started under this request.
-    Started(Request),
-    /// What was asked for is finished, and ended so.
-    Done(Answer),
-    /// The request of a test is unfinished.
-    Pending,
-    /// The cancel was taken.
-    Accepted,
-    /// What a matching probe found: the message, or that of the null process, which is `None`, with its status (3.8.2).
-    Matched(Option<(Option<Request>, Status)>),
-    /// The answer is not ready. It is handed out once, as the completion of the event in which it is.
-    Blocked,
-    /// The call broke this rule, or met a limit or want of memory. It is handed back, and nothing changed.
-    Refused(Refusal, RoutedCall),
+pub struct SoughtProbe {
+    /// The probe.
+    pub routed: RoutedProbe,
+    /// Where that message stands among those that came unexpected: it is looked for once.
+    pub found: Option<usize>,
+}
+
+/// The receive of a message that a matching probe took out (MPI 3.1, 3.8.3).
+#[derive(Drop)]
+pub struct MessageReceive {
+    /// The message; `None` is that of the null process.
+    pub message: Option<Request>,
+    /// Where the data go.
+    pub into: Region,
+    /// The frame that answers it, where it was announced by another rank.
+    pub answer: Option<Outgoing<'static>>,
 }
 
 /// A refusal, with what was handed in.
@@ -167,37 +156,5 @@ impl Receive {
             tag: self.tag,
             into: self.into.try_clone(alloc)?,
         })
-    }
-}
-
-impl RoutedCall {
-    /// The same call once more; the group of a receive is shared.
-    pub fn try_clone(&self, alloc: Global) -> Result<RoutedCall, AllocError>
-        ensures { IfOk result (λ copy. copy ≡ self.now) }
-    {
-        match self {
-            RoutedCall::Isend(routed) => Ok(RoutedCall::Isend(RoutedSend {
-                route: routed.route,
-                send: routed.send.try_clone(alloc)?,
-            })),
-            RoutedCall::Irecv(routed) => Ok(RoutedCall::Irecv(RoutedReceive {
-                route: routed.route,
-                group: share_group(&routed.group)?,
-                receive: routed.receive.try_clone(alloc)?,
-            })),
-            RoutedCall::Wait(request) => Ok(RoutedCall::Wait(*request)),
-            RoutedCall::Test(request) => Ok(RoutedCall::Test(*request)),
-            RoutedCall::Waitany(list) => Ok(RoutedCall::Waitany(list.try_clone(alloc)?)),
-            RoutedCall::Waitall(list) => Ok(RoutedCall::Waitall(list.try_clone(alloc)?)),
-            RoutedCall::Cancel(request) => Ok(RoutedCall::Cancel(*request)),
-            RoutedCall::Improbe(routed) => Ok(RoutedCall::Improbe(RoutedProbe {
-                route: routed.route,
-                group: share_group(&routed.group)?,
-                probe: routed.probe,
-            })),
-            RoutedCall::Mrecv(request, into) => {
-                Ok(RoutedCall::Mrecv(*request, into.try_clone(alloc)?))
-            }
-        }
     }
 }

@@ -8,27 +8,25 @@
 mod call;
 mod frames;
 mod news;
-mod prepared_call;
 mod receives;
 mod refusal;
 mod sends;
 
 pub use call::{
-    CallRoute, CoreReply, HandedBack, Probe, Receive, RoutedCall, RoutedProbe, RoutedReceive,
-    RoutedSend, Send,
+    CallRoute, HandedBack, MessageReceive, Probe, Receive, RoutedProbe, RoutedReceive, RoutedSend,
+    Send, SoughtProbe, SoughtReceive,
 };
 pub use frames::{data_frames, frames_of, list_of};
 pub use news::{
     Match, News, PreparedNews, announced_of, answer_to_match, bad_unless, collection_of_match,
     fault_of_plane, first_of, message_from,
 };
-pub use prepared_call::{PreparedCall, pack, room_for_all};
 pub use receives::{
     answer_on_post, collection_on_post, is_source_beyond, is_tag_above, null_status, posted_by,
     progress_on_post, status_of,
 };
 pub use refusal::Refusal;
 pub use sends::{
-    Destination, announced_to, destination_of, elements_of, fault_of, frame_to, into_elements,
-    is_own, own_message, rank_to, show_widths,
+    AddressedSend, Destination, address, elements_of, fault_of, frame_to, into_elements, is_own,
+    own_message, pack, rank_to, show_widths,
 };

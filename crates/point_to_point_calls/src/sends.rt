@@ -1,18 +1,19 @@
 //! What a send is: the first rule that it breaks, its frame, and its message to the own rank.
 
-ghost use Rattle.std.specs.Prelude.{◌≡◌, ◌<◌, Some, None, IfSome, false, true};
+ghost use Rattle.std.specs.Prelude.{◌≡◌, ◌<◌, Some, None, IfErr, IfOk, IfSome, false, true};
 ghost use Rattle.datagram.specs.Spelling.{frame_text, FrameFits};
+ghost use Rattle.perfect_queues.specs.Buffers.{differs_in_type, is_too_short};
 ghost use Rattle.perfect_queues.specs.Refusals.{is_no_tag, is_no_target};
-ghost use Rattle.requests.specs.Regions.{sent_from};
+ghost use Rattle.requests.specs.Regions.{handed_of, sent_from};
 ghost use Rattle.point_to_point_calls.specs.Calls.{IsPacked, IsWithin};
-ghost use Rattle.point_to_point_calls.specs.declared.call.RoutedCall.TheVariants as calls;
+ghost use Rattle.point_to_point_calls.specs.CoreCalls as calls;
 ghost use Rattle.point_to_point_calls.specs.Frames.{addressed};
-ghost use Rattle.point_to_point_calls.specs.Sending.{IsSendable, announced_to, destination, eager_frame, frame_to};
+ghost use Rattle.point_to_point_calls.specs.Sending.{IsAddressed, IsSendable, announced_by, destination, eager_frame};
+ghost use Rattle.point_to_point_calls.specs.Sending.{frame_to};
 ghost use Rattle.point_to_point_calls.specs.Sending.{frame_with, is_announced, is_large, is_own, own_message, rank_to};
 ghost use Rattle.point_to_point_calls.specs.Sending.{request_frame, send_fault};
 
-use crate::call::RoutedSend;
-use crate::prepared_call::PreparedCall;
+use crate::call::{RoutedSend, Send};
 use crate::receives::is_tag_above;
 use crate::refusal::Refusal;
 use datagram::{Eager, Frame, Outgoing, Plane, RequestToSend};
@@ -21,7 +22,19 @@ use incarnation::Place;
 use match_queues::{Body, Message, OwnSend};
 use rendezvous::Transfers;
 use requests::Request;
+use std::alloc::Global;
 use vocabulary::{EAGER_LIMIT, Mode, Source};
+
+/// A send with its route, and where its message goes.
+#[derive(Drop)]
+pub struct AddressedSend {
+    /// The send.
+    pub routed: RoutedSend,
+    /// Where its message goes; none where that is the null process (MPI 3.1, 3.11), or no place at all.
+    pub destination: Option<Destination>,
+    /// The other rank to which its message is announced, if it is.
+    pub announced: Option<u16>,
+}
 
 /// The rank that a message goes to, its tag and its context.
 #[derive(Clone, Copy)]
@@ -78,7 +91,7 @@ pub fn fault_of(place: Place, routed: &RoutedSend) -> Option<Refusal>
 }
 
 /// The rank that a send goes to, with its tag and context: none where it goes to the null process (MPI 3.1, 3.11).
-pub fn destination_of(target: Source, tag: Option<u32>, context: u64) -> Option<Destination>
+fn destination_of(target: Source, tag: Option<u32>, context: u64) -> Option<Destination>
     ensures { result ≡ destination target tag context }
 {
     match (target, tag) {
@@ -120,21 +133,31 @@ fn is_large(elements: &Buffer) -> bool
     elements.byte_len() > EAGER_LIMIT
 }
 
-/// To which other rank the message of a send is announced, if it is: that of a synchronous send, or one that does not
-/// go in one frame.
-pub fn announced_to(place: Place, routed: &RoutedSend) -> Option<u16>
-    ensures { result ≡ announced_to place routed.now }
+/// To which other rank the message of a send to this destination is announced, if it is: that of a synchronous send, or
+/// one that does not go in one frame.
+fn announced_to(place: Place, send: &Send, destination: Option<Destination>) -> Option<u16>
+    ensures { result ≡ announced_by place send.now destination }
 {
-    let send = &routed.send;
     if let Mode::Standard = send.mode
         && !send.from.is_above(EAGER_LIMIT)
     {
         return None;
     }
-    rank_to(
-        place,
-        destination_of(routed.route.named, send.tag, routed.route.context),
-    )
+    rank_to(place, destination)
+}
+
+/// Where the message of a send goes, and whether it is announced: that is decided once.
+pub fn address(place: Place, routed: RoutedSend) -> AddressedSend
+    ensures routed { result.routed ≡ routed }
+    ensures addressed { IsAddressed place result }
+{
+    let destination = destination_of(routed.route.named, routed.send.tag, routed.route.context);
+    let announced = announced_to(place, &routed.send, destination);
+    AddressedSend {
+        routed,
+        destination,
+        announced,
+    }
 }
 
 /// Whether the message of these elements is announced.
@@ -240,29 +263,40 @@ pub fn frame_to<'a>(
     }
 }
 
-/// The elements of a send: those that were packed, or all of its buffer.
-#[tactic(auto, using(crate::proofs::Packs::stand_ready))]
-pub fn elements_of<'a>(routed: &'a RoutedSend, prepared: &'a PreparedCall) -> &'a Buffer
-    requires { IsPacked routed.now prepared.now }
-    ensures { result.now ≡ sent_from routed.now.send.from }
+/// The data of a send, taken out of the places of a layout where they do not stand in its buffer in order.
+pub fn pack(alloc: Global, routed: &RoutedSend) -> Result<Option<Buffer>, Refusal>
+    requires types { differs_in_type (handed_of routed.now.send.from) ≡ false }
+    requires room { is_too_short (handed_of routed.now.send.from) ≡ false }
+    ensures packed { IfOk result (λ packed. IsPacked routed.now packed) }
+    ensures err { IfErr result (λ e. e ≡ Refusal.OutOfMemory) }
 {
-    match prepared {
-        PreparedCall::Packed(elements) => elements,
-        PreparedCall::Nothing => &routed.send.from.buffer,
-        PreparedCall::Room(_) | PreparedCall::Place(_) => unreachable!(),
+    match routed.send.from.pack(alloc) {
+        Ok(packed) => Ok(packed),
+        Err(_) => Err(Refusal::OutOfMemory),
     }
 }
 
-/// The same, taken out.
+/// The elements of a send: those that were packed, or all of its buffer.
 #[tactic(auto, using(crate::proofs::Packs::stand_ready))]
-pub fn into_elements(routed: RoutedSend, prepared: PreparedCall) -> Buffer
-    requires { IsPacked routed prepared }
+pub fn elements_of<'a>(routed: &'a RoutedSend, packed: &'a Option<Buffer>) -> &'a Buffer
+    requires { IsPacked routed.now packed.now }
+    ensures { result.now ≡ sent_from routed.now.send.from }
+{
+    match packed {
+        Some(elements) => elements,
+        None => &routed.send.from.buffer,
+    }
+}
+
+/// The elements of a send, taken out.
+#[tactic(auto, using(crate::proofs::Packs::stand_ready))]
+pub fn into_elements(routed: RoutedSend, packed: Option<Buffer>) -> Buffer
+    requires { IsPacked routed packed }
     ensures { result ≡ sent_from routed.send.from }
 {
-    match prepared {
-        PreparedCall::Packed(elements) => elements,
-        PreparedCall::Nothing => routed.send.from.buffer,
-        PreparedCall::Room(_) | PreparedCall::Place(_) => unreachable!(),
+    match packed {
+        Some(elements) => elements,
+        None => routed.send.from.buffer,
     }
 }
 

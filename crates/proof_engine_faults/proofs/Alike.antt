@@ -16,8 +16,7 @@ use Rattle.perfect_groups.specs.Faults.{is_no_target, is_source_beyond}
 use Rattle.proof_engine_faults.proofs.Calm.{message_alike, one_absent_alike, receive_alike}
 use Rattle.proof_engine_faults.proofs.Rows.{calm_core}
 use Rattle.proof_network_bridge.proofs.Routed.{routed_full}
-use Rattle.point_to_point_calls.specs.declared.call.RoutedCall as cores
-use Rattle.point_to_point_calls.specs.declared.call.RoutedCall.TheVariants as core_calls
+use Rattle.point_to_point_calls.specs.CoreCalls as cores
 use Rattle.point_to_point_calls.specs.declared.refusal.Refusal.{Refusal}
 use Rattle.point_to_point_calls.specs.declared.refusal.Refusal.TheVariants as refusals
 use Rattle.point_to_point.specs.Calls.{argument_fault}
@@ -68,7 +67,7 @@ send_alike e s r =
     (first_alike (broken (is_replaced e s.comm s.target) refusals.Replaced) _ _ (limits_alike e q)))
   where
     q : cores.RoutedCall
-    q = core_calls.Isend (send_by s r)
+    q = cores.Isend (send_by s r)
 
 receive_alike_by : (e : EngineState) (v : Receive) (r : RouteText) →
     Alike (receive_rules e v r) (receive_rules (calm_engine e) v r)
@@ -79,11 +78,11 @@ receive_alike_by e v r =
     (first_alike (group_limit r.group) _ _ (limits_alike e q))))
   where
     q : cores.RoutedCall
-    q = core_calls.Irecv (receive_by v r)
+    q = cores.Irecv (receive_by v r)
 
 probe_alike : (e : EngineState) (p : Probe) (r : RouteText) →
     Alike (probe_rules e p r) (probe_rules (calm_engine e) p r)
-probe_alike e p r = first_alike (look_rules e p r) _ _ (limits_alike e (core_calls.Improbe (probe_by p r)))
+probe_alike e p r = first_alike (look_rules e p r) _ _ (limits_alike e (cores.Improbe (probe_by p r)))
 
 -- ---- requests
 
@@ -101,7 +100,7 @@ message_same c None = refl
 message_same c (Some q) = sym (ap (λ (b : Bool). if b then None else Some refusals.Request) (message_alike c.slots q))
 
 message_rules_alike : (e : EngineState) (q : Option Request) (into : Region) →
-    Alike (message_rules e (core_calls.Mrecv q into)) (message_rules (calm_engine e) (core_calls.Mrecv q into))
+    Alike (message_rules e (cores.Mrecv q into)) (message_rules (calm_engine e) (cores.Mrecv q into))
 message_rules_alike e q into =
     subst (λ (o : Option Refusal). Alike (message_rules e call)
     (first_fault o (first_fault (argument_fault e.core.place call) (routed_limit (calm_engine e) call))))
@@ -110,7 +109,7 @@ message_rules_alike e q into =
     (first_alike (argument_fault e.core.place call) _ _ (limits_alike e call)))
   where
     call : cores.RoutedCall
-    call = core_calls.Mrecv q into
+    call = cores.Mrecv q into
 
 -- ---- all calls
 

@@ -3,7 +3,7 @@ use Rattle.std.proofs.Common.{◌≡◌, ◌≤◌, ◌<◌, ◌+◌, ◌⊎◌,
 use Rattle.std.proofs.Common.{inl, inr}
 use Rattle.std.proofs.lemmas.Option.{same_Some}
 use Rattle.point_to_point.specs.CoreState.{CoreState}
-use Rattle.point_to_point_calls.specs.declared.call.CoreReply.{CoreReply}
+use Rattle.point_to_point_calls.specs.CoreCalls.{CoreReply}
 use Rattle.proof_engine_faults.proofs.Rows.{IsOrdered}
 use Rattle.proof_request_keys.proofs.Cores.{GoesOn, IsNext, StaysIn, request_in}
 use Rattle.proof_request_keys.proofs.Tables.{All, At}

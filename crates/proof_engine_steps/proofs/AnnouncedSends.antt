@@ -20,8 +20,7 @@ use Rattle.perfect_queues.specs.Refusals as rules
 use Rattle.requests.specs.Regions.{byte_count, sent_from}
 use Rattle.requests.specs.declared.table.RequestProgress.TheVariants.{Offering}
 use Rattle.requests.specs.declared.table.Request.{Request}
-use Rattle.point_to_point_calls.specs.declared.call.RoutedCall.TheVariants as calls
-use Rattle.point_to_point_calls.specs.declared.call.CoreReply.TheVariants as replies
+use Rattle.point_to_point_calls.specs.CoreCalls as calls
 use Rattle.point_to_point_calls.specs.declared.call.RoutedSend.{RoutedSend}
 use Rattle.point_to_point_calls.specs.Calls.{IsWithin}
 use Rattle.point_to_point_calls.specs.Frames.{as_list}
@@ -120,7 +119,7 @@ pub large_send_shown : (a : Announcements) (old new : CoreState) (known : List �
     s.route.named ≡ Rank to → s.send.tag ≡ Some tag → (to == old.place.endpoint.rank) ≡ false → KeepsRules old.place s →
     IsWithin (calls.Isend s) → is_announced s.send.mode (sent_from s.send.from) ≡ true →
     free_fault old (calls.Isend s) ≡ None → IsSending old s q new →
-    IsCalled a old known core (calls.Isend s) (replies.Started q) new
+    IsCalled a old known core (calls.Isend s) (calls.Started q) new
 large_send_shown a old new known core s q to tag shown free target_is tag_is other kept within large fine is_sent =
     started_call a old new known core (calls.Isend s) q after (record {
       is = called_send core own s ∙

@@ -2,10 +2,9 @@
 use Rattle.std.proofs.Common.{◌≡◌, ℕ, List, Option, Some, None, refl}
 use Rattle.requests.specs.declared.awaited_requests.Awaited.{Awaited}
 use Rattle.requests.specs.declared.awaited_requests.Awaited.TheVariants as awaiteds
-use Rattle.point_to_point_calls.specs.declared.call.RoutedCall.{RoutedCall}
-use Rattle.point_to_point_calls.specs.declared.call.RoutedCall.TheVariants as calls
-use Rattle.point_to_point_calls.specs.declared.call.CoreReply.{CoreReply}
-use Rattle.point_to_point_calls.specs.declared.call.CoreReply.TheVariants as replies
+use Rattle.point_to_point_calls.specs.CoreCalls.{RoutedCall}
+use Rattle.point_to_point_calls.specs.CoreCalls as calls
+use Rattle.point_to_point_calls.specs.CoreCalls.{CoreReply}
 use Rattle.point_to_point_calls.specs.Calls.{IsWithin}
 use Rattle.point_to_point.specs.Calls.{Answers, fault_at, free_fault}
 use Rattle.point_to_point.specs.CoreState.{CoreState}
@@ -40,33 +39,33 @@ free_call : Matching →
     IsShown links old known core → ClaimsOnce core → old.blocked ≡ None →
     IsWithin call → free_fault old call ≡ None → Answers old call reply new →
     IsCalled links old known core call reply new
-free_call laws links old new known core (calls.Isend s) (replies.Started q) shown once free within fine answers =
+free_call laws links old new known core (calls.Isend s) (calls.Started q) shown once free within fine answers =
     send_shown laws.arrivals laws.wholes links old new known core s q shown free within fine answers
-free_call laws links old new known core (calls.Isend s) (replies.Refused e back) shown once free within fine answers =
+free_call laws links old new known core (calls.Isend s) (calls.Refused e back) shown once free within fine answers =
     absurd answers
-free_call laws links old new known core (calls.Isend s) (replies.Done a) shown once free within fine answers =
+free_call laws links old new known core (calls.Isend s) (calls.Done a) shown once free within fine answers =
     absurd answers
-free_call laws links old new known core (calls.Isend s) replies.Pending shown once free within fine answers =
+free_call laws links old new known core (calls.Isend s) calls.Pending shown once free within fine answers =
     absurd answers
-free_call laws links old new known core (calls.Isend s) replies.Accepted shown once free within fine answers =
+free_call laws links old new known core (calls.Isend s) calls.Accepted shown once free within fine answers =
     absurd answers
-free_call laws links old new known core (calls.Isend s) (replies.Matched found) shown once free within fine answers =
+free_call laws links old new known core (calls.Isend s) (calls.Matched found) shown once free within fine answers =
     absurd answers
-free_call laws links old new known core (calls.Isend s) replies.Blocked shown once free within fine answers =
+free_call laws links old new known core (calls.Isend s) calls.Blocked shown once free within fine answers =
     absurd answers
-free_call laws links old new known core (calls.Irecv v) (replies.Started q) shown once free within fine answers =
+free_call laws links old new known core (calls.Irecv v) (calls.Started q) shown once free within fine answers =
     post_shown laws.posts laws.wholes laws.owns laws.announced links old new known core v q shown once free fine answers
-free_call laws links old new known core (calls.Irecv v) (replies.Refused e back) shown once free within fine answers =
+free_call laws links old new known core (calls.Irecv v) (calls.Refused e back) shown once free within fine answers =
     absurd answers
-free_call laws links old new known core (calls.Irecv v) (replies.Done a) shown once free within fine answers =
+free_call laws links old new known core (calls.Irecv v) (calls.Done a) shown once free within fine answers =
     absurd answers
-free_call laws links old new known core (calls.Irecv v) replies.Pending shown once free within fine answers =
+free_call laws links old new known core (calls.Irecv v) calls.Pending shown once free within fine answers =
     absurd answers
-free_call laws links old new known core (calls.Irecv v) replies.Accepted shown once free within fine answers =
+free_call laws links old new known core (calls.Irecv v) calls.Accepted shown once free within fine answers =
     absurd answers
-free_call laws links old new known core (calls.Irecv v) (replies.Matched found) shown once free within fine answers =
+free_call laws links old new known core (calls.Irecv v) (calls.Matched found) shown once free within fine answers =
     absurd answers
-free_call laws links old new known core (calls.Irecv v) replies.Blocked shown once free within fine answers =
+free_call laws links old new known core (calls.Irecv v) calls.Blocked shown once free within fine answers =
     absurd answers
 free_call laws links old new known core (calls.Wait q) reply shown once free within fine answers =
     meant_called links old new known core (calls.Wait q) reply refl

@@ -10,9 +10,9 @@ use Rattle.proof_pure_network.specs.Core.{Core, view}
 use Rattle.proof_pure_network.specs.Engine.{called, core_ready, core_settled}
 use Rattle.proof_pure_network.specs.Frames.{Frame}
 use Rattle.proof_pure_network.specs.Held.{blank}
-use Rattle.point_to_point_calls.specs.declared.call.RoutedCall.{RoutedCall}
-use Rattle.point_to_point_calls.specs.declared.call.CoreReply.{CoreReply}
-use Rattle.point_to_point_calls.specs.declared.call.CoreReply.TheVariants as replies
+use Rattle.point_to_point_calls.specs.CoreCalls.{RoutedCall}
+use Rattle.point_to_point_calls.specs.CoreCalls.{CoreReply}
+use Rattle.point_to_point_calls.specs.CoreCalls as replies
 use Rattle.point_to_point.specs.Calls.{call_frame}
 use Rattle.point_to_point.specs.CoreState.{CoreState}
 use Rattle.point_to_point_calls.specs.Frames.{as_list}

@@ -36,10 +36,9 @@ use Rattle.requests.specs.declared.table.RequestProgress.TheVariants.{Finished, 
 use Rattle.requests.specs.declared.table.RequestProgress.TheVariants as progresses
 use Rattle.requests.specs.declared.table.Request.{Request}
 use Rattle.communicator_members.specs.Statuses.{status_in}
-use Rattle.point_to_point_calls.specs.declared.call.RoutedCall.TheVariants as calls
+use Rattle.point_to_point_calls.specs.CoreCalls as calls
 use Rattle.point_to_point_calls.specs.declared.call.RoutedReceive.{RoutedReceive}
-use Rattle.point_to_point_calls.specs.declared.call.CoreReply.{CoreReply}
-use Rattle.point_to_point_calls.specs.declared.call.CoreReply.TheVariants as replies
+use Rattle.point_to_point_calls.specs.CoreCalls.{CoreReply}
 use Rattle.point_to_point_calls.specs.declared.refusal.Refusal.{Refusal}
 use Rattle.point_to_point_calls.specs.declared.refusal.Refusal.TheVariants as refusals
 use Rattle.point_to_point_calls.specs.Frames.{as_list}
@@ -225,13 +224,13 @@ told_as e c d o reply h = sym (by_answer o) ∙ (ap (renamed d) h ∙ by_reply r
     by_answer (Some t) = refl
 
     by_reply : (x : CoreReply) → renamed d (told_by e c x) ≡ told_by e d x
-    by_reply (replies.Started q) = refl
-    by_reply (replies.Done a) = refl
-    by_reply replies.Pending = refl
-    by_reply replies.Accepted = refl
-    by_reply (replies.Matched found) = refl
-    by_reply replies.Blocked = refl
-    by_reply (replies.Refused why back) = refl
+    by_reply (calls.Started q) = refl
+    by_reply (calls.Done a) = refl
+    by_reply calls.Pending = refl
+    by_reply calls.Accepted = refl
+    by_reply (calls.Matched found) = refl
+    by_reply calls.Blocked = refl
+    by_reply (calls.Refused why back) = refl
 
 -- such a receive is that of the core
 received_called : (links : Announcements) (old new : CoreState) (known : List ℕ) (core : Core) (q : Request)
@@ -549,7 +548,7 @@ nothing_shown links old new known core into reply shown free fine done =
     meant_called links old new known core (calls.Mrecv None into) reply refl
     (subst (λ (x : CoreReply). IsMeant links old known core c x new) (sym done.0)
     (subst (λ (x : CoreState). IsMeant links old known core c
-    (replies.Done (answers.One (outcomes.Received ends.null_status into.buffer))) x) (sym done.1)
+    (calls.Done (answers.One (outcomes.Received ends.null_status into.buffer))) x) (sym done.1)
     (record {
       fit = (message_without_fault links old known core None into shown free fine).none;
       place = refl;

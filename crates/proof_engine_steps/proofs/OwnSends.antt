@@ -24,8 +24,7 @@ use Rattle.requests.specs.Regions.{sent_from}
 use Rattle.requests.specs.Table.{IsSet}
 use Rattle.requests.specs.declared.table.RequestProgress.TheVariants as progresses
 use Rattle.requests.specs.declared.table.Request.{Request}
-use Rattle.point_to_point_calls.specs.declared.call.RoutedCall.TheVariants as calls
-use Rattle.point_to_point_calls.specs.declared.call.CoreReply.TheVariants as replies
+use Rattle.point_to_point_calls.specs.CoreCalls as calls
 use Rattle.point_to_point_calls.specs.declared.call.RoutedSend.{RoutedSend}
 use Rattle.point_to_point.specs.CoreState.{CoreState}
 use Rattle.point_to_point.specs.Sending as rank
@@ -107,7 +106,7 @@ own_send_shown : ArrivalsMatch → OutcomesAgree →
     (to tag : ℕ) → IsShown links old known core → old.blocked ≡ None →
     s.send.mode ≡ Standard → s.route.named ≡ Rank to → s.send.tag ≡ Some tag → (to == old.place.endpoint.rank) ≡ true →
     KeepsRules old.place s → IsSending old s q new →
-    IsCalled links old known core (calls.Isend s) (replies.Started q) new
+    IsCalled links old known core (calls.Isend s) (calls.Started q) new
 own_send_shown match agree links old new known core s q to tag shown free standard target_is tag_is own kept is_sent =
     send_started links old new known core s q came after.left shown free kept sent.serial
     (ap₂ (λ (t : Source) (g : Option ℕ). core_sent s.send.mode e core s.route.context t g c) target_is tag_is ∙
@@ -183,7 +182,7 @@ own_waits_shown : ArrivalsMatch → OutcomesAgree →
     s.send.mode ≡ Synchronous → s.route.named ≡ Rank to → s.send.tag ≡ Some tag → (to == old.place.endpoint.rank) ≡ true
     →
     KeepsRules old.place s → IsSending old s q new →
-    IsCalled links old known core (calls.Isend s) (replies.Started q) new
+    IsCalled links old known core (calls.Isend s) (calls.Started q) new
 own_waits_shown match agree links old new known core s q to tag shown free synchronous target_is tag_is own kept sent =
     send_started links old new known core s q came after.left shown free kept sent.serial
     (ap₂ (λ (t : Source) (g : Option ℕ). core_sent s.send.mode e core s.route.context t g c) target_is tag_is ∙
@@ -276,12 +275,12 @@ away_send_shown : (links : Announcements) (old new : CoreState) (known : List �
     (q : Request) (to tag : ℕ) → IsShown links old known core → old.blocked ≡ None →
     s.route.named ≡ Rank to → s.send.tag ≡ Some tag → (to == old.place.endpoint.rank) ≡ false → KeepsRules old.place s →
     IsWithin (calls.Isend s) → free_fault old (calls.Isend s) ≡ None →
-    IsSending old s q new → IsCalled links old known core (calls.Isend s) (replies.Started q) new
+    IsSending old s q new → IsCalled links old known core (calls.Isend s) (calls.Started q) new
 away_send_shown links old new known core s q to tag shown free target_is tag_is other kept within fine sent =
     go (is_announced s.send.mode (sent_from s.send.from)) refl
   where
     go : (b : Bool) → is_announced s.send.mode (sent_from s.send.from) ≡ b →
-        IsCalled links old known core (calls.Isend s) (replies.Started q) new
+        IsCalled links old known core (calls.Isend s) (calls.Started q) new
     go false small =
         other_send_shown links old new known core s q to tag shown free target_is tag_is other kept within small sent
     go true large =
@@ -293,7 +292,7 @@ pub send_shown : ArrivalsMatch → OutcomesAgree →
     (links : Announcements) (old new : CoreState) (known : List ℕ) (core : Core) (s : RoutedSend) (q : Request) →
     IsShown links old known core → old.blocked ≡ None →
     IsWithin (calls.Isend s) → free_fault old (calls.Isend s) ≡ None → IsSending old s q new →
-    IsCalled links old known core (calls.Isend s) (replies.Started q) new
+    IsCalled links old known core (calls.Isend s) (calls.Started q) new
 send_shown match agree links old new known core s q shown free within fine sent =
     go s.route.named refl s.send.tag refl kept.inside kept.low
   where
@@ -302,13 +301,13 @@ send_shown match agree links old new known core s q shown free within fine sent 
 
     by_rank : (to tag : ℕ) → s.route.named ≡ Rank to → s.send.tag ≡ Some tag → (own : Bool) →
         (to == old.place.endpoint.rank) ≡ own →
-        IsCalled links old known core (calls.Isend s) (replies.Started q) new
+        IsCalled links old known core (calls.Isend s) (calls.Started q) new
     by_rank to tag target_is tag_is false other =
         away_send_shown links old new known core s q to tag shown free target_is tag_is other kept within fine sent
     by_rank to tag target_is tag_is true own = by_mode s.send.mode refl
       where
         by_mode : (mode : Mode) → s.send.mode ≡ mode →
-            IsCalled links old known core (calls.Isend s) (replies.Started q) new
+            IsCalled links old known core (calls.Isend s) (calls.Started q) new
         by_mode Standard is =
             own_send_shown match agree links old new known core s q to tag shown free is target_is tag_is own kept sent
         by_mode Synchronous is =
@@ -317,7 +316,7 @@ send_shown match agree links old new known core s q shown free within fine sent 
     go : (t : Source) → s.route.named ≡ t → (g : Option ℕ) → s.send.tag ≡ g →
         rules.is_no_target old.place.size s.route.named ≡ false →
         rules.is_no_tag s.send.tag ≡ false →
-        IsCalled links old known core (calls.Isend s) (replies.Started q) new
+        IsCalled links old known core (calls.Isend s) (calls.Started q) new
     go Null target_is g tag_is inside low = null_send_shown links old new known core s q shown free target_is kept sent
     go Any target_is g tag_is inside low =
         let wrong : true ≡ false = sym (ap (λ (t : Source). rules.is_no_target old.place.size t) target_is) ∙ inside in

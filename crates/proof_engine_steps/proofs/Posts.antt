@@ -27,9 +27,8 @@ use Rattle.requests.specs.declared.outcome.Outcome.TheVariants as outcomes
 use Rattle.requests.specs.declared.table.TableEntry.{TableEntry}
 use Rattle.requests.specs.declared.table.RequestProgress.TheVariants.{Finished, Receiving}
 use Rattle.requests.specs.declared.table.Request.{Request}
-use Rattle.point_to_point_calls.specs.declared.call.RoutedCall.TheVariants as calls
+use Rattle.point_to_point_calls.specs.CoreCalls as calls
 use Rattle.point_to_point_calls.specs.declared.call.RoutedReceive.{RoutedReceive}
-use Rattle.point_to_point_calls.specs.declared.call.CoreReply.TheVariants as replies
 use Rattle.point_to_point_calls.specs.declared.refusal.Refusal.{Refusal}
 use Rattle.point_to_point_calls.specs.declared.refusal.Refusal.TheVariants as refusals
 use Rattle.point_to_point_calls.specs.Frames.{as_list}
@@ -176,7 +175,7 @@ receive_started : (links : Announcements) (old new : CoreState) (known : List �
     matching.receives core (receive_seen v) v.route.named ≡ after → Holding links new known after.core rows →
     after.core.blocked ≡ core.blocked → Stays old new →
     IsGiven links known old.place (receive_frame v.route.named old v) after.out →
-    IsCalled links old known core (calls.Irecv v) (replies.Started q) new
+    IsCalled links old known core (calls.Irecv v) (calls.Started q) new
 receive_started links old new known core v q after rows shown free fine serial is holding same stays given =
     let core_is : core.blocked ≡ None = core_free links old known core shown free in
     started_call links old new known core (calls.Irecv v) q after (record {
@@ -215,7 +214,7 @@ core_posts links core old v o real held is =
 post_waits : (links : Announcements) (old new : CoreState) (known : List ℕ) (core : Core) (v : RoutedReceive)
     (q : Request) → IsShown links old known core → old.blocked ≡ None → receive_fault old v ≡ None →
     IsPosted old core v → IsPosting old v q new → FindsNone links.from old.queues v q.key →
-    IsCalled links old known core (calls.Irecv v) (replies.Started q) new
+    IsCalled links old known core (calls.Irecv v) (calls.Started q) new
 post_waits links old new known core v q shown free fine real h finds =
     let qs : new.queues ≡ record old.queues { posted = old.queues.posted ++ posted_by q.key v ∷ [] } = queues_of old new v q h ∙ finds.queues in
     receive_started links old new known core v q (posted_at core (receive_seen v) None)
@@ -294,7 +293,7 @@ post_ends : (links : Announcements) (old new : CoreState) (known : List ℕ) (co
     (m : Message) (c : Contents) (earlier later : List Held) → OutcomesAgree →
     IsShown links old known core → old.blocked ≡ None → receive_fault old v ≡ None → IsPosted old core v →
     IsPosting old v q new → Finds links.from old.queues v q.key (whole m c) earlier later →
-    IsCalled links old known core (calls.Irecv v) (replies.Started q) new
+    IsCalled links old known core (calls.Irecv v) (calls.Started q) new
 post_ends links old new known core v q m c earlier later agree shown free fine real h finds =
     receive_started links old new known core v q after (shown.rows ++ row_of q.key (Over x) ∷
     []) shown free fine h.serial
@@ -334,7 +333,7 @@ post_ends_own : (links : Announcements) (old new : CoreState) (known : List ℕ)
     (q : Request) (m : Message) (own : OwnSend) (earlier later : List Held) → OwnOutcomesAgree → ClaimsOnce core →
     IsShown links old known core → old.blocked ≡ None → receive_fault old v ≡ None → IsPosted old core v →
     IsPosting old v q new → Finds links.from old.queues v q.key (own_as m own) earlier later →
-    IsCalled links old known core (calls.Irecv v) (replies.Started q) new
+    IsCalled links old known core (calls.Irecv v) (calls.Started q) new
 post_ends_own links old new known core v q m own earlier later agree once shown free fine real h finds =
     receive_started links old new known core v q after (slice_set rows' own.serial (row_of own.key (Over ends.Sent)))
     shown free fine h.serial
@@ -518,7 +517,7 @@ post_matches : (links : Announcements) (old new : CoreState) (known : List ℕ) 
     (q : Request) (m : Message) (a : Announcement) (earlier later : List Held) → AnnouncementsAgree →
     IsShown links old known core → old.blocked ≡ None → receive_fault old v ≡ None → IsPosted old core v →
     IsPosting old v q new → Finds links.from old.queues v q.key (announced_as m a) earlier later →
-    IsCalled links old known core (calls.Irecv v) (replies.Started q) new
+    IsCalled links old known core (calls.Irecv v) (calls.Started q) new
 post_matches links old new known core v q m a earlier later agree shown free fine real h finds =
     let part : IsPartOf links.from known old.place (announced_as m a) a = found_part_of links old known core v q.key m a earlier later shown finds in
     let alike : AnnouncedAlike links.from (receive_seen v) (waiting_by v) (announced_as m a) a = found_alike agree links old v q.key m a earlier later finds in
@@ -540,14 +539,14 @@ posting_shown : PostsMatch → OutcomesAgree → OwnOutcomesAgree → Announceme
     (links : Announcements) (old new : CoreState) (known : List ℕ) (core : Core) (v : RoutedReceive) (q : Request) →
     IsShown links old known core → ClaimsOnce core →
     old.blocked ≡ None → receive_fault old v ≡ None → IsPosted old core v → IsPosting old v q new →
-    IsCalled links old known core (calls.Irecv v) (replies.Started q) new
+    IsCalled links old known core (calls.Irecv v) (calls.Started q) new
 posting_shown match agree own alike links old new known core v q shown once free fine real h =
     go (match links.from old.queues v q.key)
   where
     by_body_of : (m : Message) (earlier later : List Held) → Finds links.from old.queues v q.key m earlier later →
         ((c : Contents) × (m ≡ whole m c)) ⊎
         (((a : Announcement) × (m ≡ announced_as m a)) ⊎ ((o : OwnSend) × (m ≡ own_as m o))) →
-        IsCalled links old known core (calls.Irecv v) (replies.Started q) new
+        IsCalled links old known core (calls.Irecv v) (calls.Started q) new
     by_body_of m earlier later finds (inl w) =
         post_ends links old new known core v q m w.0 earlier later agree shown free fine real h
         (subst (λ (n : Message). Finds links.from old.queues v q.key n earlier later) w.1 finds)
@@ -561,7 +560,7 @@ posting_shown match agree own alike links old new known core v q shown once free
     go : FindsNone links.from old.queues v q.key ⊎
         ((m : Message) × (earlier : List Held) ×
         (later : List Held) × Finds links.from old.queues v q.key m earlier later) →
-        IsCalled links old known core (calls.Irecv v) (replies.Started q) new
+        IsCalled links old known core (calls.Irecv v) (calls.Started q) new
     go (inl finds) = post_waits links old new known core v q shown free fine real h finds
     go (inr t) = by_body_of t.0 t.1 t.2 t.3 (by_body t.0)
 
@@ -569,7 +568,7 @@ posting_shown match agree own alike links old new known core v q shown once free
 nothing_shown : (links : Announcements) (old new : CoreState) (known : List ℕ) (core : Core) (v : RoutedReceive)
     (q : Request) → IsShown links old known core → old.blocked ≡ None →
     receive_fault old v ≡ None → v.route.named ≡ sources.Null → IsReceivingNothing old v q new →
-    IsCalled links old known core (calls.Irecv v) (replies.Started q) new
+    IsCalled links old known core (calls.Irecv v) (calls.Started q) new
 nothing_shown links old new known core v q shown free fine null h =
     receive_started links old new known core v q after (shown.rows ++ row_of q.key (Over x) ∷
     []) shown free fine h.serial
@@ -609,11 +608,11 @@ pub post_shown : PostsMatch → OutcomesAgree → OwnOutcomesAgree → Announcem
     (links : Announcements) (old new : CoreState) (known : List ℕ) (core : Core) (v : RoutedReceive) (q : Request) →
     IsShown links old known core → ClaimsOnce core →
     old.blocked ≡ None → receive_fault old v ≡ None → IsReceiving old v q new →
-    IsCalled links old known core (calls.Irecv v) (replies.Started q) new
+    IsCalled links old known core (calls.Irecv v) (calls.Started q) new
 post_shown match agree own alike links old new known core v q shown once free fine h = go v.route.named refl h
   where
     go : (s : Source) → v.route.named ≡ s → ReceivesFrom s old v q new →
-        IsCalled links old known core (calls.Irecv v) (replies.Started q) new
+        IsCalled links old known core (calls.Irecv v) (calls.Started q) new
     go sources.Any is g =
         posting_shown match agree own alike links old new known core v q shown once free fine
         (record {

@@ -26,10 +26,9 @@ use Rattle.requests.specs.declared.awaited_requests.Awaited.{Awaited}
 use Rattle.requests.specs.declared.table.RequestProgress.TheVariants.{TakenOut}
 use Rattle.requests.specs.declared.table.Request.{Request}
 use Rattle.communicator_members.specs.Statuses.{status_in}
-use Rattle.point_to_point_calls.specs.declared.call.RoutedCall.TheVariants as calls
+use Rattle.point_to_point_calls.specs.CoreCalls as calls
 use Rattle.point_to_point_calls.specs.declared.call.RoutedProbe.{RoutedProbe}
-use Rattle.point_to_point_calls.specs.declared.call.CoreReply.{CoreReply}
-use Rattle.point_to_point_calls.specs.declared.call.CoreReply.TheVariants as replies
+use Rattle.point_to_point_calls.specs.CoreCalls.{CoreReply}
 use Rattle.point_to_point_calls.specs.declared.refusal.Refusal.{Refusal}
 use Rattle.point_to_point_calls.specs.declared.refusal.Refusal.TheVariants as refusals
 use Rattle.point_to_point_calls.specs.Receiving.{status_of}
@@ -241,7 +240,7 @@ search_kept : (links : Announcements) (old : CoreState) (known : List ℕ) (core
     (o : Option (Option Request × Status)) → IsShown links old known core → old.blocked ≡ None →
     free_fault old (calls.Improbe p) ≡ None → searches core (probe_seen p) p.route.named ≡ probing core b →
     answer_to (over_at core.jobs) b ≡ Some (completions.ForMatch (match_seen o), []) →
-    IsMeant links old known core (machine.Improbe (probe_seen p)) (replies.Matched o) old
+    IsMeant links old known core (machine.Improbe (probe_seen p)) (calls.Matched o) old
 search_kept links old known core p b o shown free fine is ready =
     record {
       fit = search_fit links old known core p shown free fine;
@@ -337,7 +336,7 @@ search_takes : (links : Announcements) (old new : CoreState) (known : List ℕ) 
     searched_at core (probe_seen p) (Some (earlier, held_of links.from m, later)) →
     Takes links.from old.queues (probe_seen p) m earlier later → IsTakingOut old p m r new →
     IsMeant links old known core (machine.Improbe (probe_seen p))
-    (replies.Matched (Some (Some r, status_in p.group (status_of m)))) new
+    (calls.Matched (Some (Some r, status_in p.group (status_of m)))) new
 search_takes links old new known core p m r earlier later shown free fine is takes out =
     record {
       fit = search_fit links old known core p shown free fine;
@@ -384,7 +383,7 @@ sought match links old new known core p reply shown free fine seeks = go (match 
         IsMeant links old known core c reply new
     kept none t =
         subst (λ (x : CoreReply). IsMeant links old known core c x new) (sym t.0)
-        (subst (λ (x : CoreState). IsMeant links old known core c (replies.Matched None) x) (sym t.1)
+        (subst (λ (x : CoreState). IsMeant links old known core c (calls.Matched None) x) (sym t.1)
         (search_kept links old known core p (completions.Searches (probe_seen p)) None shown free fine
         (by_core None none.core) refl))
 
@@ -418,7 +417,7 @@ searches_shown match links old new known core p reply shown free fine done =
     go : (s : Source) → p.route.named ≡ s → SearchesFrom s old p reply new → IsMeant links old known core c reply new
     go sources.Null is d =
         subst (λ (x : CoreReply). IsMeant links old known core c x new) (sym d.0)
-        (subst (λ (x : CoreState). IsMeant links old known core c (replies.Matched (Some (None, null_status))) x)
+        (subst (λ (x : CoreState). IsMeant links old known core c (calls.Matched (Some (None, null_status))) x)
         (sym d.1)
         (search_kept links old known core p (completions.Took None null_status) (Some (None, null_status)) shown free
         fine (ap (searches core (probe_seen p)) is) refl))
@@ -444,28 +443,28 @@ searches_find_all match links old new known core p shown done = go p.route.named
     such : receives.Receive
     such = receives.such_receive (probe_seen p)
 
-    by_found : TakesOut old p (found_for old p.route.named p.probe.tag p.route.context) (replies.Matched None) new →
+    by_found : TakesOut old p (found_for old p.route.named p.probe.tag p.route.context) (calls.Matched None) new →
         HoldsNone core p
     by_found t = tried (match links.from old.queues (probe_seen p))
       where
-        taken : (m : Message) → TakesOut old p (Some m) (replies.Matched None) new → HoldsNone core p
-        taken m d = let wrong : replies.Matched None ≡ replies.Matched (Some (Some d.0, status_in p.group (status_of m))) = d.1 in absurd cc
+        taken : (m : Message) → TakesOut old p (Some m) (calls.Matched None) new → HoldsNone core p
+        taken m d = let wrong : calls.Matched None ≡ calls.Matched (Some (Some d.0, status_in p.group (status_of m))) = d.1 in absurd cc
 
         tried : TakesNone links.from old.queues (probe_seen p) ⊎
             ((m : Message) × (earlier : List Held) ×
             (later : List Held) × Takes links.from old.queues (probe_seen p) m earlier later) → HoldsNone core p
         tried (inl none) = ap (found such) shown.held ∙ none.core
         tried (inr m) =
-            taken m.0 (subst (λ (o : Option Message). TakesOut old p o (replies.Matched None) new) m.3.message t)
+            taken m.0 (subst (λ (o : Option Message). TakesOut old p o (calls.Matched None) new) m.3.message t)
 
-    go : (s : Source) → p.route.named ≡ s → SearchesFrom s old p (replies.Matched None) new → HoldsNone core p
+    go : (s : Source) → p.route.named ≡ s → SearchesFrom s old p (calls.Matched None) new → HoldsNone core p
     go sources.Null is d =
-        let wrong : replies.Matched None ≡ replies.Matched (Some (None, null_status)) = d.0 in absurd cc
+        let wrong : calls.Matched None ≡ calls.Matched (Some (None, null_status)) = d.0 in absurd cc
     go sources.Any is d =
         by_found (subst (λ (s : Source). TakesOut old p (found_for old s p.probe.tag p.route.context)
-        (replies.Matched None) new)
+        (calls.Matched None) new)
         (sym is) d)
     go (sources.Rank r) is d =
         by_found (subst (λ (s : Source). TakesOut old p (found_for old s p.probe.tag p.route.context)
-        (replies.Matched None) new)
+        (calls.Matched None) new)
         (sym is) d)

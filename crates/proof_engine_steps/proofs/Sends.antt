@@ -27,8 +27,7 @@ use Rattle.requests.specs.Regions.{byte_count, handed_of, sent_from}
 use Rattle.requests.specs.declared.outcome.Outcome.TheVariants.{Sent}
 use Rattle.requests.specs.declared.table.RequestProgress.TheVariants.{Finished}
 use Rattle.requests.specs.declared.table.Request.{Request}
-use Rattle.point_to_point_calls.specs.declared.call.RoutedCall.TheVariants as calls
-use Rattle.point_to_point_calls.specs.declared.call.CoreReply.TheVariants as replies
+use Rattle.point_to_point_calls.specs.CoreCalls as calls
 use Rattle.point_to_point_calls.specs.declared.call.RoutedSend.{RoutedSend}
 use Rattle.incarnation.specs.declared.place.Place.{Place}
 use Rattle.point_to_point_calls.specs.declared.refusal.Refusal.{Refusal}
@@ -263,7 +262,7 @@ pub send_started : (links : Announcements) (old new : CoreState) (known : List �
     after.core.blocked ≡ core.blocked → Stays old new → AreQuiet after.out →
     AreSent (after_out links after.out) (all_gone known (as_list (frame_of old s))) after.out →
     AllByRecursion (CanLeave old.place) (as_list (frame_of old s)) →
-    IsCalled links old known core (calls.Isend s) (replies.Started q) new
+    IsCalled links old known core (calls.Isend s) (calls.Started q) new
 send_started links old new known core s q after rows shown free kept serial is holding same stays quiet out leave =
     let core_is : core.blocked ≡ None = core_free links old known core shown free in
     started_call links old new known core (calls.Isend s) q after (record {
@@ -290,7 +289,7 @@ away_shown : (links : Announcements) (old new : CoreState) (known : List ℕ) (c
     after.core ≡ pushed_over core →
     AreQuiet after.out → AreSent (after_out links after.out) (all_gone known (as_list (frame_of old s))) after.out →
     AllByRecursion (CanLeave old.place) (as_list (frame_of old s)) →
-    IsCalled links old known core (calls.Isend s) (replies.Started q) new
+    IsCalled links old known core (calls.Isend s) (calls.Started q) new
 away_shown links old new known core s q after shown free kept sent rest is left quiet out leave =
     send_started links old new known core s q after (shown.rows ++ record { key = q.key; job = Over ends.Sent } ∷
     []) shown free kept sent.serial is
@@ -311,7 +310,7 @@ away_shown links old new known core s q after shown free kept sent rest is left 
 pub null_send_shown : (links : Announcements) (old new : CoreState) (known : List ℕ) (core : Core) (s : RoutedSend)
     (q : Request) → IsShown links old known core → old.blocked ≡ None →
     s.route.named ≡ Null → KeepsRules old.place s → IsSending old s q new →
-    IsCalled links old known core (calls.Isend s) (replies.Started q) new
+    IsCalled links old known core (calls.Isend s) (calls.Started q) new
 null_send_shown links old new known core s q shown free is kept is_sent =
     away_shown links old new known core s q (effect (pushed_over core) []) shown free kept sent
     (sent.rest ∙
@@ -387,7 +386,7 @@ pub other_send_shown : (links : Announcements) (old new : CoreState) (known : Li
     (q : Request) (to tag : ℕ) → IsShown links old known core → old.blocked ≡ None →
     s.route.named ≡ Rank to → s.send.tag ≡ Some tag → (to == old.place.endpoint.rank) ≡ false → KeepsRules old.place s →
     IsWithin (calls.Isend s) → is_announced s.send.mode (sent_from s.send.from) ≡ false → IsSending old s q new →
-    IsCalled links old known core (calls.Isend s) (replies.Started q) new
+    IsCalled links old known core (calls.Isend s) (calls.Started q) new
 other_send_shown links old new known core s q to tag shown free target_is tag_is other kept within small is_sent =
     away_shown links old new known core s q
     (effect (pushed_over core) ((endpoint_of known to, Eager s.route.context tag c.basic c.values) ∷ [])) shown free

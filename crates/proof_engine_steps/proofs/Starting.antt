@@ -17,8 +17,8 @@ use Rattle.requests.specs.Table.{IsSet, slot_at}
 use Rattle.requests.specs.declared.table.RequestProgress.{RequestProgress}
 use Rattle.requests.specs.declared.awaited_requests.Awaited as rank
 use Rattle.requests.specs.declared.table.Request.{Request}
-use Rattle.point_to_point_calls.specs.declared.call.RoutedCall.{RoutedCall}
-use Rattle.point_to_point_calls.specs.declared.call.CoreReply.TheVariants as replies
+use Rattle.point_to_point_calls.specs.CoreCalls.{RoutedCall}
+use Rattle.point_to_point_calls.specs.CoreCalls as replies
 use Rattle.point_to_point_calls.specs.declared.refusal.Refusal.{Refusal}
 use Rattle.point_to_point_calls.specs.Frames.{as_list}
 use Rattle.incarnation.specs.declared.place.Place.{Place}

@@ -2,9 +2,8 @@
 -- none.
 use Rattle.std.specs.Prelude.{◌≡◌, ℕ, List, [], ◌∷◌, Option, Some, None, option_map}
 use Rattle.requests.specs.declared.awaited_requests.Awaited.{Awaited}
-use Rattle.point_to_point_calls.specs.declared.call.RoutedCall.TheVariants as calls
+use Rattle.point_to_point_calls.specs.CoreCalls as calls
 use Rattle.point_to_point_calls.specs.declared.call.RoutedProbe.{RoutedProbe}
-use Rattle.point_to_point_calls.specs.declared.call.CoreReply.TheVariants as replies
 use Rattle.point_to_point_calls.specs.declared.refusal.Refusal.{Refusal}
 use Rattle.point_to_point_calls.specs.declared.refusal.Refusal.TheVariants as refusals
 use Rattle.point_to_point_calls.specs.Refusals.{number_of_refusal}
@@ -70,4 +69,4 @@ abbrev pub SearchesFindAll : Type 0
 SearchesFindAll =
     (a : Announcements) (old new : CoreState) (known : List ℕ) (core : Core) (p : RoutedProbe) →
     IsShown a old known core →
-    Answers old (calls.Improbe p) (replies.Matched None) new → HoldsNone core p
+    Answers old (calls.Improbe p) (calls.Matched None) new → HoldsNone core p

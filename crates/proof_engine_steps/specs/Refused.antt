@@ -1,6 +1,6 @@
 -- Why a rank refuses a call, and that it takes none with a fault.
 use Rattle.std.specs.Prelude.{◌≡◌, ℕ, ◌⊎◌, List, Option, Some, None}
-use Rattle.point_to_point_calls.specs.declared.call.RoutedCall.{RoutedCall}
+use Rattle.point_to_point_calls.specs.CoreCalls.{RoutedCall}
 use Rattle.point_to_point_calls.specs.declared.refusal.Refusal.{Refusal}
 use Rattle.point_to_point_calls.specs.declared.refusal.Refusal.TheVariants as refusals
 use Rattle.point_to_point.specs.Calls.{call_fault}

@@ -61,10 +61,7 @@ use Rattle.proof_session_carrying.specs.Announced.{announcements_in}
 use Rattle.proof_session_carrying.specs.MessageLaws.{FramesAreSent, QueueCallsAreCarried}
 use Rattle.point_to_point_calls.specs.Frames.{as_list}
 use Rattle.point_to_point_calls.specs.Hearing.{first_of}
-use Rattle.point_to_point_calls.specs.declared.call.RoutedCall as core_asks
-use Rattle.point_to_point_calls.specs.declared.call.RoutedCall.TheVariants as core_calls
-use Rattle.point_to_point_calls.specs.declared.call.CoreReply as core_answers
-use Rattle.point_to_point_calls.specs.declared.call.CoreReply.TheVariants as core_replies
+use Rattle.point_to_point_calls.specs.CoreCalls as core_calls
 use Rattle.point_to_point_calls.specs.declared.refusal.Refusal.{Refusal}
 use Rattle.point_to_point_calls.specs.declared.refusal.Refusal.TheVariants as refusals
 use Rattle.point_to_point.specs.Calls.{argument_fault, call_fault, call_frame, free_request_fault, limit_fault}
@@ -109,12 +106,12 @@ frame_keeps s (Some f) = record { place = refl; known = refl }
 -- ---- WHAT IS ALLOWED
 
 -- what a core is asked meets no rule and no limit of it, and its frame none of the sessions
-record IsAllowed (e : EngineState) (q : core_asks.RoutedCall) : Type 0 where
+record IsAllowed (e : EngineState) (q : core_calls.RoutedCall) : Type 0 where
   core : call_fault e.core q ≡ None
   frame : frame_limit e.sessions (call_frame e.core q) ≡ None
 
 -- where its parts meet none
-allowed_by : (e : EngineState) (q : core_asks.RoutedCall) → e.core.blocked ≡ None → free_request_fault e.core q ≡ None →
+allowed_by : (e : EngineState) (q : core_calls.RoutedCall) → e.core.blocked ≡ None → free_request_fault e.core q ≡ None →
     argument_fault e.core.place q ≡ None → routed_limit e q ≡ None → IsAllowed e q
 allowed_by e q idle requests arguments limits =
     let both = neither_fault (limit_fault e.core q) (frame_limit e.sessions (call_frame e.core q)) limits in
@@ -152,7 +149,7 @@ probe_allowed e p r idle rules =
     allowed_by e (core_calls.Improbe (probe_by p r)) idle refl arguments.0 both.1
 
 -- the receive of a message
-message_allowed : (e : EngineState) (q : core_asks.RoutedCall) → e.core.blocked ≡ None → message_rules e q ≡ None →
+message_allowed : (e : EngineState) (q : core_calls.RoutedCall) → e.core.blocked ≡ None → message_rules e q ≡ None →
     IsAllowed e q
 message_allowed e q idle rules =
     let requests = neither_fault (free_request_fault e.core q) _ rules in
@@ -160,7 +157,7 @@ message_allowed e q idle rules =
     allowed_by e q idle requests.0 arguments.0 arguments.1
 
 -- a call on requests
-requests_allowed : (e : EngineState) (q : core_asks.RoutedCall) → e.core.blocked ≡ None → free_request_fault e.core q ≡
+requests_allowed : (e : EngineState) (q : core_calls.RoutedCall) → e.core.blocked ≡ None → free_request_fault e.core q ≡
     None → argument_fault e.core.place q ≡ None → limit_fault e.core q ≡ None → call_frame e.core q ≡ None →
     IsAllowed e q
 requests_allowed e q idle requests arguments limits frame =
@@ -169,7 +166,7 @@ requests_allowed e q idle requests arguments limits frame =
     ap (frame_limit e.sessions) frame)
 
 -- one that no fault is found with while no earlier call is blocked
-free_allowed : (e : EngineState) (call : Call) (asked : core_asks.RoutedCall) → e.core.blocked ≡ None →
+free_allowed : (e : EngineState) (call : Call) (asked : core_calls.RoutedCall) → e.core.blocked ≡ None →
     free_fault e call ≡ None → core_call e.groups call ≡ Some asked → IsAllowed e asked
 free_allowed e (calls.Isend s) asked idle free routed = go (route_at e.groups s.comm s.target) free routed
   where
@@ -214,7 +211,7 @@ free_allowed e (calls.Mrecv q into) asked idle free routed =
 free_allowed e (calls.Enter comm x) asked idle free routed = absurd cc
 free_allowed e (calls.Ask comm q) asked idle free routed = absurd cc
 
-allowed : (e : EngineState) (call : Call) (asked : core_asks.RoutedCall) → fault_of e call ≡ None →
+allowed : (e : EngineState) (call : Call) (asked : core_calls.RoutedCall) → fault_of e call ≡ None →
     core_call e.groups call ≡ Some asked → IsAllowed e asked
 allowed e call asked fine routed =
     let both = neither_fault (broken (is_busy e) refusals.Request) (free_fault e call) fine in
@@ -223,7 +220,7 @@ allowed e call asked fine routed =
 -- ---- WHAT IT IS TO THE QUEUES
 
 -- what a core is asked is the call of the queues that the machine makes of the call
-queue_call_is : (g : GroupsState) (m : Membership) (call : Call) (asked : core_asks.RoutedCall) → m.held ≡
+queue_call_is : (g : GroupsState) (m : Membership) (call : Call) (asked : core_calls.RoutedCall) → m.held ≡
     (member_of g).held → core_call g call ≡ Some asked →
     queue_call m (call_seen call) ≡ Some (in_queues.call_seen asked)
 queue_call_is g m (calls.Isend s) asked held routed =
@@ -237,7 +234,7 @@ queue_call_is g m (calls.Isend s) asked held routed =
         ap (option_map
         (λ (c : Communicator). queues.Isend s.mode c.context (machine.in_world c s.target) s.tag
         (handed_of s.from))) named
-        ∙ ap (λ (q : core_asks.RoutedCall). Some (in_queues.call_seen q))
+        ∙ ap (λ (q : core_calls.RoutedCall). Some (in_queues.call_seen q))
         (same_Some (core_calls.Isend (send_by s (route_on s.target c))) asked is)
 queue_call_is g m (calls.Irecv v) asked held routed =
     go (held_at (member_of g) v.comm) (named_same m (member_of g) v.comm held) routed
@@ -250,18 +247,18 @@ queue_call_is g m (calls.Irecv v) asked held routed =
     go (Some c) named is =
         ap (option_map (λ (c : Communicator). queues.Irecv (machine.receive_on c v.source v.tag (handed_of v.into))))
         named
-        ∙ ap (λ (q : core_asks.RoutedCall). Some (in_queues.call_seen q))
+        ∙ ap (λ (q : core_calls.RoutedCall). Some (in_queues.call_seen q))
         (same_Some (core_calls.Irecv (receive_by v (route_on v.source c))) asked is)
 queue_call_is g m (calls.Wait q) asked held routed =
-    ap (λ (c : core_asks.RoutedCall). Some (in_queues.call_seen c)) (same_Some (core_calls.Wait q) asked routed)
+    ap (λ (c : core_calls.RoutedCall). Some (in_queues.call_seen c)) (same_Some (core_calls.Wait q) asked routed)
 queue_call_is g m (calls.Test q) asked held routed =
-    ap (λ (c : core_asks.RoutedCall). Some (in_queues.call_seen c)) (same_Some (core_calls.Test q) asked routed)
+    ap (λ (c : core_calls.RoutedCall). Some (in_queues.call_seen c)) (same_Some (core_calls.Test q) asked routed)
 queue_call_is g m (calls.Waitany qs) asked held routed =
-    ap (λ (c : core_asks.RoutedCall). Some (in_queues.call_seen c)) (same_Some (core_calls.Waitany qs) asked routed)
+    ap (λ (c : core_calls.RoutedCall). Some (in_queues.call_seen c)) (same_Some (core_calls.Waitany qs) asked routed)
 queue_call_is g m (calls.Waitall qs) asked held routed =
-    ap (λ (c : core_asks.RoutedCall). Some (in_queues.call_seen c)) (same_Some (core_calls.Waitall qs) asked routed)
+    ap (λ (c : core_calls.RoutedCall). Some (in_queues.call_seen c)) (same_Some (core_calls.Waitall qs) asked routed)
 queue_call_is g m (calls.Cancel q) asked held routed =
-    ap (λ (c : core_asks.RoutedCall). Some (in_queues.call_seen c)) (same_Some (core_calls.Cancel q) asked routed)
+    ap (λ (c : core_calls.RoutedCall). Some (in_queues.call_seen c)) (same_Some (core_calls.Cancel q) asked routed)
 queue_call_is g m (calls.Iprobe p) asked held routed = absurd cc
 queue_call_is g m (calls.Improbe p) asked held routed =
     go (held_at (member_of g) p.comm) (named_same m (member_of g) p.comm held) routed
@@ -273,10 +270,10 @@ queue_call_is g m (calls.Improbe p) asked held routed =
     go None named is = absurd cc
     go (Some c) named is =
         ap (option_map (λ (c : Communicator). queues.Improbe (machine.probe_on c p.source p.tag))) named
-        ∙ ap (λ (q : core_asks.RoutedCall). Some (in_queues.call_seen q))
+        ∙ ap (λ (q : core_calls.RoutedCall). Some (in_queues.call_seen q))
         (same_Some (core_calls.Improbe (probe_by p (route_on p.source c))) asked is)
 queue_call_is g m (calls.Mrecv q into) asked held routed =
-    ap (λ (c : core_asks.RoutedCall). Some (in_queues.call_seen c)) (same_Some (core_calls.Mrecv q into) asked routed)
+    ap (λ (c : core_calls.RoutedCall). Some (in_queues.call_seen c)) (same_Some (core_calls.Mrecv q into) asked routed)
 queue_call_is g m (calls.Enter comm x) asked held routed = absurd cc
 queue_call_is g m (calls.Ask comm q) asked held routed = absurd cc
 
@@ -301,16 +298,16 @@ same_reply : (d e : Endpoint) (p q : queues.Call) (x y : queues.Reply) →
 same_reply d e p q x y h = cc
 
 -- a reply that the queues' history tells of a call tells the machine's history of the call that it is
-replied : (e : Endpoint) (q : queues.Call) (call : Call) (reply : Reply) (asked : core_asks.RoutedCall)
-    (answer : core_answers.CoreReply) (x : queues.Reply) → core_reply reply ≡ Some answer →
+replied : (e : Endpoint) (q : queues.Call) (call : Call) (reply : Reply) (asked : core_calls.RoutedCall)
+    (answer : core_calls.CoreReply) (x : queues.Reply) → core_reply reply ≡ Some answer →
     queue_events.Called e q x ∷ [] ≡ in_queues.told_call e asked (Some answer) →
     Called e (call_seen call) (OfRequests x) ∷ [] ≡ told_call e call (Some reply)
 replied e q call reply asked answer x is h = go reply is
   where
-    with : (y : core_answers.CoreReply) → Some y ≡ Some answer → queue_events.Called e q x ∷
+    with : (y : core_calls.CoreReply) → Some y ≡ Some answer → queue_events.Called e q x ∷
         [] ≡ in_queues.told_call e asked (Some y)
     with y same =
-        h ∙ ap (λ (z : core_answers.CoreReply). in_queues.told_call e asked (Some z)) (sym (same_Some y answer same))
+        h ∙ ap (λ (z : core_calls.CoreReply). in_queues.told_call e asked (Some z)) (sym (same_Some y answer same))
 
     seen : (y : queues.Reply) → queue_events.Called e q x ∷ [] ≡ queue_events.Called e (in_queues.call_seen asked) y ∷
         [] → Called e (call_seen call) (OfRequests x) ∷ [] ≡ Called e (call_seen call) (OfRequests y) ∷ []
@@ -320,21 +317,21 @@ replied e q call reply asked answer x is h = go reply is
 
     go : (r : Reply) → core_reply r ≡ Some answer → Called e (call_seen call) (OfRequests x) ∷
         [] ≡ told_call e call (Some r)
-    go (replies.Started s) k = seen (queues.Started s.serial) (with (core_replies.Started s) k)
-    go (replies.Done a) k = seen (queues.Done (in_queues.answer_seen a)) (with (core_replies.Done a) k)
-    go replies.Pending k = seen queues.Pending (with core_replies.Pending k)
-    go replies.Accepted k = seen queues.Accepted (with core_replies.Accepted k)
-    go replies.Blocked k = seen queues.Blocked (with core_replies.Blocked k)
+    go (replies.Started s) k = seen (queues.Started s.serial) (with (core_calls.Started s) k)
+    go (replies.Done a) k = seen (queues.Done (in_queues.answer_seen a)) (with (core_calls.Done a) k)
+    go replies.Pending k = seen queues.Pending (with core_calls.Pending k)
+    go replies.Accepted k = seen queues.Accepted (with core_calls.Accepted k)
+    go replies.Blocked k = seen queues.Blocked (with core_calls.Blocked k)
     go (replies.Matched found) k =
-        seen (queues.Done (completions.ForMatch (in_queues.match_seen found))) (with (core_replies.Matched found) k)
+        seen (queues.Done (completions.ForMatch (in_queues.match_seen found))) (with (core_calls.Matched found) k)
     go (replies.Left o) k = absurd cc
     go (replies.Fact f) k = absurd cc
     go (replies.Probed found) k = absurd cc
     go (replies.Refused why back) k = absurd cc
 
 -- what is seen of a call that the queues tell so
-told_same : (e : Endpoint) (q : queues.Call) (call : Call) (reply : Reply) (asked : core_asks.RoutedCall)
-    (answer : core_answers.CoreReply) (o : Option queues.Reply) (a : Option (completions.Answer × List ℕ)) →
+told_same : (e : Endpoint) (q : queues.Call) (call : Call) (reply : Reply) (asked : core_calls.RoutedCall)
+    (answer : core_calls.CoreReply) (o : Option queues.Reply) (a : Option (completions.Answer × List ℕ)) →
     core_reply reply ≡ Some answer → told e (Some (q, o)) a ≡ in_queues.told_call e asked (Some answer) →
     told_of e (Some (call_seen call, option_map OfRequests o)) (ready_by None a) ≡ told_call e call (Some reply)
 told_same e q call reply asked answer (Some x) a is h = replied e q call reply asked answer x is h
@@ -346,7 +343,7 @@ told_same e q call reply asked answer None None is h = replied e q call reply as
 
 -- what is said of a call, at its place
 record IsCalledAt (a : Announcements) (p : Place) (old : CoreState) (known : List ℕ) (core : Core)
-    (call : core_asks.RoutedCall) (reply : core_answers.CoreReply) (new : CoreState) : Type 0 where
+    (call : core_calls.RoutedCall) (reply : core_calls.CoreReply) (new : CoreState) : Type 0 where
   shown : IsShown (after_out a (called p.endpoint core (in_queues.call_seen call)).out) new known
       (core_settled (called p.endpoint core (in_queues.call_seen call)).core)
   sends : AreSent (after_out a (called p.endpoint core (in_queues.call_seen call)).out)
@@ -357,8 +354,8 @@ record IsCalledAt (a : Announcements) (p : Place) (old : CoreState) (known : Lis
       in_queues.told_call p.endpoint call (Some reply)
 
 called_at : (a : Announcements) (p : Place) (old : CoreState) (known : List ℕ) (core : Core)
-    (call : core_asks.RoutedCall)
-    (reply : core_answers.CoreReply) (new : CoreState) → old.place ≡ p →
+    (call : core_calls.RoutedCall)
+    (reply : core_calls.CoreReply) (new : CoreState) → old.place ≡ p →
     IsCalled a old known core call reply new → IsCalledAt a p old known core call reply new
 called_at a p old known core call reply new is c =
     subst (λ (q : Place). IsCalledAt a q old known core call reply new) is

@@ -23,11 +23,8 @@ use Rattle.proof_engine_view.specs.Shown.{IsShown}
 use Rattle.proof_engine_view.specs.Transfers.{Announcements}
 use Rattle.proof_pure_network.specs.Core.{Core}
 use Rattle.proof_pure_network.specs.Matching.{found}
-use Rattle.point_to_point_calls.specs.declared.call.RoutedCall as core_asks
-use Rattle.point_to_point_calls.specs.declared.call.RoutedCall.TheVariants as core_calls
+use Rattle.point_to_point_calls.specs.CoreCalls as core_calls
 use Rattle.point_to_point_calls.specs.declared.call.RoutedProbe as core_probes
-use Rattle.point_to_point_calls.specs.declared.call.CoreReply as core_answers
-use Rattle.point_to_point_calls.specs.declared.call.CoreReply.TheVariants as core_replies
 use Rattle.point_to_point_calls.specs.declared.refusal.Refusal.TheVariants as refusals
 use Rattle.point_to_point.specs.Calls.{Answers}
 use Rattle.point_to_point.specs.Messages.{looked}
@@ -107,12 +104,12 @@ pub searches_in_vain : SearchesFindAll →
 searches_in_vain finds a e mid core p q shown seen gives =
     go (held_at (member_of e.groups) p.comm) refl gives.routed seen
   where
-    answers : (asked : core_asks.RoutedCall) → asked ≡ gives.asked →
-        Answers e.core asked (core_replies.Matched None) mid.core
+    answers : (asked : core_calls.RoutedCall) → asked ≡ gives.asked →
+        Answers e.core asked (core_calls.Matched None) mid.core
     answers asked is =
-        subst (λ (x : core_asks.RoutedCall). Answers e.core x (core_replies.Matched None) mid.core) (sym is)
-        (subst (λ (y : core_answers.CoreReply). Answers e.core gives.asked y mid.core)
-        (sym (same_Some (core_replies.Matched None) gives.answer gives.told)) gives.core)
+        subst (λ (x : core_calls.RoutedCall). Answers e.core x (core_calls.Matched None) mid.core) (sym is)
+        (subst (λ (y : core_calls.CoreReply). Answers e.core gives.asked y mid.core)
+        (sym (same_Some (core_calls.Matched None) gives.answer gives.told)) gives.core)
 
     go : (o : Option Communicator) → held_at (member_of e.groups) p.comm ≡ o →
         option_map (λ (r : RouteText). core_calls.Improbe (probe_by p r)) (option_map (route_on p.source) o) ≡

@@ -57,8 +57,7 @@ use Rattle.observation.specs.EngineCalls.{call_by, call_meant, call_seen}
 use Rattle.proof_pure_network.specs.Core.{Core, view}
 use Rattle.proof_pure_network.specs.Held.{blank}
 use Rattle.point_to_point_calls.specs.Refusals.{number_of_refusal}
-use Rattle.point_to_point_calls.specs.declared.call.RoutedCall as core_calls
-use Rattle.point_to_point_calls.specs.declared.call.RoutedCall.TheVariants as cores_calls
+use Rattle.point_to_point_calls.specs.CoreCalls as core_calls
 use Rattle.point_to_point_calls.specs.declared.refusal.Refusal.{Refusal}
 use Rattle.point_to_point_calls.specs.declared.refusal.Refusal.TheVariants as refusals
 use Rattle.point_to_point_calls.specs.Hearing.{first_of}
@@ -307,13 +306,13 @@ send_reason a own e core m s why free reason = go (held_at (member_of e.groups) 
         lacks_reason a own e core m c why free refl (none_is (held_at m s.comm) (at_same a e core m s.comm free ∙ at))
         because
     go (Some k) at because =
-        routed_reason a own e core m (calls.Isend s) (cores_calls.Isend (send_by s (route_on s.target k))) c
+        routed_reason a own e core m (calls.Isend s) (core_calls.Isend (send_by s (route_on s.target k))) c
         (is_no_target (held_at (member_of e.groups) s.comm) s.target) (is_replaced e s.comm s.target)
-        (routed_limit e (cores_calls.Isend (send_by s (route_on s.target k)))) why free
+        (routed_limit e (core_calls.Isend (send_by s (route_on s.target k)))) why free
         (send_routed a e core m s k free at) refl refl
         (ap (λ (o : Option Communicator). is_no_target o s.target) (at_same a e core m s.comm free))
         (named_alike a e core m s.comm s.target free)
-        (λ x h. routed_full e (cores_calls.Isend (send_by s (route_on s.target k))) x h) (λ lacks. inr lacks.0) because
+        (λ x h. routed_full e (core_calls.Isend (send_by s (route_on s.target k))) x h) (λ lacks. inr lacks.0) because
 
 send_faultless : (a : Announcements) (own : Endpoint) (e : EngineState) (core : Core) (m : Membership) (s : Send) →
     IsFree a e core m → free_fault e (calls.Isend s) ≡ None →
@@ -327,9 +326,9 @@ send_faultless a own e core m s free allowed = go (held_at (member_of e.groups) 
         on_route (option_map (route_on s.target) o) (send_rules e s) ≡ None → fault own (view blank core) m c ≡ None
     go None at h = absurd cc
     go (Some k) at h =
-        routed_faultless a own e core m (cores_calls.Isend (send_by s (route_on s.target k))) c
+        routed_faultless a own e core m (core_calls.Isend (send_by s (route_on s.target k))) c
         (is_no_target (held_at (member_of e.groups) s.comm) s.target) (is_replaced e s.comm s.target)
-        (routed_limit e (cores_calls.Isend (send_by s (route_on s.target k)))) free (send_routed a e core m s k free at)
+        (routed_limit e (core_calls.Isend (send_by s (route_on s.target k)))) free (send_routed a e core m s k free at)
         refl refl
         (ap (λ (o : Option Communicator). is_no_target o s.target) (at_same a e core m s.comm free))
         (named_alike a e core m s.comm s.target free) h
@@ -362,13 +361,13 @@ receive_reason a own e core m v why free reason = go (held_at (member_of e.group
         because
     go (Some k) at because =
         let r : RouteText = route_on v.source k in
-        routed_reason a own e core m (calls.Irecv v) (cores_calls.Irecv (receive_by v r)) c
+        routed_reason a own e core m (calls.Irecv v) (core_calls.Irecv (receive_by v r)) c
         (is_source_beyond (held_at (member_of e.groups) v.comm) v.source) (is_replaced e v.comm v.source)
-        (first_fault (group_limit r.group) (routed_limit e (cores_calls.Irecv (receive_by v r)))) why free
+        (first_fault (group_limit r.group) (routed_limit e (core_calls.Irecv (receive_by v r)))) why free
         (receive_routed a e core m v k free at) refl refl
         (ap (λ (o : Option Communicator). is_source_beyond o v.source) (at_same a e core m v.comm free))
         (named_alike a e core m v.comm v.source free)
-        (λ x h. group_routed_full e r.group (cores_calls.Irecv (receive_by v r)) x h) (λ lacks. inr lacks.0) because
+        (λ x h. group_routed_full e r.group (core_calls.Irecv (receive_by v r)) x h) (λ lacks. inr lacks.0) because
 
 receive_faultless : (a : Announcements) (own : Endpoint) (e : EngineState) (core : Core) (m : Membership)
     (v : Receive) → IsFree a e core m → free_fault e (calls.Irecv v) ≡ None →
@@ -383,9 +382,9 @@ receive_faultless a own e core m v free allowed = go (held_at (member_of e.group
     go None at h = absurd cc
     go (Some k) at h =
         let r : RouteText = route_on v.source k in
-        routed_faultless a own e core m (cores_calls.Irecv (receive_by v r)) c
+        routed_faultless a own e core m (core_calls.Irecv (receive_by v r)) c
         (is_source_beyond (held_at (member_of e.groups) v.comm) v.source) (is_replaced e v.comm v.source)
-        (first_fault (group_limit r.group) (routed_limit e (cores_calls.Irecv (receive_by v r)))) free
+        (first_fault (group_limit r.group) (routed_limit e (core_calls.Irecv (receive_by v r)))) free
         (receive_routed a e core m v k free at) refl refl
         (ap (λ (o : Option Communicator). is_source_beyond o v.source) (at_same a e core m v.comm free))
         (named_alike a e core m v.comm v.source free) h
@@ -413,7 +412,7 @@ probing_reason : (a : Announcements) (own : Endpoint) (e : EngineState) (core : 
     (call : engine.Call) (why : Refusal) (limit : RouteText → Option Refusal) → IsFree a e core m →
     ((r : RouteText) (x : Refusal) → limit r ≡ Some x → x ≡ refusals.Limit) → (LacksRoom e call why → IsOutOfRoom why) →
     WhyRefused (on_route (option_map (route_on p.source) (held_at (member_of e.groups) p.comm)) (λ r.
-    first_fault (argument_fault e.core.place (cores_calls.Improbe (probe_by p r)))
+    first_fault (argument_fault e.core.place (core_calls.Improbe (probe_by p r)))
     (first_fault (broken (is_source_beyond (held_at (member_of e.groups) p.comm) p.source) refusals.Rank)
     (first_fault (broken (is_replaced e p.comm p.source) refusals.Replaced) (limit r))))) e call why →
     IsReason (fault own (view blank core) m (Improbe p.comm p.source p.tag)) why
@@ -425,7 +424,7 @@ probing_reason a own e core m p call why limit free full lacks reason =
 
     go : (o : Option Communicator) → held_at (member_of e.groups) p.comm ≡ o →
         WhyRefused (on_route (option_map (route_on p.source) o) (λ r.
-        first_fault (argument_fault e.core.place (cores_calls.Improbe (probe_by p r)))
+        first_fault (argument_fault e.core.place (core_calls.Improbe (probe_by p r)))
         (first_fault (broken (is_source_beyond (held_at (member_of e.groups) p.comm) p.source) refusals.Rank)
         (first_fault (broken (is_replaced e p.comm p.source) refusals.Replaced) (limit r))))) e call why →
         IsReason (fault own (view blank core) m c) why
@@ -434,7 +433,7 @@ probing_reason a own e core m p call why limit free full lacks reason =
         because
     go (Some k) at because =
         let r : RouteText = route_on p.source k in
-        routed_reason a own e core m call (cores_calls.Improbe (probe_by p r)) c
+        routed_reason a own e core m call (core_calls.Improbe (probe_by p r)) c
         (is_source_beyond (held_at (member_of e.groups) p.comm) p.source) (is_replaced e p.comm p.source)
         (limit r) why free (probe_routed a e core m p k free at) refl refl
         (ap (λ (o : Option Communicator). is_source_beyond o p.source) (at_same a e core m p.comm free))
@@ -445,7 +444,7 @@ probing_reason a own e core m p call why limit free full lacks reason =
 probing_faultless : (a : Announcements) (own : Endpoint) (e : EngineState) (core : Core) (m : Membership) (p : Probe)
     (limit : RouteText → Option Refusal) → IsFree a e core m →
     on_route (option_map (route_on p.source) (held_at (member_of e.groups) p.comm)) (λ r.
-    first_fault (argument_fault e.core.place (cores_calls.Improbe (probe_by p r)))
+    first_fault (argument_fault e.core.place (core_calls.Improbe (probe_by p r)))
     (first_fault (broken (is_source_beyond (held_at (member_of e.groups) p.comm) p.source) refusals.Rank)
     (first_fault (broken (is_replaced e p.comm p.source) refusals.Replaced) (limit r)))) ≡ None →
     fault own (view blank core) m (Improbe p.comm p.source p.tag) ≡ None
@@ -456,14 +455,14 @@ probing_faultless a own e core m p limit free allowed = go (held_at (member_of e
 
     go : (o : Option Communicator) → held_at (member_of e.groups) p.comm ≡ o →
         on_route (option_map (route_on p.source) o) (λ r.
-        first_fault (argument_fault e.core.place (cores_calls.Improbe (probe_by p r)))
+        first_fault (argument_fault e.core.place (core_calls.Improbe (probe_by p r)))
         (first_fault (broken (is_source_beyond (held_at (member_of e.groups) p.comm) p.source) refusals.Rank)
         (first_fault (broken (is_replaced e p.comm p.source) refusals.Replaced) (limit r)))) ≡ None →
         fault own (view blank core) m c ≡ None
     go None at h = absurd cc
     go (Some k) at h =
         let r : RouteText = route_on p.source k in
-        routed_faultless a own e core m (cores_calls.Improbe (probe_by p r)) c
+        routed_faultless a own e core m (core_calls.Improbe (probe_by p r)) c
         (is_source_beyond (held_at (member_of e.groups) p.comm) p.source) (is_replaced e p.comm p.source)
         (limit r) free (probe_routed a e core m p k free at) refl refl
         (ap (λ (o : Option Communicator). is_source_beyond o p.source) (at_same a e core m p.comm free))
@@ -471,19 +470,19 @@ probing_faultless a own e core m p limit free allowed = go (held_at (member_of e
 
 -- a matching probe's limits are that of its group and those of the core
 abbrev search_limit_of : EngineState → Probe → RouteText → Option Refusal
-search_limit_of e p r = first_fault (group_limit r.group) (routed_limit e (cores_calls.Improbe (probe_by p r)))
+search_limit_of e p r = first_fault (group_limit r.group) (routed_limit e (core_calls.Improbe (probe_by p r)))
 
 search_rules : (e : EngineState) (p : Probe) (o : Option RouteText) → on_route o (probe_rules e p) ≡
     on_route o
-    (λ r. first_fault (argument_fault e.core.place (cores_calls.Improbe (probe_by p r)))
+    (λ r. first_fault (argument_fault e.core.place (core_calls.Improbe (probe_by p r)))
     (first_fault (broken (is_source_beyond (held_at (member_of e.groups) p.comm) p.source) refusals.Rank)
     (first_fault (broken (is_replaced e p.comm p.source) refusals.Replaced) (search_limit_of e p r))))
 search_rules e p None = refl
 search_rules e p (Some r) =
-    rules_first (argument_fault e.core.place (cores_calls.Improbe (probe_by p r)))
+    rules_first (argument_fault e.core.place (core_calls.Improbe (probe_by p r)))
     (broken (is_source_beyond (held_at (member_of e.groups) p.comm) p.source) refusals.Rank)
     (broken (is_replaced e p.comm p.source) refusals.Replaced) (group_limit r.group)
-    (routed_limit e (cores_calls.Improbe (probe_by p r)))
+    (routed_limit e (core_calls.Improbe (probe_by p r)))
 
 -- ---- the receive of a message
 
@@ -498,11 +497,11 @@ message_found p own l m message into apart =
 -- its core's fault, by its requests and what it hands in
 message_cut : (a : Announcements) (e : EngineState) (core : Core) (m : Membership) (q : Option Request) (into : Region)
     (o : Option Refusal) → IsFree a e core m →
-    free_request_fault e.core (cores_calls.Mrecv q into) ≡ o → call_fault e.core (cores_calls.Mrecv q into) ≡
-    first_of o (argument_fault e.core.place (cores_calls.Mrecv q into))
+    free_request_fault e.core (core_calls.Mrecv q into) ≡ o → call_fault e.core (core_calls.Mrecv q into) ≡
+    first_of o (argument_fault e.core.place (core_calls.Mrecv q into))
 message_cut a e core m q into o free is =
-    ap (λ (b : Option Awaited). fault_at b e.core (cores_calls.Mrecv q into)) free.idle
-    ∙ ap (λ (p : Option Refusal). first_of p (argument_fault e.core.place (cores_calls.Mrecv q into))) is
+    ap (λ (b : Option Awaited). fault_at b e.core (core_calls.Mrecv q into)) free.idle
+    ∙ ap (λ (p : Option Refusal). first_of p (argument_fault e.core.place (core_calls.Mrecv q into))) is
 
 message_reason : (a : Announcements) (own : Endpoint) (e : EngineState) (core : Core) (m : Membership)
     (q : Option Request) (into : Region) (why : Refusal) → IsFree a e core m →
@@ -515,7 +514,7 @@ message_reason a own e core m q into why free reason =
     (by_requests (free_request_fault e.core asked) refl reason)
   where
     asked : core_calls.RoutedCall
-    asked = cores_calls.Mrecv q into
+    asked = core_calls.Mrecv q into
 
     broken_by : (x : Refusal) → call_fault e.core asked ≡ Some x → why ≡ x → HasReason e.core core asked why
     broken_by x at because =
@@ -549,7 +548,7 @@ message_faultless : (a : Announcements) (own : Endpoint) (e : EngineState) (core
     free_fault e (calls.Mrecv q into) ≡ None →
     IsFaultless (fault own (view blank core) m (call_seen (calls.Mrecv q into))) e.core (calls.Mrecv q into)
 message_faultless a own e core m q into free allowed =
-    let asked : core_calls.RoutedCall = cores_calls.Mrecv q into in
+    let asked : core_calls.RoutedCall = core_calls.Mrecv q into in
     let requests = neither_fault (free_request_fault e.core asked) _ allowed in
     let arguments = neither_fault (argument_fault e.core.place asked) (routed_limit e asked) requests.1 in
     let fine = allowed_calls_are_faultless a e.core e.sessions.known core asked free.shown (message_cut a e core m q into None free requests.0 ∙ arguments.0) in
@@ -721,30 +720,30 @@ pub free_reason : (a : Announcements) (own : Endpoint) (e : EngineState) (core :
 free_reason a own e core m (calls.Isend s) why free stands reason = send_reason a own e core m s why free reason
 free_reason a own e core m (calls.Irecv v) why free stands reason = receive_reason a own e core m v why free reason
 free_reason a own e core m (calls.Wait q) why free stands reason =
-    requests_reason a e core m (calls.Wait q) (cores_calls.Wait q) _ why free
-    (free_is a e core m (cores_calls.Wait q) free)
+    requests_reason a e core m (calls.Wait q) (core_calls.Wait q) _ why free
+    (free_is a e core m (core_calls.Wait q) free)
     (wait_found e.core.place own (view blank core) m
     (in_queues.awaited_by (in_queues.serial_meant e.core) (awaiteds.One q)) free.apart) (λ lacks. absurd lacks)
     reason
 free_reason a own e core m (calls.Test q) why free stands reason =
-    requests_reason a e core m (calls.Test q) (cores_calls.Test q) _ why free
-    (free_is a e core m (cores_calls.Test q) free)
+    requests_reason a e core m (calls.Test q) (core_calls.Test q) _ why free
+    (free_is a e core m (core_calls.Test q) free)
     (test_found e.core.place own (view blank core) m (in_queues.request_by (in_queues.serial_meant e.core) q)
     free.apart) (λ lacks. absurd lacks) reason
 free_reason a own e core m (calls.Waitany qs) why free stands reason =
-    requests_reason a e core m (calls.Waitany qs) (cores_calls.Waitany qs) _ why free
-    (free_is a e core m (cores_calls.Waitany qs) free)
+    requests_reason a e core m (calls.Waitany qs) (core_calls.Waitany qs) _ why free
+    (free_is a e core m (core_calls.Waitany qs) free)
     (wait_found e.core.place own (view blank core) m
     (in_queues.awaited_by (in_queues.serial_meant e.core) (awaiteds.AnyOf qs)) free.apart) (λ lacks. absurd lacks)
     reason
 free_reason a own e core m (calls.Waitall qs) why free stands reason =
-    requests_reason a e core m (calls.Waitall qs) (cores_calls.Waitall qs) _ why free
-    (free_is a e core m (cores_calls.Waitall qs) free)
+    requests_reason a e core m (calls.Waitall qs) (core_calls.Waitall qs) _ why free
+    (free_is a e core m (core_calls.Waitall qs) free)
     (wait_found e.core.place own (view blank core) m
     (in_queues.awaited_by (in_queues.serial_meant e.core) (awaiteds.AllOf qs)) free.apart) (λ lacks. lacks) reason
 free_reason a own e core m (calls.Cancel q) why free stands reason =
-    requests_reason a e core m (calls.Cancel q) (cores_calls.Cancel q) _ why free
-    (free_is a e core m (cores_calls.Cancel q) free)
+    requests_reason a e core m (calls.Cancel q) (core_calls.Cancel q) _ why free
+    (free_is a e core m (core_calls.Cancel q) free)
     (cancel_found e.core.place own (view blank core) m (in_queues.request_by (in_queues.serial_meant e.core) q)
     free.apart) (λ lacks. absurd lacks) reason
 free_reason a own e core m (calls.Iprobe p) why free stands reason =
@@ -752,7 +751,7 @@ free_reason a own e core m (calls.Iprobe p) why free stands reason =
     (λ r x h. group_full r.group x h) (λ lacks. absurd lacks) reason
 free_reason a own e core m (calls.Improbe p) why free stands reason =
     probing_reason a own e core m p (calls.Improbe p) why (search_limit_of e p) free
-    (λ r x h. group_routed_full e r.group (cores_calls.Improbe (probe_by p r)) x h) (λ lacks. inr lacks.0)
+    (λ r x h. group_routed_full e r.group (core_calls.Improbe (probe_by p r)) x h) (λ lacks. inr lacks.0)
     (subst (λ (o : Option Refusal). WhyRefused o e (calls.Improbe p) why)
     (search_rules e p (option_map (route_on p.source) (held_at (member_of e.groups) p.comm))) reason)
 free_reason a own e core m (calls.Mrecv q into) why free stands reason =
@@ -771,28 +770,28 @@ free_faultless a own e core m (calls.Isend s) free stands allowed =
 free_faultless a own e core m (calls.Irecv v) free stands allowed =
     record { own = refl; none = receive_faultless a own e core m v free allowed }
 free_faultless a own e core m (calls.Wait q) free stands allowed =
-    requests_faultless a e core m (calls.Wait q) (cores_calls.Wait q) _ free
-    (free_is a e core m (cores_calls.Wait q) free)
+    requests_faultless a e core m (calls.Wait q) (core_calls.Wait q) _ free
+    (free_is a e core m (core_calls.Wait q) free)
     (wait_found e.core.place own (view blank core) m (in_queues.awaited_by in_queues.own_serial (awaiteds.One q))
     free.apart) (λ f. refl) allowed
 free_faultless a own e core m (calls.Test q) free stands allowed =
-    requests_faultless a e core m (calls.Test q) (cores_calls.Test q) _ free
-    (free_is a e core m (cores_calls.Test q) free)
+    requests_faultless a e core m (calls.Test q) (core_calls.Test q) _ free
+    (free_is a e core m (core_calls.Test q) free)
     (test_found e.core.place own (view blank core) m (in_queues.request_by in_queues.own_serial q) free.apart)
     (λ f. refl) allowed
 free_faultless a own e core m (calls.Waitany qs) free stands allowed =
-    requests_faultless a e core m (calls.Waitany qs) (cores_calls.Waitany qs) _ free
-    (free_is a e core m (cores_calls.Waitany qs) free)
+    requests_faultless a e core m (calls.Waitany qs) (core_calls.Waitany qs) _ free
+    (free_is a e core m (core_calls.Waitany qs) free)
     (wait_found e.core.place own (view blank core) m
     (in_queues.awaited_by in_queues.own_serial (awaiteds.AnyOf qs)) free.apart) (λ f. refl) allowed
 free_faultless a own e core m (calls.Waitall qs) free stands allowed =
-    requests_faultless a e core m (calls.Waitall qs) (cores_calls.Waitall qs) _ free
-    (free_is a e core m (cores_calls.Waitall qs) free)
+    requests_faultless a e core m (calls.Waitall qs) (core_calls.Waitall qs) _ free
+    (free_is a e core m (core_calls.Waitall qs) free)
     (wait_found e.core.place own (view blank core) m
     (in_queues.awaited_by in_queues.own_serial (awaiteds.AllOf qs)) free.apart) (λ f. refl) allowed
 free_faultless a own e core m (calls.Cancel q) free stands allowed =
-    requests_faultless a e core m (calls.Cancel q) (cores_calls.Cancel q) _ free
-    (free_is a e core m (cores_calls.Cancel q) free)
+    requests_faultless a e core m (calls.Cancel q) (core_calls.Cancel q) _ free
+    (free_is a e core m (core_calls.Cancel q) free)
     (cancel_found e.core.place own (view blank core) m (in_queues.request_by in_queues.own_serial q) free.apart)
     (λ f. refl) allowed
 free_faultless a own e core m (calls.Iprobe p) free stands allowed =

@@ -37,8 +37,7 @@ use Rattle.point_to_point_calls.specs.Refusals.{number_of_refusal}
 use Rattle.point_to_point_calls.specs.Sending.{announced_to, or_worn_out, send_fault}
 use Rattle.point_to_point_calls.specs.declared.call.RoutedReceive as core_receives
 use Rattle.point_to_point_calls.specs.declared.call.RoutedSend as core_sends
-use Rattle.point_to_point_calls.specs.declared.call.RoutedCall as core_calls
-use Rattle.point_to_point_calls.specs.declared.call.RoutedCall.TheVariants as calls
+use Rattle.point_to_point_calls.specs.CoreCalls as core_calls
 use Rattle.point_to_point_calls.specs.declared.refusal.Refusal.{Refusal}
 use Rattle.point_to_point_calls.specs.declared.refusal.Refusal.TheVariants as refusals
 use Rattle.point_to_point.specs.Calls.{argument_fault, call_fault, call_frame, fault_at, free_fault, free_request_fault}
@@ -166,15 +165,15 @@ search_full (sources.Rank r) c p x h = held_full c (found_for c (sources.Rank r)
 
 -- the only limit of a core is 13
 limit_is : (c : CoreState) (q : core_calls.RoutedCall) (x : Refusal) → limit_fault c q ≡ Some x → x ≡ refusals.Limit
-limit_is c (calls.Isend s) x h = worn_is (is_full c.slots c.serial) (announced_to c.place s) c.transfers x h
-limit_is c (calls.Irecv v) x h = full_is (is_full c.slots c.serial) x h
-limit_is c (calls.Wait q) x h = absurd cc
-limit_is c (calls.Test q) x h = absurd cc
-limit_is c (calls.Waitany qs) x h = absurd cc
-limit_is c (calls.Waitall qs) x h = absurd cc
-limit_is c (calls.Cancel q) x h = absurd cc
-limit_is c (calls.Improbe p) x h = search_full p.route.named c p x h
-limit_is c (calls.Mrecv q into) x h = absurd cc
+limit_is c (core_calls.Isend s) x h = worn_is (is_full c.slots c.serial) (announced_to c.place s) c.transfers x h
+limit_is c (core_calls.Irecv v) x h = full_is (is_full c.slots c.serial) x h
+limit_is c (core_calls.Wait q) x h = absurd cc
+limit_is c (core_calls.Test q) x h = absurd cc
+limit_is c (core_calls.Waitany qs) x h = absurd cc
+limit_is c (core_calls.Waitall qs) x h = absurd cc
+limit_is c (core_calls.Cancel q) x h = absurd cc
+limit_is c (core_calls.Improbe p) x h = search_full p.route.named c p x h
+limit_is c (core_calls.Mrecv q into) x h = absurd cc
 
 worn_out : (b : Bool) (x : Refusal) → fault_of_sessions (if b then Some lowers.Limit else None) ≡ Some x →
     x ≡ refusals.Limit
@@ -285,15 +284,15 @@ region_rule_room into x h room =
 
 -- what a call breaks by what it hands in is no limit
 argument_room : (p : Place) (q : core_calls.RoutedCall) (x : Refusal) → argument_fault p q ≡ Some x → IsOutOfRoom x → ⊥
-argument_room p (calls.Isend s) x h room = send_rule_room p s x h room
-argument_room p (calls.Irecv v) x h room = receive_rule_room p.size v x h room
-argument_room p (calls.Wait q) x h room = absurd cc
-argument_room p (calls.Test q) x h room = absurd cc
-argument_room p (calls.Waitany qs) x h room = absurd cc
-argument_room p (calls.Waitall qs) x h room = absurd cc
-argument_room p (calls.Cancel q) x h room = absurd cc
-argument_room p (calls.Improbe q) x h room = probe_rule_room p.size q.route.named q.probe.tag x h room
-argument_room p (calls.Mrecv q into) x h room = region_rule_room into x h room
+argument_room p (core_calls.Isend s) x h room = send_rule_room p s x h room
+argument_room p (core_calls.Irecv v) x h room = receive_rule_room p.size v x h room
+argument_room p (core_calls.Wait q) x h room = absurd cc
+argument_room p (core_calls.Test q) x h room = absurd cc
+argument_room p (core_calls.Waitany qs) x h room = absurd cc
+argument_room p (core_calls.Waitall qs) x h room = absurd cc
+argument_room p (core_calls.Cancel q) x h room = absurd cc
+argument_room p (core_calls.Improbe q) x h room = probe_rule_room p.size q.route.named q.probe.tag x h room
+argument_room p (core_calls.Mrecv q into) x h room = region_rule_room into x h room
 
 -- ---- WHAT THE QUEUES FIND
 
@@ -334,15 +333,15 @@ first_alone (Some x) = refl
 -- the fault of a call whose requests are in order, while no earlier one is blocked
 free_cut : (c : CoreState) (q : core_calls.RoutedCall) → free_request_fault c q ≡ None →
     free_fault c q ≡ first_of (argument_fault c.place q) (limit_fault c q)
-free_cut c (calls.Isend s) requests = send_cut (send_fault c.place s) c (announced_to c.place s) c.transfers
-free_cut c (calls.Irecv v) requests = receive_cut c v
-free_cut c (calls.Wait q) requests = requests
-free_cut c (calls.Test q) requests = requests
-free_cut c (calls.Waitany qs) requests = requests
-free_cut c (calls.Waitall qs) requests = requests
-free_cut c (calls.Cancel q) requests = requests
-free_cut c (calls.Improbe p) requests = refl
-free_cut c (calls.Mrecv q into) requests = ap (λ (o : Option Refusal). first_of o (region_rule into)) requests ∙
+free_cut c (core_calls.Isend s) requests = send_cut (send_fault c.place s) c (announced_to c.place s) c.transfers
+free_cut c (core_calls.Irecv v) requests = receive_cut c v
+free_cut c (core_calls.Wait q) requests = requests
+free_cut c (core_calls.Test q) requests = requests
+free_cut c (core_calls.Waitany qs) requests = requests
+free_cut c (core_calls.Waitall qs) requests = requests
+free_cut c (core_calls.Cancel q) requests = requests
+free_cut c (core_calls.Improbe p) requests = refl
+free_cut c (core_calls.Mrecv q into) requests = ap (λ (o : Option Refusal). first_of o (region_rule into)) requests ∙
     first_alone (region_rule into)
 
 pub core_fault : (c : CoreState) (q : core_calls.RoutedCall) → c.blocked ≡ None → free_request_fault c q ≡ None →

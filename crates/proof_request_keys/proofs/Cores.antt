@@ -19,12 +19,11 @@ use Rattle.requests.specs.declared.table.RequestProgress.TheVariants.{Finished}
 use Rattle.requests.specs.declared.table.Request.{Request}
 use Rattle.point_to_point_calls.specs.Calls.{Starts}
 use Rattle.point_to_point_calls.specs.Hearing.{NewsText, announced_of, message_of}
-use Rattle.point_to_point_calls.specs.declared.call.RoutedCall.{RoutedCall}
-use Rattle.point_to_point_calls.specs.declared.call.RoutedCall.TheVariants as calls
+use Rattle.point_to_point_calls.specs.CoreCalls.{RoutedCall}
+use Rattle.point_to_point_calls.specs.CoreCalls as calls
 use Rattle.point_to_point_calls.specs.declared.call.RoutedProbe.{RoutedProbe}
 use Rattle.point_to_point_calls.specs.declared.call.RoutedReceive.{RoutedReceive}
-use Rattle.point_to_point_calls.specs.declared.call.CoreReply.{CoreReply}
-use Rattle.point_to_point_calls.specs.declared.call.CoreReply.TheVariants as replies
+use Rattle.point_to_point_calls.specs.CoreCalls.{CoreReply}
 use Rattle.point_to_point_calls.specs.declared.call.RoutedSend.{RoutedSend}
 use Rattle.point_to_point_calls.specs.declared.sends.Destination.{Destination}
 use Rattle.point_to_point_calls.specs.Sending.{announced_to, destination, is_to_itself, offered_by}
@@ -134,13 +133,13 @@ woken_stays c = woken_by_stays c c.blocked
 
 -- the request that a reply of the core gives, if it does
 abbrev pub request_in : CoreReply → Option Request
-request_in (replies.Started q) = Some q
-request_in (replies.Done a) = None
-request_in replies.Pending = None
-request_in replies.Accepted = None
-request_in (replies.Matched found) = message_given found
-request_in replies.Blocked = None
-request_in (replies.Refused why back) = None
+request_in (calls.Started q) = Some q
+request_in (calls.Done a) = None
+request_in calls.Pending = None
+request_in calls.Accepted = None
+request_in (calls.Matched found) = message_given found
+request_in calls.Blocked = None
+request_in (calls.Refused why back) = None
 
 -- it has the next serial
 pub record IsNext (old new : CoreState) (q : Request) : Type 0 where
@@ -211,10 +210,10 @@ waits_go_on old new a reply given = go (completion old.slots a) given
   where
     go : (o : Option (Answer × List Request)) → WaitsBy old a o reply new → GoesOn old reply new
     go None g =
-        quiet_on old new reply replies.Blocked g.0 refl
+        quiet_on old new reply calls.Blocked g.0 refl
         (as_stays old _ new g.1 (record { all = λ P all. all; serial = refl; place = refl }))
     go (Some (answer, used)) g =
-        quiet_on old new reply (replies.Done answer) g.0 refl
+        quiet_on old new reply (calls.Done answer) g.0 refl
         (as_stays old _ new g.1 (record { all = λ P all. use_stays P old.slots used all; serial = refl; place = refl }))
 
 tests_go_on : (old new : CoreState) (q : Option Request) (reply : CoreReply) → Tests old q reply new →
@@ -222,9 +221,9 @@ tests_go_on : (old new : CoreState) (q : Option Request) (reply : CoreReply) →
 tests_go_on old new q reply given = go (completion old.slots (One q)) given
   where
     go : (o : Option (Answer × List Request)) → TestsBy old o reply new → GoesOn old reply new
-    go None g = quiet_on old new reply replies.Pending g.0 refl (same_stays old new g.1)
+    go None g = quiet_on old new reply calls.Pending g.0 refl (same_stays old new g.1)
     go (Some (answer, used)) g =
-        quiet_on old new reply (replies.Done answer) g.0 refl
+        quiet_on old new reply (calls.Done answer) g.0 refl
         (as_stays old _ new g.1 (record { all = λ P all. use_stays P old.slots used all; serial = refl; place = refl }))
 
 cancelled_stays : (old : CoreState) (q : Option Request) → StaysIn old (cancelled old q)
@@ -242,7 +241,7 @@ cancelled_stays old (Some q) = go (progress_at old.slots q.key q.serial)
 cancels_go_on : (old new : CoreState) (q : Option Request) (reply : CoreReply) → Cancels old q reply new →
     GoesOn old reply new
 cancels_go_on old new q reply given =
-    quiet_on old new reply replies.Accepted given.0 refl (as_stays old _ new given.1 (cancelled_stays old q))
+    quiet_on old new reply calls.Accepted given.0 refl (as_stays old _ new given.1 (cancelled_stays old q))
 
 -- the receive of a message
 receives_go_on : (old new : CoreState) (q : Option Request) (into : Region) (reply : CoreReply) →
@@ -262,9 +261,9 @@ receives_go_on old new (Some q) into reply given =
 -- ---- calls that start a request
 
 send_goes_on : (old new : CoreState) (s : RoutedSend) (r : Request) → IsSending old s r new →
-    GoesOn old (replies.Started r) new
+    GoesOn old (calls.Started r) new
 send_goes_on old new s r given =
-    starts_on old new (replies.Started r) r refl given.serial stays.serial stays.place
+    starts_on old new (calls.Started r) r refl given.serial stays.serial stays.place
     (λ P start before. stays.all P (start_stays P old.slots given.started r.key _ before start given.entry))
   where
     begun : CoreState
@@ -282,25 +281,25 @@ send_goes_on old new s r given =
         (sent_from s.send.from))
 
 post_goes_on : (old new : CoreState) (v : RoutedReceive) (r : Request) → IsPosting old v r new →
-    GoesOn old (replies.Started r) new
+    GoesOn old (calls.Started r) new
 post_goes_on old new v r given =
-    starts_on old new (replies.Started r) r refl given.serial (ap (λ (c : CoreState). c.serial) given.rest)
+    starts_on old new (calls.Started r) r refl given.serial (ap (λ (c : CoreState). c.serial) given.rest)
     (ap (λ (c : CoreState). c.place) given.rest)
     (λ P start before. subst (λ (c : CoreState). All P c.slots) (sym given.rest)
     (own_sent_stays P given.started _ (start_stays P old.slots given.started r.key _ before start given.entry)))
 
 nothing_goes_on : (old new : CoreState) (v : RoutedReceive) (r : Request) → IsReceivingNothing old v r new →
-    GoesOn old (replies.Started r) new
+    GoesOn old (calls.Started r) new
 nothing_goes_on old new v r given =
-    starts_on old new (replies.Started r) r refl given.serial (ap (λ (c : CoreState). c.serial) given.rest)
+    starts_on old new (calls.Started r) r refl given.serial (ap (λ (c : CoreState). c.serial) given.rest)
     (ap (λ (c : CoreState). c.place) given.rest)
     (λ P start before. start_stays P old.slots new.slots r.key _ before start given.entry)
 
 receive_goes_on : (old new : CoreState) (v : RoutedReceive) (r : Request) → IsReceiving old v r new →
-    GoesOn old (replies.Started r) new
+    GoesOn old (calls.Started r) new
 receive_goes_on old new v r given = go v.route.named given
   where
-    go : (source : Source) → ReceivesFrom source old v r new → GoesOn old (replies.Started r) new
+    go : (source : Source) → ReceivesFrom source old v r new → GoesOn old (calls.Started r) new
     go sources.Any g = post_goes_on old new v r g
     go (sources.Rank rank) g = post_goes_on old new v r g
     go sources.Null g = nothing_goes_on old new v r g
@@ -313,17 +312,17 @@ search_goes_on old new p reply given = go p.route.named given
     takes : (o : Option Message) → TakesOut old p o reply new → GoesOn old reply new
     takes None g =
         subst (λ (x : CoreReply). GoesOn old x new) (sym g.0)
-        (stays_on old new (replies.Matched None) (λ q is. absurd cc) (same_stays old new g.1))
+        (stays_on old new (calls.Matched None) (λ q is. absurd cc) (same_stays old new g.1))
     takes (Some m) (r, is, g) =
         subst (λ (x : CoreReply). GoesOn old x new) (sym is)
-        (starts_on old new (replies.Matched (Some (Some r, _))) r refl g.serial
+        (starts_on old new (calls.Matched (Some (Some r, _))) r refl g.serial
         (ap (λ (c : CoreState). c.serial) g.rest) (ap (λ (c : CoreState). c.place) g.rest)
         (λ P start before. start_stays P old.slots new.slots r.key _ before start g.entry))
 
     go : (source : Source) → SearchesFrom source old p reply new → GoesOn old reply new
     go sources.Null g =
         subst (λ (x : CoreReply). GoesOn old x new) (sym g.0)
-        (stays_on old new (replies.Matched _) (λ q is. absurd cc) (same_stays old new g.1))
+        (stays_on old new (calls.Matched _) (λ q is. absurd cc) (same_stays old new g.1))
     go sources.Any g = takes (found_for old sources.Any p.probe.tag p.route.context) g
     go (sources.Rank r) g = takes (found_for old (sources.Rank r) p.probe.tag p.route.context) g
 
@@ -331,14 +330,14 @@ search_goes_on old new p reply given = go p.route.named given
 
 -- what starts a request is answered with it
 started : (old new : CoreState) (reply : CoreReply) (start : Request → Type 0) →
-    ((r : Request) → start r → GoesOn old (replies.Started r) new) → Starts start reply → GoesOn old reply new
-started old new (replies.Started r) start on given = on r given
-started old new (replies.Refused why back) start on given = absurd given
-started old new (replies.Done a) start on given = absurd given
-started old new replies.Pending start on given = absurd given
-started old new replies.Accepted start on given = absurd given
-started old new (replies.Matched m) start on given = absurd given
-started old new replies.Blocked start on given = absurd given
+    ((r : Request) → start r → GoesOn old (calls.Started r) new) → Starts start reply → GoesOn old reply new
+started old new (calls.Started r) start on given = on r given
+started old new (calls.Refused why back) start on given = absurd given
+started old new (calls.Done a) start on given = absurd given
+started old new calls.Pending start on given = absurd given
+started old new calls.Accepted start on given = absurd given
+started old new (calls.Matched m) start on given = absurd given
+started old new calls.Blocked start on given = absurd given
 
 pub call_goes_on : (old new : CoreState) (call : RoutedCall) (reply : CoreReply) → Answers old call reply new →
     GoesOn old reply new

@@ -26,8 +26,7 @@ use Rattle.point_to_point_calls.specs.declared.call.Probe.{Probe}
 use Rattle.engine_calls.specs.declared.reply.Reply.{Reply}
 use Rattle.engine_calls.specs.declared.reply.Reply.TheVariants as replies
 use Rattle.observation.specs.CoreCalls.{has_serial}
-use Rattle.point_to_point_calls.specs.declared.call.CoreReply as core_answers
-use Rattle.point_to_point_calls.specs.declared.call.CoreReply.TheVariants as core_replies
+use Rattle.point_to_point_calls.specs.CoreCalls as core_answers
 use Rattle.point_to_point.specs.CoreState.{CoreState}
 use Rattle.requests.specs.Table.{slot_at}
 use Rattle.requests.specs.declared.table.TableEntry.{TableEntry}
@@ -196,9 +195,9 @@ calls_keep_keys old mid (calls.Ask comm question) reply g =
 given_in : (reply : Reply) (answer : core_answers.CoreReply) (q : Request) → core_reply reply ≡ Some answer →
     request_given reply ≡ Some q → request_in answer ≡ Some q
 given_in (replies.Started r) answer q told is =
-    subst (λ (a : core_answers.CoreReply). request_in a ≡ Some q) (same_Some (core_replies.Started r) answer told) is
+    subst (λ (a : core_answers.CoreReply). request_in a ≡ Some q) (same_Some (core_answers.Started r) answer told) is
 given_in (replies.Matched found) answer q told is =
-    subst (λ (a : core_answers.CoreReply). request_in a ≡ Some q) (same_Some (core_replies.Matched found) answer told)
+    subst (λ (a : core_answers.CoreReply). request_in a ≡ Some q) (same_Some (core_answers.Matched found) answer told)
     is
 given_in (replies.Done a) answer q told is = absurd cc
 given_in replies.Pending answer q told is = absurd cc

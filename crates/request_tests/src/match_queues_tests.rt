@@ -40,7 +40,8 @@ fn post(queues: &mut Queues, receive: PostedReceive) -> Option<Option<Message>> 
     let Ok(()) = queues.reserve_receive() else {
         return None;
     };
-    Some(queues.post(receive))
+    let found = queues.place_for(&receive);
+    Some(queues.post(receive, found))
 }
 
 /// Whether a message is kept.

@@ -1,9 +1,0 @@
-use Rattle.engine_calls.proofs.Answering.{core_leaves}
-use Rattle.engine_calls.specs.declared.call.Call.TheVariants as calls
-use Rattle.engine.proofs.engine.Engine.isend.Goals as goal
-
-pub returns-clause-unchanged : goal.returns-clause-unchanged
-returns-clause-unchanged c =
-    let call = calls.Isend c.args.send in
-    core_leaves c.args.self.now c.reply_to.new.self call c.reply_to.result
-    (c.reply_to.ensures.exact call c.asked_by_send-asked.ensures)

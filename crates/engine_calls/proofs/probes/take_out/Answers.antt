@@ -1,0 +1,17 @@
+-- A matching probe is answered, or comes back for want of memory.
+use Rattle.std.proofs.Common.{refl, sym, ◌∙◌}
+use Rattle.engine_calls.proofs.Answering.{lacking, searched}
+use Rattle.point_to_point_calls.specs.CoreCalls as core_calls
+use Rattle.engine_calls.proofs.probes.take_out.Goals as goal
+
+pub returns-in-Ok-prepare_search : goal.returns-in-Ok-prepare_search
+returns-in-Ok-prepare_search c = λ g rest s call same asked.
+    searched c.args.core.now.state c.prepare_search.new.self.state c.search.new.self.state c.args.judged.sought.routed
+    c.in-Ok.group c.search.result c.prepare_search.ensures.kept c.search.ensures.exact g rest s call
+    (same ∙ sym c.in-Ok.ensures.ok) asked
+
+pub returns-in-Err : goal.returns-in-Err
+returns-in-Err c = λ g rest s call same asked.
+    lacking c.args.core.now.state c.prepare_search.new.self.state s s
+    (core_calls.Improbe c.args.judged.sought.routed) c.in-Err.refused _ c.prepare_search.ensures.kept refl
+    c.in-Err.ensures.err tt refl g rest call asked

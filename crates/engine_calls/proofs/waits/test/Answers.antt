@@ -1,0 +1,19 @@
+-- A call on requests that breaks no rule is answered, and else refused.
+use Rattle.std.proofs.Common.{refl, sym, ◌∙◌}
+use Rattle.engine_calls.proofs.Answering.{fault_refused, requests_answered}
+use Rattle.engine_calls.specs.Asks.{engine_of, groups_of}
+use Rattle.engine_calls.specs.declared.call.Call.TheVariants as calls
+use Rattle.point_to_point.specs.Waiting.{tested}
+use Rattle.point_to_point_calls.specs.CoreCalls as core_calls
+use Rattle.engine_calls.proofs.waits.test.Goals as goal
+
+pub returns-in-None : goal.returns-in-None
+returns-in-None c =
+    requests_answered c.args.core.now.state c.test.new.self.state (groups_of c.args.communicators.now)
+    (core_calls.Test c.args.request) (tested c.test.result) c.reply_of_test.result tt
+    (λ rest s. sym (c.fault_of_wait.ensures.test rest s) ∙ c.in-None.is) c.test.ensures.exact c.reply_of_test.ensures
+
+pub returns-in-Some : goal.returns-in-Some
+returns-in-Some c = λ rest s.
+    fault_refused (engine_of c.args.core.now.state (groups_of c.args.communicators.now) rest s) (calls.Test c.args.request)
+    c.in-Some.refused (calls.Test c.args.request) (sym (c.fault_of_wait.ensures.test rest s) ∙ c.in-Some.is) refl
