@@ -2,13 +2,13 @@ use Rattle.event_loop.proofs.driver.drive.Goals as goal
 
 pub returns-clause-exact : goal.returns-clause-exact
 returns-clause-exact g c =
-    let on = c.make_rounds-ended.ensures.exact in
+    let on = c.make_rounds.ensures.exact in
     record {
       start = c.now-start.result;
       times = on.times;
       now = on.now;
       course = on.course;
-      standing = c.make_rounds-ended.new.standing;
+      standing = c.make_rounds.new.rank.standing;
       clock = (_, c.now-start.ensures, on.clock);
       rounds_on = on.rounds_on;
       last = on.last;

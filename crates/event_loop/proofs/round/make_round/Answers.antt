@@ -2,7 +2,7 @@ use Rattle.std.proofs.Common.{inl, inr, refl, rules}
 use Rattle.event_loop.proofs.round.make_round.Goals as goal
 
 pub returns-in_default-clause-exact : goal.returns-in_default-clause-exact
-returns-in_default-clause-exact g c = inl (c.in_default.ensures.exact, refl, refl)
+returns-in_default-clause-exact g c = inl (c.in_default.ensures.exact, c.in_default.ensures.times)
 
 pub returns-in_default-rest-clause-exact : goal.returns-in_default-rest-clause-exact
 returns-in_default-rest-clause-exact g c = inr (
@@ -10,8 +10,8 @@ returns-in_default-rest-clause-exact g c = inr (
   record {
     turned = c.in-Ok.turned;
     turn = c.in-Ok.ensures.exact;
-    heard = c.time_of-standing.ensures;
-    moved = c.time_of-standing-2.ensures;
+    heard = search rules;
+    moved = search rules;
   },
   record {
     idle = c.is_idle-idle.result;
