@@ -251,7 +251,7 @@ fn tell_block(
         blocks_to seat.now.own seat.now.inside.now blocks.now.all.now blocks.now.count place
         (slice_index blocks.now.group.now place ∷ [])) }
 {
-    let rank = blocks.group.ranks()[usize::from(place)];
+    let rank = blocks.group.ranks()[place as usize];
     if is_same(member(seat.inside, rank), seat.own) {
         return Ok(());
     }

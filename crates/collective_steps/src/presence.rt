@@ -6,11 +6,11 @@ use vocabulary::Endpoint;
 
 /// A rank, the collective that it is in, if any, and what was found in that one's notes.
 #[derive(Clone, Copy)]
-pub struct Presence<'a> {
+pub struct Presence<'i, 'p> {
     /// Who the rank is.
     pub own: Endpoint,
     /// The collective that it is in, if any.
-    pub inside: Option<&'a Inside>,
+    pub inside: Option<&'i Inside>,
     /// What was found in the notes of this collective.
-    pub progress: &'a Progress,
+    pub progress: &'p Progress,
 }

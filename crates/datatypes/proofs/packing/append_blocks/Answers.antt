@@ -12,8 +12,8 @@ overflow_mul-first c =
     let there = block_there c.args.block c.loop-number.number (length xs) (omega arith) in
     omega arith
 
-pub bounds-offsets-number : goal.bounds-offsets-number
-bounds-offsets-number c =
+pub bounds-copy-number : goal.bounds-copy-number
+bounds-copy-number c =
     let xs = c.args.copy.now.offsets.now in
     let there = block_there c.args.block c.loop-number.number (length xs) (omega arith) in
     omega arith

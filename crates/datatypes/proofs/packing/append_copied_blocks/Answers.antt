@@ -17,8 +17,8 @@ loop-number-init c =
     sym (ap (λ (t : List ℕ). a.out.now.items ++ pieces_of a.strided.now.size a.bytes.now t) (copies_at-none 0 a.strided.now.offsets.now) ∙
     append-nil a.out.now.items)
 
-pub overflow_mul-number : goal.overflow_mul-number
-overflow_mul-number c =
+pub overflow_mul-one : goal.overflow_mul-one
+overflow_mul-one c =
     let a = c.args in
     let xs = a.strided.now.offsets.now in
     let k = c.loop-number.number in

@@ -39,8 +39,8 @@ overflow_mul-copy c =
     let held : (k * l + l) * size ≤ length old * size = mul-le-mul_right size room in
     omega arith
 
-pub overflow_mul-copy-in-loop-copy : goal.overflow_mul-copy-in-loop-copy
-overflow_mul-copy-in-loop-copy c =
+pub overflow_mul-one : goal.overflow_mul-one
+overflow_mul-one c =
     let a = c.args in
     let size = a.size in
     let positive : 1 ≤ size = omega (arith, c.requires.size, a.strided.now.low) in

@@ -13,8 +13,8 @@ use Rattle.datatypes.proofs.PlaceLaws.{first_places-is}
 use Rattle.derived_types.proofs.LayoutLaws.{length-copies_at}
 use Rattle.datatypes.proofs.unpacking.put_sized.Goals as goal
 
-pub overflow_mul-copy : goal.overflow_mul-copy
-overflow_mul-copy c =
+pub overflow_mul-one : goal.overflow_mul-one
+overflow_mul-one c =
     let a = c.args in
     let size = a.size in
     let xs = a.strided.now.offsets.now in
@@ -36,8 +36,8 @@ overflow_mul-copy c =
     let same : k * a.strided.now.extent ≡ by = ap (λ (e : ℕ). k * e) a.strided.now.extent_is in
     rw same (omega arith)
 
-pub overflow_mul-copy-in-loop-copy : goal.overflow_mul-copy-in-loop-copy
-overflow_mul-copy-in-loop-copy c =
+pub overflow_mul-copy : goal.overflow_mul-copy
+overflow_mul-copy c =
     let a = c.args in
     let size = a.size in
     let xs = a.strided.now.offsets.now in
@@ -124,8 +124,8 @@ loop-copy-preserved c =
           ∙ sym (whole_more old xs ms k (omega (arith, c.requires.count)));
     }
 
-pub overflow_mul-whole : goal.overflow_mul-whole
-overflow_mul-whole c =
+pub overflow_mul-part : goal.overflow_mul-part
+overflow_mul-part c =
     let a = c.args in
     let size = a.size in
     let xs = a.strided.now.offsets.now in

@@ -8,8 +8,8 @@ use Rattle.datatypes.proofs.RunLaws.{AreRun, run_near, first_run, with_run-is}
 use Rattle.datatypes.proofs.BlockLaws.{with_run-len}
 use Rattle.datatypes.proofs.unpacking.put_slices.Goals as goal
 
-pub overflow_mul-offsets : goal.overflow_mul-offsets
-overflow_mul-offsets c =
+pub overflow_mul-strided : goal.overflow_mul-strided
+overflow_mul-strided c =
     let a = c.args in
     let size = a.strided.now.size in
     let xs = a.strided.now.offsets.now in
