@@ -65,8 +65,8 @@ pub fn drive<R: Wait, P: Runner, T: Transport, C: Clock>(
     clock: &mut C,
 ) -> Result<Ended, TransportFault>
     requires { T.failed transport.old + 1 < 2 ^ 64 }
-    ensures exact { Drives P.does T.passed T.waits C.told patience rank.old.engine rank.old.runner transport.old clock.old
-        result rank.new.engine rank.new.runner transport.new clock.new }
+    ensures exact { Drives P.does T.passed T.waits C.told patience rank.old.engine rank.old.runner transport.old
+        clock.old result rank.new.engine rank.new.runner transport.new clock.new }
     ensures failures { FailsWith result (T.failed transport.old) (T.failed transport.new) }
 {
     let start = clock.now();

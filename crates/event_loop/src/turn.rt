@@ -100,8 +100,8 @@ fn go_on<R: Wait, P: Runner, T: Transport>(
     transport: &mut T,
 ) -> Result<(), TransportFault>
     requires { T.failed transport.old + 1 < 2 ^ 64 }
-    ensures exact { GoesOnTo P.does T.passed rank.old.engine rank.old.runner rank.old.standing.stage transport.old result
-        rank.new.engine rank.new.runner rank.new.standing.stage transport.new }
+    ensures exact { GoesOnTo P.does T.passed rank.old.engine rank.old.runner rank.old.standing.stage transport.old
+        result rank.new.engine rank.new.runner rank.new.standing.stage transport.new }
     ensures times { IsSameTime rank.old.standing rank.new.standing }
     ensures failures { FailsWith result (T.failed transport.old) (T.failed transport.new) }
 {
