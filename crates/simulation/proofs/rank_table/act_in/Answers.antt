@@ -15,12 +15,14 @@ pub returns-clause-ok : goal.returns-clause-ok
 returns-clause-ok g c = IfOk-weaker c.act_at.result _ _
     (λ done r. act_line c.args.table.now.size c.args.rank c.args.action c.args.world.now c.act_at.new.world
     c.args.table.now.ranks.entries c.begin.new.ranks.entries c.act_at.new.ranks.entries done
-    (g.W.Write.contents c.args.out.now) (g.W.Write.contents c.act_at.new.out) c.in-Ok.ensures.same (r c.args.table.now.size))
+    (g.W.Write.contents c.args.out.now) (g.W.Write.contents c.act_at.new.out) c.in-Ok.ensures.same
+    (r c.args.table.now.size))
     c.act_at.ensures.ok
 
 -- src/rank_table.rt:70:1
 pub returns-clause-err : goal.returns-clause-err
 returns-clause-err g c = err_more c.act_at.result _ _
-    (λ e breaks. act_line_breaks e c.args.table.now.size c.args.rank c.args.action c.args.world.now c.args.table.now.ranks.entries
+    (λ e breaks. act_line_breaks e c.args.table.now.size c.args.rank c.args.action c.args.world.now
+    c.args.table.now.ranks.entries
     c.begin.new.ranks.entries (g.W.Write.contents c.args.out.now) (g.W.Write.contents c.act_at.new.out)
     c.in-Ok.ensures.same (breaks c.args.table.now.size)) c.act_at.ensures.err
