@@ -15,7 +15,7 @@ use groups::Group;
 use payload::{Record, Rooted};
 use std::alloc::{AllocError, Global};
 use std::marker::Model;
-use vocabulary::{Endpoint, Operation};
+use vocabulary::Endpoint;
 
 /// What a rank is in a collective. It is made once, on entering; ranks are those of `world`.
 #[derive(Drop)]
@@ -310,13 +310,13 @@ fn tree_role(
     own: Endpoint,
     incarnation: u16,
     ranks: &[u16],
-    place: Option<usize>,
     root: u32,
 ) -> Result<Role, AllocError>
-    requires few { length ranks.now ≤ 65536 }
-    requires there { IfSome place (λ i. i < length ranks.now) }
-    ensures { IfOk result (λ role. role ≡ reduce_role true place own incarnation ranks.now root) }
+    requires { length ranks.now ≤ 65536 }
+    ensures { IfOk result (λ role. role ≡
+        reduce_role true (own_place own incarnation ranks.now) own incarnation ranks.now root) }
 {
+    let place = own_place(own, incarnation, ranks);
     let below = below_place(alloc, ranks, place)?;
     let first = is_at(own, incarnation, ranks, 0);
     Ok(Role {
@@ -327,41 +327,18 @@ fn tree_role(
     })
 }
 
-/// In a reduction to a root: in the tree by rank, where the operation is associative; else each part goes to the root,
-/// as in a gather.
-fn reduce_role(
-    alloc: Global,
-    own: Endpoint,
-    incarnation: u16,
-    ranks: &[u16],
-    place: Option<usize>,
-    operation: Operation,
-    rooted: Rooted,
-) -> Result<Role, AllocError>
-    requires few { length ranks.now ≤ 65536 }
-    requires there { IfSome place (λ i. i < length ranks.now) }
-    ensures { IfOk result (λ role. role ≡ role_at place own incarnation ranks.now (records.Reduce operation rooted)) }
-{
-    if operation.is_associative_on(rooted.elements.basic) {
-        tree_role(alloc, own, incarnation, ranks, place, rooted.root)
-    } else {
-        gather_role(alloc, own, incarnation, ranks, rooted.root)
-    }
-}
-
 /// In the tree whose top is the root of a broadcast.
 fn bcast_role(
     alloc: Global,
     own: Endpoint,
     incarnation: u16,
     ranks: &[u16],
-    place: Option<usize>,
     rooted: Rooted,
 ) -> Result<Role, AllocError>
-    requires few { length ranks.now ≤ 65536 }
-    requires there { IfSome place (λ i. i < length ranks.now) }
-    ensures { IfOk result (λ role. role ≡ role_at place own incarnation ranks.now (records.Bcast rooted)) }
+    requires { length ranks.now ≤ 65536 }
+    ensures { IfOk result (λ role. role ≡ role_of own incarnation ranks.now (records.Bcast rooted)) }
 {
+    let place = own_place(own, incarnation, ranks);
     Ok(Role {
         decides: is_at(own, incarnation, ranks, rooted.root),
         above: None,
@@ -395,10 +372,9 @@ fn scatter_role(
     own: Endpoint,
     incarnation: u16,
     ranks: &[u16],
-    place: Option<usize>,
     rooted: Rooted,
 ) -> Result<Role, AllocError>
-    ensures { IfOk result (λ role. role ≡ role_at place own incarnation ranks.now (records.Scatter rooted)) }
+    ensures { IfOk result (λ role. role ≡ role_of own incarnation ranks.now (records.Scatter rooted)) }
 {
     let middle = is_at(own, incarnation, ranks, rooted.root);
     Ok(Role {
@@ -423,18 +399,17 @@ fn role_in(
     let place = own_place(own, incarnation, ranks);
     match entered {
         Record::Barrier => barrier_role(alloc, own, incarnation, ranks, place),
-        Record::Bcast(rooted) => bcast_role(alloc, own, incarnation, ranks, place, rooted),
+        Record::Bcast(rooted) => bcast_role(alloc, own, incarnation, ranks, rooted),
         Record::Gather(rooted) => gather_role(alloc, own, incarnation, ranks, rooted.root),
-        Record::Scatter(rooted) => scatter_role(alloc, own, incarnation, ranks, place, rooted),
-        Record::Reduce(operation, rooted) => reduce_role(
-            alloc,
-            own,
-            incarnation,
-            ranks,
-            place,
-            operation,
-            rooted,
-        ),
+        Record::Scatter(rooted) => scatter_role(alloc, own, incarnation, ranks, rooted),
+        Record::Reduce(operation, rooted) => {
+            // Where the operation isn't associative, each part goes to the root, as in a gather.
+            if operation.is_associative_on(rooted.elements.basic) {
+                tree_role(alloc, own, incarnation, ranks, rooted.root)
+            } else {
+                gather_role(alloc, own, incarnation, ranks, rooted.root)
+            }
+        }
         Record::Allreduce(..) | Record::Dup | Record::Split => both_role(
             alloc,
             is_at(own, incarnation, ranks, 0),

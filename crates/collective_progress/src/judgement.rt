@@ -4,9 +4,10 @@ ghost use Rattle.std.specs.Prelude.{◌≡◌, ◌==◌, length};
 ghost use Rattle.collective_messages.specs.Entering.{own_choice};
 ghost use Rattle.collective_messages.specs.Notes.{choice_known, choice_of_note, have_entered, member_at, note_at};
 ghost use Rattle.collective_messages.specs.Verdicts.{verdict, verdict_told};
-ghost use Rattle.collective_progress.specs.Progress.{AreFirst, IsKept, IsProgress};
+ghost use Rattle.collective_progress.specs.Progress.{AreFirst, IsProgress};
 
 use crate::progress::{Progress, member};
+use crate::seat::Seat;
 use collective_messages::{Inside, Note, Verdict, is_same};
 use payload::Choice;
 use vocabulary::Endpoint;
@@ -63,33 +64,44 @@ fn choice_at(notes: &[Note], place: Option<usize>) -> Choice
     }
 }
 
-impl Progress {
-    /// What the rank at `own` does that is in a collective: it leaves with 12 where a note of it speaks of a
-    /// difference; else it stays until those have entered for whom it waits, and then leaves, or waits to be told with
-    /// what.
-    pub fn judge(&self, own: Endpoint, inside: &Inside, notes: &[Note]) -> Verdict
-        requires { IsKept own inside.now notes.now self.now }
-        ensures { result ≡ verdict own inside.now notes.now }
+impl Seat<'_> {
+    /// What the rank does that is in a collective: it leaves with 12 where a note of it speaks of a difference; else it
+    /// stays until those have entered for whom it waits, and then leaves, or waits to be told with what.
+    pub fn judge(&self) -> Verdict
+        ensures { result ≡ verdict self.now.own self.now.inside.now self.now.notes.now }
     {
-        if self.has_difference(inside, notes) {
+        let (inside, progress) = (self.inside, self.progress);
+        if progress.has_difference(inside, self.notes) {
             return Verdict::Breaks;
         }
-        let known = first_known(self, own, inside, notes, self.entered_count());
+        let known = first_known(
+            progress,
+            self.own,
+            inside,
+            self.notes,
+            progress.entered_count(),
+        );
         if known < inside.role.feeders().len() {
             return Verdict::Stays;
         }
-        judge_entered(inside.role.decides(), self.result_place(inside, notes))
+        judge_entered(
+            inside.role.decides(),
+            progress.result_place(inside, self.notes),
+        )
     }
 
-    /// What the member with this rank asks for in a split, as the rank at `own` knows it.
-    pub fn choice_known(&self, own: Endpoint, inside: &Inside, notes: &[Note], rank: u16) -> Choice
-        requires { IsProgress inside.now notes.now self.now }
-        ensures { result ≡ choice_known own (own_choice inside.now.entry) inside.now.context inside.now.number notes.now
-            (member_at inside.now.incarnation rank) }
+    /// What the member with this rank asks for in a split, as the rank knows it.
+    pub fn choice_known(&self, rank: u16) -> Choice
+        ensures { result ≡
+            choice_known self.now.own (own_choice self.now.inside.now.entry) self.now.inside.now.context
+            self.now.inside.now.number self.now.notes.now (member_at self.now.inside.now.incarnation rank) }
     {
-        if is_same(member(inside, rank), own) {
-            return inside.entry.choice();
+        if is_same(member(self.inside, rank), self.own) {
+            return self.inside.entry.choice();
         }
-        choice_at(notes, self.entry_place(inside, notes, rank))
+        choice_at(
+            self.notes,
+            self.progress.entry_place(self.inside, self.notes, rank),
+        )
     }
 }

@@ -12,10 +12,10 @@ mod judgement;
 mod progress;
 mod rules;
 mod scatter;
+mod seat;
 
-pub use contributions::{are_known, block_known, is_like};
-pub use fold::reduction_of;
-pub use gather::concatenation_of;
+pub use contributions::is_like;
 pub use progress::Progress;
 pub use rules::{Rule, rule_broken};
 pub use scatter::block_at;
+pub use seat::Seat;

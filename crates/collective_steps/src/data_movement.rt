@@ -1,7 +1,7 @@
 //! What a rank does in the collectives that move elements, made ready: it takes memory, and changes nothing.
 
 ghost use Rattle.std.specs.Prelude.{IsOkUnless, ◌≡◌, ◌<◌, ◌≤◌, ◌+◌, ◌*◌, ◌++◌, ◌∷◌, [], length, map, IfOk, OnOk, Some};
-ghost use Rattle.std.specs.Prelude.{None, if◌then◌else◌};
+ghost use Rattle.std.specs.Prelude.{None, if◌then◌else◌, slice_index};
 ghost use Rattle.std.specs.Option.{option_copied};
 ghost use Rattle.collective_messages.specs.Verdicts.{is_at};
 ghost use Rattle.collective_messages.specs.declared.message.MessageContent.TheVariants as given;
@@ -12,10 +12,11 @@ ghost use Rattle.payload.specs.declared.payload.Direction.TheVariants.{FromRoot}
 ghost use Rattle.collective_steps.specs.declared.step.StepOutcome.TheVariants.{Leaves};
 
 use crate::contents::{block_content, member, message_to, others};
+use crate::member_blocks::MemberBlocks;
 use crate::preparation::silent_step;
-use crate::seat::Seat;
 use crate::step::{Step, StepOutcome};
 use collective_messages::{CollectiveMessage, CollectiveRefusal, Inside, is_at, is_same};
+use collective_progress::Seat;
 use datatypes::Buffer;
 use groups::Group;
 use payload::{Direction, Rooted};
@@ -86,46 +87,31 @@ pub(crate) fn bcast_step(
 }
 
 /// The blocks of all members one after the other, where each is known.
-fn gather_blocks(
+fn gather_blocks<'a>(
     alloc: Global,
-    seat: &Seat,
+    seat: &Seat<'a>,
     ranks: &[u16],
-    block: &Buffer,
+    block: &'a Buffer,
 ) -> Result<Option<Buffer>, AllocError>
     ensures { IfOk result
         (λ all. all ≡ gather_blocks seat.now.own seat.now.inside.now seat.now.notes.now ranks.now block.now) }
 {
-    if !collective_progress::are_known(
-        seat.own,
-        seat.inside,
-        block,
-        seat.notes,
-        seat.progress,
-        ranks,
-    ) {
+    if !seat.are_known(block, ranks) {
         return Ok(None);
     }
-    match collective_progress::concatenation_of(
-        alloc,
-        seat.own,
-        seat.inside,
-        block,
-        seat.notes,
-        seat.progress,
-        ranks,
-    ) {
+    match seat.concatenation_of(alloc, block, ranks) {
         Ok(all) => Ok(Some(all)),
         Err(refused) => Err(refused),
     }
 }
 
 /// The fold of the blocks of all members in rank order, where each is known and the operation is defined on the type.
-pub(crate) fn reduce_blocks(
+pub(crate) fn reduce_blocks<'a>(
     alloc: Global,
-    seat: &Seat,
+    seat: &Seat<'a>,
     ranks: &[u16],
     operation: Operation,
-    block: &Buffer,
+    block: &'a Buffer,
 ) -> Result<Option<Buffer>, AllocError>
     ensures { IfOk result
         (λ all. all ≡ reduce_blocks seat.now.own seat.now.inside.now seat.now.notes.now ranks.now operation block.now) }
@@ -133,35 +119,19 @@ pub(crate) fn reduce_blocks(
     if ranks.is_empty() {
         return Ok(None);
     }
-    if !collective_progress::are_known(
-        seat.own,
-        seat.inside,
-        block,
-        seat.notes,
-        seat.progress,
-        ranks,
-    ) {
+    if !seat.are_known(block, ranks) {
         return Ok(None);
     }
-    collective_progress::reduction_of(
-        alloc,
-        operation,
-        seat.own,
-        seat.inside,
-        block,
-        seat.notes,
-        seat.progress,
-        ranks,
-    )
+    seat.reduction_of(alloc, operation, block, ranks)
 }
 
 /// A gather: its root leaves with all blocks (MPI 3.1, 5.5), another member with none.
-pub(crate) fn gather_step(
+pub(crate) fn gather_step<'a>(
     alloc: Global,
-    seat: &Seat,
+    seat: &Seat<'a>,
     ranks: &[u16],
     root: u32,
-    block: &Buffer,
+    block: &'a Buffer,
 ) -> Result<Step, CollectiveRefusal>
     ensures ok { IfOk result (λ step. step ≡
         (if is_at seat.now.own seat.now.inside.now.incarnation ranks.now root then
@@ -180,16 +150,15 @@ pub(crate) fn gather_step(
 }
 
 /// A reduction to a root: that leaves with the fold (MPI 3.1, 5.9.1), another member with nothing.
-pub(crate) fn reduce_step(
+pub(crate) fn reduce_step<'a>(
     alloc: Global,
-    seat: &Seat,
-    ranks: &[u16],
+    seat: &Seat<'a>,
+    is_root: bool,
     operation: Operation,
-    root: u32,
-    block: &Buffer,
+    block: &'a Buffer,
 ) -> Result<Step, CollectiveRefusal>
     ensures ok { IfOk result (λ step. step ≡
-        (if is_at seat.now.own seat.now.inside.now.incarnation ranks.now root then
+        (if is_root then
         leaving_with
         (reduce_blocks seat.now.own seat.now.inside.now seat.now.notes.now seat.now.inside.now.role.feeders
         operation block.now) else
@@ -201,7 +170,7 @@ pub(crate) fn reduce_step(
     let Ok(made) = reduce_blocks(alloc, seat, seat.inside.role.feeders(), operation, block) else {
         return Err(CollectiveRefusal::OutOfMemory);
     };
-    if is_at(seat.own, seat.inside.incarnation, ranks, root) {
+    if is_root {
         return Ok(leaving_with(alloc, made));
     }
     leaving_on(alloc, seat.own, seat.inside, made)
@@ -248,11 +217,11 @@ fn telling_all(
 }
 
 /// A reduction to all, at member 0, which tells those right below it (MPI 3.1, 5.9.6).
-pub(crate) fn allreduce_step(
+pub(crate) fn allreduce_step<'a>(
     alloc: Global,
-    seat: &Seat,
+    seat: &Seat<'a>,
     operation: Operation,
-    block: &Buffer,
+    block: &'a Buffer,
 ) -> Result<Step, CollectiveRefusal>
     ensures ok { IfOk result
         (λ step. step ≡
@@ -268,27 +237,27 @@ pub(crate) fn allreduce_step(
     }
 }
 
-/// What the member with this rank in the communicator is told of a scatter: its block, unless it is the rank itself.
+/// What the member at a place in the communicator is told of a scatter: its block, unless it is the rank itself.
 fn tell_block(
     alloc: Global,
     messages: &mut Vec<CollectiveMessage>,
-    own: Endpoint,
-    inside: &Inside,
-    all: &Buffer,
-    count: u32,
+    seat: &Seat,
+    blocks: &MemberBlocks,
     place: u16,
-    rank: u16,
 ) -> Result<(), AllocError>
-    requires { place * count + count ≤ length all.now.values }
+    requires there { place < length blocks.now.group.now }
+    requires fits { place * blocks.now.count + blocks.now.count ≤ length blocks.now.all.now.values }
     ensures { OnOk result (messages.new.items ≡ messages.old.items ++
-        blocks_to own inside.now all.now count place (rank ∷ [])) }
+        blocks_to seat.now.own seat.now.inside.now blocks.now.all.now blocks.now.count place
+        (slice_index blocks.now.group.now place ∷ [])) }
 {
-    if is_same(member(inside, rank), own) {
+    let rank = blocks.group.ranks()[place as usize];
+    if is_same(member(seat.inside, rank), seat.own) {
         return Ok(());
     }
-    let block = collective_progress::block_at(alloc, all, place, count)?;
+    let block = collective_progress::block_at(alloc, blocks.all, place, blocks.count)?;
     let given = block_content(alloc, Direction::FromRoot, &block)?;
-    messages.push(message_to(inside, rank, given))?;
+    messages.push(message_to(seat.inside, rank, given))?;
     Ok(())
 }
 
@@ -296,28 +265,15 @@ fn tell_block(
 #[tactic(auto, using(crate::proofs::Scattered::blocks_more, crate::proofs::Scattered::block_fits))]
 fn blocks_to_others(
     alloc: Global,
-    own: Endpoint,
-    inside: &Inside,
-    group: &Group,
-    all: &Buffer,
-    count: u32,
+    seat: &Seat,
+    blocks: &MemberBlocks,
 ) -> Result<Vec<CollectiveMessage>, AllocError>
-    requires { length all.now.values ≡ length group.now * count }
-    ensures { IfOk result (λ messages. messages.items ≡ blocks_to own inside.now all.now count 0 group.now) }
+    ensures { IfOk result (λ messages. messages.items ≡
+        blocks_to seat.now.own seat.now.inside.now blocks.now.all.now blocks.now.count 0 blocks.now.group.now) }
 {
-    let ranks = group.ranks();
     let mut messages = Vec::new(alloc);
-    for place in 0..group.len() {
-        tell_block(
-            alloc,
-            &mut messages,
-            own,
-            inside,
-            all,
-            count,
-            place as u16,
-            ranks[place],
-        )?;
+    for place in 0..blocks.group.len() {
+        tell_block(alloc, &mut messages, seat, blocks, place as u16)?;
     }
     Ok(messages)
 }
@@ -326,27 +282,23 @@ fn blocks_to_others(
 #[tactic(auto, using(crate::proofs::Scattered::block_fits))]
 fn scatter_block(
     alloc: Global,
-    own: Endpoint,
-    inside: &Inside,
-    group: &Group,
+    seat: &Seat,
+    blocks: &MemberBlocks,
     root: u16,
-    count: u32,
-    all: &Buffer,
 ) -> Result<Step, CollectiveRefusal>
-    requires root { root < length group.now }
-    requires total { length all.now.values ≡ length group.now * count }
+    requires { root < length blocks.now.group.now }
     ensures ok { IfOk result (λ step. step ≡ record {
-      outcome = Leaves (Some (block_of all.now count root));
+      outcome = Leaves (Some (block_of blocks.now.all.now blocks.now.count root));
       drawn =
           0;
-      messages = blocks_to own inside.now all.now count 0 group.now;
+      messages = blocks_to seat.now.own seat.now.inside.now blocks.now.all.now blocks.now.count 0 blocks.now.group.now;
     }) }
     ensures err { IsOkUnless result CollectiveRefusal.OutOfMemory }
 {
-    let Ok(messages) = blocks_to_others(alloc, own, inside, group, all, count) else {
+    let Ok(messages) = blocks_to_others(alloc, seat, blocks) else {
         return Err(CollectiveRefusal::OutOfMemory);
     };
-    match collective_progress::block_at(alloc, all, root, count) {
+    match collective_progress::block_at(alloc, blocks.all, root, blocks.count) {
         Ok(block) => Ok(Step {
             outcome: StepOutcome::Leaves(Some(block)),
             drawn: 0,
@@ -358,15 +310,16 @@ fn scatter_block(
 
 /// The root of a scatter leaves with its own block, and tells each other member its own, where there is one of the type
 /// for each (MPI 3.1, 5.6).
-fn scatter_step(
+fn scatter_step<'a>(
     alloc: Global,
-    own: Endpoint,
-    inside: &Inside,
-    group: &Group,
+    seat: &Seat,
+    group: &'a Group,
     rooted: Rooted,
-    all: &Buffer,
+    all: &'a Buffer,
 ) -> Result<Step, CollectiveRefusal>
-    ensures ok { IfOk result (λ step. step ≡ scatter_step own inside.now group.now rooted.root rooted.elements all.now) }
+    ensures ok { IfOk result
+        (λ step. step ≡
+        scatter_step seat.now.own seat.now.inside.now group.now rooted.root rooted.elements all.now) }
     ensures err { IsOkUnless result CollectiveRefusal.OutOfMemory }
 {
     let size = group.len();
@@ -377,28 +330,29 @@ fn scatter_step(
     if rooted.root as usize >= size || all.len() != size * count as usize {
         return Ok(silent_step(alloc, StepOutcome::Stays));
     }
-    scatter_block(alloc, own, inside, group, rooted.root as u16, count, all)
+    let blocks = MemberBlocks { group, all, count };
+    scatter_block(alloc, seat, &blocks, rooted.root as u16)
 }
 
 /// The same by what the root hands in, if anything: nothing is no elements of the blocks' type.
 pub(crate) fn scatter_with(
     alloc: Global,
-    own: Endpoint,
-    inside: &Inside,
+    seat: &Seat,
     group: &Group,
     rooted: Rooted,
     all: Option<&Buffer>,
 ) -> Result<Step, CollectiveRefusal>
     ensures ok { IfOk result
-        (λ step. step ≡ scatter_step own inside.now group.now rooted.root rooted.elements
+        (λ step. step ≡
+        scatter_step seat.now.own seat.now.inside.now group.now rooted.root rooted.elements
         (handed_in rooted.elements (option_copied all.entry))) }
     ensures err { IsOkUnless result CollectiveRefusal.OutOfMemory }
 {
     match all {
-        Some(all) => scatter_step(alloc, own, inside, group, rooted, all),
+        Some(all) => scatter_step(alloc, seat, group, rooted, all),
         None => {
             let none = Buffer::new(alloc, rooted.elements.basic);
-            scatter_step(alloc, own, inside, group, rooted, &none)
+            scatter_step(alloc, seat, group, rooted, &none)
         }
     }
 }

@@ -6,19 +6,19 @@ ghost use Rattle.collective_steps.specs.Steps.{reduce_blocks, towards, word_give
 
 use crate::contents::{block_content, member, message_to};
 use crate::data_movement::reduce_blocks;
-use crate::seat::Seat;
 use collective_messages::{CollectiveMessage, Entry, MessageContent, is_same};
+use collective_progress::Seat;
 use datatypes::Buffer;
 use payload::Direction;
 use std::alloc::{AllocError, Global};
 use vocabulary::Operation;
 
 /// The fold of a rank's own block and of those below it.
-fn fold_given(
+fn fold_given<'a>(
     alloc: Global,
-    seat: &Seat,
+    seat: &Seat<'a>,
     operation: Operation,
-    block: &Buffer,
+    block: &'a Buffer,
 ) -> Result<Option<MessageContent>, AllocError>
     ensures { IfOk result
         (λ given. given ≡

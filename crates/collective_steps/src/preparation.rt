@@ -16,13 +16,12 @@ use crate::data_movement::{
     allreduce_step, bcast_step, elements_to_others, gather_step, reduce_step, scatter_with,
 };
 use crate::entry_word::word;
-use crate::seat::Seat;
 use crate::split::{made_by, plan_of};
 use crate::step::{Step, StepOutcome};
 use collective_messages::{
     CollectiveMessage, CollectiveRefusal, Entry, Inside, Note, NoteContent, Verdict, is_at,
 };
-use collective_progress::is_like;
+use collective_progress::{Seat, is_like};
 use context_agreement::{Communicator, Context, Contexts};
 use datatypes::Buffer;
 use groups::Group;
@@ -261,17 +260,16 @@ fn leaving_step(
 /// What a rank does that was told with what it leaves, by the note at a place.
 fn leaving_step_at(
     alloc: Global,
-    own: Endpoint,
-    inside: &Inside,
+    seat: &Seat,
     group: &Group,
-    notes: &[Note],
     place: usize,
 ) -> Result<Step, CollectiveRefusal>
-    ensures ok { IfOk result (IsHeard own inside.now group.now (slice_get notes.now place)) }
+    ensures ok { IfOk result
+        (IsHeard seat.now.own seat.now.inside.now group.now (slice_get seat.now.notes.now place)) }
     ensures err { IsOkUnless result CollectiveRefusal.OutOfMemory }
 {
-    match notes.get(place) {
-        Some(note) => leaving_step(alloc, own, inside, group, note),
+    match seat.notes.get(place) {
+        Some(note) => leaving_step(alloc, seat.own, seat.inside, group, note),
         None => Ok(silent_step(alloc, StepOutcome::Stays)),
     }
 }
@@ -404,17 +402,11 @@ fn decision_step(
         Entry::Barrier => barrier_step(alloc, seat.own, seat.inside),
         Entry::Bcast(_, block) => bcast_step(alloc, seat.own, seat.inside, block.buffer()),
         Entry::Gather(root, block) => gather_step(alloc, seat, ranks, *root, block.buffer()),
-        Entry::Scatter(rooted, all) => {
-            scatter_with(alloc, seat.own, seat.inside, group, *rooted, all.as_ref())
+        Entry::Scatter(rooted, all) => { scatter_with(alloc, seat, group, *rooted, all.as_ref()) }
+        Entry::Reduce(op, root, block) => {
+            let is_root = is_at(seat.own, seat.inside.incarnation, ranks, *root);
+            reduce_step(alloc, seat, is_root, *op, block.buffer())
         }
-        Entry::Reduce(op, root, block) => reduce_step(
-            alloc,
-            seat,
-            ranks,
-            *op,
-            *root,
-            block.buffer(),
-        ),
         Entry::Allreduce(op, block) => allreduce_step(alloc, seat, *op, block.buffer()),
         Entry::Dup => copy_step(alloc, seat.own, seat.inside, contexts, group),
         Entry::Split(_) => split_step(alloc, seat, contexts, group),
@@ -507,7 +499,7 @@ fn result_step(
     let Ok(first) = word(alloc, seat) else {
         return Err(CollectiveRefusal::OutOfMemory);
     };
-    match leaving_step_at(alloc, seat.own, seat.inside, group, seat.notes, place) {
+    match leaving_step_at(alloc, seat, group, place) {
         Ok(step) => with_first(step, first),
         Err(refused) => Err(refused),
     }
@@ -528,7 +520,7 @@ pub(crate) fn next_step(
         (IsCarriedOut seat.now.own seat.now.inside.now contexts.now.state group.now seat.now.notes.now
         (verdict seat.now.own seat.now.inside.now seat.now.notes.now))) }
 {
-    match seat.progress.judge(seat.own, seat.inside, seat.notes) {
+    match seat.judge() {
         Verdict::Stays => Ok(silent_step(alloc, StepOutcome::Stays)),
         Verdict::Breaks => mismatch_step(alloc, seat, group.ranks()),
         Verdict::Waits => waiting_step(alloc, seat),

@@ -5,8 +5,8 @@ ghost use Rattle.collective_steps.specs.Steps.{HoldsPart, IsLacking, group_of_pa
 ghost use Rattle.context_agreement.specs.Communicators.{coming_context};
 ghost use Rattle.context_agreement.specs.Splits.{IsSplitPlan};
 
-use crate::seat::Seat;
 use collective_messages::CollectiveRefusal;
+use collective_progress::Seat;
 use context_agreement::{Communicator, Contexts, SplitPart, SplitRow, split_plan};
 use groups::Group;
 use std::alloc::{AllocError, Global};
@@ -20,9 +20,7 @@ fn rows_of(alloc: Global, seat: &Seat, group: &Group) -> Result<Vec<SplitRow>, A
     let ranks = group.ranks();
     let mut rows = Vec::new(alloc);
     for place in 0..group.len() {
-        let asked = seat
-            .progress
-            .choice_known(seat.own, seat.inside, seat.notes, ranks[place]);
+        let asked = seat.choice_known(ranks[place]);
         rows.push(SplitRow {
             colour: asked.colour,
             key: asked.key,

@@ -8,7 +8,7 @@ ghost use Rattle.collectives.specs.Calls.{limit_at, after_lesson, most_collectiv
 ghost use Rattle.collective_messages.specs.Messages.{IsFitting};
 ghost use Rattle.collective_messages.specs.Tallies.{count_in};
 ghost use Rattle.payload.specs.Spelling.{payload_text};
-ghost use Rattle.collective_progress.specs.Progress.{IsKept, IsKeptOf};
+ghost use Rattle.collective_progress.specs.Progress.{IsKeptOf};
 ghost use Rattle.collective_steps.specs.Steps.{IsPrepared, IsPreparedEntry, IsRefusal, MeetsLimit};
 ghost use Rattle.collective_messages.specs.declared.note.Note as notes;
 
@@ -18,8 +18,8 @@ use crate::collective::{
 use collective_messages::{
     Address, CollectiveMessage, CollectiveRefusal, Entry, Inside, Note, Tally, note_of,
 };
-use collective_progress::Progress;
-use collective_steps::{Step, entry_step, prepare_step};
+use collective_progress::{Progress, Seat};
+use collective_steps::{Presence, Step, entry_step, prepare_step};
 use context_agreement::Contexts;
 use payload::Payload;
 use std::alloc::Global;
@@ -65,29 +65,29 @@ fn catch_up(progress: &mut Progress, own: Endpoint, present: Option<&Inside>, ke
 #[tactic(auto, using(crate::proofs::Beside::note_beside))]
 pub(crate) fn prepared_with(
     alloc: Global,
-    own: Endpoint,
-    present: Option<&Inside>,
+    presence: &Presence,
     contexts: &Contexts,
     kept: &mut Vec<Note>,
-    progress: &Progress,
     note: Option<Note>,
 ) -> Result<ReadyMessage, CollectiveRefusal>
     requires room { vec_len kept.old + 1 ≤ vec_capacity kept.old }
-    requires progress { IsKeptOf own (option_copied present) kept.old.items progress.now }
+    requires progress { IsKeptOf presence.now.own (option_copied presence.now.inside) kept.old.items
+        presence.now.progress.now }
     ensures note { IfOk result (λ ready. ready.note ≡ note) }
     ensures step { IfOk result
-        (λ ready. IsPrepared own (option_copied present.entry) contexts.now.state (kept_with kept.old.items note)
-        ready.step) }
+        (λ ready. IsPrepared presence.now.own (option_copied presence.now.inside) contexts.now.state
+        (kept_with kept.old.items note) ready.step) }
     ensures within { IfOk result (λ ready. MeetsLimit contexts.now.state ready.step → ⊥) }
     ensures err { IfErr result
         (IsRefusal contexts.now.state
-        (IsPrepared own (option_copied present.entry) contexts.now.state (kept_with kept.old.items note))) }
+        (IsPrepared presence.now.own (option_copied presence.now.inside) contexts.now.state
+        (kept_with kept.old.items note))) }
     ensures kept { kept.new.items ≡ kept.old.items }
     ensures capacity { vec_capacity kept.old ≤ vec_capacity kept.new }
 {
     let count = kept.len();
     keep(kept, note);
-    let prepared = prepare_step(alloc, own, present, contexts, kept, progress);
+    let prepared = prepare_step(alloc, presence, contexts, kept);
     let note = take_back(kept, count);
     ready_message(note, prepared)
 }
@@ -128,24 +128,17 @@ fn make_both<T>(list: &mut Vec<T>, contexts: &mut Contexts) -> Result<(), Collec
     hold_one_more(contexts)
 }
 
-/// The entry is ready once what the rank does on entering is; what was handed in comes back otherwise.
+/// An entry is ready once what the rank does on entering is; what was handed in comes back otherwise.
 fn ready_entry(
-    alloc: Global,
-    own: Endpoint,
     inside: Inside,
-    contexts: &Contexts,
-    kept: &[Note],
-    progress: &Progress,
+    prepared: Result<Step, CollectiveRefusal>,
 ) -> Result<ReadyEntry, RefusedEntry>
-    requires { IsKept own inside kept.now progress.now }
     ensures inside { IfOk result (λ ready. ready.inside ≡ inside) }
-    ensures step { IfOk result (λ ready. IsPreparedEntry own inside contexts.now.state kept.now ready.step) }
-    ensures within { IfOk result (λ ready. MeetsLimit contexts.now.state ready.step → ⊥) }
-    ensures err { IfErr result
-        (λ back. IsRefusal contexts.now.state (IsPreparedEntry own inside contexts.now.state kept.now) back.refused) }
+    ensures step { IfOk result (λ ready. prepared ≡ Ok ready.step) }
+    ensures err { IfErr result (λ back. prepared ≡ Err back.refused) }
     ensures handed { IfErr result (λ back. back.entry ≡ inside.entry) }
 {
-    match entry_step(alloc, own, &inside, contexts, kept, progress) {
+    match prepared {
         Ok(step) => Ok(ReadyEntry { inside, step }),
         Err(refused) => Err(RefusedEntry {
             entry: inside.entry,
@@ -219,14 +212,14 @@ impl Collective {
             return Err(out_of_memory(inside.entry));
         }
         self.progress.catch_up(self.own, &inside, &self.kept);
-        ready_entry(
-            self.alloc,
-            self.own,
-            inside,
-            contexts,
-            &self.kept,
-            &self.progress,
-        )
+        let seat = Seat {
+            own: self.own,
+            inside: &inside,
+            notes: self.kept.as_slice(),
+            progress: &self.progress,
+        };
+        let prepared = entry_step(self.alloc, &seat, contexts);
+        ready_entry(inside, prepared)
     }
 
     /// Makes ready what a message of a collective brings, once the lesson is learnt that it teaches, if any. Nothing
@@ -260,17 +253,22 @@ impl Collective {
             return Err(CollectiveRefusal::OutOfMemory);
         }
         match note_of(self.alloc, address, payload) {
-            Ok(arrived) => prepared_for(
-                self.alloc,
-                self.own,
-                &self.tallies,
-                &self.present,
-                contexts,
-                lesson,
-                &mut self.kept,
-                &mut self.progress,
-                arrived,
-            ),
+            Ok(arrived) => {
+                let met = Met {
+                    own: self.own,
+                    tallies: self.tallies.as_slice(),
+                    present: &self.present,
+                    contexts,
+                    lesson,
+                };
+                prepared_for(
+                    self.alloc,
+                    &met,
+                    &mut self.kept,
+                    &mut self.progress,
+                    arrived,
+                )
+            }
             Err(refused) => Err(refused),
         }
     }
@@ -291,38 +289,62 @@ fn kept_of(tallies: &[Tally], present: Option<&Inside>, arrived: Option<Note>) -
     }
 }
 
+/// What a message meets at a rank.
+#[derive(Clone, Copy)]
+struct Met<'a> {
+    /// Who the rank is.
+    own: Endpoint,
+    /// How many collectives it has entered.
+    tallies: &'a [Tally],
+    /// The collective that it is in.
+    present: &'a Option<Inside>,
+    /// Its communicators.
+    contexts: &'a Contexts,
+    /// The lesson that is learnt before the message is taken in, if any.
+    lesson: Option<Endpoint>,
+}
+
 /// What the rank does of itself once a lesson is learnt, if any, and it keeps what came, for which there is room.
 #[tactic(auto, using(crate::proofs::Beside::met_beside))]
 fn prepared_for(
     alloc: Global,
-    own: Endpoint,
-    tallies: &[Tally],
-    present: &Option<Inside>,
-    contexts: &Contexts,
-    lesson: Option<Endpoint>,
+    met: &Met,
     kept: &mut Vec<Note>,
     progress: &mut Progress,
     arrived: Option<Note>,
 ) -> Result<ReadyMessage, CollectiveRefusal>
     requires room { vec_len kept.old + 1 ≤ vec_capacity kept.old }
-    requires progress { IsKeptOf own present.now kept.old.items progress.old }
+    requires progress { IsKeptOf met.now.own met.now.present.now kept.old.items progress.old }
     ensures note { IfOk result
-        (λ ready. ready.note ≡ kept_note tallies.now (present_met present.now contexts.now.state lesson) arrived) }
-    ensures step { IfOk result (λ ready. IsPrepared own (present_met present.now contexts.now.state lesson) contexts.now.state
-        (kept_with kept.old.items (kept_note tallies.now (present_met present.now contexts.now.state lesson) arrived))
-        ready.step) }
-    ensures within { IfOk result (λ ready. MeetsLimit contexts.now.state ready.step → ⊥) }
-    ensures err { IfErr result
-        (IsRefusal contexts.now.state
-        (IsPrepared own (present_met present.now contexts.now.state lesson) contexts.now.state
+        (λ ready. ready.note ≡
+        kept_note met.now.tallies.now (present_met met.now.present.now met.now.contexts.now.state met.now.lesson)
+        arrived) }
+    ensures step { IfOk result
+        (λ ready. IsPrepared met.now.own
+        (present_met met.now.present.now met.now.contexts.now.state met.now.lesson) met.now.contexts.now.state
         (kept_with kept.old.items
-        (kept_note tallies.now (present_met present.now contexts.now.state lesson) arrived)))) }
-    ensures progress { IsKeptOf own present.now kept.new.items progress.new }
+        (kept_note met.now.tallies.now (present_met met.now.present.now met.now.contexts.now.state met.now.lesson)
+        arrived))
+        ready.step) }
+    ensures within { IfOk result (λ ready. MeetsLimit met.now.contexts.now.state ready.step → ⊥) }
+    ensures err { IfErr result
+        (IsRefusal met.now.contexts.now.state
+        (IsPrepared met.now.own (present_met met.now.present.now met.now.contexts.now.state met.now.lesson)
+        met.now.contexts.now.state
+        (kept_with kept.old.items
+        (kept_note met.now.tallies.now (present_met met.now.present.now met.now.contexts.now.state met.now.lesson)
+        arrived)))) }
+    ensures progress { IsKeptOf met.now.own met.now.present.now kept.new.items progress.new }
     ensures kept { kept.new.items ≡ kept.old.items }
     ensures capacity { vec_capacity kept.old ≤ vec_capacity kept.new }
 {
-    catch_up(progress, own, present.as_ref(), kept);
-    let present = after_lesson(present, contexts, lesson);
-    let note = kept_of(tallies, present, arrived);
-    prepared_with(alloc, own, present, contexts, kept, progress, note)
+    catch_up(progress, met.own, met.present.as_ref(), kept);
+    let present = after_lesson(met.present, met.contexts, met.lesson);
+    let note = kept_of(met.tallies, present, arrived);
+    let presence = Presence {
+        own: met.own,
+        inside: present,
+        progress: &*progress,
+    };
+    prepared_with(alloc, &presence, met.contexts, kept, note)
 }

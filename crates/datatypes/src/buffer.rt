@@ -12,6 +12,7 @@ ghost use Rattle.datatypes.specs.Contents.{values_of, bytes_of, AreWithin};
 use crate::bytes::{append_copies, append_number, number_at, put_over};
 use crate::combination::{PairOp, combine_bytes};
 use crate::packing::pack_bytes;
+use crate::strided::Strided;
 use crate::unpacking::put_places;
 use derived_types::{Layout, LayoutRefusal};
 use std::alloc::{AllocError, Global};
@@ -204,14 +205,12 @@ impl Buffer {
             }) }
     {
         let size = usize::from(self.basic.size());
-        let bytes = pack_bytes(
-            alloc,
-            self.bytes.as_slice(),
+        let strided = Strided {
             size,
-            layout.offsets(),
-            layout.extent() as usize,
-            copies as usize,
-        )?;
+            offsets: layout.offsets(),
+            extent: layout.extent() as usize,
+        };
+        let bytes = pack_bytes(alloc, self.bytes.as_slice(), &strided, copies as usize)?;
         Ok(Buffer {
             basic: self.basic,
             bytes,
@@ -262,14 +261,12 @@ impl Buffer {
     {
         let count = message.len();
         let size = usize::from(self.basic.size());
-        put_places(
-            &mut self.bytes,
-            message.bytes.as_slice(),
+        let strided = Strided {
             size,
-            layout.offsets(),
-            layout.extent() as usize,
-            count,
-        );
+            offsets: layout.offsets(),
+            extent: layout.extent() as usize,
+        };
+        put_places(&mut self.bytes, message.bytes.as_slice(), &strided, count);
     }
 
     /// The element at a place, as the unsigned number that its bytes are.

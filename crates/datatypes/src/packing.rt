@@ -3,12 +3,13 @@
 ghost use Rattle.std.specs.Prelude.{◌≡◌, ◌≤◌, ◌<◌, ◌+◌, ◌*◌, ◌++◌, length, take, drop, slice_index, IfOk, IfSome};
 ghost use Rattle.std.specs.Prelude.{IsTrue};
 ghost use Rattle.std.specs.List.{range_with_len};
-ghost use Rattle.derived_types.specs.Layouts.{extent_of, moved, places};
+ghost use Rattle.derived_types.specs.Layouts.{moved, places};
 ghost use Rattle.datatypes.specs.Transfers.{room_for, elements_at, AreNear};
 ghost use Rattle.datatypes.specs.Contents.{values_of, AreWhole};
 ghost use Rattle.datatypes.specs.Pieces.{pieces_of, AreBlocks};
 
 use crate::bytes::{number_at, put_number_at};
+use crate::strided::{LayoutCopy, Strided};
 use std::alloc::{AllocError, Global};
 
 /// The fewest elements of a block that is copied as one piece.
@@ -94,175 +95,121 @@ pub fn run(bytes: &[u8], from: usize, count: usize) -> &[u8]
     here
 }
 
-/// Puts the elements at these offsets from a place on over those of `out` from a place on.
+/// Puts the elements of one copy of a layout over those of `out` from a place on.
 #[inline(always)]
-fn fill_elements(out: &mut [u8], at: usize, bytes: &[u8], size: usize, offsets: &[u32], from: usize)
-    requires size { 1 ≤ size }
-    requires high { size ≤ 8 }
-    requires out { AreWhole size out.old }
-    requires bytes { AreWhole size bytes.now }
-    requires room { at + length offsets.now ≤ length (values_of size out.old) }
-    requires near { AreNear (moved from offsets.now) (length (values_of size bytes.now)) }
+fn fill_elements(out: &mut [u8], at: usize, bytes: &[u8], copy: &LayoutCopy)
+    requires out { AreWhole copy.now.size out.old }
+    requires bytes { AreWhole copy.now.size bytes.now }
+    requires room { at + length copy.now.offsets.now ≤ length (values_of copy.now.size out.old) }
+    requires near { AreNear (moved copy.now.from copy.now.offsets.now) (length (values_of copy.now.size bytes.now)) }
     ensures len { length out.new ≡ length out.old }
-    ensures whole { AreWhole size out.new }
-    ensures values { values_of size out.new ≡
-        take at (values_of size out.old)
-        ++ elements_at (values_of size bytes.now) (moved from offsets.now)
-        ++ drop (at + length offsets.now) (values_of size out.old) }
+    ensures whole { AreWhole copy.now.size out.new }
+    ensures values { values_of copy.now.size out.new ≡
+        take at (values_of copy.now.size out.old)
+        ++ elements_at (values_of copy.now.size bytes.now) (moved copy.now.from copy.now.offsets.now)
+        ++ drop (at + length copy.now.offsets.now) (values_of copy.now.size out.old) }
 {
-    for i in 0..offsets.len() {
-        let place = from + offsets[i] as usize;
-        let number = number_at(bytes, size, place);
-        put_number_at(out, number, size, at + i);
+    for i in 0..copy.offsets.len() {
+        let place = copy.from + copy.offsets[i] as usize;
+        let number = number_at(bytes, copy.size, place);
+        put_number_at(out, number, copy.size, at + i);
     }
 }
 
 /// Gathers the elements at the places of so many copies of a layout; compiled for each size.
 #[inline(always)]
-fn fill_sized(
-    out: &mut [u8],
-    bytes: &[u8],
-    size: usize,
-    offsets: &[u32],
-    extent: usize,
-    copies: usize,
-)
-    requires size { 1 ≤ size }
-    requires high { size ≤ 8 }
-    requires extent { extent ≡ extent_of offsets.now }
-    requires some { 0 < length offsets.now }
+fn fill_sized(out: &mut [u8], bytes: &[u8], size: usize, strided: &Strided, copies: usize)
+    requires size { size ≡ strided.now.size }
+    requires some { 0 < length strided.now.offsets.now }
     requires out { AreWhole size out.old }
     requires bytes { AreWhole size bytes.now }
-    requires room { length (values_of size out.old) ≡ copies * length offsets.now }
-    requires near { room_for (places copies offsets.now) ≤ length (values_of size bytes.now) }
+    requires room { length (values_of size out.old) ≡ copies * length strided.now.offsets.now }
+    requires near { room_for (places copies strided.now.offsets.now) ≤ length (values_of size bytes.now) }
     ensures len { length out.new ≡ length out.old }
     ensures whole { AreWhole size out.new }
     ensures values { values_of size out.new ≡
-        elements_at (values_of size bytes.now) (places copies offsets.now) }
+        elements_at (values_of size bytes.now) (places copies strided.now.offsets.now) }
 {
     for copy in 0..copies {
-        fill_elements(
-            out,
-            copy * offsets.len(),
-            bytes,
+        let one = LayoutCopy {
             size,
-            offsets,
-            copy * extent,
-        );
+            offsets: strided.offsets,
+            from: copy * strided.extent,
+        };
+        fill_elements(out, copy * strided.offsets.len(), bytes, &one);
     }
 }
 
 /// Gathers the elements at the places of so many copies of a layout.
-fn fill_slices(
-    out: &mut [u8],
-    bytes: &[u8],
-    size: usize,
-    offsets: &[u32],
-    extent: usize,
-    copies: usize,
-)
-    requires size { 1 ≤ size }
-    requires high { size ≤ 8 }
-    requires extent { extent ≡ extent_of offsets.now }
-    requires some { 0 < length offsets.now }
-    requires out { AreWhole size out.old }
-    requires bytes { AreWhole size bytes.now }
-    requires room { length (values_of size out.old) ≡ copies * length offsets.now }
-    requires near { room_for (places copies offsets.now) ≤ length (values_of size bytes.now) }
+fn fill_slices(out: &mut [u8], bytes: &[u8], strided: &Strided, copies: usize)
+    requires some { 0 < length strided.now.offsets.now }
+    requires out { AreWhole strided.now.size out.old }
+    requires bytes { AreWhole strided.now.size bytes.now }
+    requires room { length (values_of strided.now.size out.old) ≡ copies * length strided.now.offsets.now }
+    requires near { room_for (places copies strided.now.offsets.now) ≤ length (values_of strided.now.size bytes.now) }
     ensures len { length out.new ≡ length out.old }
-    ensures whole { AreWhole size out.new }
-    ensures values { values_of size out.new ≡
-        elements_at (values_of size bytes.now) (places copies offsets.now) }
+    ensures whole { AreWhole strided.now.size out.new }
+    ensures values { values_of strided.now.size out.new ≡
+        elements_at (values_of strided.now.size bytes.now) (places copies strided.now.offsets.now) }
 {
-    match size {
-        1 => fill_sized(out, bytes, 1, offsets, extent, copies),
-        2 => fill_sized(out, bytes, 2, offsets, extent, copies),
-        4 => fill_sized(out, bytes, 4, offsets, extent, copies),
-        8 => fill_sized(out, bytes, 8, offsets, extent, copies),
-        _ => fill_sized(out, bytes, size, offsets, extent, copies),
+    match strided.size {
+        1 => fill_sized(out, bytes, 1, strided, copies),
+        2 => fill_sized(out, bytes, 2, strided, copies),
+        4 => fill_sized(out, bytes, 4, strided, copies),
+        8 => fill_sized(out, bytes, 8, strided, copies),
+        size => fill_sized(out, bytes, size, strided, copies),
     }
 }
 
-/// Gathers the elements at the places of so many copies of a layout into a vector.
-fn fill_places(
-    out: &mut Vec<u8>,
-    bytes: &[u8],
-    size: usize,
-    offsets: &[u32],
-    extent: usize,
-    copies: usize,
-)
-    requires size { 1 ≤ size }
-    requires high { size ≤ 8 }
-    requires extent { extent ≡ extent_of offsets.now }
-    requires some { 0 < length offsets.now }
-    requires out { AreWhole size out.old.items }
-    requires bytes { AreWhole size bytes.now }
-    requires room { length (values_of size out.old.items) ≡ copies * length offsets.now }
-    requires near { room_for (places copies offsets.now) ≤ length (values_of size bytes.now) }
-    ensures whole { AreWhole size out.new.items }
-    ensures values { values_of size out.new.items ≡
-        elements_at (values_of size bytes.now) (places copies offsets.now) }
+/// How many bytes so many copies have; more than can be counted are refused.
+fn byte_count(strided: &Strided, copies: usize) -> Result<usize, AllocError>
+    ensures { IfOk result (λ count. count ≡ copies * length strided.now.offsets.now * strided.now.size) }
 {
-    fill_slices(out, bytes, size, offsets, extent, copies);
-}
-
-/// How many bytes so many copies of so many elements have; more than can be counted are refused.
-fn byte_count(copies: usize, entries: usize, size: usize) -> Result<usize, AllocError>
-    ensures { IfOk result (λ count. count ≡ copies * entries * size) }
-{
-    let elements = copies.checked_mul(entries).ok_or(AllocError)?;
-    elements.checked_mul(size).ok_or(AllocError)
+    let elements = copies.checked_mul(strided.offsets.len()).ok_or(AllocError)?;
+    elements.checked_mul(strided.size).ok_or(AllocError)
 }
 
 /// The bytes of the elements at the places of so many copies of a layout, gathered one by one.
 fn pack_apart(
     alloc: Global,
     bytes: &[u8],
-    size: usize,
-    offsets: &[u32],
-    extent: usize,
+    strided: &Strided,
     copies: usize,
 ) -> Result<Vec<u8>, AllocError>
-    requires size { 1 ≤ size }
-    requires high { size ≤ 8 }
-    requires extent { extent ≡ extent_of offsets.now }
-    requires some { 0 < length offsets.now }
-    requires bytes { AreWhole size bytes.now }
-    requires near { room_for (places copies offsets.now) ≤ length (values_of size bytes.now) }
-    ensures whole { IfOk result (λ out. AreWhole size out.items) }
+    requires some { 0 < length strided.now.offsets.now }
+    requires bytes { AreWhole strided.now.size bytes.now }
+    requires near { room_for (places copies strided.now.offsets.now) ≤ length (values_of strided.now.size bytes.now) }
+    ensures whole { IfOk result (λ out. AreWhole strided.now.size out.items) }
     ensures values { IfOk result
         (λ out.
-        values_of size out.items ≡
-        elements_at (values_of size bytes.now) (places copies offsets.now)) }
+        values_of strided.now.size out.items ≡
+        elements_at (values_of strided.now.size bytes.now) (places copies strided.now.offsets.now)) }
 {
-    let count = byte_count(copies, offsets.len(), size)?;
+    let count = byte_count(strided, copies)?;
     let mut out = vec![in alloc; 0; count]?;
-    fill_places(&mut out, bytes, size, offsets, extent, copies);
+    fill_slices(&mut out, bytes, strided, copies);
     Ok(out)
 }
 
-/// Appends the elements at these offsets from a place on, which are made of blocks.
+/// Appends the elements of one copy of a layout, which is made of blocks.
 fn append_blocks(
     out: &mut Vec<u8>,
     bytes: &[u8],
-    size: usize,
-    offsets: &[u32],
-    from: usize,
+    copy: &LayoutCopy,
     block: usize,
 ) -> Result<(), AllocError>
-    requires size { 1 ≤ size }
     requires block { 0 < block }
-    requires blocks { AreBlocks block offsets.now }
-    requires bytes { AreWhole size bytes.now }
-    requires near { AreNear (moved from offsets.now) (length (values_of size bytes.now)) }
+    requires blocks { AreBlocks block copy.now.offsets.now }
+    requires bytes { AreWhole copy.now.size bytes.now }
+    requires near { AreNear (moved copy.now.from copy.now.offsets.now) (length (values_of copy.now.size bytes.now)) }
     ensures { IfOk result
         (λ _.
-        out.new.items ≡ out.old.items ++ pieces_of size bytes.now (moved from offsets.now)) }
+        out.new.items ≡ out.old.items ++
+        pieces_of copy.now.size bytes.now (moved copy.now.from copy.now.offsets.now)) }
 {
-    for number in 0..offsets.len() / block {
-        let first = from + offsets[number * block] as usize;
-        out.extend_from_slice(run(bytes, first * size, block * size))?;
+    for number in 0..copy.offsets.len() / block {
+        let first = copy.from + copy.offsets[number * block] as usize;
+        out.extend_from_slice(run(bytes, first * copy.size, block * copy.size))?;
     }
     Ok(())
 }
@@ -271,25 +218,27 @@ fn append_blocks(
 fn append_copied_blocks(
     out: &mut Vec<u8>,
     bytes: &[u8],
-    size: usize,
-    offsets: &[u32],
-    extent: usize,
+    strided: &Strided,
     copies: usize,
     block: usize,
 ) -> Result<(), AllocError>
-    requires size { 1 ≤ size }
-    requires extent { extent ≡ extent_of offsets.now }
-    requires some { 0 < length offsets.now }
+    requires some { 0 < length strided.now.offsets.now }
     requires block { 0 < block }
-    requires blocks { AreBlocks block offsets.now }
-    requires bytes { AreWhole size bytes.now }
-    requires near { room_for (places copies offsets.now) ≤ length (values_of size bytes.now) }
+    requires blocks { AreBlocks block strided.now.offsets.now }
+    requires bytes { AreWhole strided.now.size bytes.now }
+    requires near { room_for (places copies strided.now.offsets.now) ≤ length (values_of strided.now.size bytes.now) }
     ensures { IfOk result
         (λ _.
-        out.new.items ≡ out.old.items ++ pieces_of size bytes.now (places copies offsets.now)) }
+        out.new.items ≡ out.old.items ++
+        pieces_of strided.now.size bytes.now (places copies strided.now.offsets.now)) }
 {
-    for copy in 0..copies {
-        append_blocks(out, bytes, size, offsets, copy * extent, block)?;
+    for number in 0..copies {
+        let one = LayoutCopy {
+            size: strided.size,
+            offsets: strided.offsets,
+            from: number * strided.extent,
+        };
+        append_blocks(out, bytes, &one, block)?;
     }
     Ok(())
 }
@@ -299,65 +248,57 @@ fn append_copied_blocks(
 fn pack_blocks(
     alloc: Global,
     bytes: &[u8],
-    size: usize,
-    offsets: &[u32],
-    extent: usize,
+    strided: &Strided,
     copies: usize,
     block: usize,
 ) -> Result<Vec<u8>, AllocError>
-    requires size { 1 ≤ size }
-    requires extent { extent ≡ extent_of offsets.now }
-    requires some { 0 < length offsets.now }
+    requires some { 0 < length strided.now.offsets.now }
     requires block { 0 < block }
-    requires blocks { AreBlocks block offsets.now }
-    requires bytes { AreWhole size bytes.now }
-    requires near { room_for (places copies offsets.now) ≤ length (values_of size bytes.now) }
-    ensures whole { IfOk result (λ out. AreWhole size out.items) }
+    requires blocks { AreBlocks block strided.now.offsets.now }
+    requires bytes { AreWhole strided.now.size bytes.now }
+    requires near { room_for (places copies strided.now.offsets.now) ≤ length (values_of strided.now.size bytes.now) }
+    ensures whole { IfOk result (λ out. AreWhole strided.now.size out.items) }
     ensures values { IfOk result
         (λ out.
-        values_of size out.items ≡
-        elements_at (values_of size bytes.now) (places copies offsets.now)) }
+        values_of strided.now.size out.items ≡
+        elements_at (values_of strided.now.size bytes.now) (places copies strided.now.offsets.now)) }
 {
-    let count = byte_count(copies, offsets.len(), size)?;
+    let count = byte_count(strided, copies)?;
     let mut out = Vec::with_capacity(alloc, count)?;
-    append_copied_blocks(&mut out, bytes, size, offsets, extent, copies, block)?;
+    append_copied_blocks(&mut out, bytes, strided, copies, block)?;
     Ok(out)
 }
 
-/// The bytes of the elements of `size` bytes at the places of so many copies of a layout, in order.
+/// The bytes of the elements at the places of so many copies of a layout, in order.
 /// Offsets that follow one another are copied as one piece, long blocks of them as one piece each.
 pub fn pack_bytes(
     alloc: Global,
     bytes: &[u8],
-    size: usize,
-    offsets: &[u32],
-    extent: usize,
+    strided: &Strided,
     copies: usize,
 ) -> Result<Vec<u8>, AllocError>
-    requires size { 1 ≤ size }
-    requires high { size ≤ 8 }
-    requires extent { extent ≡ extent_of offsets.now }
-    requires bytes { AreWhole size bytes.now }
-    requires near { room_for (places copies offsets.now) ≤ length (values_of size bytes.now) }
-    ensures whole { IfOk result (λ out. AreWhole size out.items) }
+    requires bytes { AreWhole strided.now.size bytes.now }
+    requires near { room_for (places copies strided.now.offsets.now) ≤ length (values_of strided.now.size bytes.now) }
+    ensures whole { IfOk result (λ out. AreWhole strided.now.size out.items) }
     ensures values { IfOk result
         (λ out.
-        values_of size out.items ≡
-        elements_at (values_of size bytes.now) (places copies offsets.now)) }
+        values_of strided.now.size out.items ≡
+        elements_at (values_of strided.now.size bytes.now) (places copies strided.now.offsets.now)) }
 {
     if copies == 0 {
         return Ok(Vec::new(alloc));
     }
+    let offsets = strided.offsets;
     if offsets.is_empty() {
         return Ok(Vec::new(alloc));
     }
     if is_run(offsets) {
         let first = offsets[0] as usize;
-        let count = copies * offsets.len() * size;
-        return Vec::from_slice(alloc, run(bytes, first * size, count));
+        let count = copies * offsets.len() * strided.size;
+        return Vec::from_slice(alloc, run(bytes, first * strided.size, count));
     }
     match block_length(offsets) {
-        Some(block) => pack_blocks(alloc, bytes, size, offsets, extent, copies, block),
-        None => pack_apart(alloc, bytes, size, offsets, extent, copies),
+        Some(block) => pack_blocks(alloc, bytes, strided, copies, block),
+        None => pack_apart(alloc, bytes, strided, copies),
     }
 }

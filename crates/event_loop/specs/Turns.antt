@@ -15,6 +15,7 @@ use Rattle.event_loop.specs.declared.runner.RunnerStep.{RunnerStep}
 use Rattle.event_loop.specs.declared.runner.RunnerStep.TheVariants as steps
 use Rattle.event_loop.specs.declared.loop_state.RunnerState.{RunnerState}
 use Rattle.event_loop.specs.declared.loop_state.RunnerState.TheVariants.{Ready, Blocked, Over}
+use Rattle.event_loop.specs.declared.loop_state.LoopState.{LoopState}
 use Rattle.event_loop.specs.declared.loop_state.TurnResult.{TurnResult}
 use Rattle.event_loop.specs.declared.transport.TransportFault.{TransportFault}
 use Rattle.event_loop.specs.Listening.{TakesIn, Word, after_all, nothing_heard, received}
@@ -44,6 +45,10 @@ abbrev pub stage_with : RunnerState → Option Completion → RunnerState
 stage_with stage None = stage
 stage_with stage (Some (completions.Requests answer)) = Ready (Some (replies.Done answer))
 stage_with stage (Some (completions.Collective ending)) = Ready (Some (replies.Left ending))
+
+-- a datagram came last, and something moved last, when they did before
+abbrev pub IsSameTime : LoopState → LoopState → Type 0
+IsSameTime old new = (new.heard ≡ old.heard) × (new.moved ≡ old.moved)
 
 -- what the runner waits for after a reply
 abbrev pub stage_after : Reply → RunnerState

@@ -7,41 +7,37 @@ ghost use Rattle.event_loop.specs.Drives.{Drives, DrivesOn};
 use crate::clock::Clock;
 use crate::input::RECEIVE_ROOM;
 use crate::loop_state::{LoopState, RunnerState};
-use crate::round::{Ended, make_round};
+use crate::rank::Rank;
+use crate::round::{Ended, RoundTime, make_round};
 use crate::runner::Runner;
 use crate::transport::{Transport, TransportFault};
-use engine::Engine;
 use std::sync::Wait;
+use vocabulary::replace;
 
 /// Makes rounds, one after the other, until the rank ends. A fault of the transport ends it at once.
 fn make_rounds<R: Wait, P: Runner, T: Transport, C: Clock>(
     rt: &R,
-    engine: &mut Engine,
-    runner: &mut P,
-    standing: &mut LoopState,
+    rank: &mut Rank<P>,
     patience: u64,
     transport: &mut T,
     clock: &mut C,
 ) -> Result<Ended, TransportFault>
     requires { T.failed transport.old + 1 < 2 ^ 64 }
     ensures exact { DrivesOn P.does T.passed T.waits C.told patience
-        (record { engine = engine.old; runner = runner.old; standing = standing.old; transport = transport.old })
-        clock.old result engine.new runner.new standing.new transport.new clock.new }
+        (record {
+          engine = rank.old.engine;
+          runner = rank.old.runner;
+          standing = rank.old.standing;
+          transport = transport.old;
+        })
+        clock.old result rank.new.engine rank.new.runner rank.new.standing transport.new clock.new }
     ensures failures { FailsWith result (T.failed transport.old) (T.failed transport.new) }
 {
     let mut buffer = [0u8; RECEIVE_ROOM];
     for _ in rt.forever() {
         let now = clock.now();
-        match make_round(
-            rt,
-            engine,
-            runner,
-            standing,
-            patience,
-            transport,
-            &mut buffer,
-            now,
-        ) {
+        let time = RoundTime { now, patience };
+        match make_round(rt, rank, time, transport, &mut buffer) {
             Ok(None) => {}
             Ok(Some(ended)) => return Ok(ended),
             Err(_) => return Err(TransportFault),
@@ -63,32 +59,22 @@ fn make_rounds<R: Wait, P: Runner, T: Transport, C: Clock>(
 /// answered and no datagram was accepted.
 pub fn drive<R: Wait, P: Runner, T: Transport, C: Clock>(
     rt: &R,
-    engine: &mut Engine,
-    runner: &mut P,
+    rank: &mut Rank<P>,
     patience: u64,
     transport: &mut T,
     clock: &mut C,
 ) -> Result<Ended, TransportFault>
     requires { T.failed transport.old + 1 < 2 ^ 64 }
-    ensures exact { Drives P.does T.passed T.waits C.told patience engine.old runner.old transport.old clock.old result
-        engine.new runner.new transport.new clock.new }
+    ensures exact { Drives P.does T.passed T.waits C.told patience rank.old.engine rank.old.runner transport.old
+        clock.old result rank.new.engine rank.new.runner transport.new clock.new }
     ensures failures { FailsWith result (T.failed transport.old) (T.failed transport.new) }
 {
     let start = clock.now();
-    let mut standing = LoopState {
+    let standing = LoopState {
         stage: RunnerState::Ready(None),
         heard: start,
         moved: start,
     };
-    let ended = make_rounds(
-        rt,
-        engine,
-        runner,
-        &mut standing,
-        patience,
-        transport,
-        clock,
-    );
-    drop(standing);
-    ended
+    replace(&mut rank.standing, standing);
+    make_rounds(rt, rank, patience, transport, clock)
 }

@@ -4,11 +4,11 @@ ghost use Rattle.std.specs.Prelude.{◌≡◌, ◌≤◌, ◌+◌, ◌-◌, ◌<
 ghost use Rattle.event_loop.specs.Exchanges.{FailsWith, rested};
 ghost use Rattle.event_loop.specs.Drives.{RoundGives, ending_of, patience_ends, status_of, wait_of};
 
-use crate::loop_state::{LoopState, RunnerState};
+use crate::loop_state::RunnerState;
+use crate::rank::Rank;
 use crate::runner::Runner;
 use crate::transport::{Transport, TransportFault};
 use crate::turn::{is_ready, turn};
-use engine::Engine;
 use std::sync::Wait;
 
 /// How many milliseconds a rank stays after its script's end, from the last datagram that came.
@@ -36,6 +36,15 @@ impl Ended {
             Ended::Patience => 4,
         }
     }
+}
+
+/// When a round begins, and how long the rank's patience is, both in milliseconds.
+#[derive(Clone, Copy)]
+pub(crate) struct RoundTime {
+    /// The time of the rank's clock.
+    pub(crate) now: u64,
+    /// For how long nothing has to move until the rank ends.
+    pub(crate) patience: u64,
 }
 
 fn patience_ends(patience: u64, still: u64) -> Option<Ended>
@@ -115,44 +124,37 @@ fn rest<T: Transport>(transport: &mut T, ready: bool, most: u64) -> Result<(), T
 /// the rank ended, if it has.
 pub(crate) fn make_round<R: Wait, P: Runner, T: Transport>(
     rt: &R,
-    engine: &mut Engine,
-    runner: &mut P,
-    standing: &mut LoopState,
-    patience: u64,
+    rank: &mut Rank<P>,
+    time: RoundTime,
     transport: &mut T,
     buffer: &mut [u8],
-    now: u64,
 ) -> Result<Option<Ended>, TransportFault>
     requires { T.failed transport.old + 1 < 2 ^ 64 }
-    ensures exact { RoundGives P.does T.passed T.waits patience
-        (record { engine = engine.old; runner = runner.old; standing = standing.old; transport = transport.old })
-        now result engine.new runner.new standing.new transport.new }
+    ensures exact { RoundGives P.does T.passed T.waits time.patience
+        (record {
+          engine = rank.old.engine;
+          runner = rank.old.runner;
+          standing = rank.old.standing;
+          transport = transport.old;
+        })
+        time.now result rank.new.engine rank.new.runner rank.new.standing transport.new }
     ensures failures { FailsWith result (T.failed transport.old) (T.failed transport.new) }
 {
-    let Ok(turned) = turn(
-        rt,
-        engine,
-        runner,
-        &mut standing.stage,
-        transport,
-        buffer,
-        now,
-    ) else {
+    let RoundTime { now, patience } = time;
+    let Ok(turned) = turn(rt, rank, transport, buffer, now) else {
         return Err(TransportFault);
     };
-    standing.heard = time_of(turned.came, now, standing.heard);
-    standing.moved = time_of(turned.moved, now, standing.moved);
-    let idle = engine.is_idle();
-    let quiet = now.saturating_sub(standing.heard);
-    let still = now.saturating_sub(standing.moved);
-    if let Some(ended) = ending_of(&standing.stage, idle, patience, quiet, still) {
+    rank.standing.heard = time_of(turned.came, now, rank.standing.heard);
+    rank.standing.moved = time_of(turned.moved, now, rank.standing.moved);
+    let idle = rank.engine.is_idle();
+    let quiet = now.saturating_sub(rank.standing.heard);
+    let still = now.saturating_sub(rank.standing.moved);
+    let stage = &rank.standing.stage;
+    if let Some(ended) = ending_of(stage, idle, patience, quiet, still) {
         return Ok(Some(ended));
     }
-    let Ok(_) = rest(
-        transport,
-        is_ready(&standing.stage),
-        wait_of(&standing.stage, idle, patience, quiet, still),
-    ) else {
+    let most = wait_of(stage, idle, patience, quiet, still);
+    let Ok(_) = rest(transport, is_ready(stage), most) else {
         return Err(TransportFault);
     };
     Ok(None)

@@ -4,11 +4,12 @@ ghost use Rattle.std.specs.Prelude.{◌≡◌, ◌+◌, ◌<◌, ◌^◌, Option
 ghost use Rattle.event_loop.specs.Exchanges.{FailsWith};
 ghost use Rattle.event_loop.specs.Speaking.{IsNoLine};
 ghost use Rattle.event_loop.specs.Turns.{TakesStep, GoesOnTo, TurnGives, stage_after, stage_with, reply_of, is_ready};
-ghost use Rattle.event_loop.specs.Turns.{told_waits};
+ghost use Rattle.event_loop.specs.Turns.{IsSameTime, told_waits};
 
 use crate::input::listen;
 use crate::loop_state::{RunnerState, TurnResult};
 use crate::output::send_all;
+use crate::rank::Rank;
 use crate::runner::{Runner, RunnerStep};
 use crate::runner_turn::speak;
 use crate::transport::{Transport, TransportFault};
@@ -69,52 +70,56 @@ fn take_step(engine: &mut Engine, step: RunnerStep) -> RunnerState
 #[inline(never)]
 fn go_on_behind<R: Wait, P: Runner, T: Transport>(
     rt: &R,
-    engine: &mut Engine,
-    runner: &mut P,
-    stage: &mut RunnerState,
+    rank: &mut Rank<P>,
     transport: &mut T,
     line: &[u8],
 ) -> Result<(), TransportFault>
     requires room { T.failed transport.old + 1 < 2 ^ 64 }
-    requires ready { stage.old ≡ RunnerState.Ready None }
-    ensures exact { (before : P) (reply : Option Reply) → P.does before reply (RunnerStep.Print line.now) runner.old →
-        GoesOnTo P.does T.passed engine.old before (RunnerState.Ready reply) transport.old result engine.new runner.new
-        stage.new transport.new }
+    requires ready { rank.old.standing.stage ≡ RunnerState.Ready None }
+    ensures exact { (before : P) (reply : Option Reply) →
+        P.does before reply (RunnerStep.Print line.now) rank.old.runner →
+        GoesOnTo P.does T.passed rank.old.engine before (RunnerState.Ready reply) transport.old result rank.new.engine
+        rank.new.runner rank.new.standing.stage transport.new }
+    ensures times { IsSameTime rank.old.standing rank.new.standing }
     ensures failures { FailsWith result (T.failed transport.old) (T.failed transport.new) }
 {
     let Ok(_) = transport.print(line) else {
         return Err(TransportFault);
     };
-    let Ok(step) = speak(rt, runner, None, transport) else {
+    let Ok(step) = speak(rt, &mut rank.runner, None, transport) else {
         return Err(TransportFault);
     };
-    replace(stage, take_step(engine, step));
+    replace(&mut rank.standing.stage, take_step(&mut rank.engine, step));
     Ok(())
 }
 
 /// The runner goes on, unless its call is blocked or it has ended.
 fn go_on<R: Wait, P: Runner, T: Transport>(
     rt: &R,
-    engine: &mut Engine,
-    runner: &mut P,
-    stage: &mut RunnerState,
+    rank: &mut Rank<P>,
     transport: &mut T,
 ) -> Result<(), TransportFault>
     requires { T.failed transport.old + 1 < 2 ^ 64 }
-    ensures exact { GoesOnTo P.does T.passed engine.old runner.old stage.old transport.old result engine.new runner.new
-        stage.new transport.new }
+    ensures exact { GoesOnTo P.does T.passed rank.old.engine rank.old.runner rank.old.standing.stage transport.old
+        result rank.new.engine rank.new.runner rank.new.standing.stage transport.new }
+    ensures times { IsSameTime rank.old.standing rank.new.standing }
     ensures failures { FailsWith result (T.failed transport.old) (T.failed transport.new) }
 {
-    let reply = match stage {
+    let reply = match &mut rank.standing.stage {
         RunnerState::Ready(reply) => reply.take(),
         RunnerState::Blocked | RunnerState::Over(_, _) => return Ok(()),
     };
-    match runner.next(reply) {
-        RunnerStep::Call(call) => replace(stage, stage_after(engine.call(call))),
-        RunnerStep::Print(line) => {
-            return go_on_behind(rt, engine, runner, stage, transport, line.as_slice());
+    match rank.runner.next(reply) {
+        RunnerStep::Call(call) => {
+            replace(
+                &mut rank.standing.stage,
+                stage_after(rank.engine.call(call)),
+            );
         }
-        RunnerStep::End(status, line) => replace(stage, RunnerState::Over(status, line)),
+        RunnerStep::Print(line) => return go_on_behind(rt, rank, transport, line.as_slice()),
+        RunnerStep::End(status, line) => {
+            replace(&mut rank.standing.stage, RunnerState::Over(status, line));
+        }
     }
     Ok(())
 }
@@ -136,36 +141,35 @@ fn tell_waits<T: Transport>(engine: &mut Engine, transport: &T)
 /// is sent.
 pub(crate) fn turn<R: Wait, P: Runner, T: Transport>(
     rt: &R,
-    engine: &mut Engine,
-    runner: &mut P,
-    stage: &mut RunnerState,
+    rank: &mut Rank<P>,
     transport: &mut T,
     buffer: &mut [u8],
     now: u64,
 ) -> Result<TurnResult, TransportFault>
     requires { T.failed transport.old + 1 < 2 ^ 64 }
-    ensures exact { TurnGives P.does T.passed T.waits engine.old runner.old stage.old transport.old now result
-        engine.new runner.new stage.new transport.new }
+    ensures exact { TurnGives P.does T.passed T.waits rank.old.engine rank.old.runner rank.old.standing.stage
+        transport.old now result rank.new.engine rank.new.runner rank.new.standing.stage transport.new }
+    ensures times { IsSameTime rank.old.standing rank.new.standing }
     ensures failures { FailsWith result (T.failed transport.old) (T.failed transport.new) }
 {
-    tell_waits(engine, transport);
-    let _ = engine.tick(now);
-    let Ok(heard) = listen(rt, engine, transport, buffer) else {
+    tell_waits(&mut rank.engine, transport);
+    let _ = rank.engine.tick(now);
+    let Ok(heard) = listen(rt, &mut rank.engine, transport, buffer) else {
         return Err(TransportFault);
     };
-    let completion = engine.take_completion();
+    let completion = rank.engine.take_completion();
     let answered = completion.is_some();
-    hear_answer(stage, completion);
-    let Ok(_) = go_on(rt, engine, runner, stage, transport) else {
+    hear_answer(&mut rank.standing.stage, completion);
+    let Ok(_) = go_on(rt, rank, transport) else {
         return Err(TransportFault);
     };
-    let out = engine.take_out();
+    let out = rank.engine.take_out();
     let Ok(_) = send_all(transport, &out) else {
         return Err(TransportFault);
     };
-    engine.give_back(out);
+    rank.engine.give_back(out);
     Ok(TurnResult {
         came: heard.any,
-        moved: heard.accepted || answered || is_ready(stage),
+        moved: heard.accepted || answered || is_ready(&rank.standing.stage),
     })
 }

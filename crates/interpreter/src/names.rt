@@ -59,6 +59,11 @@ impl Names {
         }
     }
 
+    /// From where the memory is taken for what the names stand for.
+    pub fn allocator(&self) -> Global {
+        self.alloc
+    }
+
     /// Lets a buffer's name stand for these elements, or be lent.
     pub(crate) fn set_buffer(&mut self, name: &Name, slot: Option<Buffer>) -> Result<(), AllocError>
         ensures { OnOk result (self.new ≡ with_buffer self.old name.now slot) }

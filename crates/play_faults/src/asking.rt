@@ -79,31 +79,32 @@ fn world_behind(
     Ok(world)
 }
 
-fn ask_rank(
-    alloc: Global,
-    world: &mut World,
-    operations: &mut Operations,
-    communicators: &Communicators,
-    rank: u16,
-    player: &Played,
-    asked: &mut Asked,
-) -> Result<(), AllocError> {
-    if !can_be_asked(player) {
-        asked.left.push(Vec::new(alloc))?;
-        asked.leftovers.push(Vec::new(alloc))?;
-        return Ok(());
+impl Asked {
+    /// A rank that can't be asked answers nothing.
+    fn pass(&mut self, alloc: Global) -> Result<(), AllocError> {
+        self.left.push(Vec::new(alloc))?;
+        self.leftovers.push(Vec::new(alloc))?;
+        Ok(())
     }
-    let requests = match blocked_in(player) {
-        Some(call) => requests_in(call),
-        None => &[],
-    };
-    operations.ask(world, rank);
-    asked.left.push(left_of(alloc, world, rank, requests)?)?;
-    let count = communicators.count(rank);
-    asked
-        .leftovers
-        .push(leftovers_of(alloc, world, rank, count)?)?;
-    Ok(())
+
+    /// A rank of so many communicators answers.
+    fn ask(
+        &mut self,
+        alloc: Global,
+        world: &mut World,
+        rank: u16,
+        player: &Played,
+        count: usize,
+    ) -> Result<(), AllocError> {
+        let requests = match blocked_in(player) {
+            Some(call) => requests_in(call),
+            None => &[],
+        };
+        self.left.push(left_of(alloc, world, rank, requests)?)?;
+        self.leftovers
+            .push(leftovers_of(alloc, world, rank, count)?)?;
+        Ok(())
+    }
 }
 
 /// What the ranks answer behind the end of the play of this schedule, which left them so: how their requests stand, and
@@ -125,15 +126,12 @@ pub fn asked_of(
     };
     for (place, player) in players.iter().enumerate() {
         let rank = u16::try_from(place).unwrap_or(u16::MAX);
-        ask_rank(
-            alloc,
-            &mut world,
-            operations,
-            communicators,
-            rank,
-            player,
-            &mut asked,
-        )?;
+        if !can_be_asked(player) {
+            asked.pass(alloc)?;
+            continue;
+        }
+        operations.ask(&mut world, rank);
+        asked.ask(alloc, &mut world, rank, player, communicators.count(rank))?;
     }
     drop(world);
     Ok(asked)

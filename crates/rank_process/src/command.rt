@@ -15,8 +15,7 @@ use crate::telling::{
 };
 use crate::told_runner::ToldRunner;
 use crate::udp_wire::UdpWire;
-use engine::Engine;
-use event_loop::{Ended, TransportFault, drive};
+use event_loop::{Ended, Rank, TransportFault, drive};
 use rank_settings::{Settings, SettingsRefusal, settings_in};
 use script_files::{ParseError, Script, parse};
 use script_runner::ScriptRunner;
@@ -113,8 +112,7 @@ fn end<R: Print + Eprint + AllocGlobal + Clock>(
 fn meet<R: Wait + Print + Eprint + AllocGlobal + Clock>(
     rt: &R,
     told: &ErrorReport,
-    runner: &mut ToldRunner<'_, R>,
-    engine: &mut Engine,
+    rank: &mut Rank<ToldRunner<'_, R>>,
     udp: &mut RankTransport<UdpWire<'_, R>>,
 ) -> ExitStatus
     requires { udp.old.failures ≡ 0 }
@@ -123,11 +121,11 @@ fn meet<R: Wait + Print + Eprint + AllocGlobal + Clock>(
         Ok(clock) => clock,
         Err(error) => return status_of(&error),
     };
-    let ended = drive(rt, engine, runner, told.settings.patience, udp, &mut clock);
+    let ended = drive(rt, rank, told.settings.patience, udp, &mut clock);
     if let Ok(Ended::Runner(0, _)) = ended {
-        take_leave(rt, engine, udp, told.settings.size);
+        take_leave(rt, &mut rank.engine, udp, told.settings.size);
     }
-    end(rt, told, runner.runner(), udp, ended)
+    end(rt, told, rank.runner.runner(), udp, ended)
 }
 
 /// The rank's socket.
@@ -143,8 +141,7 @@ fn wire_of<'a, R: Net + Env + Print + AllocGlobal + Clock>(
 fn open<R: Net + Env + Wait + Print + Eprint + AllocGlobal + Clock>(
     rt: &R,
     told: &ErrorReport,
-    runner: &mut ToldRunner<'_, R>,
-    engine: &mut Engine,
+    rank: &mut Rank<ToldRunner<'_, R>>,
 ) -> ExitStatus {
     match wire_of(rt, told.settings) {
         Ok(wire) => {
@@ -152,7 +149,7 @@ fn open<R: Net + Env + Wait + Print + Eprint + AllocGlobal + Clock>(
             match trips_of(rt.alloc(), told.settings) {
                 Ok(trips) => {
                     let mut udp = RankTransport::new(rt.alloc(), wire, first, trips);
-                    meet(rt, told, runner, engine, &mut udp)
+                    meet(rt, told, rank, &mut udp)
                 }
                 Err(_) => ExitStatus::OutOfMemory,
             }
@@ -171,11 +168,17 @@ fn open<R: Net + Env + Wait + Print + Eprint + AllocGlobal + Clock>(
 fn start<R: Net + Env + Wait + Print + Eprint + AllocGlobal + Clock>(
     rt: &R,
     told: &ErrorReport,
-    runner: &mut ToldRunner<'_, R>,
+    runner: ToldRunner<'_, R>,
 ) -> ExitStatus {
     match new_engine(rt.alloc(), told.settings) {
-        Ok(mut engine) => open(rt, told, runner, &mut engine),
-        Err(status) => status,
+        Ok(engine) => {
+            let mut rank = Rank::new(engine, runner);
+            open(rt, told, &mut rank)
+        }
+        Err(status) => {
+            drop(runner);
+            status
+        }
     }
 }
 
@@ -200,7 +203,7 @@ fn run_rank<R: Net + Env + Wait + Files + Print + Eprint + AllocGlobal + Clock>(
         forewarn(rt, &text, &script, settings.rank, settings.size);
     }
     match ToldRunner::new(rt, &text, script, settings) {
-        Ok(mut runner) => start(rt, &told, &mut runner),
+        Ok(runner) => start(rt, &told, runner),
         Err(_) => ExitStatus::OutOfMemory,
     }
 }

@@ -2,8 +2,9 @@
 
 ghost use Rattle.std.specs.Prelude.{◌≡◌};
 
-use crate::two_ranks::{COLLECTIVES, PING_PONG, Pair, Rank, new_pair, rank_of};
-use event_loop::{Ended, Memory, Rising, Transport, drive};
+use crate::two_ranks::{COLLECTIVES, PING_PONG, Pair, new_pair, rank_of};
+use event_loop::{Ended, Memory, Rank, Rising, Transport, drive};
+use script_runner::ScriptRunner;
 use std::alloc::Global;
 use std::collections::VecDeque;
 use std::process::Abort;
@@ -13,21 +14,13 @@ use std::sync::Wait;
 /// a fault of the transport.
 fn driven<R: Wait, T: Transport>(
     rt: &R,
-    rank: &mut Rank,
+    rank: &mut Rank<ScriptRunner>,
     transport: &mut T,
 ) -> (Option<Ended>, bool)
     requires { T.failed transport.old ≡ 0 }
 {
     let mut clock = Rising { time: 0 };
-    let ended = drive(
-        rt,
-        &mut rank.engine,
-        &mut rank.runner,
-        500,
-        transport,
-        &mut clock,
-    )
-    .ok();
+    let ended = drive(rt, rank, 500, transport, &mut clock).ok();
     (ended, rank.engine.is_idle())
 }
 

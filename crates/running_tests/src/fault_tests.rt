@@ -3,10 +3,11 @@
 
 ghost use Rattle.std.specs.Prelude.{◌≡◌};
 
-use crate::two_ranks::{PING_PONG, Pair, Rank, new_pair, rank_of};
+use crate::two_ranks::{PING_PONG, Pair, new_pair, rank_of};
 use datagram::{Content, Frame};
 use engine::Engine;
-use event_loop::{Ended, Rising, drive};
+use event_loop::{Ended, Rank, Rising, drive};
+use script_runner::ScriptRunner;
 use std::alloc::Global;
 use std::process::Abort;
 use std::sync::Wait;
@@ -79,19 +80,15 @@ fn standing_of(engine: &mut Engine) -> Option<Standing> {
 }
 
 /// How the rank ends over a pair, and how its engine stands then.
-fn driven<R: Wait>(rt: &R, rank: &mut Rank, pair: &mut Pair) -> (Option<Ended>, Option<Standing>)
+fn driven<R: Wait>(
+    rt: &R,
+    rank: &mut Rank<ScriptRunner>,
+    pair: &mut Pair,
+) -> (Option<Ended>, Option<Standing>)
     requires { pair.old.failures ≡ 0 }
 {
     let mut clock = Rising { time: 0 };
-    let ended = drive(
-        rt,
-        &mut rank.engine,
-        &mut rank.runner,
-        500,
-        pair,
-        &mut clock,
-    )
-    .ok();
+    let ended = drive(rt, rank, 500, pair, &mut clock).ok();
     (ended, standing_of(&mut rank.engine))
 }
 

@@ -4,7 +4,7 @@ ghost use Rattle.std.specs.Prelude.{◌≡◌, ◌+◌, ◌<◌, ◌≤◌, ◌^
 
 use datagram::Bytes;
 use engine::{Completion, Engine, Place, Reply};
-use event_loop::{Runner, RunnerStep, Transport, TransportFault};
+use event_loop::{Rank, Runner, RunnerStep, Transport, TransportFault};
 use script_files::parse;
 use script_runner::ScriptRunner;
 use std::alloc::Global;
@@ -39,15 +39,6 @@ fn runner_of(alloc: Global, text: &[u8], rank: u16) -> Option<ScriptRunner> {
     ScriptRunner::new(alloc, script, rank, 0).ok()
 }
 
-/// One of two ranks that run a script.
-#[derive(Drop)]
-pub struct Rank {
-    /// Its engine.
-    pub engine: Engine,
-    /// What it runs.
-    pub runner: ScriptRunner,
-}
-
 /// Both, if both are here.
 // In code for every type a drop is one step of a proof; that of an engine or a runner takes each of its types in turn.
 fn both<A: Drop, B: Drop>(one: Option<A>, other: Option<B>) -> Option<(A, B)> {
@@ -58,11 +49,11 @@ fn both<A: Drop, B: Drop>(one: Option<A>, other: Option<B>) -> Option<(A, B)> {
 }
 
 /// A rank of a script, at its start.
-pub fn rank_of(alloc: Global, text: &[u8], rank: u16) -> Option<Rank> {
+pub fn rank_of(alloc: Global, text: &[u8], rank: u16) -> Option<Rank<ScriptRunner>> {
     let runner = runner_of(alloc, text, rank);
     let engine = Engine::new(alloc, place_of_two(rank)).ok();
     match both(engine, runner) {
-        Some((engine, runner)) => Some(Rank { engine, runner }),
+        Some((engine, runner)) => Some(Rank::new(engine, runner)),
         None => None,
     }
 }
@@ -70,7 +61,7 @@ pub fn rank_of(alloc: Global, text: &[u8], rank: u16) -> Option<Rank> {
 /// A transport of rank 0 behind which rank 1 runs, and which fails from its call of a given number on.
 #[derive(Drop)]
 pub struct Pair {
-    rank: Rank,
+    rank: Rank<ScriptRunner>,
     /// What the runner is told next, if it may go on.
     told: Option<Option<Reply>>,
     /// What rank 1 has sent.

@@ -78,46 +78,47 @@ fn meant_by(alloc: Global, script: &Script, name: &Name) -> Result<Option<Vec<u8
     Ok(None)
 }
 
-/// Notes that a rank of this party lacks the name at a line.
-fn note(
+/// A script that is followed, and the unset names that were found in it.
+#[derive(Drop)]
+struct Search<'a> {
     alloc: Global,
-    script: &Script,
-    found: &mut Vec<UnsetName>,
-    line: usize,
-    party: &Party,
-    name: Name,
-) -> Result<(), AllocError> {
-    if let Some(last) = found.last_mut() {
-        if last.line == line && last.name.is(&name) {
-            last.others = last.others.saturating_add(party.count);
-            drop(name);
-            return Ok(());
-        }
-    }
-    let meant = meant_by(alloc, script, &name)?;
-    found.push(UnsetName {
-        line,
-        name,
-        rank: party.lowest,
-        others: party.count.saturating_sub(1),
-        meant,
-    })?;
-    Ok(())
+    script: &'a Script,
+    found: Vec<UnsetName>,
 }
 
-/// The line of this number is followed by the party, as far as it sets names.
-fn follow(
-    alloc: Global,
-    script: &Script,
-    found: &mut Vec<UnsetName>,
-    line: usize,
-    party: &mut Party,
-    statement: &ScriptStatement,
-) -> Result<(), AllocError> {
-    if let Some(name) = lacked(alloc, &party.names, statement)? {
-        note(alloc, script, found, line, party, name)?;
+impl Search<'_> {
+    /// Notes that a rank of this party lacks the name at a line.
+    fn note(&mut self, line: usize, party: &Party, name: Name) -> Result<(), AllocError> {
+        if let Some(last) = self.found.last_mut() {
+            if last.line == line && last.name.is(&name) {
+                last.others = last.others.saturating_add(party.count);
+                drop(name);
+                return Ok(());
+            }
+        }
+        let meant = meant_by(self.alloc, self.script, &name)?;
+        self.found.push(UnsetName {
+            line,
+            name,
+            rank: party.lowest,
+            others: party.count.saturating_sub(1),
+            meant,
+        })?;
+        Ok(())
     }
-    party.names.learn(statement)
+
+    /// The line of this number is followed by the party, as far as it sets names.
+    fn follow(
+        &mut self,
+        line: usize,
+        party: &mut Party,
+        statement: &ScriptStatement,
+    ) -> Result<(), AllocError> {
+        if let Some(name) = lacked(self.alloc, &party.names, statement)? {
+            self.note(line, party, name)?;
+        }
+        party.names.learn(statement)
+    }
 }
 
 /// The names that lines of a script use for so many ranks, at their first incarnations, though no line before sets
@@ -129,20 +130,24 @@ pub fn unset_names(
 ) -> Result<Vec<UnsetName>, AllocError> {
     let mut parties = Parties::new(alloc, script, size)?;
     let mut meant = parties.meant(alloc, &Audience::All)?;
-    let mut found = Vec::new(alloc);
+    let mut search = Search {
+        alloc,
+        script,
+        found: Vec::new(alloc),
+    };
     for line in script.lines() {
         match &line.item {
             Item::On(audience) => meant = parties.meant(alloc, audience)?,
             Item::Does(statement) => {
                 for place in meant.as_slice() {
                     if let Some(party) = parties.items.get_mut(*place) {
-                        follow(alloc, script, &mut found, line.number, party, statement)?;
+                        search.follow(line.number, party, statement)?;
                     }
                 }
             }
         }
     }
-    Ok(found)
+    Ok(search.found)
 }
 
 /// The lowest rank that lines are for with this audience, in a job of this size at its first incarnations.
@@ -172,7 +177,11 @@ pub fn unset_names_of(
         count: 1,
         names: KnownNames::new(alloc),
     };
-    let mut found = Vec::new(alloc);
+    let mut search = Search {
+        alloc,
+        script,
+        found: Vec::new(alloc),
+    };
     let (mut here, mut tells) = (true, rank == 0);
     for line in script.lines() {
         match &line.item {
@@ -182,21 +191,14 @@ pub fn unset_names_of(
             }
             Item::Does(statement) => {
                 if here && tells {
-                    follow(
-                        alloc,
-                        script,
-                        &mut found,
-                        line.number,
-                        &mut party,
-                        statement,
-                    )?;
+                    search.follow(line.number, &mut party, statement)?;
                 } else if here {
                     party.names.learn(statement)?;
                 }
             }
         }
     }
-    Ok(found)
+    Ok(search.found)
 }
 
 /// `line L: the name X isn't set at rank R: STATEMENT`: a name that isn't set where the line with this text uses it.

@@ -17,7 +17,7 @@ use interpreter::{AnswerEffect, StatementCall};
 use line_diagnostics::LineFault;
 use script_calls::Pending;
 use statements::Action;
-use std::alloc::{AllocError, Global};
+use std::alloc::AllocError;
 use std::io::Write;
 use world::{Event, Failed, HistoryEntry, Stepped, World};
 
@@ -63,7 +63,6 @@ fn reply_in(world: &World, stepped: Stepped) -> Option<&Reply>
 
 /// The names of a rank take what the call of a step answered, which was for this. The only error is want of memory.
 fn hear_reply(
-    alloc: Global,
     names: &mut RankNames,
     world: &World,
     stepped: Stepped,
@@ -72,7 +71,7 @@ fn hear_reply(
     ensures { IfOk result (λ heard. IsMade (made_in world.now stepped pending names.old) heard names.new) }
 {
     match reply_in(world, stepped) {
-        Some(reply) => names.hear_reply(alloc, pending, reply),
+        Some(reply) => names.hear_reply(pending, reply),
         None => {
             drop(pending);
             Ok(AnswerEffect::Nothing)
@@ -107,7 +106,6 @@ fn print_heard<W: Write>(heard: &AnswerEffect, out: &mut W) -> Result<(), Simula
 /// A question that was answered: what is told of it is printed, and the names of its rank take it.
 #[tactic(auto, using(crate::proofs::CallLaws::question_made, crate::proofs::PrintLaws::cuts_before, crate::proofs::PrintLaws::cuts_output))]
 fn on_question<W: Write>(
-    alloc: Global,
     names: &mut RankNames,
     world: &World,
     stepped: Stepped,
@@ -121,7 +119,7 @@ fn on_question<W: Write>(
     ensures err { IfErr result (λ e. CutsOff e (W.contents out.old) (W.contents out.new)
         (made_in world.now stepped pending names.old).0.told) }
 {
-    let heard = hear_reply(alloc, names, world, stepped, pending)?;
+    let heard = hear_reply(names, world, stepped, pending)?;
     print_heard(&heard, out)?;
     Ok(next_of(heard))
 }
@@ -130,7 +128,6 @@ fn on_question<W: Write>(
 /// follows.
 #[tactic(auto, using(crate::proofs::CallLaws::question_taken, crate::proofs::CallLaws::step_taken, crate::proofs::CallLaws::question_cut, crate::proofs::CallLaws::step_cut, crate::proofs::PrintLaws::cuts_behind))]
 fn on_called<W: Write>(
-    alloc: Global,
     names: &mut RankNames,
     world: &World,
     stepped: Stepped,
@@ -143,13 +140,13 @@ fn on_called<W: Write>(
         (is_silent pending) (made_in world.now stepped pending names.old).0.told (stepped_lines world.now stepped))) }
 {
     if is_silent(&pending) {
-        return on_question(alloc, names, world, stepped, pending, out);
+        return on_question(names, world, stepped, pending, out);
     }
-    if let Err(e) = print_stepped(alloc, world, stepped, out) {
+    if let Err(e) = print_stepped(names.names.allocator(), world, stepped, out) {
         drop(pending);
         return Err(e);
     }
-    let heard = hear_reply(alloc, names, world, stepped, pending)?;
+    let heard = hear_reply(names, world, stepped, pending)?;
     Ok(next_of(heard))
 }
 
@@ -194,7 +191,6 @@ fn on_refused<W: Write>(
 /// One call of a statement. Answers the further one that the statement makes, if it makes one.
 #[tactic(auto, using(crate::proofs::CallLaws::call_taken, crate::proofs::CallLaws::call_refused, crate::proofs::StopLaws::taken_breaks, crate::proofs::StopLaws::refused_breaks))]
 fn call_once<W: Write>(
-    alloc: Global,
     world: &mut World,
     rank: u16,
     names: &mut RankNames,
@@ -208,7 +204,7 @@ fn call_once<W: Write>(
 {
     let PendingCall { call, pending } = asking;
     match world.step(Event::Call(rank, call)) {
-        Ok(stepped) => on_called(alloc, names, world, stepped, pending, out),
+        Ok(stepped) => on_called(names, world, stepped, pending, out),
         Err(failed) => {
             let over = on_refused(names, world, failed, &pending, out);
             drop(pending);
@@ -223,7 +219,6 @@ fn call_once<W: Write>(
 /// The further call of a statement, if there is one; none follows behind it.
 #[tactic(auto, using(crate::proofs::CallLaws::further_none, crate::proofs::CallLaws::further_one))]
 fn call_further<W: Write>(
-    alloc: Global,
     world: &mut World,
     rank: u16,
     names: &mut RankNames,
@@ -236,7 +231,7 @@ fn call_further<W: Write>(
         (W.contents out.old) (W.contents out.new)) }
 {
     if let Some(asking) = next {
-        drop(call_once(alloc, world, rank, names, asking, out)?);
+        drop(call_once(world, rank, names, asking, out)?);
     }
     Ok(())
 }
@@ -244,7 +239,6 @@ fn call_further<W: Write>(
 /// The calls of a statement, of which there are two at most.
 #[tactic(auto, using(crate::proofs::CallLaws::calls_both, crate::proofs::StopLaws::first_breaks, crate::proofs::StopLaws::second_breaks))]
 fn call_both<W: Write>(
-    alloc: Global,
     world: &mut World,
     rank: u16,
     names: &mut RankNames,
@@ -256,14 +250,13 @@ fn call_both<W: Write>(
     ensures err { IfErr result (λ e. BreaksOff e (λ part. CallsBegin rank asking (standing world.old names.old) part)
         (W.contents out.old) (W.contents out.new)) }
 {
-    let next = call_once(alloc, world, rank, names, asking, out)?;
-    call_further(alloc, world, rank, names, next, out)
+    let next = call_once(world, rank, names, asking, out)?;
+    call_further(world, rank, names, next, out)
 }
 
 /// The calls that follow from the answer of a blocked call, if any do.
 #[tactic(auto, using(crate::proofs::CallLaws::following_none, crate::proofs::CallLaws::following_some))]
 pub fn call_following<W: Write>(
-    alloc: Global,
     world: &mut World,
     rank: u16,
     names: &mut RankNames,
@@ -276,7 +269,7 @@ pub fn call_following<W: Write>(
         (W.contents out.old) (W.contents out.new)) }
 {
     match next {
-        Some(asking) => call_both(alloc, world, rank, names, asking, out),
+        Some(asking) => call_both(world, rank, names, asking, out),
         None => Ok(()),
     }
 }
@@ -284,7 +277,6 @@ pub fn call_following<W: Write>(
 /// What a statement asks for is done.
 #[tactic(auto, using(crate::proofs::CallLaws::asked_nothing, crate::proofs::CallLaws::asked_refused, crate::proofs::CallLaws::asked_calls, crate::proofs::CallLaws::asked_faulty, crate::proofs::StopLaws::ask_breaks, crate::proofs::BreakLaws::breaks_output))]
 fn ask<W: Write>(
-    alloc: Global,
     world: &mut World,
     rank: u16,
     names: &mut RankNames,
@@ -300,7 +292,7 @@ fn ask<W: Write>(
         StatementCall::Nothing => Ok(Acted::Done),
         StatementCall::Call(call, pending) => {
             let asking = PendingCall { call, pending };
-            call_both(alloc, world, rank, names, asking, out)?;
+            call_both(world, rank, names, asking, out)?;
             Ok(Acted::Done)
         }
         StatementCall::Refused(number) => {
@@ -314,7 +306,6 @@ fn ask<W: Write>(
 /// What a statement of a rank asks for is done, if it can be followed.
 #[tactic(auto, using(crate::proofs::CallLaws::act_lacks, crate::proofs::CallLaws::act_asks, crate::proofs::StopLaws::act_first, crate::proofs::StopLaws::act_breaks))]
 pub fn act<W: Write>(
-    alloc: Global,
     world: &mut World,
     rank: u16,
     names: &mut RankNames,
@@ -328,6 +319,6 @@ pub fn act<W: Write>(
 {
     match names.follow(action)? {
         Followed::Lacks(fault) => Ok(Acted::Faulty(fault)),
-        Followed::Asks(asked) => ask(alloc, world, rank, names, asked, out),
+        Followed::Asks(asked) => ask(world, rank, names, asked, out),
     }
 }

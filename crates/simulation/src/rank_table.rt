@@ -20,6 +20,17 @@ use std::io::Write;
 use vocabulary::replace;
 use world::{Stepped, World};
 
+/// What is kept of the ranks that were named, and what one begins with that is named for the first time.
+#[derive(Drop)]
+pub struct RankTable {
+    /// From where their memory is taken.
+    pub alloc: Global,
+    /// How many ranks the world has.
+    pub size: u16,
+    /// The names of each that was named.
+    pub ranks: BTreeMap<u16, RankNames>,
+}
+
 /// Sees to it that a rank stands in the table. The only error is want of memory.
 #[tactic(auto, using(crate::proofs::TableLaws::same_inserted))]
 pub fn begin(
@@ -43,7 +54,6 @@ pub fn begin(
 /// A statement of a rank that stands in the table is done, if it can be followed.
 #[tactic(auto, using(crate::proofs::TableLaws::act_at_rank, crate::proofs::StopLaws::act_at_breaks))]
 pub fn act_at<W: Write>(
-    alloc: Global,
     world: &mut World,
     ranks: &mut BTreeMap<u16, RankNames>,
     rank: u16,
@@ -58,7 +68,7 @@ pub fn act_at<W: Write>(
         (W.contents out.old) (W.contents out.new)) }
 {
     match ranks.get_mut(&rank) {
-        Some(names) => act(alloc, world, rank, names, action, out),
+        Some(names) => act(world, rank, names, action, out),
         None => {
             drop(action);
             Ok(Acted::Done)
@@ -68,32 +78,31 @@ pub fn act_at<W: Write>(
 
 /// A statement of a rank is done, if it can be followed.
 pub fn act_in<W: Write>(
-    alloc: Global,
-    size: u16,
     world: &mut World,
-    ranks: &mut BTreeMap<u16, RankNames>,
+    table: &mut RankTable,
     rank: u16,
     action: Action,
     out: &mut W,
 ) -> Result<Acted, SimulateError>
-    ensures ok { IfOk result (λ acted. LineActed rank action (scene size world.old ranks.old.entries)
-        (W.contents out.old) (W.contents out.new) acted (scene size world.new ranks.new.entries)) }
+    ensures ok { IfOk result (λ acted. LineActed rank action
+        (scene table.old.size world.old table.old.ranks.entries) (W.contents out.old) (W.contents out.new) acted
+        (scene table.new.size world.new table.new.ranks.entries)) }
     ensures err { IfErr result (λ e. BreaksOff e
-        (λ part. LineBegins (EventStatement.Rank rank action) (scene size world.old ranks.old.entries) part)
+        (λ part. LineBegins (EventStatement.Rank rank action)
+        (scene table.old.size world.old table.old.ranks.entries) part)
         (W.contents out.old) (W.contents out.new)) }
 {
-    let Ok(()) = begin(alloc, size, ranks, rank) else {
+    let Ok(()) = begin(table.alloc, table.size, &mut table.ranks, rank) else {
         drop(action);
         return Err(SimulateError::OutOfMemory);
     };
-    act_at(alloc, world, ranks, rank, action, out)
+    act_at(world, &mut table.ranks, rank, action, out)
 }
 
 /// The answer of a blocked call, if it comes with a step: the names of its rank take it, and the further calls that
 /// follow are made.
 #[tactic(auto, using(crate::proofs::TableLaws::completed_none, crate::proofs::TableLaws::completed_quiet, crate::proofs::TableLaws::completed_unnamed, crate::proofs::TableLaws::completed_some, crate::proofs::StopLaws::complete_first, crate::proofs::StopLaws::complete_breaks))]
 pub fn complete<W: Write>(
-    alloc: Global,
     world: &mut World,
     ranks: &mut BTreeMap<u16, RankNames>,
     stepped: Stepped,
@@ -114,10 +123,10 @@ pub fn complete<W: Write>(
     let rank = entry.endpoint.rank;
     match ranks.get_mut(&rank) {
         Some(names) => {
-            let Ok(heard) = names.hear_completion(alloc, completion) else {
+            let Ok(heard) = names.hear_completion(completion) else {
                 return Err(SimulateError::OutOfMemory);
             };
-            call_following(alloc, world, rank, names, next_of(heard), out)
+            call_following(world, rank, names, next_of(heard), out)
         }
         None => Ok(()),
     }

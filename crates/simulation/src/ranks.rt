@@ -78,7 +78,6 @@ impl RankNames {
     #[tactic(auto, using(crate::proofs::RankLaws::reply_made))]
     pub fn hear_reply(
         &mut self,
-        alloc: Global,
         pending: Pending,
         reply: &Reply,
     ) -> Result<AnswerEffect, AllocError>
@@ -88,7 +87,7 @@ impl RankNames {
             self.blocked = Some(pending);
             return Ok(AnswerEffect::Nothing);
         }
-        match copy_reply(alloc, reply) {
+        match copy_reply(self.names.allocator(), reply) {
             Ok(copied) => self.hear(pending, copied),
             Err(e) => {
                 drop(pending);
@@ -99,14 +98,10 @@ impl RankNames {
 
     /// The answer of the call that was blocked. The only error is want of memory.
     #[tactic(auto, using(crate::proofs::RankLaws::copy_made))]
-    pub fn hear_completion(
-        &mut self,
-        alloc: Global,
-        completion: &Completion,
-    ) -> Result<AnswerEffect, AllocError>
+    pub fn hear_completion(&mut self, completion: &Completion) -> Result<AnswerEffect, AllocError>
         ensures { IfOk result (λ heard. IsMade (takes_completion completion.now self.old) heard self.new) }
     {
-        let copied = copy_completion(alloc, completion)?;
+        let copied = copy_completion(self.names.allocator(), completion)?;
         match self.blocked.take() {
             Some(pending) => self.hear(pending, copied),
             None => {

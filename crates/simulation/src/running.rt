@@ -12,7 +12,7 @@ ghost use Rattle.world.specs.Headline.{IsRunOfMachine};
 use crate::SimulateError;
 use crate::calls::Acted;
 use crate::event_printing::{print_refused, print_stepped};
-use crate::rank_table::{act_in, clear, complete};
+use crate::rank_table::{RankTable, act_in, clear, complete};
 use crate::ranks::RankNames;
 use event_files::{EventLine, EventStatement};
 use line_diagnostics::LineFault;
@@ -27,10 +27,8 @@ use world::{Event, Failed, World};
 /// A world that follows a file of events, and the names of its ranks' lines.
 #[derive(Drop)]
 pub struct Simulation {
-    alloc: Global,
-    size: u16,
     world: World,
-    ranks: BTreeMap<u16, RankNames>,
+    table: RankTable,
     /// Why the line at which it stopped can't be followed, where it stopped at one.
     lack: Option<LineFault>,
 }
@@ -41,7 +39,7 @@ impl Model for Simulation {
 
     ghost Value = { SimulationState };
 
-    ghost view = { λ s. record { scene = scene s.size s.world s.ranks.entries; lack = s.lack } };
+    ghost view = { λ s. record { scene = scene s.table.size s.world s.table.ranks.entries; lack = s.lack } };
 }
 
 /// A refusal is printed, and its event is let go.
@@ -71,7 +69,7 @@ fn on_event<W: Write>(
     match world.step(event) {
         Ok(stepped) => {
             print_stepped(alloc, world, stepped, out)?;
-            complete(alloc, world, ranks, stepped, out)
+            complete(world, ranks, stepped, out)
         }
         Err(failed) => tell_refused(world, failed, out),
     }
@@ -81,23 +79,21 @@ fn on_event<W: Write>(
 /// they did.
 #[tactic(auto, using(crate::proofs::EventLaws::restart_taken, crate::proofs::EventLaws::restart_refused, crate::proofs::StopLaws::event_cut, crate::proofs::BreakLaws::breaks_output))]
 fn restart<W: Write>(
-    alloc: Global,
-    size: u16,
     world: &mut World,
-    ranks: &mut BTreeMap<u16, RankNames>,
+    table: &mut RankTable,
     rank: u16,
     out: &mut W,
 ) -> Result<(), SimulateError>
-    ensures ok { OnOk result (RestartRuns rank (scene size world.old ranks.old.entries)
-        (W.contents out.old) (W.contents out.new) (scene size world.new ranks.new.entries)) }
+    ensures ok { OnOk result (RestartRuns rank (scene table.old.size world.old table.old.ranks.entries)
+        (W.contents out.old) (W.contents out.new) (scene table.new.size world.new table.new.ranks.entries)) }
     ensures err { IfErr result (λ e. BreaksOff e
-        (λ part. EventBegins (Event.Restart rank) (scene size world.old ranks.old.entries) part)
+        (λ part. EventBegins (Event.Restart rank) (scene table.old.size world.old table.old.ranks.entries) part)
         (W.contents out.old) (W.contents out.new)) }
 {
     match world.step(Event::Restart(rank)) {
         Ok(stepped) => {
-            print_stepped(alloc, world, stepped, out)?;
-            clear(alloc, size, ranks, rank);
+            print_stepped(table.alloc, world, stepped, out)?;
+            clear(table.alloc, table.size, &mut table.ranks, rank);
             Ok(())
         }
         Err(failed) => tell_refused(world, failed, out),
@@ -117,11 +113,14 @@ impl Simulation {
         };
         // What happened is a run of the machine, here too where that is nothing.
         let _history = world.history();
-        Ok(Simulation {
+        let table = RankTable {
             alloc,
             size,
-            world,
             ranks: BTreeMap::new(alloc),
+        };
+        Ok(Simulation {
+            world,
+            table,
             lack: None,
         })
     }
@@ -155,15 +154,7 @@ impl Simulation {
             (record { number = line; statement = EventStatement.Rank rank action })
             (W.contents out.old) (W.contents out.new)) }
     {
-        match act_in(
-            self.alloc,
-            self.size,
-            &mut self.world,
-            &mut self.ranks,
-            rank,
-            action,
-            out,
-        )? {
+        match act_in(&mut self.world, &mut self.table, rank, action, out)? {
             Acted::Done => Ok(()),
             Acted::Faulty(fault) => {
                 replace(&mut self.lack, fault);
@@ -179,7 +170,13 @@ impl Simulation {
         ensures err { IfErr result (λ e. BreaksOff e (λ part. EventBegins event self.old.scene part)
             (W.contents out.old) (W.contents out.new)) }
     {
-        on_event(self.alloc, &mut self.world, &mut self.ranks, event, out)
+        on_event(
+            self.table.alloc,
+            &mut self.world,
+            &mut self.table.ranks,
+            event,
+            out,
+        )
     }
 
     /// One line of a file of events, with what it prints.
@@ -199,14 +196,7 @@ impl Simulation {
             EventStatement::Deliver(number) => self.pass(Event::Deliver(number), out),
             EventStatement::Tick(rank, now) => self.pass(Event::Tick(rank, now), out),
             EventStatement::Stray(rank, bytes) => self.pass(Event::Stray(rank, bytes), out),
-            EventStatement::Restart(rank) => restart(
-                self.alloc,
-                self.size,
-                &mut self.world,
-                &mut self.ranks,
-                rank,
-                out,
-            ),
+            EventStatement::Restart(rank) => restart(&mut self.world, &mut self.table, rank, out),
         }
     }
 

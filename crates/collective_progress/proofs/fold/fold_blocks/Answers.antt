@@ -17,35 +17,35 @@ pub fold_rest-requires-clause-basic : goal.fold_rest-requires-clause-basic
 fold_rest-requires-clause-basic g c =
     let mine = c.args.mine.now in
     let b : Contents = c.in-Some-block_known.block.now in
-    let is : block_known c.args.own mine c.args.inside.now.context c.args.inside.now.number c.args.notes.now (member_at c.args.inside.now.incarnation c.in-Some.first.now) ≡ Some b = grind (arith, common_steps) in
-    let like = known_like c.args.own mine c.args.inside.now.context c.args.inside.now.number c.args.notes.now (member_at c.args.inside.now.incarnation c.in-Some.first.now) b is in
-    ap (λ (v : Contents). v.basic) c.in_ok-all-in-Some-block_known.ensures ∙ like.basic_is ∙ c.requires.basic
+    let is : block_known c.args.seat.now.own mine c.args.seat.now.inside.now.context c.args.seat.now.inside.now.number c.args.seat.now.notes.now (member_at c.args.seat.now.inside.now.incarnation c.in-Some.first.now) ≡ Some b = grind (arith, common_steps) in
+    let like = known_like c.args.seat.now.own mine c.args.seat.now.inside.now.context c.args.seat.now.inside.now.number c.args.seat.now.notes.now (member_at c.args.seat.now.inside.now.incarnation c.in-Some.first.now) b is in
+    ap (λ (v : Contents). v.basic) c.in_ok-all-in-Some-block_known.ensures ∙ like.basic_is ∙ c.requires
 
 pub fold_rest-requires-clause-like : goal.fold_rest-requires-clause-like
 fold_rest-requires-clause-like g c =
     let mine = c.args.mine.now in
     let b : Contents = c.in-Some-block_known.block.now in
-    let is : block_known c.args.own mine c.args.inside.now.context c.args.inside.now.number c.args.notes.now (member_at c.args.inside.now.incarnation c.in-Some.first.now) ≡ Some b = grind (arith, common_steps) in
-    let like = known_like c.args.own mine c.args.inside.now.context c.args.inside.now.number c.args.notes.now (member_at c.args.inside.now.incarnation c.in-Some.first.now) b is in
+    let is : block_known c.args.seat.now.own mine c.args.seat.now.inside.now.context c.args.seat.now.inside.now.number c.args.seat.now.notes.now (member_at c.args.seat.now.inside.now.incarnation c.in-Some.first.now) ≡ Some b = grind (arith, common_steps) in
+    let like = known_like c.args.seat.now.own mine c.args.seat.now.inside.now.context c.args.seat.now.inside.now.number c.args.seat.now.notes.now (member_at c.args.seat.now.inside.now.incarnation c.in-Some.first.now) b is in
     sym (ap (λ (v : Contents). v.basic) c.in_ok-all-in-Some-block_known.ensures ∙ like.basic_is)
 
 pub fold_rest-requires-clause-len : goal.fold_rest-requires-clause-len
 fold_rest-requires-clause-len g c =
     let mine = c.args.mine.now in
     let b : Contents = c.in-Some-block_known.block.now in
-    let is : block_known c.args.own mine c.args.inside.now.context c.args.inside.now.number c.args.notes.now (member_at c.args.inside.now.incarnation c.in-Some.first.now) ≡ Some b = grind (arith, common_steps) in
-    let like = known_like c.args.own mine c.args.inside.now.context c.args.inside.now.number c.args.notes.now (member_at c.args.inside.now.incarnation c.in-Some.first.now) b is in
+    let is : block_known c.args.seat.now.own mine c.args.seat.now.inside.now.context c.args.seat.now.inside.now.number c.args.seat.now.notes.now (member_at c.args.seat.now.inside.now.incarnation c.in-Some.first.now) ≡ Some b = grind (arith, common_steps) in
+    let like = known_like c.args.seat.now.own mine c.args.seat.now.inside.now.context c.args.seat.now.inside.now.number c.args.seat.now.notes.now (member_at c.args.seat.now.inside.now.incarnation c.in-Some.first.now) b is in
     sym (ap (λ (v : Contents). length v.values) c.in_ok-all-in-Some-block_known.ensures ∙ like.len)
 
 pub returns-in_ok-all-in-Some-block_known : goal.returns-in_ok-all-in-Some-block_known
 returns-in_ok-all-in-Some-block_known g c =
     let f : ℕ → ℕ → ℕ = g.R.ReduceOp.combines c.args.op.now in
     let mine = c.args.mine.now in
-    let of : ℕ → Option Contents = λ r. block_known c.args.own mine c.args.inside.now.context c.args.inside.now.number c.args.notes.now (member_at c.args.inside.now.incarnation r) in
+    let of : ℕ → Option Contents = λ r. block_known c.args.seat.now.own mine c.args.seat.now.inside.now.context c.args.seat.now.inside.now.number c.args.seat.now.notes.now (member_at c.args.seat.now.inside.now.incarnation r) in
     let b : Contents = c.in-Some-block_known.block.now in
     let rest = c.in-Some.rest.now in
     let is : of c.in-Some.first.now ≡ Some b = grind (arith, common_steps) in
-    let like = known_like c.args.own mine c.args.inside.now.context c.args.inside.now.number c.args.notes.now (member_at c.args.inside.now.incarnation c.in-Some.first.now) b is in
+    let like = known_like c.args.seat.now.own mine c.args.seat.now.inside.now.context c.args.seat.now.inside.now.number c.args.seat.now.notes.now (member_at c.args.seat.now.inside.now.incarnation c.in-Some.first.now) b is in
     c.fold_rest.ensures
     ∙ ap (λ (v : Contents). contents v.basic
     (fold (λ (all : List ℕ) (next : Option Contents). one_more f all next) v.values (map of rest)))
@@ -59,7 +59,7 @@ pub returns-in-None : goal.returns-in-None
 returns-in-None g c =
     let f : ℕ → ℕ → ℕ = g.R.ReduceOp.combines c.args.op.now in
     let mine = c.args.mine.now in
-    let of : ℕ → Option Contents = λ r. block_known c.args.own mine c.args.inside.now.context c.args.inside.now.number c.args.notes.now (member_at c.args.inside.now.incarnation r) in
+    let of : ℕ → Option Contents = λ r. block_known c.args.seat.now.own mine c.args.seat.now.inside.now.context c.args.seat.now.inside.now.number c.args.seat.now.notes.now (member_at c.args.seat.now.inside.now.incarnation r) in
     let is : of c.in-Some.first.now ≡ None = grind (arith, common_steps) in
     let made : c.new-in-None.result ≡ contents mine.basic [] = grind (arith, common_steps) in
     made ∙ ap (contents mine.basic)

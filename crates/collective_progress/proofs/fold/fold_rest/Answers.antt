@@ -15,8 +15,8 @@ pub accumulate-requires-clause-like : goal.accumulate-requires-clause-like
 accumulate-requires-clause-like g c =
     let mine = c.args.mine.now in
     let b = c.in-Some.block.now in
-    let is : block_known c.args.own mine c.args.inside.now.context c.args.inside.now.number c.args.notes.now (member_at c.args.inside.now.incarnation (get_or c.args.ranks.now c.loop-rank.rank-index 0)) ≡ Some b = grind (arith, common_steps) in
-    let like = known_like c.args.own mine c.args.inside.now.context c.args.inside.now.number c.args.notes.now (member_at c.args.inside.now.incarnation (get_or c.args.ranks.now c.loop-rank.rank-index 0)) b is in
+    let is : block_known c.args.seat.now.own mine c.args.seat.now.inside.now.context c.args.seat.now.inside.now.number c.args.seat.now.notes.now (member_at c.args.seat.now.inside.now.incarnation (get_or c.args.ranks.now c.loop-rank.rank-index 0)) ≡ Some b = grind (arith, common_steps) in
+    let like = known_like c.args.seat.now.own mine c.args.seat.now.inside.now.context c.args.seat.now.inside.now.number c.args.seat.now.notes.now (member_at c.args.seat.now.inside.now.incarnation (get_or c.args.ranks.now c.loop-rank.rank-index 0)) b is in
     record {
       basic_is = like.basic_is ∙ c.requires.like ∙ sym c.loop-rank.invariant.basic;
       len = like.len ∙ sym c.loop-rank.invariant.len;
@@ -26,7 +26,7 @@ pub loop-rank-preserved : goal.loop-rank-preserved
 loop-rank-preserved g c =
     let f : ℕ → ℕ → ℕ = g.R.ReduceOp.combines c.args.op.now in
     let mine = c.args.mine.now in
-    let of : ℕ → Option Contents = λ r. block_known c.args.own mine c.args.inside.now.context c.args.inside.now.number c.args.notes.now (member_at c.args.inside.now.incarnation r) in
+    let of : ℕ → Option Contents = λ r. block_known c.args.seat.now.own mine c.args.seat.now.inside.now.context c.args.seat.now.inside.now.number c.args.seat.now.notes.now (member_at c.args.seat.now.inside.now.incarnation r) in
     let ranks = c.args.ranks.now in
     let k = c.loop-rank.rank-index in
     let lt : k < length ranks = omega arith in
@@ -38,7 +38,7 @@ loop-rank-preserved g c =
       | in-Some w ↦
           let b : Contents = w.in-Some.block.now in
           let is : of here ≡ Some b = grind (arith, common_steps) in
-          let like = known_like c.args.own mine c.args.inside.now.context c.args.inside.now.number c.args.notes.now (member_at c.args.inside.now.incarnation here) b is in
+          let like = known_like c.args.seat.now.own mine c.args.seat.now.inside.now.context c.args.seat.now.inside.now.number c.args.seat.now.notes.now (member_at c.args.seat.now.inside.now.incarnation here) b is in
           let now_is : c.match-block_known.all ≡ record { basic = before.basic; values = combined_values f before.values b.values } = w.all-is ∙ w.accumulate.ensures in
           record {
             basic = ap (λ (v : Contents). v.basic) now_is ∙ c.loop-rank.invariant.basic;

@@ -15,5 +15,6 @@ abbrev pub invariant-loop-rank : goal.invariant-loop-rank
 invariant-loop-rank g l =
     HasFolded l.fn.all l.mine l.all
     (fold (λ (all : List ℕ) (next : Option Contents). one_more (g.R.ReduceOp.combines l.op) all next) l.fn.all.values
-    (blocks_known l.own l.mine l.inside.incarnation l.inside.context l.inside.number l.notes
+    (blocks_known l.seat.own l.mine l.seat.inside.now.incarnation l.seat.inside.now.context
+    l.seat.inside.now.number l.seat.notes.now
     (take l.rank-index l.ranks)))

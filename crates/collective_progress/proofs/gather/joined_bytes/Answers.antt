@@ -25,7 +25,7 @@ loop-rank-init c =
 pub loop-rank-preserved : goal.loop-rank-preserved
 loop-rank-preserved c =
     let mine = c.args.mine.now in
-    let of : ℕ → Option Contents = λ r. block_known c.args.own mine c.args.inside.now.context c.args.inside.now.number c.args.notes.now (member_at c.args.inside.now.incarnation r) in
+    let of : ℕ → Option Contents = λ r. block_known c.args.seat.now.own mine c.args.seat.now.inside.now.context c.args.seat.now.inside.now.number c.args.seat.now.notes.now (member_at c.args.seat.now.inside.now.incarnation r) in
     let ranks = c.args.ranks.now in
     let k = c.loop-rank.rank-index in
     let lt : k < length ranks = omega arith in
@@ -35,7 +35,7 @@ loop-rank-preserved c =
       | in-Some+in_ok-extend_from_slice w ↦
           let b = w.in-Some.block.now in
           let is : of here ≡ Some b = grind (arith, common_steps) in
-          let like = known_like c.args.own mine c.args.inside.now.context c.args.inside.now.number c.args.notes.now (member_at c.args.inside.now.incarnation here) b is in
+          let like = known_like c.args.seat.now.own mine c.args.seat.now.inside.now.context c.args.seat.now.inside.now.number c.args.seat.now.notes.now (member_at c.args.seat.now.inside.now.incarnation here) b is in
           let within : AreWithin (size_of mine.basic) b.values = subst (λ (t : BasicType). AreWithin (size_of t) b.values) like.basic_is w.as_bytes.ensures.within in
           let block : w.as_bytes.result.now ≡ bytes_of (size_of mine.basic) b.values =
           w.as_bytes.ensures.bytes ∙ ap (λ (t : BasicType). bytes_of (size_of t) b.values) like.basic_is

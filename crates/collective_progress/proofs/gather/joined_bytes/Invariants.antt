@@ -14,5 +14,6 @@ abbrev pub invariant-loop-rank : goal.invariant-loop-rank
 invariant-loop-rank l =
     HasJoined (size_of l.mine.basic) l.bytes.items
     (joined_values
-    (blocks_known l.own l.mine l.inside.incarnation l.inside.context l.inside.number l.notes
+    (blocks_known l.seat.own l.mine l.seat.inside.now.incarnation l.seat.inside.now.context
+    l.seat.inside.now.number l.seat.notes.now
     (take l.rank-index l.ranks)))

@@ -9,8 +9,8 @@ returns-then-ne-clause-ok c = grind (arith, common_steps)
 pub returns-then-rooted-size-clause-ok : goal.returns-then-rooted-size-clause-ok
 returns-then-rooted-size-clause-ok c = grind (arith, common_steps)
 
-pub scatter_block-requires-clause-total : goal.scatter_block-requires-clause-total
-scatter_block-requires-clause-total c = grind (arith, common_steps)
+pub invariant_of-blocks : goal.invariant_of-blocks
+invariant_of-blocks c = record { total = grind (arith, common_steps) }
 
 pub returns-clause-ok : goal.returns-clause-ok
 returns-clause-ok c = grind (arith, common_steps)

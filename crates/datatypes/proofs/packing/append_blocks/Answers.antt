@@ -8,26 +8,26 @@ use Rattle.datatypes.proofs.packing.append_blocks.Goals as goal
 
 pub overflow_mul-first : goal.overflow_mul-first
 overflow_mul-first c =
-    let xs = c.args.offsets.now in
+    let xs = c.args.copy.now.offsets.now in
     let there = block_there c.args.block c.loop-number.number (length xs) (omega arith) in
     omega arith
 
-pub bounds-offsets-number : goal.bounds-offsets-number
-bounds-offsets-number c =
-    let xs = c.args.offsets.now in
+pub bounds-copy-number : goal.bounds-copy-number
+bounds-copy-number c =
+    let xs = c.args.copy.now.offsets.now in
     let there = block_there c.args.block c.loop-number.number (length xs) (omega arith) in
     omega arith
 
 pub overflow_add-first : goal.overflow_add-first
 overflow_add-first c =
     let a = c.args in
-    let size = a.size in
-    let xs = a.offsets.now in
+    let size = a.copy.now.size in
+    let xs = a.copy.now.offsets.now in
     let k = c.loop-number.number in
     let there = block_there a.block k (length xs) (omega arith) in
-    let near = block_near a.block k a.from (length (values_of size a.bytes.now)) xs c.requires.blocks c.requires.block there c.requires.near in
-    let at = a.from + get_or xs (k * a.block) 0 in
-    let fits = block_in_bytes size a.bytes.now at a.block c.requires.size c.requires.bytes near in
+    let near = block_near a.block k a.copy.now.from (length (values_of size a.bytes.now)) xs c.requires.blocks c.requires.block there c.requires.near in
+    let at = a.copy.now.from + get_or xs (k * a.block) 0 in
+    let fits = block_in_bytes size a.bytes.now at a.block a.copy.now.low c.requires.bytes near in
     let within = fits.0 in
     let wide = fits.1 in
     omega arith
@@ -35,13 +35,13 @@ overflow_add-first c =
 pub overflow_mul-first-in-loop-number : goal.overflow_mul-first-in-loop-number
 overflow_mul-first-in-loop-number c =
     let a = c.args in
-    let size = a.size in
-    let xs = a.offsets.now in
+    let size = a.copy.now.size in
+    let xs = a.copy.now.offsets.now in
     let k = c.loop-number.number in
     let there = block_there a.block k (length xs) (omega arith) in
-    let near = block_near a.block k a.from (length (values_of size a.bytes.now)) xs c.requires.blocks c.requires.block there c.requires.near in
-    let at = a.from + get_or xs (k * a.block) 0 in
-    let fits = block_in_bytes size a.bytes.now at a.block c.requires.size c.requires.bytes near in
+    let near = block_near a.block k a.copy.now.from (length (values_of size a.bytes.now)) xs c.requires.blocks c.requires.block there c.requires.near in
+    let at = a.copy.now.from + get_or xs (k * a.block) 0 in
+    let fits = block_in_bytes size a.bytes.now at a.block a.copy.now.low c.requires.bytes near in
     let within = fits.0 in
     let wide = fits.1 in
     omega arith
@@ -49,13 +49,13 @@ overflow_mul-first-in-loop-number c =
 pub overflow_mul-block : goal.overflow_mul-block
 overflow_mul-block c =
     let a = c.args in
-    let size = a.size in
-    let xs = a.offsets.now in
+    let size = a.copy.now.size in
+    let xs = a.copy.now.offsets.now in
     let k = c.loop-number.number in
     let there = block_there a.block k (length xs) (omega arith) in
-    let near = block_near a.block k a.from (length (values_of size a.bytes.now)) xs c.requires.blocks c.requires.block there c.requires.near in
-    let at = a.from + get_or xs (k * a.block) 0 in
-    let fits = block_in_bytes size a.bytes.now at a.block c.requires.size c.requires.bytes near in
+    let near = block_near a.block k a.copy.now.from (length (values_of size a.bytes.now)) xs c.requires.blocks c.requires.block there c.requires.near in
+    let at = a.copy.now.from + get_or xs (k * a.block) 0 in
+    let fits = block_in_bytes size a.bytes.now at a.block a.copy.now.low c.requires.bytes near in
     let within = fits.0 in
     let wide = fits.1 in
     omega arith
@@ -63,13 +63,13 @@ overflow_mul-block c =
 pub run-requires : goal.run-requires
 run-requires c =
     let a = c.args in
-    let size = a.size in
-    let xs = a.offsets.now in
+    let size = a.copy.now.size in
+    let xs = a.copy.now.offsets.now in
     let k = c.loop-number.number in
     let there = block_there a.block k (length xs) (omega arith) in
-    let near = block_near a.block k a.from (length (values_of size a.bytes.now)) xs c.requires.blocks c.requires.block there c.requires.near in
-    let at = a.from + get_or xs (k * a.block) 0 in
-    let fits = block_in_bytes size a.bytes.now at a.block c.requires.size c.requires.bytes near in
+    let near = block_near a.block k a.copy.now.from (length (values_of size a.bytes.now)) xs c.requires.blocks c.requires.block there c.requires.near in
+    let at = a.copy.now.from + get_or xs (k * a.block) 0 in
+    let fits = block_in_bytes size a.bytes.now at a.block a.copy.now.low c.requires.bytes near in
     let within = fits.0 in
     let wide = fits.1 in
     omega arith
@@ -77,12 +77,12 @@ run-requires c =
 pub loop-number-preserved : goal.loop-number-preserved
 loop-number-preserved c =
     let a = c.args in
-    let size = a.size in
-    let xs = a.offsets.now in
+    let size = a.copy.now.size in
+    let xs = a.copy.now.offsets.now in
     let k = c.loop-number.number in
     let there = block_there a.block k (length xs) (omega arith) in
-    let at = a.from + get_or xs (k * a.block) 0 in
-    let front = pieces_of size a.bytes.now (moved a.from (take (k * a.block) xs)) in
+    let at = a.copy.now.from + get_or xs (k * a.block) 0 in
+    let front = pieces_of size a.bytes.now (moved a.copy.now.from (take (k * a.block) xs)) in
     let here = take (a.block * size) (drop (at * size) a.bytes.now) in
     let next : k * a.block + a.block ≡ (k + 1) * a.block = omega arith in
     c.in_ok-extend_from_slice.ensures.items
@@ -90,5 +90,5 @@ loop-number-preserved c =
     ∙ ap (λ (t : List ℕ). t ++ here) c.loop-number.invariant
     ∙ append_assoc a.out.now.items front here
     ∙ ap (λ (t : List ℕ). a.out.now.items ++ t)
-    (sym (block_piece size a.block k a.from a.bytes.now xs c.requires.blocks there))
-    ∙ ap (λ (n : ℕ). a.out.now.items ++ pieces_of size a.bytes.now (moved a.from (take n xs))) next
+    (sym (block_piece size a.block k a.copy.now.from a.bytes.now xs c.requires.blocks there))
+    ∙ ap (λ (n : ℕ). a.out.now.items ++ pieces_of size a.bytes.now (moved a.copy.now.from (take n xs))) next

@@ -5,4 +5,4 @@ use Rattle.datatypes.proofs.packing.append_blocks.Given as goal
 
 abbrev pub invariant-loop-number : goal.invariant-loop-number
 invariant-loop-number l = l.out.items ≡ l.fn.out.items ++
-    pieces_of l.size l.bytes (moved l.from (take (l.number * l.block) l.offsets))
+    pieces_of l.copy.size l.bytes (moved l.copy.from (take (l.number * l.block) l.copy.offsets.now))

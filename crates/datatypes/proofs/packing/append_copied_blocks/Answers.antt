@@ -11,48 +11,48 @@ use Rattle.datatypes.proofs.FillLaws.{near_copy_of}
 use Rattle.datatypes.proofs.BlockLaws.{block_in_bytes}
 use Rattle.datatypes.proofs.packing.append_copied_blocks.Goals as goal
 
-pub loop-copy-init : goal.loop-copy-init
-loop-copy-init c =
+pub loop-number-init : goal.loop-number-init
+loop-number-init c =
     let a = c.args in
-    sym (ap (λ (t : List ℕ). a.out.now.items ++ pieces_of a.size a.bytes.now t) (copies_at-none 0 a.offsets.now) ∙
+    sym (ap (λ (t : List ℕ). a.out.now.items ++ pieces_of a.strided.now.size a.bytes.now t) (copies_at-none 0 a.strided.now.offsets.now) ∙
     append-nil a.out.now.items)
 
-pub overflow_mul-copy : goal.overflow_mul-copy
-overflow_mul-copy c =
+pub overflow_mul-one : goal.overflow_mul-one
+overflow_mul-one c =
     let a = c.args in
-    let xs = a.offsets.now in
-    let k = c.loop-copy.copy in
+    let xs = a.strided.now.offsets.now in
+    let k = c.loop-number.number in
     let by = k * extent_of xs in
-    let elements = length (values_of a.size a.bytes.now) in
+    let elements = length (values_of a.strided.now.size a.bytes.now) in
     let near = near_copy_of a.copies k elements xs c.requires.some (omega arith) c.requires.near in
     let low = near_moved by 0 elements xs c.requires.some near in
-    let fits = block_in_bytes a.size a.bytes.now by 0 c.requires.size c.requires.bytes (omega arith) in
+    let fits = block_in_bytes a.strided.now.size a.bytes.now by 0 a.strided.now.low c.requires.bytes (omega arith) in
     let within = fits.0 in
     let wide = fits.1 in
-    let same : k * a.extent ≡ by = ap (λ (e : ℕ). k * e) c.requires.extent in
+    let same : k * a.strided.now.extent ≡ by = ap (λ (e : ℕ). k * e) a.strided.now.extent_is in
     rw same (omega arith)
 
 pub append_blocks-requires-clause-near : goal.append_blocks-requires-clause-near
 append_blocks-requires-clause-near c =
     let a = c.args in
-    let xs = a.offsets.now in
-    let k = c.loop-copy.copy in
-    let elements = length (values_of a.size a.bytes.now) in
+    let xs = a.strided.now.offsets.now in
+    let k = c.loop-number.number in
+    let elements = length (values_of a.strided.now.size a.bytes.now) in
     let near = near_copy_of a.copies k elements xs c.requires.some (omega arith) c.requires.near in
-    subst (λ (e : ℕ). AreNear (moved (k * e) xs) elements) (sym c.requires.extent) near
+    subst (λ (e : ℕ). AreNear (moved (k * e) xs) elements) (sym a.strided.now.extent_is) near
 
-pub loop-copy-preserved : goal.loop-copy-preserved
-loop-copy-preserved c =
+pub loop-number-preserved : goal.loop-number-preserved
+loop-number-preserved c =
     let a = c.args in
-    let xs = a.offsets.now in
-    let k = c.loop-copy.copy in
+    let xs = a.strided.now.offsets.now in
+    let k = c.loop-number.number in
     let bytes = a.bytes.now in
-    let front = pieces_of a.size bytes (places k xs) in
-    let here = pieces_of a.size bytes (moved (k * a.extent) xs) in
+    let front = pieces_of a.strided.now.size bytes (places k xs) in
+    let here = pieces_of a.strided.now.size bytes (moved (k * a.strided.now.extent) xs) in
     c.in_ok-append_blocks.ensures
-    ∙ ap (λ (t : List ℕ). t ++ here) c.loop-copy.invariant
+    ∙ ap (λ (t : List ℕ). t ++ here) c.loop-number.invariant
     ∙ append_assoc a.out.now.items front here
-    ∙ ap (λ (e : ℕ). a.out.now.items ++ (front ++ pieces_of a.size bytes (moved (k * e) xs))) c.requires.extent
+    ∙ ap (λ (e : ℕ). a.out.now.items ++ (front ++ pieces_of a.strided.now.size bytes (moved (k * e) xs))) a.strided.now.extent_is
     ∙ ap (λ (t : List ℕ). a.out.now.items ++ t)
-    (sym (flat_map-append (λ (place : ℕ). piece_at a.size bytes place) (places k xs) (moved (k * extent_of xs) xs)))
-    ∙ ap (λ (t : List ℕ). a.out.now.items ++ pieces_of a.size bytes t) (sym (places_suc k xs))
+    (sym (flat_map-append (λ (place : ℕ). piece_at a.strided.now.size bytes place) (places k xs) (moved (k * extent_of xs) xs)))
+    ∙ ap (λ (t : List ℕ). a.out.now.items ++ pieces_of a.strided.now.size bytes t) (sym (places_suc k xs))

@@ -3,5 +3,6 @@ use Rattle.derived_types.specs.Layouts.{places}
 use Rattle.datatypes.specs.Pieces.{pieces_of}
 use Rattle.datatypes.proofs.packing.append_copied_blocks.Given as goal
 
-abbrev pub invariant-loop-copy : goal.invariant-loop-copy
-invariant-loop-copy l = l.out.items ≡ l.fn.out.items ++ pieces_of l.size l.bytes (places l.copy l.offsets)
+abbrev pub invariant-loop-number : goal.invariant-loop-number
+invariant-loop-number l = l.out.items ≡ l.fn.out.items ++
+    pieces_of l.strided.size l.bytes (places l.number l.strided.offsets.now)

@@ -14,4 +14,4 @@ pub record HasFilled (size at from count : â„•) (old bytes offsets new : List â„
       drop (at + count) (values_of size old)
 
 abbrev pub invariant-loop-i : goal.invariant-loop-i
-invariant-loop-i l = HasFilled l.size l.at l.from l.i l.fn.out l.bytes l.offsets l.out
+invariant-loop-i l = HasFilled l.copy.size l.at l.copy.from l.i l.fn.out l.bytes l.copy.offsets.now l.out

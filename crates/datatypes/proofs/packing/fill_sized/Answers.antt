@@ -14,7 +14,8 @@ pub overflow_mul-copy : goal.overflow_mul-copy
 overflow_mul-copy c =
     let a = c.args in
     let size = a.size in
-    let xs = a.offsets.now in
+    let positive : 1 ≤ size = omega (arith, c.requires.size, a.strided.now.low) in
+    let xs = a.strided.now.offsets.now in
     let l = length xs in
     let k = c.loop-copy.copy in
     let inv = c.loop-copy.invariant in
@@ -30,19 +31,20 @@ overflow_mul-copy c =
     let near = near_copy_of a.copies k (length vs) xs c.requires.some lt c.requires.near in
     let low = near_moved by 0 (length vs) xs c.requires.some near in
     let fits = element_fits size a.bytes.now by c.requires.bytes (omega arith) in
-    let wide : by * 1 ≤ by * size = mul-le-mul_left by c.requires.size in
-    let same : k * a.extent ≡ by = ap (λ (e : ℕ). k * e) c.requires.extent in
+    let wide : by * 1 ≤ by * size = mul-le-mul_left by positive in
+    let same : k * a.strided.now.extent ≡ by = ap (λ (e : ℕ). k * e) a.strided.now.extent_is in
     let counted = ap (λ (n : ℕ). n * size) (length-values_of size a.out.now) in
     let total = whole size a.out.now c.requires.out.no_rest in
-    let stretched : k * l * 1 ≤ k * l * size = mul-le-mul_left (k * l) c.requires.size in
+    let stretched : k * l * 1 ≤ k * l * size = mul-le-mul_left (k * l) positive in
     let held : (k * l + l) * size ≤ length old * size = mul-le-mul_right size room in
     omega arith
 
-pub overflow_mul-copy-in-loop-copy : goal.overflow_mul-copy-in-loop-copy
-overflow_mul-copy-in-loop-copy c =
+pub overflow_mul-one : goal.overflow_mul-one
+overflow_mul-one c =
     let a = c.args in
     let size = a.size in
-    let xs = a.offsets.now in
+    let positive : 1 ≤ size = omega (arith, c.requires.size, a.strided.now.low) in
+    let xs = a.strided.now.offsets.now in
     let l = length xs in
     let k = c.loop-copy.copy in
     let inv = c.loop-copy.invariant in
@@ -58,11 +60,11 @@ overflow_mul-copy-in-loop-copy c =
     let near = near_copy_of a.copies k (length vs) xs c.requires.some lt c.requires.near in
     let low = near_moved by 0 (length vs) xs c.requires.some near in
     let fits = element_fits size a.bytes.now by c.requires.bytes (omega arith) in
-    let wide : by * 1 ≤ by * size = mul-le-mul_left by c.requires.size in
-    let same : k * a.extent ≡ by = ap (λ (e : ℕ). k * e) c.requires.extent in
+    let wide : by * 1 ≤ by * size = mul-le-mul_left by positive in
+    let same : k * a.strided.now.extent ≡ by = ap (λ (e : ℕ). k * e) a.strided.now.extent_is in
     let counted = ap (λ (n : ℕ). n * size) (length-values_of size a.out.now) in
     let total = whole size a.out.now c.requires.out.no_rest in
-    let stretched : k * l * 1 ≤ k * l * size = mul-le-mul_left (k * l) c.requires.size in
+    let stretched : k * l * 1 ≤ k * l * size = mul-le-mul_left (k * l) positive in
     let held : (k * l + l) * size ≤ length old * size = mul-le-mul_right size room in
     rw same (omega arith)
 
@@ -70,7 +72,8 @@ pub fill_elements-requires-clause-room : goal.fill_elements-requires-clause-room
 fill_elements-requires-clause-room c =
     let a = c.args in
     let size = a.size in
-    let xs = a.offsets.now in
+    let positive : 1 ≤ size = omega (arith, c.requires.size, a.strided.now.low) in
+    let xs = a.strided.now.offsets.now in
     let l = length xs in
     let k = c.loop-copy.copy in
     let inv = c.loop-copy.invariant in
@@ -86,11 +89,11 @@ fill_elements-requires-clause-room c =
     let near = near_copy_of a.copies k (length vs) xs c.requires.some lt c.requires.near in
     let low = near_moved by 0 (length vs) xs c.requires.some near in
     let fits = element_fits size a.bytes.now by c.requires.bytes (omega arith) in
-    let wide : by * 1 ≤ by * size = mul-le-mul_left by c.requires.size in
-    let same : k * a.extent ≡ by = ap (λ (e : ℕ). k * e) c.requires.extent in
+    let wide : by * 1 ≤ by * size = mul-le-mul_left by positive in
+    let same : k * a.strided.now.extent ≡ by = ap (λ (e : ℕ). k * e) a.strided.now.extent_is in
     let counted = ap (λ (n : ℕ). n * size) (length-values_of size a.out.now) in
     let total = whole size a.out.now c.requires.out.no_rest in
-    let stretched : k * l * 1 ≤ k * l * size = mul-le-mul_left (k * l) c.requires.size in
+    let stretched : k * l * 1 ≤ k * l * size = mul-le-mul_left (k * l) positive in
     let held : (k * l + l) * size ≤ length old * size = mul-le-mul_right size room in
     rw elements room
 
@@ -98,7 +101,8 @@ pub fill_elements-requires-clause-near : goal.fill_elements-requires-clause-near
 fill_elements-requires-clause-near c =
     let a = c.args in
     let size = a.size in
-    let xs = a.offsets.now in
+    let positive : 1 ≤ size = omega (arith, c.requires.size, a.strided.now.low) in
+    let xs = a.strided.now.offsets.now in
     let l = length xs in
     let k = c.loop-copy.copy in
     let inv = c.loop-copy.invariant in
@@ -114,19 +118,20 @@ fill_elements-requires-clause-near c =
     let near = near_copy_of a.copies k (length vs) xs c.requires.some lt c.requires.near in
     let low = near_moved by 0 (length vs) xs c.requires.some near in
     let fits = element_fits size a.bytes.now by c.requires.bytes (omega arith) in
-    let wide : by * 1 ≤ by * size = mul-le-mul_left by c.requires.size in
-    let same : k * a.extent ≡ by = ap (λ (e : ℕ). k * e) c.requires.extent in
+    let wide : by * 1 ≤ by * size = mul-le-mul_left by positive in
+    let same : k * a.strided.now.extent ≡ by = ap (λ (e : ℕ). k * e) a.strided.now.extent_is in
     let counted = ap (λ (n : ℕ). n * size) (length-values_of size a.out.now) in
     let total = whole size a.out.now c.requires.out.no_rest in
-    let stretched : k * l * 1 ≤ k * l * size = mul-le-mul_left (k * l) c.requires.size in
+    let stretched : k * l * 1 ≤ k * l * size = mul-le-mul_left (k * l) positive in
     let held : (k * l + l) * size ≤ length old * size = mul-le-mul_right size room in
-    subst (λ (e : ℕ). AreNear (moved (k * e) xs) (length vs)) (sym c.requires.extent) near
+    subst (λ (e : ℕ). AreNear (moved (k * e) xs) (length vs)) (sym a.strided.now.extent_is) near
 
 pub loop-copy-preserved : goal.loop-copy-preserved
 loop-copy-preserved c =
     let a = c.args in
     let size = a.size in
-    let xs = a.offsets.now in
+    let positive : 1 ≤ size = omega (arith, c.requires.size, a.strided.now.low) in
+    let xs = a.strided.now.offsets.now in
     let l = length xs in
     let k = c.loop-copy.copy in
     let inv = c.loop-copy.invariant in
@@ -142,11 +147,11 @@ loop-copy-preserved c =
     let near = near_copy_of a.copies k (length vs) xs c.requires.some lt c.requires.near in
     let low = near_moved by 0 (length vs) xs c.requires.some near in
     let fits = element_fits size a.bytes.now by c.requires.bytes (omega arith) in
-    let wide : by * 1 ≤ by * size = mul-le-mul_left by c.requires.size in
-    let same : k * a.extent ≡ by = ap (λ (e : ℕ). k * e) c.requires.extent in
+    let wide : by * 1 ≤ by * size = mul-le-mul_left by positive in
+    let same : k * a.strided.now.extent ≡ by = ap (λ (e : ℕ). k * e) a.strided.now.extent_is in
     let counted = ap (λ (n : ℕ). n * size) (length-values_of size a.out.now) in
     let total = whole size a.out.now c.requires.out.no_rest in
-    let stretched : k * l * 1 ≤ k * l * size = mul-le-mul_left (k * l) c.requires.size in
+    let stretched : k * l * 1 ≤ k * l * size = mul-le-mul_left (k * l) positive in
     let held : (k * l + l) * size ≤ length old * size = mul-le-mul_right size room in
     let now = values_of size c.loop-copy.out in
     let part = elements_at vs (moved by xs) in
@@ -155,7 +160,7 @@ loop-copy-preserved c =
       len = c.fill_elements.ensures.len ∙ inv.len;
       values = c.fill_elements.ensures.values
           ∙ ap (λ (e : ℕ). take (k * l) now ++ elements_at vs (moved (k * e) xs) ++ drop (k * l + l) now)
-          c.requires.extent
+          a.strided.now.extent_is
           ∙ ap (λ (t : List ℕ). take (k * l) t ++ part ++ drop (k * l + l) t) inv.values
           ∙ copy_filled old vs xs k;
     }
@@ -165,10 +170,10 @@ returns-clause-values c =
     let a = c.args in
     let is : c.loop-copy.copy ≡ a.copies = omega arith in
     c.loop-copy.invariant.values
-    ∙ ap (λ (k : ℕ). elements_at (values_of a.size a.bytes.now) (places k a.offsets.now) ++
-    drop (k * length a.offsets.now) (values_of a.size a.out.now)) is
+    ∙ ap (λ (k : ℕ). elements_at (values_of a.size a.bytes.now) (places k a.strided.now.offsets.now) ++
+    drop (k * length a.strided.now.offsets.now) (values_of a.size a.out.now)) is
     ∙ all_filled (values_of a.size a.out.now)
-    (elements_at (values_of a.size a.bytes.now) (places a.copies a.offsets.now)) (a.copies * length a.offsets.now)
+    (elements_at (values_of a.size a.bytes.now) (places a.copies a.strided.now.offsets.now)) (a.copies * length a.strided.now.offsets.now)
     c.requires.room
 
 pub loop-copy-init : goal.loop-copy-init
@@ -176,5 +181,5 @@ loop-copy-init c = record {
   whole = c.requires.out;
   len = refl;
   values = none_filled (values_of c.args.size c.args.out.now) (values_of c.args.size c.args.bytes.now)
-      c.args.offsets.now;
+      c.args.strided.now.offsets.now;
 }

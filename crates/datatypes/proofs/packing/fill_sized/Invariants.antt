@@ -12,4 +12,4 @@ pub record HasGathered (size copies : ℕ) (old bytes offsets new : List ℕ) : 
       drop (copies * length offsets) (values_of size old)
 
 abbrev pub invariant-loop-copy : goal.invariant-loop-copy
-invariant-loop-copy l = HasGathered l.size l.copy l.fn.out l.bytes l.offsets l.out
+invariant-loop-copy l = HasGathered l.size l.copy l.fn.out l.bytes l.strided.offsets.now l.out

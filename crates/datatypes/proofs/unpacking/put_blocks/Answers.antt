@@ -10,22 +10,22 @@ use Rattle.datatypes.proofs.unpacking.put_blocks.Goals as goal
 pub overflow_add-place : goal.overflow_add-place
 overflow_add-place c =
     let a = c.args in
-    let size = a.size in
-    let xs = a.offsets.now in
+    let size = a.copy.now.size in
+    let xs = a.copy.now.offsets.now in
     let ms = values_of size a.message.now in
     let k = c.loop-number.number in
     let n = k * a.block in
     let inv = c.loop-number.invariant in
     let items = c.loop-number.bytes in
     let there = block_there a.block k (length xs) (omega arith) in
-    let at = a.from + get_or xs n 0 in
-    let near = block_near a.block k a.from (length (values_of size a.bytes.now)) xs c.requires.blocks c.requires.block there c.requires.near in
+    let at = a.copy.now.from + get_or xs n 0 in
+    let near = block_near a.block k a.copy.now.from (length (values_of size a.bytes.now)) xs c.requires.blocks c.requires.block there c.requires.near in
     let room : at + a.block ≤ length (values_of size items) = omega (arith, inv.elements) in
-    let fits = block_in_bytes size items at a.block c.requires.size inv.whole room in
+    let fits = block_in_bytes size items at a.block a.copy.now.low inv.whole room in
     let within = fits.0 in
     let wide = fits.1 in
     let held : a.start + n + a.block ≤ length ms = omega (arith, c.requires.start) in
-    let source = block_in_bytes size a.message.now (a.start + n) a.block c.requires.size c.requires.message held in
+    let source = block_in_bytes size a.message.now (a.start + n) a.block a.copy.now.low c.requires.message held in
     let inside = source.0 in
     let long = source.1 in
     omega arith
@@ -33,22 +33,22 @@ overflow_add-place c =
 pub overflow_add-start : goal.overflow_add-start
 overflow_add-start c =
     let a = c.args in
-    let size = a.size in
-    let xs = a.offsets.now in
+    let size = a.copy.now.size in
+    let xs = a.copy.now.offsets.now in
     let ms = values_of size a.message.now in
     let k = c.loop-number.number in
     let n = k * a.block in
     let inv = c.loop-number.invariant in
     let items = c.loop-number.bytes in
     let there = block_there a.block k (length xs) (omega arith) in
-    let at = a.from + get_or xs n 0 in
-    let near = block_near a.block k a.from (length (values_of size a.bytes.now)) xs c.requires.blocks c.requires.block there c.requires.near in
+    let at = a.copy.now.from + get_or xs n 0 in
+    let near = block_near a.block k a.copy.now.from (length (values_of size a.bytes.now)) xs c.requires.blocks c.requires.block there c.requires.near in
     let room : at + a.block ≤ length (values_of size items) = omega (arith, inv.elements) in
-    let fits = block_in_bytes size items at a.block c.requires.size inv.whole room in
+    let fits = block_in_bytes size items at a.block a.copy.now.low inv.whole room in
     let within = fits.0 in
     let wide = fits.1 in
     let held : a.start + n + a.block ≤ length ms = omega (arith, c.requires.start) in
-    let source = block_in_bytes size a.message.now (a.start + n) a.block c.requires.size c.requires.message held in
+    let source = block_in_bytes size a.message.now (a.start + n) a.block a.copy.now.low c.requires.message held in
     let inside = source.0 in
     let long = source.1 in
     omega arith
@@ -56,22 +56,22 @@ overflow_add-start c =
 pub overflow_mul-start : goal.overflow_mul-start
 overflow_mul-start c =
     let a = c.args in
-    let size = a.size in
-    let xs = a.offsets.now in
+    let size = a.copy.now.size in
+    let xs = a.copy.now.offsets.now in
     let ms = values_of size a.message.now in
     let k = c.loop-number.number in
     let n = k * a.block in
     let inv = c.loop-number.invariant in
     let items = c.loop-number.bytes in
     let there = block_there a.block k (length xs) (omega arith) in
-    let at = a.from + get_or xs n 0 in
-    let near = block_near a.block k a.from (length (values_of size a.bytes.now)) xs c.requires.blocks c.requires.block there c.requires.near in
+    let at = a.copy.now.from + get_or xs n 0 in
+    let near = block_near a.block k a.copy.now.from (length (values_of size a.bytes.now)) xs c.requires.blocks c.requires.block there c.requires.near in
     let room : at + a.block ≤ length (values_of size items) = omega (arith, inv.elements) in
-    let fits = block_in_bytes size items at a.block c.requires.size inv.whole room in
+    let fits = block_in_bytes size items at a.block a.copy.now.low inv.whole room in
     let within = fits.0 in
     let wide = fits.1 in
     let held : a.start + n + a.block ≤ length ms = omega (arith, c.requires.start) in
-    let source = block_in_bytes size a.message.now (a.start + n) a.block c.requires.size c.requires.message held in
+    let source = block_in_bytes size a.message.now (a.start + n) a.block a.copy.now.low c.requires.message held in
     let inside = source.0 in
     let long = source.1 in
     omega arith
@@ -79,22 +79,22 @@ overflow_mul-start c =
 pub overflow_mul-block : goal.overflow_mul-block
 overflow_mul-block c =
     let a = c.args in
-    let size = a.size in
-    let xs = a.offsets.now in
+    let size = a.copy.now.size in
+    let xs = a.copy.now.offsets.now in
     let ms = values_of size a.message.now in
     let k = c.loop-number.number in
     let n = k * a.block in
     let inv = c.loop-number.invariant in
     let items = c.loop-number.bytes in
     let there = block_there a.block k (length xs) (omega arith) in
-    let at = a.from + get_or xs n 0 in
-    let near = block_near a.block k a.from (length (values_of size a.bytes.now)) xs c.requires.blocks c.requires.block there c.requires.near in
+    let at = a.copy.now.from + get_or xs n 0 in
+    let near = block_near a.block k a.copy.now.from (length (values_of size a.bytes.now)) xs c.requires.blocks c.requires.block there c.requires.near in
     let room : at + a.block ≤ length (values_of size items) = omega (arith, inv.elements) in
-    let fits = block_in_bytes size items at a.block c.requires.size inv.whole room in
+    let fits = block_in_bytes size items at a.block a.copy.now.low inv.whole room in
     let within = fits.0 in
     let wide = fits.1 in
     let held : a.start + n + a.block ≤ length ms = omega (arith, c.requires.start) in
-    let source = block_in_bytes size a.message.now (a.start + n) a.block c.requires.size c.requires.message held in
+    let source = block_in_bytes size a.message.now (a.start + n) a.block a.copy.now.low c.requires.message held in
     let inside = source.0 in
     let long = source.1 in
     omega arith
@@ -102,22 +102,22 @@ overflow_mul-block c =
 pub run-piece-requires : goal.run-piece-requires
 run-piece-requires c =
     let a = c.args in
-    let size = a.size in
-    let xs = a.offsets.now in
+    let size = a.copy.now.size in
+    let xs = a.copy.now.offsets.now in
     let ms = values_of size a.message.now in
     let k = c.loop-number.number in
     let n = k * a.block in
     let inv = c.loop-number.invariant in
     let items = c.loop-number.bytes in
     let there = block_there a.block k (length xs) (omega arith) in
-    let at = a.from + get_or xs n 0 in
-    let near = block_near a.block k a.from (length (values_of size a.bytes.now)) xs c.requires.blocks c.requires.block there c.requires.near in
+    let at = a.copy.now.from + get_or xs n 0 in
+    let near = block_near a.block k a.copy.now.from (length (values_of size a.bytes.now)) xs c.requires.blocks c.requires.block there c.requires.near in
     let room : at + a.block ≤ length (values_of size items) = omega (arith, inv.elements) in
-    let fits = block_in_bytes size items at a.block c.requires.size inv.whole room in
+    let fits = block_in_bytes size items at a.block a.copy.now.low inv.whole room in
     let within = fits.0 in
     let wide = fits.1 in
     let held : a.start + n + a.block ≤ length ms = omega (arith, c.requires.start) in
-    let source = block_in_bytes size a.message.now (a.start + n) a.block c.requires.size c.requires.message held in
+    let source = block_in_bytes size a.message.now (a.start + n) a.block a.copy.now.low c.requires.message held in
     let inside = source.0 in
     let long = source.1 in
     omega arith
@@ -125,22 +125,22 @@ run-piece-requires c =
 pub overflow_mul-place-in-loop-number : goal.overflow_mul-place-in-loop-number
 overflow_mul-place-in-loop-number c =
     let a = c.args in
-    let size = a.size in
-    let xs = a.offsets.now in
+    let size = a.copy.now.size in
+    let xs = a.copy.now.offsets.now in
     let ms = values_of size a.message.now in
     let k = c.loop-number.number in
     let n = k * a.block in
     let inv = c.loop-number.invariant in
     let items = c.loop-number.bytes in
     let there = block_there a.block k (length xs) (omega arith) in
-    let at = a.from + get_or xs n 0 in
-    let near = block_near a.block k a.from (length (values_of size a.bytes.now)) xs c.requires.blocks c.requires.block there c.requires.near in
+    let at = a.copy.now.from + get_or xs n 0 in
+    let near = block_near a.block k a.copy.now.from (length (values_of size a.bytes.now)) xs c.requires.blocks c.requires.block there c.requires.near in
     let room : at + a.block ≤ length (values_of size items) = omega (arith, inv.elements) in
-    let fits = block_in_bytes size items at a.block c.requires.size inv.whole room in
+    let fits = block_in_bytes size items at a.block a.copy.now.low inv.whole room in
     let within = fits.0 in
     let wide = fits.1 in
     let held : a.start + n + a.block ≤ length ms = omega (arith, c.requires.start) in
-    let source = block_in_bytes size a.message.now (a.start + n) a.block c.requires.size c.requires.message held in
+    let source = block_in_bytes size a.message.now (a.start + n) a.block a.copy.now.low c.requires.message held in
     let inside = source.0 in
     let long = source.1 in
     omega arith
@@ -148,50 +148,50 @@ overflow_mul-place-in-loop-number c =
 pub copy_within-requires : goal.copy_within-requires
 copy_within-requires c =
     let a = c.args in
-    let size = a.size in
-    let xs = a.offsets.now in
+    let size = a.copy.now.size in
+    let xs = a.copy.now.offsets.now in
     let ms = values_of size a.message.now in
     let k = c.loop-number.number in
     let n = k * a.block in
     let inv = c.loop-number.invariant in
     let items = c.loop-number.bytes in
     let there = block_there a.block k (length xs) (omega arith) in
-    let at = a.from + get_or xs n 0 in
-    let near = block_near a.block k a.from (length (values_of size a.bytes.now)) xs c.requires.blocks c.requires.block there c.requires.near in
+    let at = a.copy.now.from + get_or xs n 0 in
+    let near = block_near a.block k a.copy.now.from (length (values_of size a.bytes.now)) xs c.requires.blocks c.requires.block there c.requires.near in
     let room : at + a.block ≤ length (values_of size items) = omega (arith, inv.elements) in
-    let fits = block_in_bytes size items at a.block c.requires.size inv.whole room in
+    let fits = block_in_bytes size items at a.block a.copy.now.low inv.whole room in
     let within = fits.0 in
     let wide = fits.1 in
     let held : a.start + n + a.block ≤ length ms = omega (arith, c.requires.start) in
-    let source = block_in_bytes size a.message.now (a.start + n) a.block c.requires.size c.requires.message held in
+    let source = block_in_bytes size a.message.now (a.start + n) a.block a.copy.now.low c.requires.message held in
     let inside = source.0 in
     let long = source.1 in
-    let put = block_put size at (a.start + n) a.block items a.message.now c.requires.size inv.whole c.requires.message inside within c.run-piece.result.now c.run-piece.ensures in
+    let put = block_put size at (a.start + n) a.block items a.message.now a.copy.now.low inv.whole c.requires.message inside within c.run-piece.result.now c.run-piece.ensures in
     omega (arith, put.0)
 
 pub loop-number-preserved : goal.loop-number-preserved
 loop-number-preserved c =
     let a = c.args in
-    let size = a.size in
-    let xs = a.offsets.now in
+    let size = a.copy.now.size in
+    let xs = a.copy.now.offsets.now in
     let ms = values_of size a.message.now in
     let k = c.loop-number.number in
     let n = k * a.block in
     let inv = c.loop-number.invariant in
     let items = c.loop-number.bytes in
     let there = block_there a.block k (length xs) (omega arith) in
-    let at = a.from + get_or xs n 0 in
-    let near = block_near a.block k a.from (length (values_of size a.bytes.now)) xs c.requires.blocks c.requires.block there c.requires.near in
+    let at = a.copy.now.from + get_or xs n 0 in
+    let near = block_near a.block k a.copy.now.from (length (values_of size a.bytes.now)) xs c.requires.blocks c.requires.block there c.requires.near in
     let room : at + a.block ≤ length (values_of size items) = omega (arith, inv.elements) in
-    let fits = block_in_bytes size items at a.block c.requires.size inv.whole room in
+    let fits = block_in_bytes size items at a.block a.copy.now.low inv.whole room in
     let within = fits.0 in
     let wide = fits.1 in
     let held : a.start + n + a.block ≤ length ms = omega (arith, c.requires.start) in
-    let source = block_in_bytes size a.message.now (a.start + n) a.block c.requires.size c.requires.message held in
+    let source = block_in_bytes size a.message.now (a.start + n) a.block a.copy.now.low c.requires.message held in
     let inside = source.0 in
     let long = source.1 in
     let next : n + a.block ≡ (k + 1) * a.block = omega arith in
-    let put = block_put size at (a.start + n) a.block items a.message.now c.requires.size inv.whole c.requires.message inside within c.run-piece.result.now c.run-piece.ensures in
+    let put = block_put size at (a.start + n) a.block items a.message.now a.copy.now.low inv.whole c.requires.message inside within c.run-piece.result.now c.run-piece.ensures in
     let room_left : at * size + length c.run-piece.result.now ≤ length items = omega (arith, put.0) in
     let len : length c.copy_within.new.bytes ≡ length items = ap length c.copy_within.ensures ∙ with_run-len (at * size) items c.run-piece.result.now room_left in
     let bytes = ap (λ (m : ℕ). m / size) len in
@@ -205,6 +205,6 @@ loop-number-preserved c =
       values = ap (values_of size) c.copy_within.ensures
           ∙ put.2
           ∙ ap (λ (t : List ℕ). put_at t (range_with_len at a.block) part) inv.values
-          ∙ blocks_more a.block k a.from a.start old xs ms c.requires.blocks there c.requires.start
-          ∙ ap (λ (m : ℕ). put_at old (moved a.from (take m xs)) (take m (drop a.start ms))) next;
+          ∙ blocks_more a.block k a.copy.now.from a.start old xs ms c.requires.blocks there c.requires.start
+          ∙ ap (λ (m : ℕ). put_at old (moved a.copy.now.from (take m xs)) (take m (drop a.start ms))) next;
     }

@@ -13,4 +13,4 @@ pub record HasMoved (size from start count : ℕ) (old message offsets new : Lis
       put_at (values_of size old) (moved from (take count offsets)) (take count (drop start (values_of size message)))
 
 abbrev pub invariant-loop-i : goal.invariant-loop-i
-invariant-loop-i l = HasMoved l.size l.from l.start l.i l.fn.bytes l.message l.offsets l.bytes
+invariant-loop-i l = HasMoved l.copy.size l.copy.from l.start l.i l.fn.bytes l.message l.copy.offsets.now l.bytes

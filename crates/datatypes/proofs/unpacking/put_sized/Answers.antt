@@ -13,11 +13,11 @@ use Rattle.datatypes.proofs.PlaceLaws.{first_places-is}
 use Rattle.derived_types.proofs.LayoutLaws.{length-copies_at}
 use Rattle.datatypes.proofs.unpacking.put_sized.Goals as goal
 
-pub overflow_mul-copy : goal.overflow_mul-copy
-overflow_mul-copy c =
+pub overflow_mul-one : goal.overflow_mul-one
+overflow_mul-one c =
     let a = c.args in
     let size = a.size in
-    let xs = a.offsets.now in
+    let xs = a.strided.now.offsets.now in
     let l = length xs in
     let ms = values_of size a.message.now in
     let elements = length (values_of size a.bytes.now) in
@@ -32,15 +32,15 @@ overflow_mul-copy c =
     let near = near_copy_whole a.count k elements xs room c.requires.near in
     let low = near_moved by 0 elements xs p near in
     let fits = element_fits size a.bytes.now by c.requires.bytes (omega arith) in
-    let wide : by * 1 ≤ by * size = mul-le-mul_left by c.requires.size in
-    let same : k * a.extent ≡ by = ap (λ (e : ℕ). k * e) c.requires.extent in
+    let wide : by * 1 ≤ by * size = mul-le-mul_left by (omega (arith, c.requires.size, a.strided.now.low)) in
+    let same : k * a.strided.now.extent ≡ by = ap (λ (e : ℕ). k * e) a.strided.now.extent_is in
     rw same (omega arith)
 
-pub overflow_mul-copy-in-loop-copy : goal.overflow_mul-copy-in-loop-copy
-overflow_mul-copy-in-loop-copy c =
+pub overflow_mul-copy : goal.overflow_mul-copy
+overflow_mul-copy c =
     let a = c.args in
     let size = a.size in
-    let xs = a.offsets.now in
+    let xs = a.strided.now.offsets.now in
     let l = length xs in
     let ms = values_of size a.message.now in
     let elements = length (values_of size a.bytes.now) in
@@ -58,7 +58,7 @@ pub put_copy-requires-clause-start : goal.put_copy-requires-clause-start
 put_copy-requires-clause-start c =
     let a = c.args in
     let size = a.size in
-    let xs = a.offsets.now in
+    let xs = a.strided.now.offsets.now in
     let l = length xs in
     let ms = values_of size a.message.now in
     let elements = length (values_of size a.bytes.now) in
@@ -76,7 +76,7 @@ pub put_copy-requires-clause-near : goal.put_copy-requires-clause-near
 put_copy-requires-clause-near c =
     let a = c.args in
     let size = a.size in
-    let xs = a.offsets.now in
+    let xs = a.strided.now.offsets.now in
     let l = length xs in
     let ms = values_of size a.message.now in
     let elements = length (values_of size a.bytes.now) in
@@ -89,14 +89,14 @@ put_copy-requires-clause-near c =
     let up : (k + 1) * l ≤ a.count / l * l = mul-le-mul_right l some in
     let room : k * l + l ≤ a.count = omega arith in
     let near = near_copy_whole a.count k elements xs room c.requires.near in
-    let here : AreNear (moved (k * a.extent) xs) elements = subst (λ (e : ℕ). AreNear (moved (k * e) xs) elements) (sym c.requires.extent) near in
-    subst (λ (n : ℕ). AreNear (moved (k * a.extent) xs) n) (sym c.loop-copy.invariant.elements) here
+    let here : AreNear (moved (k * a.strided.now.extent) xs) elements = subst (λ (e : ℕ). AreNear (moved (k * e) xs) elements) (sym a.strided.now.extent_is) near in
+    subst (λ (n : ℕ). AreNear (moved (k * a.strided.now.extent) xs) n) (sym c.loop-copy.invariant.elements) here
 
 pub loop-copy-preserved : goal.loop-copy-preserved
 loop-copy-preserved c =
     let a = c.args in
     let size = a.size in
-    let xs = a.offsets.now in
+    let xs = a.strided.now.offsets.now in
     let l = length xs in
     let ms = values_of size a.message.now in
     let elements = length (values_of size a.bytes.now) in
@@ -119,16 +119,16 @@ loop-copy-preserved c =
       elements = length-values_of size c.put_copy.new.bytes ∙ bytes ∙ sym (length-values_of size c.loop-copy.bytes) ∙
           inv.elements;
       values = c.put_copy.ensures.values
-          ∙ ap (λ (e : ℕ). put_at before (moved (k * e) xs) part) c.requires.extent
+          ∙ ap (λ (e : ℕ). put_at before (moved (k * e) xs) part) a.strided.now.extent_is
           ∙ ap (λ (t : List ℕ). put_at t (moved by xs) part) inv.values
           ∙ sym (whole_more old xs ms k (omega (arith, c.requires.count)));
     }
 
-pub overflow_mul-whole : goal.overflow_mul-whole
-overflow_mul-whole c =
+pub overflow_mul-part : goal.overflow_mul-part
+overflow_mul-part c =
     let a = c.args in
     let size = a.size in
-    let xs = a.offsets.now in
+    let xs = a.strided.now.offsets.now in
     let l = length xs in
     let ms = values_of size a.message.now in
     let elements = length (values_of size a.bytes.now) in
@@ -142,15 +142,15 @@ overflow_mul-whole c =
     let near = near_part a.count n r elements xs (omega arith) (omega arith) c.requires.near in
     let low = near_moved by 0 elements (take r xs) (omega (arith, length-take r xs)) near in
     let fits = element_fits size a.bytes.now by c.requires.bytes (omega arith) in
-    let wide : by * 1 ≤ by * size = mul-le-mul_left by c.requires.size in
-    let same : n * a.extent ≡ by = ap (λ (e : ℕ). n * e) c.requires.extent in
+    let wide : by * 1 ≤ by * size = mul-le-mul_left by (omega (arith, c.requires.size, a.strided.now.low)) in
+    let same : n * a.strided.now.extent ≡ by = ap (λ (e : ℕ). n * e) a.strided.now.extent_is in
     rw same (omega arith)
 
 pub put_elements-requires-clause-near : goal.put_elements-requires-clause-near
 put_elements-requires-clause-near c =
     let a = c.args in
     let size = a.size in
-    let xs = a.offsets.now in
+    let xs = a.strided.now.offsets.now in
     let l = length xs in
     let ms = values_of size a.message.now in
     let elements = length (values_of size a.bytes.now) in
@@ -163,15 +163,15 @@ put_elements-requires-clause-near c =
     let by = n * extent_of xs in
     let near = near_part a.count n r elements xs (omega arith) (omega arith) c.requires.near in
     let first = c.split_at.result.0.now in
-    let here : AreNear (moved (n * a.extent) (take r xs)) elements = subst (λ (e : ℕ). AreNear (moved (n * e) (take r xs)) elements) (sym c.requires.extent) near in
-    let there : AreNear (moved (n * a.extent) first) elements = subst (λ (t : List ℕ). AreNear (moved (n * a.extent) t) elements) (sym c.split_at.ensures.front) here in
-    subst (λ (m : ℕ). AreNear (moved (n * a.extent) first) m) (sym c.loop-copy.invariant.elements) there
+    let here : AreNear (moved (n * a.strided.now.extent) (take r xs)) elements = subst (λ (e : ℕ). AreNear (moved (n * e) (take r xs)) elements) (sym a.strided.now.extent_is) near in
+    let there : AreNear (moved (n * a.strided.now.extent) first) elements = subst (λ (t : List ℕ). AreNear (moved (n * a.strided.now.extent) t) elements) (sym c.split_at.ensures.front) here in
+    subst (λ (m : ℕ). AreNear (moved (n * a.strided.now.extent) first) m) (sym c.loop-copy.invariant.elements) there
 
 pub returns-then-rest-gt0-clause-values : goal.returns-then-rest-gt0-clause-values
 returns-then-rest-gt0-clause-values c =
     let a = c.args in
     let size = a.size in
-    let xs = a.offsets.now in
+    let xs = a.strided.now.offsets.now in
     let l = length xs in
     let ms = values_of size a.message.now in
     let elements = length (values_of size a.bytes.now) in
@@ -193,9 +193,9 @@ returns-then-rest-gt0-clause-values c =
     let lm : length ms ≡ a.count = sym c.requires.count in
     let rest = drop (n * l) ms in
     c.put_elements.ensures.values
-    ∙ ap (λ (m : ℕ). put_at before (moved (n * a.extent) first) (take m rest)) len
-    ∙ ap (λ (t : List ℕ). put_at before (moved (n * a.extent) t) (take r rest)) c.split_at.ensures.front
-    ∙ ap (λ (e : ℕ). put_at before (moved (n * e) (take r xs)) (take r rest)) c.requires.extent
+    ∙ ap (λ (m : ℕ). put_at before (moved (n * a.strided.now.extent) first) (take m rest)) len
+    ∙ ap (λ (t : List ℕ). put_at before (moved (n * a.strided.now.extent) t) (take r rest)) c.split_at.ensures.front
+    ∙ ap (λ (e : ℕ). put_at before (moved (n * e) (take r xs)) (take r rest)) a.strided.now.extent_is
     ∙ ap (λ (t : List ℕ). put_at t (moved by (take r xs)) (take r rest)) inv.values
     ∙ ap (λ (m : ℕ). put_at (put_at old (places m xs) (take (m * l) ms)) (moved by (take r xs)) (take r rest)) is
     ∙ sym (part_more old (places n xs) (moved by (take r xs)) ms (n * l) r lp (omega arith))
@@ -207,7 +207,7 @@ pub returns-else-rest-gt0-clause-values : goal.returns-else-rest-gt0-clause-valu
 returns-else-rest-gt0-clause-values c =
     let a = c.args in
     let size = a.size in
-    let xs = a.offsets.now in
+    let xs = a.strided.now.offsets.now in
     let l = length xs in
     let ms = values_of size a.message.now in
     let elements = length (values_of size a.bytes.now) in

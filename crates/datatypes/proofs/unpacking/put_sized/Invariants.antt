@@ -13,4 +13,4 @@ pub record HasCopies (size copies : ℕ) (old message offsets new : List ℕ) : 
       put_at (values_of size old) (places copies offsets) (take (copies * length offsets) (values_of size message))
 
 abbrev pub invariant-loop-copy : goal.invariant-loop-copy
-invariant-loop-copy l = HasCopies l.size l.copy l.fn.bytes l.message l.offsets l.bytes
+invariant-loop-copy l = HasCopies l.size l.copy l.fn.bytes l.message l.strided.offsets.now l.bytes

@@ -8,11 +8,11 @@ use Rattle.datatypes.proofs.RunLaws.{AreRun, run_near, first_run, with_run-is}
 use Rattle.datatypes.proofs.BlockLaws.{with_run-len}
 use Rattle.datatypes.proofs.unpacking.put_slices.Goals as goal
 
-pub overflow_mul-offsets : goal.overflow_mul-offsets
-overflow_mul-offsets c =
+pub overflow_mul-strided : goal.overflow_mul-strided
+overflow_mul-strided c =
     let a = c.args in
-    let size = a.size in
-    let xs = a.offsets.now in
+    let size = a.strided.now.size in
+    let xs = a.strided.now.offsets.now in
     let l = length xs in
     let first = get_or xs 0 0 in
     let some : 0 < a.count = omega arith in
@@ -31,8 +31,8 @@ overflow_mul-offsets c =
 pub copy_within-requires : goal.copy_within-requires
 copy_within-requires c =
     let a = c.args in
-    let size = a.size in
-    let xs = a.offsets.now in
+    let size = a.strided.now.size in
+    let xs = a.strided.now.offsets.now in
     let l = length xs in
     let first = get_or xs 0 0 in
     let some : 0 < a.count = omega arith in
@@ -51,8 +51,8 @@ copy_within-requires c =
 pub returns-then-is_run-clause-len : goal.returns-then-is_run-clause-len
 returns-then-is_run-clause-len c =
     let a = c.args in
-    let size = a.size in
-    let xs = a.offsets.now in
+    let size = a.strided.now.size in
+    let xs = a.strided.now.offsets.now in
     let l = length xs in
     let first = get_or xs 0 0 in
     let some : 0 < a.count = omega arith in
@@ -71,8 +71,8 @@ returns-then-is_run-clause-len c =
 pub returns-then-is_run-clause-whole : goal.returns-then-is_run-clause-whole
 returns-then-is_run-clause-whole c =
     let a = c.args in
-    let size = a.size in
-    let xs = a.offsets.now in
+    let size = a.strided.now.size in
+    let xs = a.strided.now.offsets.now in
     let l = length xs in
     let first = get_or xs 0 0 in
     let some : 0 < a.count = omega arith in
@@ -86,14 +86,14 @@ returns-then-is_run-clause-whole c =
     let long = whole size a.message.now c.requires.message.no_rest in
     let same : a.count * size ≡ length a.message.now / size * size = ap (λ (k : ℕ). k * size) (c.requires.count ∙ length-values_of size a.message.now) in
     let fits : first * size + length a.message.now ≤ length a.bytes.now = omega arith in
-    let step = with_run-is size a.bytes.now a.message.now first c.requires.size c.requires.bytes c.requires.message fits in
+    let step = with_run-is size a.bytes.now a.message.now first a.strided.now.low c.requires.bytes c.requires.message fits in
     subst (AreWhole size) (sym c.copy_within.ensures) step.0
 
 pub returns-then-is_run-clause-values : goal.returns-then-is_run-clause-values
 returns-then-is_run-clause-values c =
     let a = c.args in
-    let size = a.size in
-    let xs = a.offsets.now in
+    let size = a.strided.now.size in
+    let xs = a.strided.now.offsets.now in
     let l = length xs in
     let first = get_or xs 0 0 in
     let some : 0 < a.count = omega arith in
@@ -109,7 +109,7 @@ returns-then-is_run-clause-values c =
     let fits : first * size + length a.message.now ≤ length a.bytes.now = omega arith in
     let old = values_of size a.bytes.now in
     let ms = values_of size a.message.now in
-    let step = with_run-is size a.bytes.now a.message.now first c.requires.size c.requires.bytes c.requires.message fits in
+    let step = with_run-is size a.bytes.now a.message.now first a.strided.now.low c.requires.bytes c.requires.message fits in
     ap (values_of size) c.copy_within.ensures
     ∙ step.1
     ∙ ap (λ (k : ℕ). put_at old (range_with_len first k) ms) (sym c.requires.count)

@@ -18,10 +18,10 @@ loop-preserved g c =
         rounds_more g.P.Runner.does g.T.Transport.passed g.T.Transport.waits c.args.patience driven.0 _ _
             c.now-now.result
             (record {
-              engine = c.make_round.new.engine;
-              runner = c.make_round.new.runner;
+              engine = c.make_round.new.rank.engine;
+              runner = c.make_round.new.rank.runner;
               standing =
-                  c.make_round.new.standing;
+                  c.make_round.new.rank.standing;
               transport = c.make_round.new.transport;
             })
             driven.2 exact,
@@ -35,9 +35,9 @@ returns-in-Ok-Some-clause-exact g c =
       times = driven.0;
       now = c.now-now.result;
       course = record {
-        engine = c.loop.engine;
-        runner = c.loop.runner;
-        standing = c.loop.standing;
+        engine = c.loop.rank.engine;
+        runner = c.loop.rank.runner;
+        standing = c.loop.rank.standing;
         transport =
             c.loop.transport;
       };
@@ -53,9 +53,9 @@ returns-in-Err-clause-exact g c =
       times = driven.0;
       now = c.now-now.result;
       course = record {
-        engine = c.loop.engine;
-        runner = c.loop.runner;
-        standing = c.loop.standing;
+        engine = c.loop.rank.engine;
+        runner = c.loop.rank.runner;
+        standing = c.loop.rank.standing;
         transport =
             c.loop.transport;
       };

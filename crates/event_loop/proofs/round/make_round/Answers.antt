@@ -1,8 +1,12 @@
-use Rattle.std.proofs.Common.{inl, inr, refl, rules}
+use Rattle.std.proofs.Common.{inl, inr, rules, ℕ, ap, ◌∙◌, if◌then◌else◌}
 use Rattle.event_loop.proofs.round.make_round.Goals as goal
 
 pub returns-in_default-clause-exact : goal.returns-in_default-clause-exact
-returns-in_default-clause-exact g c = inl (c.in_default.ensures.exact, refl, refl)
+returns-in_default-clause-exact g c = inl (
+  c.in_default.ensures.exact,
+  c.in_default.ensures.times.0,
+  c.in_default.ensures.times.1,
+)
 
 pub returns-in_default-rest-clause-exact : goal.returns-in_default-rest-clause-exact
 returns-in_default-rest-clause-exact g c = inr (
@@ -10,8 +14,10 @@ returns-in_default-rest-clause-exact g c = inr (
   record {
     turned = c.in-Ok.turned;
     turn = c.in-Ok.ensures.exact;
-    heard = c.time_of-standing.ensures;
-    moved = c.time_of-standing-2.ensures;
+    heard = c.time_of-rank.ensures ∙
+        ap (λ (t : ℕ). if c.in-Ok.turned.came then c.args.time.now else t) c.in-Ok.ensures.times.0;
+    moved = c.time_of-rank-2.ensures ∙
+        ap (λ (t : ℕ). if c.in-Ok.turned.moved then c.args.time.now else t) c.in-Ok.ensures.times.1;
   },
   record {
     idle = c.is_idle-idle.result;

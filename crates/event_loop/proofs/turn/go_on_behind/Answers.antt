@@ -9,7 +9,7 @@ pub returns-in_default-speak-clause-exact : goal.returns-in_default-speak-clause
 returns-in_default-speak-clause-exact g c = λ before reply told.
     let spoken = c.in_default-speak.ensures.exact in (
       c.args.line.now ∷ spoken.0,
-      (spoken.1.0, (c.args.runner.now, told, spoken.1.1)),
+      (spoken.1.0, (c.args.rank.now.runner, told, spoken.1.1)),
       refl,
       c.requires.ready,
       g.met.T.Transport.joined _ _ _ _ _ c.in-Ok.ensures.passed spoken.2,
@@ -19,6 +19,6 @@ pub returns-clause-exact : goal.returns-clause-exact
 returns-clause-exact g c = λ before reply told.
     let spoken = c.in-Ok-speak.ensures.exact in (
       c.args.line.now ∷ spoken.0,
-      (c.in-Ok-speak.step, (c.args.runner.now, told, spoken.1), rw c.replace.ensures c.take_step.ensures),
+      (c.in-Ok-speak.step, (c.args.rank.now.runner, told, spoken.1), rw c.replace.ensures c.take_step.ensures),
       g.met.T.Transport.joined _ _ _ _ _ c.in-Ok.ensures.passed spoken.3,
     )

@@ -1,6 +1,6 @@
 -- FOR SPEED ALONE: each goal here is proved without this file, too; with it a wrong body is refused soon.
 use Rattle.std.proofs.Common.{rules}
-use Rattle.collective_progress.proofs.gather.concatenation_of.Goals as goal
+use Rattle.collective_progress.proofs.seat.Seat.concatenation_of.Goals as goal
 
 pub joined_bytes-requires : goal.joined_bytes-requires
 joined_bytes-requires c = search rules

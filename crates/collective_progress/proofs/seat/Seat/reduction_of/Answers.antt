@@ -1,6 +1,6 @@
 -- FOR SPEED ALONE: each goal here is proved without this file, too; with it a wrong body is refused soon.
 use Rattle.std.proofs.Common.{rules}
-use Rattle.collective_progress.proofs.fold.reduction_of.Goals as goal
+use Rattle.collective_progress.proofs.seat.Seat.reduction_of.Goals as goal
 
 pub basic-requires : goal.basic-requires
 basic-requires c = search rules

@@ -1,6 +1,6 @@
 -- FOR SPEED ALONE: each goal here is proved without this file, too; with it a wrong body is refused soon.
 use Rattle.std.proofs.Common.{rules}
-use Rattle.collective_progress.proofs.contributions.block_known.Goals as goal
+use Rattle.collective_progress.proofs.seat.Seat.block_known.Goals as goal
 
 pub is_same-requires : goal.is_same-requires
 is_same-requires c = search rules
