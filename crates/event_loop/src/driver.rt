@@ -18,15 +18,15 @@ fn make_rounds<R: Wait, P: Runner, T: Transport, C: Clock>(
     rt: &R,
     engine: &mut Engine,
     runner: &mut P,
-    standing: &mut LoopState,
+    state: &mut LoopState,
     patience: u64,
     transport: &mut T,
     clock: &mut C,
 ) -> Result<Ended, TransportFault>
     requires { T.failed transport.old + 1 < 2 ^ 64 }
     ensures exact { DrivesOn P.does T.passed T.waits C.told patience
-        (record { engine = engine.old; runner = runner.old; standing = standing.old; transport = transport.old })
-        clock.old result engine.new runner.new standing.new transport.new clock.new }
+        (record { engine = engine.old; runner = runner.old; state = state.old; transport = transport.old })
+        clock.old result engine.new runner.new state.new transport.new clock.new }
     ensures failures { FailsWith result (T.failed transport.old) (T.failed transport.new) }
 {
     let mut buffer = [0u8; RECEIVE_ROOM];
@@ -36,7 +36,7 @@ fn make_rounds<R: Wait, P: Runner, T: Transport, C: Clock>(
             rt,
             engine,
             runner,
-            standing,
+            state,
             patience,
             transport,
             &mut buffer,
@@ -75,20 +75,12 @@ pub fn drive<R: Wait, P: Runner, T: Transport, C: Clock>(
     ensures failures { FailsWith result (T.failed transport.old) (T.failed transport.new) }
 {
     let start = clock.now();
-    let mut standing = LoopState {
-        stage: RunnerState::Ready(None),
+    let mut state = LoopState {
+        runner: RunnerState::Ready(None),
         heard: start,
         moved: start,
     };
-    let ended = make_rounds(
-        rt,
-        engine,
-        runner,
-        &mut standing,
-        patience,
-        transport,
-        clock,
-    );
-    drop(standing);
+    let ended = make_rounds(rt, engine, runner, &mut state, patience, transport, clock);
+    drop(state);
     ended
 }

@@ -50,15 +50,15 @@ fn patience_ends(patience: u64, still: u64) -> Option<Ended>
 
 /// Whether a rank ends, where no datagram came for `quiet` milliseconds, and nothing moved for `still`.
 fn ending_of(
-    stage: &RunnerState,
+    state: &RunnerState<()>,
     idle: bool,
     patience: u64,
     quiet: u64,
     still: u64,
 ) -> Option<Ended>
-    ensures { result ≡ ending_of stage.now idle patience quiet still }
+    ensures { result ≡ ending_of state.now idle patience quiet still }
 {
-    match stage {
+    match state {
         RunnerState::Over(status, line) => {
             if *status == 0 {
                 if idle && LINGER <= quiet {
@@ -82,8 +82,8 @@ fn time_of(happened: bool, now: u64, before: u64) -> u64
 }
 
 /// For how many milliseconds a rank waits at most for a datagram: until something is due of itself.
-fn wait_of(stage: &RunnerState, idle: bool, patience: u64, quiet: u64, still: u64) -> u64
-    ensures exact { result ≡ wait_of stage.now idle patience quiet still }
+fn wait_of(state: &RunnerState<()>, idle: bool, patience: u64, quiet: u64, still: u64) -> u64
+    ensures exact { result ≡ wait_of state.now idle patience quiet still }
     ensures some { 0 < result }
     ensures soon { idle ≡ false → result ≤ 5 }
     ensures within { still < patience → result ≤ patience - still }
@@ -92,7 +92,7 @@ fn wait_of(stage: &RunnerState, idle: bool, patience: u64, quiet: u64, still: u6
     if !idle {
         return SHORT_WAIT.min(over);
     }
-    match stage {
+    match state {
         RunnerState::Over(_, _) => LINGER.saturating_sub(quiet).max(1).min(over),
         _ => over,
     }
@@ -117,7 +117,7 @@ pub(crate) fn make_round<R: Wait, P: Runner, T: Transport>(
     rt: &R,
     engine: &mut Engine,
     runner: &mut P,
-    standing: &mut LoopState,
+    state: &mut LoopState,
     patience: u64,
     transport: &mut T,
     buffer: &mut [u8],
@@ -125,33 +125,33 @@ pub(crate) fn make_round<R: Wait, P: Runner, T: Transport>(
 ) -> Result<Option<Ended>, TransportFault>
     requires { T.failed transport.old + 1 < 2 ^ 64 }
     ensures exact { RoundGives P.does T.passed T.waits patience
-        (record { engine = engine.old; runner = runner.old; standing = standing.old; transport = transport.old })
-        now result engine.new runner.new standing.new transport.new }
+        (record { engine = engine.old; runner = runner.old; state = state.old; transport = transport.old })
+        now result engine.new runner.new state.new transport.new }
     ensures failures { FailsWith result (T.failed transport.old) (T.failed transport.new) }
 {
     let Ok(turned) = turn(
         rt,
         engine,
         runner,
-        &mut standing.stage,
+        &mut state.runner,
         transport,
         buffer,
         now,
     ) else {
         return Err(TransportFault);
     };
-    standing.heard = time_of(turned.came, now, standing.heard);
-    standing.moved = time_of(turned.moved, now, standing.moved);
+    state.heard = time_of(turned.came, now, state.heard);
+    state.moved = time_of(turned.moved, now, state.moved);
     let idle = engine.is_idle();
-    let quiet = now.saturating_sub(standing.heard);
-    let still = now.saturating_sub(standing.moved);
-    if let Some(ended) = ending_of(&standing.stage, idle, patience, quiet, still) {
+    let quiet = now.saturating_sub(state.heard);
+    let still = now.saturating_sub(state.moved);
+    if let Some(ended) = ending_of(&state.runner, idle, patience, quiet, still) {
         return Ok(Some(ended));
     }
     let Ok(_) = rest(
         transport,
-        is_ready(&standing.stage),
-        wait_of(&standing.stage, idle, patience, quiet, still),
+        is_ready(&state.runner),
+        wait_of(&state.runner, idle, patience, quiet, still),
     ) else {
         return Err(TransportFault);
     };

@@ -3,8 +3,7 @@
 ghost use Rattle.std.specs.Prelude.{◌≡◌, ◌+◌, ◌<◌, ◌^◌, Option, None};
 ghost use Rattle.event_loop.specs.Exchanges.{FailsWith};
 ghost use Rattle.event_loop.specs.Speaking.{IsNoLine};
-ghost use Rattle.event_loop.specs.Turns.{TakesStep, GoesOnTo, TurnGives, stage_after, stage_with, reply_of, is_ready};
-ghost use Rattle.event_loop.specs.Turns.{told_waits};
+ghost use Rattle.event_loop.specs.Turns.{TakesStep, GoesOnTo, TurnGives, is_ready, state_after, state_with, told_waits};
 
 use crate::input::listen;
 use crate::loop_state::{RunnerState, TurnResult};
@@ -13,52 +12,43 @@ use crate::runner::{Runner, RunnerStep};
 use crate::runner_turn::speak;
 use crate::transport::{Transport, TransportFault};
 use engine::{Completion, Engine, Reply};
+use replies::reply_of;
 use std::sync::Wait;
 use vocabulary::replace;
 
-/// What the runner is told of this answer of a blocked call.
-fn reply_of(completion: Completion) -> Reply
-    ensures { result ≡ reply_of completion }
-{
-    match completion {
-        Completion::Requests(answer) => Reply::Done(answer),
-        Completion::Collective(ending) => Reply::Left(ending),
-    }
-}
-
 /// This answer of a blocked call, or none, has come.
-fn hear_answer(stage: &mut RunnerState, completion: Option<Completion>)
-    ensures { stage.new ≡ stage_with stage.old completion }
+fn hear_answer(state: &mut RunnerState<()>, completion: Option<Completion>)
+    ensures { state.new ≡ state_with state.old completion }
 {
     if let Some(completion) = completion {
-        replace(stage, RunnerState::Ready(Some(reply_of(completion))));
+        replace(state, RunnerState::Ready(Some(reply_of(completion))));
     }
 }
 
 /// Whether the runner goes on at the next turn.
-pub(crate) fn is_ready(stage: &RunnerState) -> bool
-    ensures { result ≡ is_ready stage.now }
+pub(crate) fn is_ready(state: &RunnerState<()>) -> bool
+    ensures { result ≡ is_ready state.now }
 {
-    matches!(stage, RunnerState::Ready(_))
+    matches!(state, RunnerState::Ready(_))
 }
 
 /// What the runner waits for after a reply.
-fn stage_after(reply: Reply) -> RunnerState
-    ensures { result ≡ stage_after reply }
+fn state_after(reply: Reply) -> RunnerState<()>
+    ensures { result ≡ state_after tt reply }
 {
     match reply {
-        Reply::Blocked => RunnerState::Blocked,
+        Reply::Blocked => RunnerState::Blocked(()),
         reply => RunnerState::Ready(Some(reply)),
     }
 }
 
 /// The runner's call goes to its engine; its end is the end.
-fn take_step(engine: &mut Engine, step: RunnerStep) -> RunnerState
+fn take_step(engine: &mut Engine, step: RunnerStep) -> RunnerState<()>
     requires { IsNoLine step }
     ensures { TakesStep engine.old step result engine.new }
 {
     match step {
-        RunnerStep::Call(call) => stage_after(engine.call(call)),
+        RunnerStep::Call(call) => state_after(engine.call(call)),
         RunnerStep::Print(_) => unreachable!(),
         RunnerStep::End(status, line) => RunnerState::Over(status, line),
     }
@@ -71,15 +61,15 @@ fn go_on_behind<R: Wait, P: Runner, T: Transport>(
     rt: &R,
     engine: &mut Engine,
     runner: &mut P,
-    stage: &mut RunnerState,
+    state: &mut RunnerState<()>,
     transport: &mut T,
     line: &[u8],
 ) -> Result<(), TransportFault>
     requires room { T.failed transport.old + 1 < 2 ^ 64 }
-    requires ready { stage.old ≡ RunnerState.Ready None }
+    requires ready { state.old ≡ RunnerState.Ready None }
     ensures exact { (before : P) (reply : Option Reply) → P.does before reply (RunnerStep.Print line.now) runner.old →
         GoesOnTo P.does T.passed engine.old before (RunnerState.Ready reply) transport.old result engine.new runner.new
-        stage.new transport.new }
+        state.new transport.new }
     ensures failures { FailsWith result (T.failed transport.old) (T.failed transport.new) }
 {
     let Ok(_) = transport.print(line) else {
@@ -88,7 +78,7 @@ fn go_on_behind<R: Wait, P: Runner, T: Transport>(
     let Ok(step) = speak(rt, runner, None, transport) else {
         return Err(TransportFault);
     };
-    replace(stage, take_step(engine, step));
+    replace(state, take_step(engine, step));
     Ok(())
 }
 
@@ -97,24 +87,24 @@ fn go_on<R: Wait, P: Runner, T: Transport>(
     rt: &R,
     engine: &mut Engine,
     runner: &mut P,
-    stage: &mut RunnerState,
+    state: &mut RunnerState<()>,
     transport: &mut T,
 ) -> Result<(), TransportFault>
     requires { T.failed transport.old + 1 < 2 ^ 64 }
-    ensures exact { GoesOnTo P.does T.passed engine.old runner.old stage.old transport.old result engine.new runner.new
-        stage.new transport.new }
+    ensures exact { GoesOnTo P.does T.passed engine.old runner.old state.old transport.old result engine.new runner.new
+        state.new transport.new }
     ensures failures { FailsWith result (T.failed transport.old) (T.failed transport.new) }
 {
-    let reply = match stage {
+    let reply = match state {
         RunnerState::Ready(reply) => reply.take(),
-        RunnerState::Blocked | RunnerState::Over(_, _) => return Ok(()),
+        RunnerState::Blocked(_) | RunnerState::Over(_, _) => return Ok(()),
     };
     match runner.next(reply) {
-        RunnerStep::Call(call) => replace(stage, stage_after(engine.call(call))),
+        RunnerStep::Call(call) => replace(state, state_after(engine.call(call))),
         RunnerStep::Print(line) => {
-            return go_on_behind(rt, engine, runner, stage, transport, line.as_slice());
+            return go_on_behind(rt, engine, runner, state, transport, line.as_slice());
         }
-        RunnerStep::End(status, line) => replace(stage, RunnerState::Over(status, line)),
+        RunnerStep::End(status, line) => replace(state, RunnerState::Over(status, line)),
     }
     Ok(())
 }
@@ -138,14 +128,14 @@ pub(crate) fn turn<R: Wait, P: Runner, T: Transport>(
     rt: &R,
     engine: &mut Engine,
     runner: &mut P,
-    stage: &mut RunnerState,
+    state: &mut RunnerState<()>,
     transport: &mut T,
     buffer: &mut [u8],
     now: u64,
 ) -> Result<TurnResult, TransportFault>
     requires { T.failed transport.old + 1 < 2 ^ 64 }
-    ensures exact { TurnGives P.does T.passed T.waits engine.old runner.old stage.old transport.old now result
-        engine.new runner.new stage.new transport.new }
+    ensures exact { TurnGives P.does T.passed T.waits engine.old runner.old state.old transport.old now result
+        engine.new runner.new state.new transport.new }
     ensures failures { FailsWith result (T.failed transport.old) (T.failed transport.new) }
 {
     tell_waits(engine, transport);
@@ -155,8 +145,8 @@ pub(crate) fn turn<R: Wait, P: Runner, T: Transport>(
     };
     let completion = engine.take_completion();
     let answered = completion.is_some();
-    hear_answer(stage, completion);
-    let Ok(_) = go_on(rt, engine, runner, stage, transport) else {
+    hear_answer(state, completion);
+    let Ok(_) = go_on(rt, engine, runner, state, transport) else {
         return Err(TransportFault);
     };
     let out = engine.take_out();
@@ -166,6 +156,6 @@ pub(crate) fn turn<R: Wait, P: Runner, T: Transport>(
     engine.give_back(out);
     Ok(TurnResult {
         came: heard.any,
-        moved: heard.accepted || answered || is_ready(stage),
+        moved: heard.accepted || answered || is_ready(state),
     })
 }

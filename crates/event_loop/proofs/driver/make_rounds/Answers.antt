@@ -20,8 +20,8 @@ loop-preserved g c =
             (record {
               engine = c.make_round.new.engine;
               runner = c.make_round.new.runner;
-              standing =
-                  c.make_round.new.standing;
+              state =
+                  c.make_round.new.state;
               transport = c.make_round.new.transport;
             })
             driven.2 exact,
@@ -37,7 +37,7 @@ returns-in-Ok-Some-clause-exact g c =
       course = record {
         engine = c.loop.engine;
         runner = c.loop.runner;
-        standing = c.loop.standing;
+        state = c.loop.state;
         transport =
             c.loop.transport;
       };
@@ -55,7 +55,7 @@ returns-in-Err-clause-exact g c =
       course = record {
         engine = c.loop.engine;
         runner = c.loop.runner;
-        standing = c.loop.standing;
+        state = c.loop.state;
         transport =
             c.loop.transport;
       };

@@ -8,5 +8,5 @@ invariant-loop g l =
     × (g.T.Transport.failed l.transport ≡ g.T.Transport.failed l.fn.transport)
     × ((times : List ℕ) × Tells g.C.Clock.told l.fn.clock times l.clock
     × Rounds g.P.Runner.does g.T.Transport.passed g.T.Transport.waits l.patience
-    (record { engine = l.fn.engine; runner = l.fn.runner; standing = l.fn.standing; transport = l.fn.transport }) times
-    (record { engine = l.engine; runner = l.runner; standing = l.standing; transport = l.transport }))
+    (record { engine = l.fn.engine; runner = l.fn.runner; state = l.fn.state; transport = l.fn.transport }) times
+    (record { engine = l.engine; runner = l.runner; state = l.state; transport = l.transport }))

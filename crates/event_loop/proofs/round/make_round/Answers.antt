@@ -10,8 +10,8 @@ returns-in_default-rest-clause-exact g c = inr (
   record {
     turned = c.in-Ok.turned;
     turn = c.in-Ok.ensures.exact;
-    heard = c.time_of-standing.ensures;
-    moved = c.time_of-standing-2.ensures;
+    heard = c.time_of-state.ensures;
+    moved = c.time_of-state-2.ensures;
   },
   record {
     idle = c.is_idle-idle.result;
