@@ -15,7 +15,7 @@ use play_events::ScriptLines;
 use printed_lines::{FrameKind, LoadText};
 use run_drawings::{Change, Delivery, Emission, Note, Tone};
 use script_files::{Script, ScriptLine};
-use script_plays::{Move, Stage};
+use script_plays::{Move, RunnerState};
 use std::alloc::{AllocError, Global};
 use stepped_plays::{PlayError, SteppedPlay};
 
@@ -280,8 +280,10 @@ impl<'t, 's> Watcher<'t, 's> {
         };
         let line = self.number_of_line(rank);
         let met = match self.play.player(rank) {
-            Some(player) => match player.stage() {
-                Stage::Ready(Some(reply)) => { self.errors.refused(self.alloc, rank, line, reply)? }
+            Some(player) => match player.state() {
+                RunnerState::Ready(Some(reply)) => {
+                    self.errors.refused(self.alloc, rank, line, reply)?
+                }
                 _ => Vec::new(self.alloc),
             },
             None => Vec::new(self.alloc),
