@@ -300,7 +300,7 @@ pub fn record(alloc: Global, text: &[u8]) -> Result<Recording, Stopped> {
     };
     match parse(alloc, text) {
         Ok(file) => followed(alloc, texts, file.size, file.lines.into_vec()),
-        Err(ParseError::Line(line)) => Err(stopped_by(SimulateError::Script(line))),
+        Err(ParseError::Line(line)) => Err(stopped_by(SimulateError::Line(line))),
         Err(ParseError::OutOfMemory) => Err(stopped_by(SimulateError::OutOfMemory)),
     }
 }

@@ -172,10 +172,10 @@ file_runs file from to lines old new opening seen is r =
 pub file_stops : (file : EventFile) (e : SimulateError) (fault : Option LineFault) (from : Scene)
     (lines : List EventLine) (old new : Option (List ℕ)) → IsOpening file.size from → lines ≡ file.lines →
     StopsBy e fault from lines old new → FileStops file e fault old new
-file_stops file (errors.Script number) fault from lines old new opening is s = record {
+file_stops file (errors.Line number) fault from lines old new opening is s = record {
   from = from;
   opening = opening;
-  stops = subst (λ (ls : List EventLine). StopsBy (errors.Script number) fault from ls old new) is s;
+  stops = subst (λ (ls : List EventLine). StopsBy (errors.Line number) fault from ls old new) is s;
 }
 file_stops file errors.OutOfMemory fault from lines old new opening is s = inr (record {
   from = from;
@@ -198,13 +198,13 @@ text_runs text file old new says runs = record { file = file; says = says; runs 
 pub text_stops : (text : List ℕ) (file : EventFile) (e : SimulateError) (fault : Option LineFault)
     (old new : Option (List ℕ)) → FileSays 1 (lines_of text) file → FileStops file e fault old new →
     Stops text e fault old new
-text_stops text file (errors.Script number) fault old new says s = inr (record { file = file; says = says; stops = s })
+text_stops text file (errors.Line number) fault old new says s = inr (record { file = file; says = says; stops = s })
 text_stops text file errors.OutOfMemory fault old new says s = inr (record { file = file; says = says; stops = s })
 text_stops text file errors.Output fault old new says s = tt
 
 -- its first faulty line
 pub text_faulty : (text : List ℕ) (number : ℕ) (old : Option (List ℕ)) →
-    IsFirstFaultOfFile 1 (lines_of text) number → Stops text (errors.Script number) None old old
+    IsFirstFaultOfFile 1 (lines_of text) number → Stops text (errors.Line number) None old old
 text_faulty text number old is = inl (refl, is, prints_none old)
 
 pub text_first : (text : List ℕ) (old : Option (List ℕ)) → Stops text errors.OutOfMemory None old old

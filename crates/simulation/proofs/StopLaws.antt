@@ -255,7 +255,7 @@ event_breaks e size w v ranks event added x y z gives seen prints b =
 pub line_breaks : (e : SimulateError) (fault : Option LineFault) (from : Scene) (line : EventLine)
     (old new : Option (List ℕ)) → BreaksOff e (λ part. LineBegins line.statement from part) old new →
     LineStops e fault from line old new
-line_breaks (errors.Script number) fault from line old new b = absurd b
+line_breaks (errors.Line number) fault from line old new b = absurd b
 line_breaks errors.OutOfMemory fault from line old new b = b
 line_breaks errors.Output fault from line old new b = tt
 
@@ -294,7 +294,7 @@ line_cut e fault from number statement old new b =
 pub line_faulty : (t s : SimulationState) (fault lack : Option LineFault) (number rank : ℕ) (action : Action)
     (to : Scene) (old new : Option (List ℕ)) → t ≡ s → lack ≡ fault →
     LineActed rank action t.scene old new (acted.Faulty fault) to →
-    LineStops (errors.Script number) lack s.scene (record { number = number; statement = statements.Rank rank action })
+    LineStops (errors.Line number) lack s.scene (record { number = number; statement = statements.Rank rank action })
     old new
 line_faulty t s fault lack number rank action to old new same is r =
     let there : LineActed rank action s.scene old new (acted.Faulty fault) to =

@@ -99,6 +99,6 @@ pub record Starts (Begins : Part → Type 0) (old new : Option (List ℕ)) : Typ
 
 -- A part was cut off: for want of memory. Where the output failed, what it took isn't known
 abbrev pub BreaksOff : SimulateError → (Begins : Part → Type 0) → (old new : Option (List ℕ)) → Type 0
-BreaksOff (errors.Script number) Begins old new = ⊥
+BreaksOff (errors.Line number) Begins old new = ⊥
 BreaksOff errors.OutOfMemory Begins old new = Starts Begins old new
 BreaksOff errors.Output Begins old new = Unit {0}
