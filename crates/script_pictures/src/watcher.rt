@@ -9,7 +9,6 @@ use crate::standing::{LastStatement, Standing, standing_of, status_of};
 use crate::unfollowed::{Unfollowed, reason_of};
 use crate::waits::{EndedPlay, StuckRank};
 use crate::{ScriptPicture, Shown};
-use datagram::{Content, Frame};
 use error_lines::{MetError, uncalled_error};
 use play_events::ScriptLines;
 use printed_lines::{FrameKind, LoadText};
@@ -41,18 +40,6 @@ pub(crate) struct Watcher<'t, 's> {
     happenings: Happenings,
     /// The line that the lowest rank couldn't follow, and that rank.
     unfollowed: Option<(u16, Unfollowed)>,
-}
-
-/// What a datagram carries.
-fn kind_of(content: &Content<'_>) -> FrameKind {
-    match content {
-        Content::Frame(Frame::Eager(_)) => FrameKind::Eager,
-        Content::Frame(Frame::RequestToSend(_)) => FrameKind::Rts,
-        Content::Frame(Frame::ClearToSend(_)) => FrameKind::Cts,
-        Content::Frame(Frame::Data(_)) => FrameKind::Data,
-        Content::Ack(_) => FrameKind::Ack,
-        Content::Reset => FrameKind::Reset,
-    }
 }
 
 /// The lines of a printed text as one, `; ` between two.
@@ -397,7 +384,7 @@ impl<'t, 's> Watcher<'t, 's> {
             self.arrows.push(None)?;
             return Ok(());
         };
-        let kind = kind_of(&datagram.content);
+        let kind = FrameKind::of(&datagram.content);
         let is_all = self.shown == Shown::Datagrams;
         if !is_all && matches!(kind, FrameKind::Ack) {
             self.arrows.push(None)?;
