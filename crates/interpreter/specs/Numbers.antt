@@ -21,6 +21,6 @@ err_mismatch = 12
 abbrev pub err_limit : ℕ
 err_limit = 13
 
--- an answer isn't one to the call that it was awaited for; no engine gives such a one
+-- an answer isn't one to the call that it was awaited for
 abbrev pub err_intern : ℕ
 err_intern = 15

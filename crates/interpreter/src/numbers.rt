@@ -12,5 +12,5 @@ pub(crate) const ERR_REPLACED: u8 = 11;
 /// Two members of a collective entered different ones. MPI 3.1 has no such class.
 pub(crate) const ERR_MISMATCH: u8 = 12;
 
-/// An answer isn't one to the call that it was awaited for. No engine gives such a one.
+/// An answer isn't one to the call that it was awaited for.
 pub(crate) const ERR_INTERN: u8 = 15;
