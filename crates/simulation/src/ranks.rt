@@ -108,8 +108,8 @@ impl RankNames {
         ensures { IfSome result (λ fault. IsFaulty (Some fault) action.now self.now.names) }
     {
         match self.names.lack_of(action) {
-            Ok(fault) => fault,
-            Err(_) => None,
+            Ok(Some(fault)) => Some(fault),
+            Ok(None) | Err(_) => None,
         }
     }
 
