@@ -37,11 +37,11 @@ tells_more told (n ∷ nows) a b now c is next = (is.0, is.1, tells_more told no
 pub rounds_more : {P T : Type 0} (does : P → Option Reply → RunnerStep → P → Type 0) (passed : T → List Exchange → T →
     Type 0) (waits : T → List ℕ) (patience : ℕ)
     (nows : List ℕ) (a b : Course P T) (now : ℕ) (c : Course P T) → Rounds does passed waits patience a nows b →
-    RoundGives does passed waits patience b now (Ok None) c.engine c.runner c.standing c.transport →
+    RoundGives does passed waits patience b now (Ok None) c.engine c.runner c.state c.transport →
     Rounds does passed waits patience a (nows ++ now ∷ []) c
 rounds_more does passed waits patience [] a b now c is next = (
   c,
-  subst (λ x. RoundGives does passed waits patience x now (Ok None) c.engine c.runner c.standing c.transport) is next,
+  subst (λ x. RoundGives does passed waits patience x now (Ok None) c.engine c.runner c.state c.transport) is next,
   refl,
 )
 rounds_more does passed waits patience (n ∷ nows) a b now c is next =

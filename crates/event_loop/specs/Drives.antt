@@ -8,13 +8,12 @@ use Rattle.event_loop.specs.declared.exchange.Exchange.{Exchange}
 use Rattle.event_loop.specs.declared.runner.RunnerStep.{RunnerStep}
 use Rattle.event_loop.specs.declared.round.Ended.{Ended}
 use Rattle.event_loop.specs.declared.round.Ended.TheVariants as ends
-use Rattle.event_loop.specs.declared.loop_state.RunnerState.{RunnerState}
 use Rattle.event_loop.specs.declared.loop_state.RunnerState.TheVariants.{Ready, Blocked, Over}
 use Rattle.event_loop.specs.declared.loop_state.LoopState.{LoopState}
 use Rattle.event_loop.specs.declared.loop_state.TurnResult.{TurnResult}
 use Rattle.event_loop.specs.declared.transport.TransportFault.{TransportFault}
 use Rattle.event_loop.specs.Exchanges.{rested}
-use Rattle.event_loop.specs.Turns.{IsTurn, TurnGives, is_ready}
+use Rattle.event_loop.specs.Turns.{IsTurn, LoopRunner, TurnGives, is_ready}
 
 -- it gives up once nothing moved for so long
 abbrev pub patience_ends : (patience still : ℕ) → Option Ended
@@ -28,9 +27,9 @@ status_of ends.Patience = 4
 -- Whether a rank ends, where no datagram came for `quiet` and nothing moved for `still` milliseconds. Where its script
 -- came to its end it stays until nothing is unacknowledged and no datagram came for 100 ms; any other end of the runner
 -- is at once.
-abbrev pub ending_of : RunnerState → (idle : Bool) → (patience quiet still : ℕ) → Option Ended
+abbrev pub ending_of : LoopRunner → (idle : Bool) → (patience quiet still : ℕ) → Option Ended
 ending_of (Ready reply) idle patience quiet still = patience_ends patience still
-ending_of Blocked idle patience quiet still = patience_ends patience still
+ending_of (Blocked call) idle patience quiet still = patience_ends patience still
 ending_of (Over status line) idle patience quiet still =
     if status == 0 then
     (if idle && nat_le 100 quiet then Some (ends.Runner status line) else patience_ends patience still)
@@ -38,28 +37,28 @@ ending_of (Over status line) idle patience quiet still =
 
 -- how long a rank of which nothing is unacknowledged waits at most, whose patience lasts so long: a script that came to
 -- its end until no datagram came for 100 ms
-abbrev pub wait_at_rest : RunnerState → (over quiet : ℕ) → ℕ
+abbrev pub wait_at_rest : LoopRunner → (over quiet : ℕ) → ℕ
 wait_at_rest (Ready reply) over quiet = over
-wait_at_rest Blocked over quiet = over
+wait_at_rest (Blocked call) over quiet = over
 wait_at_rest (Over status line) over quiet = min (max (100 - quiet) 1) over
 
 -- For how many milliseconds a rank that goes on waits at most for a datagram: while something is unacknowledged for 5,
 -- so that it is sent again in time, and never for longer than its patience lasts.
-abbrev pub wait_of : RunnerState → (idle : Bool) → (patience quiet still : ℕ) → ℕ
-wait_of stage idle patience quiet still =
-    if idle then wait_at_rest stage (max (patience - still) 1) quiet else min 5 (max (patience - still) 1)
+abbrev pub wait_of : LoopRunner → (idle : Bool) → (patience quiet still : ℕ) → ℕ
+wait_of state idle patience quiet still =
+    if idle then wait_at_rest state (max (patience - still) 1) quiet else min 5 (max (patience - still) 1)
 
 -- by whether no frame of the engine waits or is unacknowledged
 abbrev pub EndsAs : (patience : ℕ) → EngineState → LoopState → (now : ℕ) → Option Ended → Type 0
 EndsAs patience e s now ended =
     (idle : Bool) × (IsTrue idle ↔ All IsIdlePeer e.sessions.peers) ×
-    (ending_of s.stage idle patience (now - s.heard) (now - s.moved) ≡ ended)
+    (ending_of s.runner idle patience (now - s.heard) (now - s.moved) ≡ ended)
 
 -- a rank between two turns
 pub record Course (P T : Type 0) : Type 0 where
   pub engine : EngineState
   pub runner : P
-  pub standing : LoopState
+  pub state : LoopState
   pub transport : T
 
 -- a rank makes a turn at this time
@@ -67,10 +66,10 @@ pub record MakesTurn {P T : Type 0} (does : P → Option Reply → RunnerStep �
     T → Type 0)
     (waits : T → List ℕ) (a : Course P T) (now : ℕ) (b : Course P T) : Type 0 where
   pub turned : TurnResult
-  pub turn : IsTurn does passed waits a.engine a.runner a.standing.stage a.transport now turned b.engine b.runner
-      b.standing.stage b.transport
-  pub heard : b.standing.heard ≡ (if turned.came then now else a.standing.heard)
-  pub moved : b.standing.moved ≡ (if turned.moved then now else a.standing.moved)
+  pub turn : IsTurn does passed waits a.engine a.runner a.state.runner a.transport now turned b.engine b.runner
+      b.state.runner b.transport
+  pub heard : b.state.heard ≡ (if turned.came then now else a.state.heard)
+  pub moved : b.state.moved ≡ (if turned.moved then now else a.state.moved)
 
 -- A rank goes on behind a turn that left its transport so: at once where its runner may, and else once it has waited for
 -- a datagram.
@@ -78,10 +77,10 @@ pub record Rests {T : Type 0} (passed : T → List Exchange → T → Type 0) (p
     (now : ℕ) (mid : T) (result : Result (Unit {0}) TransportFault) (t : T) : Type 0 where
   pub idle : Bool
   pub is_idle : IsTrue idle ↔ All IsIdlePeer e.sessions.peers
-  pub lasts : ending_of s.stage idle patience (now - s.heard) (now - s.moved) ≡ None
+  pub lasts : ending_of s.runner idle patience (now - s.heard) (now - s.moved) ≡ None
   pub passes : passed mid
-      (rested (is_ready s.stage) (wait_of s.stage idle patience (now - s.heard) (now - s.moved)) result) t
-  pub at_once : is_ready s.stage ≡ true → (t ≡ mid) × IsOk result
+      (rested (is_ready s.runner) (wait_of s.runner idle patience (now - s.heard) (now - s.moved)) result) t
+  pub at_once : is_ready s.runner ≡ true → (t ≡ mid) × IsOk result
 
 -- A turn, after which the rank ends, or goes on. A fault of the transport stops the turn short, or comes in the wait
 -- behind it.
@@ -89,15 +88,15 @@ abbrev pub RoundGives : {P T : Type 0} → (P → Option Reply → RunnerStep �
     → (T → List ℕ) → (patience : ℕ) → Course P T → (now : ℕ) → Result (Option Ended) TransportFault → EngineState → P →
     LoopState → T → Type 0
 RoundGives {T = T} does passed waits patience a now (Ok None) e p s t =
-    (mid : T) × MakesTurn does passed waits a now (record { engine = e; runner = p; standing = s; transport = mid })
+    (mid : T) × MakesTurn does passed waits a now (record { engine = e; runner = p; state = s; transport = mid })
     × Rests passed patience e s now mid (Ok tt) t
 RoundGives does passed waits patience a now (Ok (Some ended)) e p s t =
-    MakesTurn does passed waits a now (record { engine = e; runner = p; standing = s; transport = t }) ×
+    MakesTurn does passed waits a now (record { engine = e; runner = p; state = s; transport = t }) ×
     EndsAs patience e s now (Some ended)
 RoundGives {T = T} does passed waits patience a now (Err f) e p s t =
-    (TurnGives does passed waits a.engine a.runner a.standing.stage a.transport now (Err f) e p s.stage t
-    × (s.heard ≡ a.standing.heard) × (s.moved ≡ a.standing.moved)) ⊎
-    ((mid : T) × MakesTurn does passed waits a now (record { engine = e; runner = p; standing = s; transport = mid })
+    (TurnGives does passed waits a.engine a.runner a.state.runner a.transport now (Err f) e p s.runner t
+    × (s.heard ≡ a.state.heard) × (s.moved ≡ a.state.moved)) ⊎
+    ((mid : T) × MakesTurn does passed waits a now (record { engine = e; runner = p; state = s; transport = mid })
     × Rests passed patience e s now mid (Err f) t)
 
 -- a clock told these times, in order
@@ -111,13 +110,13 @@ abbrev pub Rounds : {P T : Type 0} → (P → Option Reply → RunnerStep → P 
 Rounds does passed waits patience a [] b = b ≡ a
 Rounds {P = P} {T = T} does passed waits patience a (now ∷ nows) b =
     (mid : Course P T) ×
-    RoundGives does passed waits patience a now (Ok None) mid.engine mid.runner mid.standing mid.transport
+    RoundGives does passed waits patience a now (Ok None) mid.engine mid.runner mid.state mid.transport
     × Rounds does passed waits patience mid nows b
 
 -- a rank at its start, at this time
 abbrev pub course_at : {P T : Type 0} → ℕ → EngineState → P → T → Course P T
 course_at now e p t =
-    record { engine = e; runner = p; standing = record { stage = Ready None; heard = now; moved = now }; transport = t }
+    record { engine = e; runner = p; state = record { runner = Ready None; heard = now; moved = now }; transport = t }
 
 -- what the last round gave
 abbrev pub last_of : Result Ended TransportFault → Result (Option Ended) TransportFault
@@ -147,7 +146,7 @@ pub record Drives {P T C : Type 0} (does : P → Option Reply → RunnerStep →
   pub times : List ℕ
   pub now : ℕ
   pub course : Course P T
-  pub standing : LoopState
+  pub state : LoopState
   pub clock : Tells told c ((start ∷ times) ++ now ∷ []) c'
   pub rounds_on : Rounds does passed waits patience (course_at start e p t) times course
-  pub last : RoundGives does passed waits patience course now (last_of result) e' p' standing t'
+  pub last : RoundGives does passed waits patience course now (last_of result) e' p' state t'

@@ -8,7 +8,7 @@ use Rattle.engine_calls.specs.EngineState.{EngineState, completion_of, without_c
 use Rattle.engine_calls.specs.Calls.{CallGives}
 use Rattle.engine.specs.Ticks.{TickGives, after_wait}
 use Rattle.engine_calls.specs.declared.reply.Completion.{Completion}
-use Rattle.engine_calls.specs.declared.reply.Completion.TheVariants as completions
+use Rattle.replies.specs.Copies.{reply_of}
 use Rattle.event_loop.specs.declared.exchange.Exchange.{Exchange}
 use Rattle.event_loop.specs.declared.exchange.Exchange.TheVariants.{Nothing, Printed, Failed}
 use Rattle.event_loop.specs.declared.runner.RunnerStep.{RunnerStep}
@@ -35,66 +35,57 @@ told_waits e waits = with_waits e 0 (take e.sessions.place.size waits)
 abbrev pub TickLeaves : EngineState → ℕ → EngineState → Type 0
 TickLeaves old now new = (r : Result (Unit {0}) Refusal) × TickGives old now r new
 
--- what the runner is told of this answer of a blocked call
-abbrev pub reply_of : Completion → Reply
-reply_of (completions.Requests answer) = replies.Done answer
-reply_of (completions.Collective ending) = replies.Left ending
+-- what the runner of a rank's loop waits for: of a blocked call nothing is kept
+abbrev pub LoopRunner : Type 0
+LoopRunner = RunnerState (Unit {0})
 
 -- what the runner waits for, once this answer of a blocked call, or none, has come
-abbrev pub stage_with : RunnerState → Option Completion → RunnerState
-stage_with stage None = stage
-stage_with stage (Some (completions.Requests answer)) = Ready (Some (replies.Done answer))
-stage_with stage (Some (completions.Collective ending)) = Ready (Some (replies.Left ending))
+abbrev pub state_with : LoopRunner → Option Completion → LoopRunner
+state_with state None = state
+state_with state (Some completion) = Ready (Some (reply_of completion))
 
 -- a datagram came last, and something moved last, when they did before
 abbrev pub IsSameTime : LoopState → LoopState → Type 0
 IsSameTime old new = (new.heard ≡ old.heard) × (new.moved ≡ old.moved)
 
--- what the runner waits for after a reply
-abbrev pub stage_after : Reply → RunnerState
-stage_after replies.Blocked = Blocked
-stage_after (replies.Started r) = Ready (Some (replies.Started r))
-stage_after (replies.Done answer) = Ready (Some (replies.Done answer))
-stage_after replies.Pending = Ready (Some replies.Pending)
-stage_after replies.Accepted = Ready (Some replies.Accepted)
-stage_after (replies.Left ending) = Ready (Some (replies.Left ending))
-stage_after (replies.Fact fact) = Ready (Some (replies.Fact fact))
-stage_after (replies.Probed found) = Ready (Some (replies.Probed found))
-stage_after (replies.Matched found) = Ready (Some (replies.Matched found))
-stage_after (replies.Refused e back) = Ready (Some (replies.Refused e back))
+-- what a runner waits for whose call got this reply; where it is blocked, this is kept of it
+abbrev pub state_after : {C : Type 0} → C → Reply → RunnerState C
+state_after call replies.Blocked = Blocked call
+state_after call reply = Ready (Some reply)
 
-abbrev pub is_ready : RunnerState → Bool
+abbrev pub is_ready : LoopRunner → Bool
 is_ready (Ready reply) = true
-is_ready Blocked = false
+is_ready (Blocked call) = false
 is_ready (Over status line) = false
 
 -- the runner's call goes to the engine; its end is the end
-abbrev pub TakesStep : EngineState → RunnerStep → RunnerState → EngineState → Type 0
-TakesStep old (steps.Call call) stage new = (reply : Reply) × CallGives old call reply new × (stage ≡ stage_after reply)
-TakesStep old (steps.Print line) stage new = ⊥
-TakesStep old (steps.End status line) stage new = (stage ≡ Over status line) × (new ≡ old)
+abbrev pub TakesStep : EngineState → RunnerStep → LoopRunner → EngineState → Type 0
+TakesStep old (steps.Call call) state new =
+    (reply : Reply) × CallGives old call reply new × (state ≡ state_after tt reply)
+TakesStep old (steps.Print line) state new = ⊥
+TakesStep old (steps.End status line) state new = (state ≡ Over status line) × (new ≡ old)
 
 -- where a call is blocked, or the runner has ended, nothing is done; else its lines come, and its next call or its end
-abbrev pub GoesOn : {P : Type 0} → (P → Option Reply → RunnerStep → P → Type 0) → P → RunnerState → List (List ℕ) →
-    EngineState → RunnerState → P → EngineState → Type 0
-GoesOn does p (Ready reply) lines e stage p' e' = (step : RunnerStep) × Speaks does p reply lines step p' ×
-    TakesStep e step stage e'
-GoesOn does p Blocked lines e stage p' e' = (lines ≡ []) × (stage ≡ Blocked) × (p' ≡ p) × (e' ≡ e)
-GoesOn does p (Over status line) lines e stage p' e' = (lines ≡ []) × (stage ≡ Over status line) × (p' ≡ p) × (e' ≡ e)
+abbrev pub GoesOn : {P : Type 0} → (P → Option Reply → RunnerStep → P → Type 0) → P → LoopRunner → List (List ℕ) →
+    EngineState → LoopRunner → P → EngineState → Type 0
+GoesOn does p (Ready reply) lines e state p' e' = (step : RunnerStep) × Speaks does p reply lines step p' ×
+    TakesStep e step state e'
+GoesOn does p (Blocked call) lines e state p' e' = (lines ≡ []) × (state ≡ Blocked call) × (p' ≡ p) × (e' ≡ e)
+GoesOn does p (Over status line) lines e state p' e' = (lines ≡ []) × (state ≡ Over status line) × (p' ≡ p) × (e' ≡ e)
 
 -- A line of a runner that goes on can't be printed
-abbrev pub StopsAtLine : {P : Type 0} → (P → Option Reply → RunnerStep → P → Type 0) → P → RunnerState → List (List ℕ) →
+abbrev pub StopsAtLine : {P : Type 0} → (P → Option Reply → RunnerStep → P → Type 0) → P → LoopRunner → List (List ℕ) →
     P → Type 0
 StopsAtLine does p (Ready reply) lines p' = (line : List ℕ) × Speaks does p reply lines (steps.Print line) p'
-StopsAtLine does p Blocked lines p' = ⊥
+StopsAtLine does p (Blocked call) lines p' = ⊥
 StopsAtLine does p (Over status line) lines p' = ⊥
 
 abbrev pub GoesOnTo : {P T : Type 0} → (P → Option Reply → RunnerStep → P → Type 0) → (T → List Exchange → T → Type 0)
-    → EngineState → P → RunnerState → T → Result (Unit {0}) TransportFault → EngineState → P → RunnerState → T → Type 0
-GoesOnTo does passed e p stage t (Ok x) e' p' stage' t' =
-    (lines : List (List ℕ)) × GoesOn does p stage lines e stage' p' e' × passed t (map Printed lines) t'
-GoesOnTo does passed e p stage t (Err f) e' p' stage' t' =
-    (lines : List (List ℕ)) × StopsAtLine does p stage lines p' × (e' ≡ e) × (stage' ≡ Ready None) ×
+    → EngineState → P → LoopRunner → T → Result (Unit {0}) TransportFault → EngineState → P → LoopRunner → T → Type 0
+GoesOnTo does passed e p state t (Ok x) e' p' state' t' =
+    (lines : List (List ℕ)) × GoesOn does p state lines e state' p' e' × passed t (map Printed lines) t'
+GoesOnTo does passed e p state t (Err f) e' p' state' t' =
+    (lines : List (List ℕ)) × StopsAtLine does p state lines p' × (e' ≡ e) × (state' ≡ Ready None) ×
     passed t (map Printed lines ++ Failed ∷ []) t'
 
 -- The engine up to its next call: it was told how long frames wait, its clock ticked, and it took in these datagrams.
@@ -108,51 +99,51 @@ pub record Listened (waits : List ℕ) (e : EngineState) (now : ℕ) (words : Li
 pub record IsTurn {P T : Type 0} (does : P → Option Reply → RunnerStep → P → Type 0) (passed : T → List Exchange → T →
     Type 0)
     (waits : T → List ℕ)
-    (e : EngineState) (p : P) (stage : RunnerState) (t : T) (now : ℕ) (turned : TurnResult) (e' : EngineState) (p' : P)
-    (stage' : RunnerState) (t' : T) : Type 0 where
+    (e : EngineState) (p : P) (state : LoopRunner) (t : T) (now : ℕ) (turned : TurnResult) (e' : EngineState) (p' : P)
+    (state' : LoopRunner) (t' : T) : Type 0 where
   pub words : List Word
   pub heard : EngineState
   pub lines : List (List ℕ)
   pub called : EngineState
   pub listened : Listened (waits t) e now words heard
-  pub goes : GoesOn does p (stage_with stage (completion_of heard)) lines (without_completion heard) stage' p' called
-  pub state : e' ≡ without_out called
+  pub goes : GoesOn does p (state_with state (completion_of heard)) lines (without_completion heard) state' p' called
+  pub engine : e' ≡ without_out called
   pub passes : passed t ((map received words ++ Nothing ∷ []) ++ map Printed lines ++ map sent called.sessions.out) t'
   pub came : turned.came ≡ (after_all nothing_heard words).any
   pub moved : turned.moved ≡
-      ((after_all nothing_heard words).accepted || is_some (completion_of heard) || is_ready stage')
+      ((after_all nothing_heard words).accepted || is_some (completion_of heard) || is_ready state')
 
 -- a turn that stops short: a receive failed
 pub record StopsListening {P T : Type 0} (passed : T → List Exchange → T → Type 0)
     (waits : T → List ℕ)
-    (e : EngineState) (p : P) (stage : RunnerState) (t : T) (now : ℕ) (e' : EngineState) (p' : P) (stage' : RunnerState)
+    (e : EngineState) (p : P) (state : LoopRunner) (t : T) (now : ℕ) (e' : EngineState) (p' : P) (state' : LoopRunner)
     (t' : T) : Type 0 where
   pub words : List Word
   pub listened : Listened (waits t) e now words e'
   pub runner : p' ≡ p
-  pub stays : stage' ≡ stage
+  pub stays : state' ≡ state
   pub passes : passed t (map received words ++ Failed ∷ []) t'
 
 -- a line can't be printed; its runner was told what it waited for
 pub record StopsSpeaking {P T : Type 0} (does : P → Option Reply → RunnerStep → P → Type 0) (passed : T →
     List Exchange → T → Type 0)
     (waits : T → List ℕ)
-    (e : EngineState) (p : P) (stage : RunnerState) (t : T) (now : ℕ) (e' : EngineState) (p' : P) (stage' : RunnerState)
+    (e : EngineState) (p : P) (state : LoopRunner) (t : T) (now : ℕ) (e' : EngineState) (p' : P) (state' : LoopRunner)
     (t' : T) : Type 0 where
   pub words : List Word
   pub heard : EngineState
   pub lines : List (List ℕ)
   pub listened : Listened (waits t) e now words heard
-  pub speaks : StopsAtLine does p (stage_with stage (completion_of heard)) lines p'
-  pub state : e' ≡ without_completion heard
-  pub told : stage' ≡ Ready None
+  pub speaks : StopsAtLine does p (state_with state (completion_of heard)) lines p'
+  pub engine : e' ≡ without_completion heard
+  pub told : state' ≡ Ready None
   pub passes : passed t ((map received words ++ Nothing ∷ []) ++ map Printed lines ++ Failed ∷ []) t'
 
 -- a datagram can't be sent
 pub record StopsSending {P T : Type 0} (does : P → Option Reply → RunnerStep → P → Type 0) (passed : T → List Exchange →
     T → Type 0)
     (waits : T → List ℕ)
-    (e : EngineState) (p : P) (stage : RunnerState) (t : T) (now : ℕ) (e' : EngineState) (p' : P) (stage' : RunnerState)
+    (e : EngineState) (p : P) (state : LoopRunner) (t : T) (now : ℕ) (e' : EngineState) (p' : P) (state' : LoopRunner)
     (t' : T) : Type 0 where
   pub words : List Word
   pub heard : EngineState
@@ -160,19 +151,19 @@ pub record StopsSending {P T : Type 0} (does : P → Option Reply → RunnerStep
   pub called : EngineState
   pub gone : ℕ
   pub listened : Listened (waits t) e now words heard
-  pub goes : GoesOn does p (stage_with stage (completion_of heard)) lines (without_completion heard) stage' p' called
-  pub state : e' ≡ without_out called
+  pub goes : GoesOn does p (state_with state (completion_of heard)) lines (without_completion heard) state' p' called
+  pub engine : e' ≡ without_out called
   pub rest : gone < length called.sessions.out
   pub passes : passed t ((map received words ++ Nothing ∷ []) ++ map Printed lines ++
       map sent (take gone called.sessions.out) ++ Failed ∷ []) t'
 
 -- what a turn gives: a whole one, or one that a fault stops short
 abbrev pub TurnGives : {P T : Type 0} → (P → Option Reply → RunnerStep → P → Type 0) → (T → List Exchange → T → Type 0)
-    → (T → List ℕ) → EngineState → P → RunnerState → T → ℕ → Result TurnResult TransportFault → EngineState → P →
-    RunnerState → T → Type 0
-TurnGives does passed waits e p stage t now (Ok turned) e' p' stage' t' =
-    IsTurn does passed waits e p stage t now turned e' p' stage' t'
-TurnGives does passed waits e p stage t now (Err f) e' p' stage' t' =
-    StopsListening passed waits e p stage t now e' p' stage' t' ⊎
-    (StopsSpeaking does passed waits e p stage t now e' p' stage' t' ⊎
-    StopsSending does passed waits e p stage t now e' p' stage' t')
+    → (T → List ℕ) → EngineState → P → LoopRunner → T → ℕ → Result TurnResult TransportFault → EngineState → P →
+    LoopRunner → T → Type 0
+TurnGives does passed waits e p state t now (Ok turned) e' p' state' t' =
+    IsTurn does passed waits e p state t now turned e' p' state' t'
+TurnGives does passed waits e p state t now (Err f) e' p' state' t' =
+    StopsListening passed waits e p state t now e' p' state' t' ⊎
+    (StopsSpeaking does passed waits e p state t now e' p' state' t' ⊎
+    StopsSending does passed waits e p state t now e' p' state' t')

@@ -27,10 +27,10 @@ fn make_rounds<R: Wait, P: Runner, T: Transport, C: Clock>(
         (record {
           engine = rank.old.engine;
           runner = rank.old.runner;
-          standing = rank.old.standing;
+          state = rank.old.state;
           transport = transport.old;
         })
-        clock.old result rank.new.engine rank.new.runner rank.new.standing transport.new clock.new }
+        clock.old result rank.new.engine rank.new.runner rank.new.state transport.new clock.new }
     ensures failures { FailsWith result (T.failed transport.old) (T.failed transport.new) }
 {
     let mut buffer = [0u8; RECEIVE_ROOM];
@@ -70,11 +70,11 @@ pub fn drive<R: Wait, P: Runner, T: Transport, C: Clock>(
     ensures failures { FailsWith result (T.failed transport.old) (T.failed transport.new) }
 {
     let start = clock.now();
-    let standing = LoopState {
-        stage: RunnerState::Ready(None),
+    let state = LoopState {
+        runner: RunnerState::Ready(None),
         heard: start,
         moved: start,
     };
-    replace(&mut rank.standing, standing);
+    replace(&mut rank.state, state);
     make_rounds(rt, rank, patience, transport, clock)
 }

@@ -23,6 +23,7 @@ pub use clock::Clock;
 pub use driver::drive;
 pub use exchange::Exchange;
 pub use input::RECEIVE_ROOM;
+pub use loop_state::RunnerState;
 pub use memory::{Memory, Rising};
 pub use rank::Rank;
 pub use round::Ended;

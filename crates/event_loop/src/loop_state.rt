@@ -12,11 +12,11 @@ use engine::Reply;
 ///  any ──── nothing moved for as long as its patience is ───────────► the rank ends (status 4)
 /// ```
 #[derive(Drop)]
-pub enum RunnerState {
+pub enum RunnerState<C> {
     /// Nothing: it goes on, told the reply to its last call, if there was one.
     Ready(Option<Reply>),
-    /// The answer of its call, which is blocked.
-    Blocked,
+    /// The answer of its call, which is blocked; this is kept of the call.
+    Blocked(C),
     /// It has ended with this status; the line of the script where that is a faulty one.
     Over(u8, Option<usize>),
 }
@@ -24,8 +24,8 @@ pub enum RunnerState {
 /// Where a rank stands between two turns.
 #[derive(Drop)]
 pub struct LoopState {
-    /// What the runner waits for.
-    pub stage: RunnerState,
+    /// What the runner waits for. Of a blocked call nothing is kept.
+    pub runner: RunnerState<()>,
     /// When a datagram came last, in milliseconds of the rank's clock.
     pub heard: u64,
     /// When a call was answered or a datagram accepted last.

@@ -13,7 +13,7 @@ pub struct Rank<P> {
     /// What it runs.
     pub runner: P,
     /// Where it stands between two turns.
-    pub(crate) standing: LoopState,
+    pub(crate) state: LoopState,
 }
 
 impl<P> Rank<P> {
@@ -22,15 +22,15 @@ impl<P> Rank<P> {
         ensures engine { result.engine ≡ engine }
         ensures runner { result.runner ≡ runner }
     {
-        let standing = LoopState {
-            stage: RunnerState::Ready(None),
+        let state = LoopState {
+            runner: RunnerState::Ready(None),
             heard: 0,
             moved: 0,
         };
         Rank {
             engine,
             runner,
-            standing,
+            state,
         }
     }
 }

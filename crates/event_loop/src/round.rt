@@ -59,15 +59,15 @@ fn patience_ends(patience: u64, still: u64) -> Option<Ended>
 
 /// Whether a rank ends, where no datagram came for `quiet` milliseconds, and nothing moved for `still`.
 fn ending_of(
-    stage: &RunnerState,
+    state: &RunnerState<()>,
     idle: bool,
     patience: u64,
     quiet: u64,
     still: u64,
 ) -> Option<Ended>
-    ensures { result ≡ ending_of stage.now idle patience quiet still }
+    ensures { result ≡ ending_of state.now idle patience quiet still }
 {
-    match stage {
+    match state {
         RunnerState::Over(status, line) => {
             if *status == 0 {
                 if idle && LINGER <= quiet {
@@ -91,8 +91,8 @@ fn time_of(happened: bool, now: u64, before: u64) -> u64
 }
 
 /// For how many milliseconds a rank waits at most for a datagram: until something is due of itself.
-fn wait_of(stage: &RunnerState, idle: bool, patience: u64, quiet: u64, still: u64) -> u64
-    ensures exact { result ≡ wait_of stage.now idle patience quiet still }
+fn wait_of(state: &RunnerState<()>, idle: bool, patience: u64, quiet: u64, still: u64) -> u64
+    ensures exact { result ≡ wait_of state.now idle patience quiet still }
     ensures some { 0 < result }
     ensures soon { idle ≡ false → result ≤ 5 }
     ensures within { still < patience → result ≤ patience - still }
@@ -101,7 +101,7 @@ fn wait_of(stage: &RunnerState, idle: bool, patience: u64, quiet: u64, still: u6
     if !idle {
         return SHORT_WAIT.min(over);
     }
-    match stage {
+    match state {
         RunnerState::Over(_, _) => LINGER.saturating_sub(quiet).max(1).min(over),
         _ => over,
     }
@@ -134,27 +134,27 @@ pub(crate) fn make_round<R: Wait, P: Runner, T: Transport>(
         (record {
           engine = rank.old.engine;
           runner = rank.old.runner;
-          standing = rank.old.standing;
+          state = rank.old.state;
           transport = transport.old;
         })
-        time.now result rank.new.engine rank.new.runner rank.new.standing transport.new }
+        time.now result rank.new.engine rank.new.runner rank.new.state transport.new }
     ensures failures { FailsWith result (T.failed transport.old) (T.failed transport.new) }
 {
     let RoundTime { now, patience } = time;
     let Ok(turned) = turn(rt, rank, transport, buffer, now) else {
         return Err(TransportFault);
     };
-    rank.standing.heard = time_of(turned.came, now, rank.standing.heard);
-    rank.standing.moved = time_of(turned.moved, now, rank.standing.moved);
+    rank.state.heard = time_of(turned.came, now, rank.state.heard);
+    rank.state.moved = time_of(turned.moved, now, rank.state.moved);
     let idle = rank.engine.is_idle();
-    let quiet = now.saturating_sub(rank.standing.heard);
-    let still = now.saturating_sub(rank.standing.moved);
-    let stage = &rank.standing.stage;
-    if let Some(ended) = ending_of(stage, idle, patience, quiet, still) {
+    let quiet = now.saturating_sub(rank.state.heard);
+    let still = now.saturating_sub(rank.state.moved);
+    let state = &rank.state.runner;
+    if let Some(ended) = ending_of(state, idle, patience, quiet, still) {
         return Ok(Some(ended));
     }
-    let most = wait_of(stage, idle, patience, quiet, still);
-    let Ok(_) = rest(transport, is_ready(stage), most) else {
+    let most = wait_of(state, idle, patience, quiet, still);
+    let Ok(_) = rest(transport, is_ready(state), most) else {
         return Err(TransportFault);
     };
     Ok(None)

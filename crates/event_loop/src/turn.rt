@@ -3,8 +3,8 @@
 ghost use Rattle.std.specs.Prelude.{◌≡◌, ◌+◌, ◌<◌, ◌^◌, Option, None};
 ghost use Rattle.event_loop.specs.Exchanges.{FailsWith};
 ghost use Rattle.event_loop.specs.Speaking.{IsNoLine};
-ghost use Rattle.event_loop.specs.Turns.{TakesStep, GoesOnTo, TurnGives, stage_after, stage_with, reply_of, is_ready};
-ghost use Rattle.event_loop.specs.Turns.{IsSameTime, told_waits};
+ghost use Rattle.event_loop.specs.Turns.{TakesStep, GoesOnTo, TurnGives, is_ready, state_after, state_with, told_waits};
+ghost use Rattle.event_loop.specs.Turns.{IsSameTime};
 
 use crate::input::listen;
 use crate::loop_state::{RunnerState, TurnResult};
@@ -14,52 +14,43 @@ use crate::runner::{Runner, RunnerStep};
 use crate::runner_turn::speak;
 use crate::transport::{Transport, TransportFault};
 use engine::{Completion, Engine, Reply};
+use replies::reply_of;
 use std::sync::Wait;
 use vocabulary::replace;
 
-/// What the runner is told of this answer of a blocked call.
-fn reply_of(completion: Completion) -> Reply
-    ensures { result ≡ reply_of completion }
-{
-    match completion {
-        Completion::Requests(answer) => Reply::Done(answer),
-        Completion::Collective(ending) => Reply::Left(ending),
-    }
-}
-
 /// This answer of a blocked call, or none, has come.
-fn hear_answer(stage: &mut RunnerState, completion: Option<Completion>)
-    ensures { stage.new ≡ stage_with stage.old completion }
+fn hear_answer(state: &mut RunnerState<()>, completion: Option<Completion>)
+    ensures { state.new ≡ state_with state.old completion }
 {
     if let Some(completion) = completion {
-        replace(stage, RunnerState::Ready(Some(reply_of(completion))));
+        replace(state, RunnerState::Ready(Some(reply_of(completion))));
     }
 }
 
 /// Whether the runner goes on at the next turn.
-pub(crate) fn is_ready(stage: &RunnerState) -> bool
-    ensures { result ≡ is_ready stage.now }
+pub(crate) fn is_ready(state: &RunnerState<()>) -> bool
+    ensures { result ≡ is_ready state.now }
 {
-    matches!(stage, RunnerState::Ready(_))
+    matches!(state, RunnerState::Ready(_))
 }
 
 /// What the runner waits for after a reply.
-fn stage_after(reply: Reply) -> RunnerState
-    ensures { result ≡ stage_after reply }
+fn state_after(reply: Reply) -> RunnerState<()>
+    ensures { result ≡ state_after tt reply }
 {
     match reply {
-        Reply::Blocked => RunnerState::Blocked,
+        Reply::Blocked => RunnerState::Blocked(()),
         reply => RunnerState::Ready(Some(reply)),
     }
 }
 
 /// The runner's call goes to its engine; its end is the end.
-fn take_step(engine: &mut Engine, step: RunnerStep) -> RunnerState
+fn take_step(engine: &mut Engine, step: RunnerStep) -> RunnerState<()>
     requires { IsNoLine step }
     ensures { TakesStep engine.old step result engine.new }
 {
     match step {
-        RunnerStep::Call(call) => stage_after(engine.call(call)),
+        RunnerStep::Call(call) => state_after(engine.call(call)),
         RunnerStep::Print(_) => unreachable!(),
         RunnerStep::End(status, line) => RunnerState::Over(status, line),
     }
@@ -75,12 +66,12 @@ fn go_on_behind<R: Wait, P: Runner, T: Transport>(
     line: &[u8],
 ) -> Result<(), TransportFault>
     requires room { T.failed transport.old + 1 < 2 ^ 64 }
-    requires ready { rank.old.standing.stage ≡ RunnerState.Ready None }
+    requires ready { rank.old.state.runner ≡ RunnerState.Ready None }
     ensures exact { (before : P) (reply : Option Reply) →
         P.does before reply (RunnerStep.Print line.now) rank.old.runner →
         GoesOnTo P.does T.passed rank.old.engine before (RunnerState.Ready reply) transport.old result rank.new.engine
-        rank.new.runner rank.new.standing.stage transport.new }
-    ensures times { IsSameTime rank.old.standing rank.new.standing }
+        rank.new.runner rank.new.state.runner transport.new }
+    ensures times { IsSameTime rank.old.state rank.new.state }
     ensures failures { FailsWith result (T.failed transport.old) (T.failed transport.new) }
 {
     let Ok(_) = transport.print(line) else {
@@ -89,7 +80,7 @@ fn go_on_behind<R: Wait, P: Runner, T: Transport>(
     let Ok(step) = speak(rt, &mut rank.runner, None, transport) else {
         return Err(TransportFault);
     };
-    replace(&mut rank.standing.stage, take_step(&mut rank.engine, step));
+    replace(&mut rank.state.runner, take_step(&mut rank.engine, step));
     Ok(())
 }
 
@@ -100,25 +91,25 @@ fn go_on<R: Wait, P: Runner, T: Transport>(
     transport: &mut T,
 ) -> Result<(), TransportFault>
     requires { T.failed transport.old + 1 < 2 ^ 64 }
-    ensures exact { GoesOnTo P.does T.passed rank.old.engine rank.old.runner rank.old.standing.stage transport.old
-        result rank.new.engine rank.new.runner rank.new.standing.stage transport.new }
-    ensures times { IsSameTime rank.old.standing rank.new.standing }
+    ensures exact { GoesOnTo P.does T.passed rank.old.engine rank.old.runner rank.old.state.runner transport.old
+        result rank.new.engine rank.new.runner rank.new.state.runner transport.new }
+    ensures times { IsSameTime rank.old.state rank.new.state }
     ensures failures { FailsWith result (T.failed transport.old) (T.failed transport.new) }
 {
-    let reply = match &mut rank.standing.stage {
+    let reply = match &mut rank.state.runner {
         RunnerState::Ready(reply) => reply.take(),
-        RunnerState::Blocked | RunnerState::Over(_, _) => return Ok(()),
+        RunnerState::Blocked(_) | RunnerState::Over(_, _) => return Ok(()),
     };
     match rank.runner.next(reply) {
         RunnerStep::Call(call) => {
             replace(
-                &mut rank.standing.stage,
-                stage_after(rank.engine.call(call)),
+                &mut rank.state.runner,
+                state_after(rank.engine.call(call)),
             );
         }
         RunnerStep::Print(line) => return go_on_behind(rt, rank, transport, line.as_slice()),
         RunnerStep::End(status, line) => {
-            replace(&mut rank.standing.stage, RunnerState::Over(status, line));
+            replace(&mut rank.state.runner, RunnerState::Over(status, line));
         }
     }
     Ok(())
@@ -147,9 +138,9 @@ pub(crate) fn turn<R: Wait, P: Runner, T: Transport>(
     now: u64,
 ) -> Result<TurnResult, TransportFault>
     requires { T.failed transport.old + 1 < 2 ^ 64 }
-    ensures exact { TurnGives P.does T.passed T.waits rank.old.engine rank.old.runner rank.old.standing.stage
-        transport.old now result rank.new.engine rank.new.runner rank.new.standing.stage transport.new }
-    ensures times { IsSameTime rank.old.standing rank.new.standing }
+    ensures exact { TurnGives P.does T.passed T.waits rank.old.engine rank.old.runner rank.old.state.runner
+        transport.old now result rank.new.engine rank.new.runner rank.new.state.runner transport.new }
+    ensures times { IsSameTime rank.old.state rank.new.state }
     ensures failures { FailsWith result (T.failed transport.old) (T.failed transport.new) }
 {
     tell_waits(&mut rank.engine, transport);
@@ -159,7 +150,7 @@ pub(crate) fn turn<R: Wait, P: Runner, T: Transport>(
     };
     let completion = rank.engine.take_completion();
     let answered = completion.is_some();
-    hear_answer(&mut rank.standing.stage, completion);
+    hear_answer(&mut rank.state.runner, completion);
     let Ok(_) = go_on(rt, rank, transport) else {
         return Err(TransportFault);
     };
@@ -170,6 +161,6 @@ pub(crate) fn turn<R: Wait, P: Runner, T: Transport>(
     rank.engine.give_back(out);
     Ok(TurnResult {
         came: heard.any,
-        moved: heard.accepted || answered || is_ready(&rank.standing.stage),
+        moved: heard.accepted || answered || is_ready(&rank.state.runner),
     })
 }

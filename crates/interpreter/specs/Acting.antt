@@ -41,36 +41,38 @@ use Rattle.script_calls.specs.declared.pending.NamedMessage.TheVariants as messa
 use Rattle.script_calls.specs.declared.pending.Pending.{Pending}
 use Rattle.script_calls.specs.declared.pending.Pending.TheVariants as pendings
 use Rattle.script_calls.specs.Entries.{elements_like, entry_with, split_by}
-use Rattle.interpreter.specs.declared.steps.StatementCall.{StatementCall}
-use Rattle.interpreter.specs.declared.steps.StatementCall.TheVariants as askeds
+use Rattle.interpreter.specs.declared.steps.NextStep.{NextStep}
+use Rattle.interpreter.specs.declared.steps.NextStep.TheVariants as nexts
+use Rattle.interpreter.specs.declared.steps.Told.TheVariants as tolds
+use Rattle.interpreter.specs.Numbers.{err_limit, err_request}
 use Rattle.interpreter.specs.NamesState.{NamesState, here, is_lent, is_root, message_at, place_named, request_at}
 use Rattle.interpreter.specs.NamesState.{with_buffer, with_layout}
 use Rattle.script_calls.specs.Tables.{value_at}
 
--- what a statement asks for, and what the names then stand for
+-- what comes next of a statement, or none where it is faulty; and what the names then stand for
 abbrev pub Acts : Type 0
-Acts = StatementCall × NamesState
+Acts = Option NextStep × NamesState
 
 -- a name isn't set or a buffer is lent: nothing has changed
 abbrev pub faulty : NamesState → Acts
-faulty s = (askeds.Faulty, s)
+faulty s = (None, s)
 
 -- names alone have changed
 abbrev pub changes : NamesState → Acts
-changes s = (askeds.Nothing, s)
+changes s = (Some nexts.Nothing, s)
 
 -- it is refused with this number, and nothing has changed
 abbrev pub refuses : ℕ → NamesState → Acts
-refuses number s = (askeds.Refused number, s)
+refuses number s = (Some (nexts.Told (tolds.Error number)), s)
 
 -- the engine is called, and its answer is for this
 abbrev pub asks : Call → Pending → NamesState → Acts
-asks call pending s = (askeds.Call call pending, s)
+asks call pending s = (Some (nexts.Call (record { call = call; pending = pending })), s)
 
--- the engine is called, if there is a call
-abbrev pub asked_by : Option Call → Pending → StatementCall
-asked_by None pending = askeds.Faulty
-asked_by (Some call) pending = askeds.Call call pending
+-- the engine is called, if there is a call; else the statement is faulty
+abbrev pub asked_by : Option Call → Pending → Option NextStep
+asked_by None pending = None
+asked_by (Some call) pending = Some (nexts.Call (record { call = call; pending = pending }))
 
 -- `buf`: a buffer that is lent can't be set
 abbrev pub sets : BufferLine → NamesState → Acts
@@ -85,7 +87,7 @@ old_layout s (olds.Named name) = value_at s.layouts name
 
 -- a layout that passes no limit is set; else it is refused with the number of the limit, 13
 abbrev pub sets_layout_unless : Bool → List ℕ → Shape → NamesState → Acts
-sets_layout_unless true name layout s = refuses 13 s
+sets_layout_unless true name layout s = refuses err_limit s
 sets_layout_unless false name layout s = changes (with_layout s name layout)
 
 -- of a layout that is there
@@ -195,9 +197,9 @@ searches name x None s = faulty s
 searches name x (Some comm) s = asks (calls.Improbe (probe_in comm x)) (pendings.Searching name) s
 
 -- the receive of a message that was received before: it is refused, if its buffer is here
-abbrev pub receives_ended : Option Contents → StatementCall
-receives_ended None = askeds.Faulty
-receives_ended (Some buffer) = askeds.Refused 6
+abbrev pub receives_ended : Option Contents → Option NextStep
+receives_ended None = None
+receives_ended (Some buffer) = Some (nexts.Told (tolds.Error err_request))
 
 -- the receive of a message that was taken out, of this name, into these places of the buffer of that name, which is
 -- lent to it

@@ -1,17 +1,14 @@
 -- Where a statement is faulty.
 use Rattle.std.specs.Prelude.{◌≡◌, Bool, true, false, Option, Some, None}
 use Rattle.line_diagnostics.specs.declared.fault.LineFault.{LineFault}
-use Rattle.interpreter.specs.declared.steps.StatementCall.{StatementCall}
-use Rattle.interpreter.specs.declared.steps.StatementCall.TheVariants as askeds
+use Rattle.interpreter.specs.declared.steps.NextStep.{NextStep}
 use Rattle.interpreter.specs.Acting.{Acts, faulty}
 use Rattle.interpreter.specs.NamesState.{NamesState}
 
 -- whether a statement can't be followed
-abbrev pub is_faulty : StatementCall → Bool
-is_faulty askeds.Nothing = false
-is_faulty (askeds.Call call pending) = false
-is_faulty (askeds.Refused number) = false
-is_faulty askeds.Faulty = true
+abbrev pub is_faulty : Option NextStep → Bool
+is_faulty None = true
+is_faulty (Some next) = false
 
 -- a statement is faulty exactly where there is a fault, and then changes nothing
 abbrev pub FaultyWhere : Option LineFault → Acts → NamesState → Type 0

@@ -25,83 +25,58 @@ use Rattle.script_calls.specs.declared.pending.Pending.{Pending}
 use Rattle.script_calls.specs.declared.pending.Pending.TheVariants as pendings
 use Rattle.script_calls.specs.Awaited.{null}
 use Rattle.script_calls.specs.Told.{error_of, status_after}
-use Rattle.interpreter.specs.declared.steps.AnswerEffect.{AnswerEffect}
-use Rattle.interpreter.specs.declared.steps.AnswerEffect.TheVariants as heards
+use Rattle.interpreter.specs.declared.steps.NextStep.{NextStep}
+use Rattle.interpreter.specs.declared.steps.NextStep.TheVariants as nexts
 use Rattle.interpreter.specs.declared.steps.Told.{Told}
 use Rattle.interpreter.specs.declared.steps.Told.TheVariants as tolds
+use Rattle.interpreter.specs.Numbers.{err_count, err_intern, err_mismatch, err_replaced}
 use Rattle.interpreter.specs.NamesState.{NamesState, given_back, with_communicator, with_message, with_request}
 use Rattle.script_calls.specs.Tables.{value_at}
 
--- what is made of an answer, and what the names then stand for
+-- what comes next behind an answer, and what the names then stand for
 abbrev pub Hears : Type 0
-Hears = AnswerEffect × NamesState
+Hears = NextStep × NamesState
 
 -- nothing but a change of names
 abbrev pub goes_on : NamesState → Hears
-goes_on s = (heards.Nothing, s)
+goes_on s = (nexts.Nothing, s)
 
 -- the statement makes another call, whose answer is for this
 abbrev pub calls_next : Call → Pending → NamesState → Hears
-calls_next call pending s = (heards.Call call pending, s)
+calls_next call pending s = (nexts.Call (record { call = call; pending = pending }), s)
 
 -- this is told
 abbrev pub tells : Told → NamesState → Hears
-tells told s = (heards.Told told, s)
+tells told s = (nexts.Told told, s)
+
+-- the answer isn't one to the call that it was awaited for: that is told, and no name changes
+abbrev pub misfits : NamesState → Hears
+misfits s = tells (tolds.Error err_intern) s
 
 -- ---- starts
 
 -- the operation has started: its request has its name, or it is waited for
 abbrev pub starts : Pending → Request → NamesState → Hears
-starts pendings.Nothing request s = goes_on s
 starts (pendings.Starting name buffer) request s =
     goes_on (with_request s name (record { request = Some request; buffer = buffer }))
 starts (pendings.StartingToWait buffer) request s =
     calls_next (calls.Wait (Some request)) (pendings.WaitingUnnamed buffer) s
-starts (pendings.Waiting r) request s = goes_on s
-starts (pendings.WaitingUnnamed buffer) request s = goes_on s
-starts (pendings.WaitingForSeveral several) request s = goes_on s
-starts (pendings.Searching name) request s = goes_on s
-starts (pendings.Receiving name buffer) request s = goes_on s
-starts (pendings.Making name) request s = goes_on s
-starts (pendings.Seating name place) request s = goes_on s
-starts (pendings.Entering name) request s = goes_on s
-starts (pendings.AskingRank comm) request s = goes_on s
-starts (pendings.AskingSize rank) request s = goes_on s
-starts pendings.Oversized request s = goes_on s
+starts pending request s = misfits s
 
 -- ---- refusals
 
 -- the name of the buffer that is lent to the call
 abbrev pub lent_by : Pending → Option (List ℕ)
-lent_by pendings.Nothing = None
 lent_by (pendings.Starting name buffer) = buffer
 lent_by (pendings.StartingToWait buffer) = buffer
-lent_by (pendings.Waiting r) = None
-lent_by (pendings.WaitingUnnamed buffer) = None
-lent_by (pendings.WaitingForSeveral several) = None
-lent_by (pendings.Searching name) = None
 lent_by (pendings.Receiving name buffer) = Some buffer
-lent_by (pendings.Making name) = None
-lent_by (pendings.Seating name place) = None
-lent_by (pendings.Entering name) = None
-lent_by (pendings.AskingRank comm) = None
-lent_by (pendings.AskingSize rank) = None
-lent_by pendings.Oversized = None
+lent_by pending = None
 
 -- a refused call comes back, and with a receive its buffer
 abbrev pub taken_back : Pending → Call → NamesState → NamesState
-taken_back pending (calls.Isend x) s = s
 taken_back pending (calls.Irecv x) s = given_back s (lent_by pending) x.into.buffer
-taken_back pending (calls.Iprobe x) s = s
-taken_back pending (calls.Improbe x) s = s
 taken_back pending (calls.Mrecv message into) s = given_back s (lent_by pending) into.buffer
-taken_back pending (calls.Wait request) s = s
-taken_back pending (calls.Test request) s = s
-taken_back pending (calls.Waitany requests) s = s
-taken_back pending (calls.Waitall requests) s = s
-taken_back pending (calls.Cancel request) s = s
-taken_back pending (calls.Enter comm entry) s = s
-taken_back pending (calls.Ask comm question) s = s
+taken_back pending call s = s
 
 -- its number is told, and nothing is set
 abbrev pub refuses_call : Pending → Refusal → Call → NamesState → Hears
@@ -114,27 +89,16 @@ abbrev pub hears_probe : Option Status → NamesState → Hears
 hears_probe None s = tells tolds.NoMessage s
 hears_probe (Some status) s = goes_on (record s { last = status })
 
--- the message that was taken out has the name under which it was looked for
-abbrev pub found_named : Pending → Option Request → NamesState → NamesState
-found_named pendings.Nothing message s = s
-found_named (pendings.Starting name buffer) message s = s
-found_named (pendings.StartingToWait buffer) message s = s
-found_named (pendings.Waiting r) message s = s
-found_named (pendings.WaitingUnnamed buffer) message s = s
-found_named (pendings.WaitingForSeveral several) message s = s
-found_named (pendings.Searching name) message s = with_message s name (messages.TakenOut message)
-found_named (pendings.Receiving name buffer) message s = s
-found_named (pendings.Making name) message s = s
-found_named (pendings.Seating name place) message s = s
-found_named (pendings.Entering name) message s = s
-found_named (pendings.AskingRank comm) message s = s
-found_named (pendings.AskingSize rank) message s = s
-found_named pendings.Oversized message s = s
+-- the message that was taken out has the name under which it was looked for, and its status is the last one
+abbrev pub finds : Pending → Option Request × Status → NamesState → Hears
+finds (pendings.Searching name) found s =
+    goes_on (record (with_message s name (messages.TakenOut found.0)) { last = found.1 })
+finds pending found s = misfits s
 
--- the same with its status; where none was found, the name stands for what it stood for
+-- the same, if one was found; else that is told, and the name stands for what it stood for
 abbrev pub hears_match : Pending → Option (Option Request × Status) → NamesState → Hears
 hears_match pending None s = tells tolds.NoMessage s
-hears_match pending (Some found) s = goes_on (record (found_named pending found.0 s) { last = found.1 })
+hears_match pending (Some found) s = finds pending found s
 
 -- ---- outcomes
 
@@ -153,14 +117,14 @@ returned name (outcomes.Cancelled buffer) s = given_back s name buffer
 returned name outcomes.Empty s = s
 
 -- an error is told, if there is one
-abbrev pub error_told : Option ℕ → AnswerEffect
-error_told None = heards.Nothing
-error_told (Some number) = heards.Told (tolds.Error number)
+abbrev pub error_told : Option ℕ → NextStep
+error_told None = nexts.Nothing
+error_told (Some number) = nexts.Told (tolds.Error number)
 
 -- several are told, if there are any
-abbrev pub errors_told : List ℕ → AnswerEffect
-errors_told [] = heards.Nothing
-errors_told (number ∷ numbers) = heards.Told (tolds.Errors (number ∷ numbers))
+abbrev pub errors_told : List ℕ → NextStep
+errors_told [] = nexts.Nothing
+errors_told (number ∷ numbers) = nexts.Told (tolds.Errors (number ∷ numbers))
 
 -- the outcome of the one operation that was waited for or tested
 abbrev pub ends_with : Option (List ℕ) → Outcome → NamesState → Hears
@@ -178,20 +142,10 @@ ends_message name buffer outcome s = ends_with (Some buffer) outcome (with_messa
 
 -- the outcome of one operation, where one is waited for
 abbrev pub ends_one : Pending → Outcome → NamesState → Hears
-ends_one pendings.Nothing outcome s = goes_on s
-ends_one (pendings.Starting name buffer) outcome s = goes_on s
-ends_one (pendings.StartingToWait buffer) outcome s = goes_on s
 ends_one (pendings.Waiting r) outcome s = ends_requested r outcome s
 ends_one (pendings.WaitingUnnamed buffer) outcome s = ends_with buffer outcome s
-ends_one (pendings.WaitingForSeveral several) outcome s = goes_on s
-ends_one (pendings.Searching name) outcome s = goes_on s
 ends_one (pendings.Receiving name buffer) outcome s = ends_message name buffer outcome s
-ends_one (pendings.Making name) outcome s = goes_on s
-ends_one (pendings.Seating name place) outcome s = goes_on s
-ends_one (pendings.Entering name) outcome s = goes_on s
-ends_one (pendings.AskingRank comm) outcome s = goes_on s
-ends_one (pendings.AskingSize rank) outcome s = goes_on s
-ends_one pendings.Oversized outcome s = goes_on s
+ends_one pending outcome s = misfits s
 
 -- what is left once a request of this name has ended so
 abbrev pub ended_named : RequestName → Outcome → NamesState → NamesState
@@ -200,24 +154,12 @@ ended_named (requested.Named name) outcome s = returned (held_buffer s name) out
 
 -- the outcome of one of several operations
 abbrev pub ends_named_one : Option RequestName → Outcome → NamesState → Hears
-ends_named_one None outcome s = goes_on s
+ends_named_one None outcome s = misfits s
 ends_named_one (Some r) outcome s = (error_told (error_of outcome), ended_named r outcome s)
 
 abbrev pub ends_at : Pending → ℕ → Outcome → NamesState → Hears
-ends_at pendings.Nothing index outcome s = goes_on s
-ends_at (pendings.Starting name buffer) index outcome s = goes_on s
-ends_at (pendings.StartingToWait buffer) index outcome s = goes_on s
-ends_at (pendings.Waiting r) index outcome s = goes_on s
-ends_at (pendings.WaitingUnnamed buffer) index outcome s = goes_on s
 ends_at (pendings.WaitingForSeveral several) index outcome s = ends_named_one (slice_get several index) outcome s
-ends_at (pendings.Searching name) index outcome s = goes_on s
-ends_at (pendings.Receiving name buffer) index outcome s = goes_on s
-ends_at (pendings.Making name) index outcome s = goes_on s
-ends_at (pendings.Seating name place) index outcome s = goes_on s
-ends_at (pendings.Entering name) index outcome s = goes_on s
-ends_at (pendings.AskingRank comm) index outcome s = goes_on s
-ends_at (pendings.AskingSize rank) index outcome s = goes_on s
-ends_at pendings.Oversized index outcome s = goes_on s
+ends_at pending index outcome s = misfits s
 
 -- an error, before those of the others
 abbrev pub with_error : Option ℕ → List ℕ → List ℕ
@@ -242,21 +184,9 @@ EndsNext errors r o s errors' s' = (rs : List RequestName) → (os : List Outcom
 
 -- the outcomes of all of several
 abbrev pub ends_all : Pending → List Outcome → NamesState → Hears
-ends_all pendings.Nothing os s = goes_on s
-ends_all (pendings.Starting name buffer) os s = goes_on s
-ends_all (pendings.StartingToWait buffer) os s = goes_on s
-ends_all (pendings.Waiting r) os s = goes_on s
-ends_all (pendings.WaitingUnnamed buffer) os s = goes_on s
 ends_all (pendings.WaitingForSeveral several) os s =
     (errors_told (ended_each several os s).0, (ended_each several os s).1)
-ends_all (pendings.Searching name) os s = goes_on s
-ends_all (pendings.Receiving name buffer) os s = goes_on s
-ends_all (pendings.Making name) os s = goes_on s
-ends_all (pendings.Seating name place) os s = goes_on s
-ends_all (pendings.Entering name) os s = goes_on s
-ends_all (pendings.AskingRank comm) os s = goes_on s
-ends_all (pendings.AskingSize rank) os s = goes_on s
-ends_all pendings.Oversized os s = goes_on s
+ends_all pending os s = misfits s
 
 -- what was waited for is answered so
 abbrev pub ends_by : Pending → Answer → NamesState → Hears
@@ -272,69 +202,42 @@ abbrev pub elements_taken : Option (List ℕ) → Option Contents → NamesState
 elements_taken name None s = s
 elements_taken name (Some elements) s = given_back s name elements
 
+-- the same where none were awaited
+abbrev pub unawaited : Option Contents → NextStep
+unawaited None = nexts.Nothing
+unawaited (Some elements) = nexts.Told (tolds.Error err_intern)
+
 abbrev pub takes_elements : Pending → Option Contents → NamesState → Hears
-takes_elements pendings.Nothing elements s = goes_on s
-takes_elements (pendings.Starting name buffer) elements s = goes_on s
-takes_elements (pendings.StartingToWait buffer) elements s = goes_on s
-takes_elements (pendings.Waiting r) elements s = goes_on s
-takes_elements (pendings.WaitingUnnamed buffer) elements s = goes_on s
-takes_elements (pendings.WaitingForSeveral several) elements s = goes_on s
-takes_elements (pendings.Searching name) elements s = goes_on s
-takes_elements (pendings.Receiving name buffer) elements s = goes_on s
-takes_elements (pendings.Making name) elements s = goes_on s
-takes_elements (pendings.Seating name place) elements s = goes_on s
 takes_elements (pendings.Entering name) elements s = goes_on (elements_taken name elements s)
-takes_elements (pendings.AskingRank comm) elements s = goes_on s
-takes_elements (pendings.AskingSize rank) elements s = goes_on s
-takes_elements pendings.Oversized elements s = goes_on s
+takes_elements pending elements s = (unawaited elements, s)
 
 -- a communicator was made: the rank in it is asked for, and then it has its name; or none was, and the name stands for
 -- that
-abbrev pub seat_taken : List ℕ → (place : Option ℕ) → NamesState → Hears
-seat_taken name None s = goes_on (with_communicator s name None)
-seat_taken name (Some place) s = calls_next (calls.Ask (Some place) questions.Rank) (pendings.Seating name place) s
+abbrev pub communicator_taken : List ℕ → (place : Option ℕ) → NamesState → Hears
+communicator_taken name None s = goes_on (with_communicator s name None)
+communicator_taken name (Some place) s =
+    calls_next (calls.Ask (Some place) questions.Rank) (pendings.Seating name place) s
 
-abbrev pub takes_seat : Pending → (place : Option ℕ) → NamesState → Hears
-takes_seat pendings.Nothing at s = goes_on s
-takes_seat (pendings.Starting name buffer) at s = goes_on s
-takes_seat (pendings.StartingToWait buffer) at s = goes_on s
-takes_seat (pendings.Waiting r) at s = goes_on s
-takes_seat (pendings.WaitingUnnamed buffer) at s = goes_on s
-takes_seat (pendings.WaitingForSeveral several) at s = goes_on s
-takes_seat (pendings.Searching name) at s = goes_on s
-takes_seat (pendings.Receiving name buffer) at s = goes_on s
-takes_seat (pendings.Making name) at s = seat_taken name at s
-takes_seat (pendings.Seating name place) at s = goes_on s
-takes_seat (pendings.Entering name) at s = goes_on s
-takes_seat (pendings.AskingRank comm) at s = goes_on s
-takes_seat (pendings.AskingSize rank) at s = goes_on s
-takes_seat pendings.Oversized at s = goes_on s
+abbrev pub takes_communicator : Pending → (place : Option ℕ) → NamesState → Hears
+takes_communicator (pendings.Making name) at s = communicator_taken name at s
+takes_communicator pending at s = misfits s
 
 -- a collective is over: what it gave has its name, or an error is told and nothing is named
 abbrev pub leaves : Pending → Ending → NamesState → Hears
 leaves pending (endings.Left elements) s = takes_elements pending elements s
-leaves pending (endings.Comm place) s = takes_seat pending place s
-leaves pending endings.Replaced s = tells (tolds.Error 11) s
-leaves pending endings.Mismatch s = tells (tolds.Error 12) s
+leaves pending (endings.Comm place) s = takes_communicator pending place s
+leaves pending endings.Replaced s = tells (tolds.Error err_replaced) s
+leaves pending endings.Mismatch s = tells (tolds.Error err_mismatch) s
 
 -- a number was asked for: behind the rank the size is asked for, and with the size both are told; with the rank in a
 -- communicator that was made, that has its name; and a collective with a block above all limits is refused with 1
 abbrev pub counts : Pending → ℕ → NamesState → Hears
-counts pendings.Nothing n s = goes_on s
-counts (pendings.Starting name buffer) n s = goes_on s
-counts (pendings.StartingToWait buffer) n s = goes_on s
-counts (pendings.Waiting r) n s = goes_on s
-counts (pendings.WaitingUnnamed buffer) n s = goes_on s
-counts (pendings.WaitingForSeveral several) n s = goes_on s
-counts (pendings.Searching name) n s = goes_on s
-counts (pendings.Receiving name buffer) n s = goes_on s
-counts (pendings.Making name) n s = goes_on s
 counts (pendings.Seating name place) n s =
     goes_on (with_communicator s name (Some (record { place = place; rank = n })))
-counts (pendings.Entering name) n s = goes_on s
 counts (pendings.AskingRank comm) n s = calls_next (calls.Ask comm questions.Size) (pendings.AskingSize n) s
 counts (pendings.AskingSize rank) n s = tells (tolds.Position rank n) s
-counts pendings.Oversized n s = tells (tolds.Error 1) s
+counts pendings.Oversized n s = tells (tolds.Error err_count) s
+counts pending n s = misfits s
 
 -- the answer to a question
 abbrev pub learns : Pending → Fact → NamesState → Hears

@@ -1,3 +1,4 @@
+pub mod Numbers
 pub mod NamesState
 pub mod Acting
 pub mod Faults

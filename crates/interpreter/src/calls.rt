@@ -1,4 +1,4 @@
-//! What a statement asks of its rank's engine.
+//! What a statement asks of its rank's engine; none where it is faulty.
 
 ghost use Rattle.std.specs.Prelude.{◌≡◌, IfOk, Some, None};
 ghost use Rattle.derived_types.specs.Layouts.{is_beyond};
@@ -14,7 +14,8 @@ ghost use Rattle.interpreter.specs.Acting.{requests_named, searches, send_call, 
 ghost use Rattle.interpreter.specs.Acting.{sets_layout, sets_layout_unless, tests_for, waits_for, waits_for_several};
 
 use crate::names::Names;
-use crate::steps::StatementCall;
+use crate::numbers::ERR_REQUEST;
+use crate::steps::NextStep;
 use collective_messages::Entry;
 use communicators::Question;
 use datatypes::{Buffer, Layout, LayoutRefusal};
@@ -29,13 +30,13 @@ use statements::{
 use std::alloc::AllocError;
 use vocabulary::Mode;
 
-/// The call is made, if there is one; else the statement can't be followed.
-pub(crate) fn asked_by(call: Option<Call>, pending: Pending) -> StatementCall
+/// The call is made, if there is one; else the statement is faulty.
+pub(crate) fn asked_by(call: Option<Call>, pending: Pending) -> Option<NextStep>
     ensures { result ≡ asked_by call pending }
 {
     match call {
-        Some(call) => StatementCall::Call(call, pending),
-        None => StatementCall::Faulty,
+        Some(call) => Some(NextStep::calling(call, pending)),
+        None => None,
     }
 }
 
@@ -58,15 +59,15 @@ impl Names {
         self.buffers.replace(name, None).flatten()
     }
 
-    fn set_line(&mut self, line: BufferLine) -> Result<StatementCall, AllocError>
-        ensures { IfOk result (λ asked. sets line self.old ≡ (asked, self.new)) }
+    fn set_line(&mut self, line: BufferLine) -> Result<Option<NextStep>, AllocError>
+        ensures { IfOk result (λ next. sets line self.old ≡ (next, self.new)) }
     {
         let BufferLine { name, value } = line;
         if self.is_lent(&name) {
-            return Ok(StatementCall::Faulty);
+            return Ok(None);
         }
         self.set_buffer(&name, Some(value))?;
-        Ok(StatementCall::Nothing)
+        Ok(Some(NextStep::Nothing))
     }
 
     /// The layout that a line starts from, if it is set.
@@ -87,28 +88,28 @@ impl Names {
         &mut self,
         line: &LayoutLine,
         old: &Layout,
-    ) -> Result<StatementCall, AllocError>
-        ensures { IfOk result (λ asked.
+    ) -> Result<Option<NextStep>, AllocError>
+        ensures { IfOk result (λ next.
             sets_layout_unless (is_beyond (offsets_made line.now.form old.now.offsets)) line.now.name
             (record { basic = old.now.basic; offsets = offsets_made line.now.form old.now.offsets }) self.old ≡
-            (asked, self.new)) }
+            (next, self.new)) }
     {
         match line.form.layout_made(self.alloc, old) {
             Ok(layout) => {
                 self.layouts.set(&line.name, layout)?;
-                Ok(StatementCall::Nothing)
+                Ok(Some(NextStep::Nothing))
             }
             Err(LayoutRefusal::OutOfMemory) => Err(AllocError),
-            Err(refusal) => Ok(StatementCall::Refused(refusal.number())),
+            Err(refusal) => Ok(Some(NextStep::error(refusal.number()))),
         }
     }
 
-    fn set_layout_line(&mut self, line: &LayoutLine) -> Result<StatementCall, AllocError>
-        ensures { IfOk result (λ asked. sets_layout line.now self.old ≡ (asked, self.new)) }
+    fn set_layout_line(&mut self, line: &LayoutLine) -> Result<Option<NextStep>, AllocError>
+        ensures { IfOk result (λ next. sets_layout line.now self.old ≡ (next, self.new)) }
     {
         match self.old_layout(&line.made_of)? {
             Some(old) => self.set_layout_made(line, &old),
-            None => Ok(StatementCall::Faulty),
+            None => Ok(None),
         }
     }
 
@@ -155,8 +156,8 @@ impl Names {
         mode: Mode,
         pending: Pending,
         sending: &Sending,
-    ) -> Result<StatementCall, AllocError>
-        ensures { IfOk result (λ asked. sends mode pending sending.now self.now ≡ (asked, self.now)) }
+    ) -> Result<Option<NextStep>, AllocError>
+        ensures { IfOk result (λ next. sends mode pending sending.now self.now ≡ (next, self.now)) }
     {
         let call = self.send_call(mode, sending)?;
         Ok(asked_by(call, pending))
@@ -187,36 +188,40 @@ impl Names {
         }
     }
 
-    fn receive(&mut self, request: Name, receiving: Receiving) -> Result<StatementCall, AllocError>
-        ensures { IfOk result (λ asked.
-            receives (Pending.Starting request (Some receiving.buffer)) receiving self.old ≡ (asked, self.new)) }
+    fn receive(
+        &mut self,
+        request: Name,
+        receiving: Receiving,
+    ) -> Result<Option<NextStep>, AllocError>
+        ensures { IfOk result (λ next.
+            receives (Pending.Starting request (Some receiving.buffer)) receiving self.old ≡ (next, self.new)) }
     {
         let call = self.lend_for(&receiving)?;
         let pending = Pending::Starting(request, Some(receiving.buffer));
         Ok(asked_by(call, pending))
     }
 
-    fn look(&self, probing: &Probing) -> StatementCall
+    fn look(&self, probing: &Probing) -> Option<NextStep>
         ensures { looks probing.now (place_named self.now probing.now.communicator) self.now ≡ (result, self.now) }
     {
         match self.place_named(&probing.communicator) {
             Some(comm) => {
-                StatementCall::Call(Call::Iprobe(probe_in(comm, probing)), Pending::Nothing)
+                Some(NextStep::calling(Call::Iprobe(probe_in(comm, probing)), Pending::Nothing))
             }
-            None => StatementCall::Faulty,
+            None => None,
         }
     }
 
-    fn search(&self, message: Name, probing: &Probing) -> StatementCall
+    fn search(&self, message: Name, probing: &Probing) -> Option<NextStep>
         ensures { searches message probing.now (place_named self.now probing.now.communicator) self.now ≡
             (result, self.now) }
     {
         match self.place_named(&probing.communicator) {
             Some(comm) => {
                 let call = Call::Improbe(probe_in(comm, probing));
-                StatementCall::Call(call, Pending::Searching(message))
+                Some(NextStep::calling(call, Pending::Searching(message)))
             }
-            None => StatementCall::Faulty,
+            None => None,
         }
     }
 
@@ -231,15 +236,15 @@ impl Names {
     }
 
     /// The receive of a message that was received before.
-    fn receive_ended(&self, buffer: &Name) -> StatementCall
+    fn receive_ended(&self, buffer: &Name) -> Option<NextStep>
         ensures { result ≡ receives_ended (here self.now buffer.now) }
     {
         match self.buffers.get(buffer) {
             Some(slot) => match slot {
-                Some(_) => StatementCall::Refused(6),
-                None => StatementCall::Faulty,
+                Some(_) => Some(NextStep::error(ERR_REQUEST)),
+                None => None,
             },
-            None => StatementCall::Faulty,
+            None => None,
         }
     }
 
@@ -250,7 +255,7 @@ impl Names {
         places: Places,
         name: Name,
         buffer: Name,
-    ) -> StatementCall
+    ) -> Option<NextStep>
         ensures { receives_taken message places name buffer (here self.old buffer) self.old ≡ (result, self.new) }
     {
         match self.lend(&buffer) {
@@ -259,20 +264,27 @@ impl Names {
                     buffer: contents,
                     places,
                 };
-                StatementCall::Call(Call::Mrecv(message, into), Pending::Receiving(name, buffer))
+                Some(NextStep::calling(
+                    Call::Mrecv(message, into),
+                    Pending::Receiving(name, buffer),
+                ))
             }
-            None => StatementCall::Faulty,
+            None => None,
         }
     }
 
-    fn receive_message(&mut self, name: Name, landing: Landing) -> Result<StatementCall, AllocError>
-        ensures { IfOk result (λ asked. receives_message name landing self.old ≡ (asked, self.new)) }
+    fn receive_message(
+        &mut self,
+        name: Name,
+        landing: Landing,
+    ) -> Result<Option<NextStep>, AllocError>
+        ensures { IfOk result (λ next. receives_message name landing self.old ≡ (next, self.new)) }
     {
         let Some(named) = self.message_at(&name) else {
-            return Ok(StatementCall::Faulty);
+            return Ok(None);
         };
         let Some(places) = self.places_named(&landing.through)? else {
-            return Ok(StatementCall::Faulty);
+            return Ok(None);
         };
         match named {
             NamedMessage::TakenOut(message) => {
@@ -295,30 +307,36 @@ impl Names {
         }
     }
 
-    fn wait(&self, requested: RequestName) -> StatementCall
+    fn wait(&self, requested: RequestName) -> Option<NextStep>
         ensures { waits_for requested (request_named self.now requested) self.now ≡ (result, self.now) }
     {
         match self.request_named(&requested) {
-            Some(request) => StatementCall::Call(Call::Wait(request), Pending::Waiting(requested)),
-            None => StatementCall::Faulty,
+            Some(request) => Some(NextStep::calling(
+                Call::Wait(request),
+                Pending::Waiting(requested),
+            )),
+            None => None,
         }
     }
 
-    fn test(&self, requested: RequestName) -> StatementCall
+    fn test(&self, requested: RequestName) -> Option<NextStep>
         ensures { tests_for requested (request_named self.now requested) self.now ≡ (result, self.now) }
     {
         match self.request_named(&requested) {
-            Some(request) => StatementCall::Call(Call::Test(request), Pending::Waiting(requested)),
-            None => StatementCall::Faulty,
+            Some(request) => Some(NextStep::calling(
+                Call::Test(request),
+                Pending::Waiting(requested),
+            )),
+            None => None,
         }
     }
 
-    fn cancel(&self, requested: &RequestName) -> StatementCall
+    fn cancel(&self, requested: &RequestName) -> Option<NextStep>
         ensures { cancels_for (request_named self.now requested.now) self.now ≡ (result, self.now) }
     {
         match self.request_named(requested) {
-            Some(request) => StatementCall::Call(Call::Cancel(request), Pending::Nothing),
-            None => StatementCall::Faulty,
+            Some(request) => Some(NextStep::calling(Call::Cancel(request), Pending::Nothing)),
+            None => None,
         }
     }
 
@@ -349,67 +367,70 @@ impl Names {
         }
     }
 
-    fn wait_any(&self, several: RequestNames) -> Result<StatementCall, AllocError>
-        ensures { IfOk result (λ asked.
-            waits_for_several Call.Waitany several (requests_named self.now several) self.now ≡ (asked, self.now)) }
+    fn wait_any(&self, several: RequestNames) -> Result<Option<NextStep>, AllocError>
+        ensures { IfOk result (λ next.
+            waits_for_several Call.Waitany several (requests_named self.now several) self.now ≡ (next, self.now)) }
     {
         match self.listed_named(&several)? {
-            Some(list) => Ok(StatementCall::Call(
+            Some(list) => Ok(Some(NextStep::calling(
                 Call::Waitany(list),
                 Pending::WaitingForSeveral(several),
-            )),
-            None => Ok(StatementCall::Faulty),
+            ))),
+            None => Ok(None),
         }
     }
 
-    fn wait_all(&self, several: RequestNames) -> Result<StatementCall, AllocError>
-        ensures { IfOk result (λ asked.
-            waits_for_several Call.Waitall several (requests_named self.now several) self.now ≡ (asked, self.now)) }
+    fn wait_all(&self, several: RequestNames) -> Result<Option<NextStep>, AllocError>
+        ensures { IfOk result (λ next.
+            waits_for_several Call.Waitall several (requests_named self.now several) self.now ≡ (next, self.now)) }
     {
         match self.listed_named(&several)? {
-            Some(list) => Ok(StatementCall::Call(
+            Some(list) => Ok(Some(NextStep::calling(
                 Call::Waitall(list),
                 Pending::WaitingForSeveral(several),
-            )),
-            None => Ok(StatementCall::Faulty),
+            ))),
+            None => Ok(None),
         }
     }
 
-    fn ask_rank(&self, communicator: &CommunicatorName) -> StatementCall
+    fn ask_rank(&self, communicator: &CommunicatorName) -> Option<NextStep>
         ensures { asks_rank (place_named self.now communicator.now) self.now ≡ (result, self.now) }
     {
         match self.place_named(communicator) {
             Some(comm) => {
                 let call = Call::Ask(comm, Question::Rank);
-                StatementCall::Call(call, Pending::AskingRank(comm))
+                Some(NextStep::calling(call, Pending::AskingRank(comm)))
             }
-            None => StatementCall::Faulty,
+            None => None,
         }
     }
 
-    fn ask_group(&self, communicator: &CommunicatorName) -> StatementCall
+    fn ask_group(&self, communicator: &CommunicatorName) -> Option<NextStep>
         ensures { asks_group (place_named self.now communicator.now) self.now ≡ (result, self.now) }
     {
         match self.place_named(communicator) {
-            Some(comm) => StatementCall::Call(Call::Ask(comm, Question::Group), Pending::Nothing),
-            None => StatementCall::Faulty,
+            Some(comm) => Some(NextStep::calling(
+                Call::Ask(comm, Question::Group),
+                Pending::Nothing,
+            )),
+            None => None,
         }
     }
 
-    fn compare(&self, one: &CommunicatorName, other: &CommunicatorName) -> StatementCall
+    fn compare(&self, one: &CommunicatorName, other: &CommunicatorName) -> Option<NextStep>
         ensures { compares (place_named self.now one.now) (place_named self.now other.now) self.now ≡
             (result, self.now) }
     {
         let (Some(comm), Some(other)) = (self.place_named(one), self.place_named(other)) else {
-            return StatementCall::Faulty;
+            return None;
         };
-        StatementCall::Call(Call::Ask(comm, Question::Compare(other)), Pending::Nothing)
+        Some(NextStep::calling(Call::Ask(comm, Question::Compare(other)), Pending::Nothing))
     }
 
     /// What concerns a communicator as a whole: a collective, or a question about it.
-    fn act_together(&mut self, action: Action) -> Result<StatementCall, AllocError>
+    fn act_together(&mut self, action: Action) -> Result<Option<NextStep>, AllocError>
         requires { IsTogether action }
-        ensures { IfOk result (λ asked. acts_on action self.old ≡ (asked, self.new)) }
+        ensures { IfOk result (λ next. acts_on action self.old ≡ (next, self.new)) }
     {
         match action {
             Action::Barrier(communicator) => {
@@ -435,12 +456,12 @@ impl Names {
         }
     }
 
-    /// What a statement asks for. Where it uses a name that isn't set, or a buffer that is lent, it is faulty, and
-    /// nothing changes. The only error is want of memory.
+    /// What comes next of a statement. None where it uses a name that isn't set, or a buffer that is lent: it is
+    /// faulty, and nothing changes. The only error is want of memory.
     // What concerns a communicator stands apart: a function pays at its entry for the locals of all its cases, and most
     // statements are sends, receives and waits.
-    pub fn act(&mut self, action: Action) -> Result<StatementCall, AllocError>
-        ensures { IfOk result (λ asked. acts_on action self.old ≡ (asked, self.new)) }
+    pub fn act(&mut self, action: Action) -> Result<Option<NextStep>, AllocError>
+        ensures { IfOk result (λ next. acts_on action self.old ≡ (next, self.new)) }
     {
         match action {
             Action::Buffer(line) => self.set_line(line),
@@ -475,15 +496,15 @@ impl Names {
     }
 
     /// A send that is waited for in the same statement.
-    pub fn send_to_wait(&self, sending: &Sending) -> Result<StatementCall, AllocError>
-        ensures { IfOk result (λ asked. sends_to_wait sending.now self.now ≡ (asked, self.now)) }
+    pub fn send_to_wait(&self, sending: &Sending) -> Result<Option<NextStep>, AllocError>
+        ensures { IfOk result (λ next. sends_to_wait sending.now self.now ≡ (next, self.now)) }
     {
         self.send(Mode::Standard, Pending::StartingToWait(None), sending)
     }
 
     /// A receive that is waited for in the same statement.
-    pub fn receive_to_wait(&mut self, receiving: Receiving) -> Result<StatementCall, AllocError>
-        ensures { IfOk result (λ asked. receives_to_wait receiving self.old ≡ (asked, self.new)) }
+    pub fn receive_to_wait(&mut self, receiving: Receiving) -> Result<Option<NextStep>, AllocError>
+        ensures { IfOk result (λ next. receives_to_wait receiving self.old ≡ (next, self.new)) }
     {
         let call = self.lend_for(&receiving)?;
         let pending = Pending::StartingToWait(Some(receiving.buffer));

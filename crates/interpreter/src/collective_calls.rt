@@ -7,7 +7,7 @@ ghost use Rattle.interpreter.specs.Acting.{is_lent_at_root, reduces, reduces_to_
 
 use crate::calls::asked_by;
 use crate::names::Names;
-use crate::steps::StatementCall;
+use crate::steps::NextStep;
 use collective_messages::Entry;
 use communicators::Question;
 use datatypes::Buffer;
@@ -29,12 +29,15 @@ impl Names {
         comm: Option<usize>,
         name: Option<Name>,
         entry: Option<Entry>,
-    ) -> StatementCall
+    ) -> Option<NextStep>
         ensures { hands_in_to comm name entry self.now ≡ (result, self.now) }
     {
         match entry {
-            Some(entry) => StatementCall::Call(Call::Enter(comm, entry), Pending::Entering(name)),
-            None => StatementCall::Call(Call::Ask(comm, Question::Rank), Pending::Oversized),
+            Some(entry) => Some(NextStep::calling(
+                Call::Enter(comm, entry),
+                Pending::Entering(name),
+            )),
+            None => Some(NextStep::calling(Call::Ask(comm, Question::Rank), Pending::Oversized)),
         }
     }
 
@@ -51,24 +54,24 @@ impl Names {
         communicator: &CommunicatorName,
         entry: Entry,
         pending: Pending,
-    ) -> StatementCall
+    ) -> Option<NextStep>
         ensures { enters (place_named self.now communicator.now) entry pending self.now ≡ (result, self.now) }
     {
         match self.place_named(communicator) {
-            Some(comm) => StatementCall::Call(Call::Enter(comm, entry), pending),
-            None => StatementCall::Faulty,
+            Some(comm) => Some(NextStep::calling(Call::Enter(comm, entry), pending)),
+            None => None,
         }
     }
 
     /// `bcast`
-    pub(crate) fn broadcast(&self, said: Broadcasting) -> Result<StatementCall, AllocError>
-        ensures { IfOk result (λ asked. broadcasts said self.now ≡ (asked, self.now)) }
+    pub(crate) fn broadcast(&self, said: Broadcasting) -> Result<Option<NextStep>, AllocError>
+        ensures { IfOk result (λ next. broadcasts said self.now ≡ (next, self.now)) }
     {
         let Some(comm) = self.place_named(&said.communicator) else {
-            return Ok(StatementCall::Faulty);
+            return Ok(None);
         };
         let Some(buffer) = self.copy_of(&said.buffer)? else {
-            return Ok(StatementCall::Faulty);
+            return Ok(None);
         };
         let entry = broadcast_of(said.root, buffer);
         Ok(self.hand_in_to(comm, Some(said.buffer), entry))
@@ -97,38 +100,38 @@ impl Names {
     }
 
     /// `gather`
-    pub(crate) fn gather(&self, said: Gathering) -> Result<StatementCall, AllocError>
-        ensures { IfOk result (λ asked. gathers said self.now ≡ (asked, self.now)) }
+    pub(crate) fn gather(&self, said: Gathering) -> Result<Option<NextStep>, AllocError>
+        ensures { IfOk result (λ next. gathers said self.now ≡ (next, self.now)) }
     {
         let is_root = self.is_root(&said.communicator, said.root);
         let lent = self.is_lent_at_root(is_root, &said.into);
         let Some((comm, block)) = self.block_for(&said.communicator, lent, &said.buffer)? else {
-            return Ok(StatementCall::Faulty);
+            return Ok(None);
         };
         let entry = gather_of(said.root, block);
         Ok(self.hand_in_to(comm, Some(said.into), entry))
     }
 
     /// `reduce`
-    pub(crate) fn reduce(&self, said: Reducing) -> Result<StatementCall, AllocError>
-        ensures { IfOk result (λ asked. reduces said self.now ≡ (asked, self.now)) }
+    pub(crate) fn reduce(&self, said: Reducing) -> Result<Option<NextStep>, AllocError>
+        ensures { IfOk result (λ next. reduces said self.now ≡ (next, self.now)) }
     {
         let is_root = self.is_root(&said.communicator, said.root);
         let lent = self.is_lent_at_root(is_root, &said.into);
         let Some((comm, block)) = self.block_for(&said.communicator, lent, &said.buffer)? else {
-            return Ok(StatementCall::Faulty);
+            return Ok(None);
         };
         let entry = reduction_of(said.operation, said.root, block);
         Ok(self.hand_in_to(comm, Some(said.into), entry))
     }
 
     /// `allreduce`
-    pub(crate) fn reduce_to_all(&self, said: ReducingToAll) -> Result<StatementCall, AllocError>
-        ensures { IfOk result (λ asked. reduces_to_all said self.now ≡ (asked, self.now)) }
+    pub(crate) fn reduce_to_all(&self, said: ReducingToAll) -> Result<Option<NextStep>, AllocError>
+        ensures { IfOk result (λ next. reduces_to_all said self.now ≡ (next, self.now)) }
     {
         let lent = self.is_lent(&said.into);
         let Some((comm, block)) = self.block_for(&said.communicator, lent, &said.buffer)? else {
-            return Ok(StatementCall::Faulty);
+            return Ok(None);
         };
         let entry = reduction_to_all_of(said.operation, block);
         Ok(self.hand_in_to(comm, Some(said.into), entry))
@@ -179,8 +182,8 @@ impl Names {
     }
 
     /// `scatter`
-    pub(crate) fn scatter(&self, said: Scattering) -> Result<StatementCall, AllocError>
-        ensures { IfOk result (λ asked. scatters said self.now ≡ (asked, self.now)) }
+    pub(crate) fn scatter(&self, said: Scattering) -> Result<Option<NextStep>, AllocError>
+        ensures { IfOk result (λ next. scatters said self.now ≡ (next, self.now)) }
     {
         let call = self.scatter_call(&said)?;
         Ok(asked_by(call, Pending::Entering(Some(said.into))))

@@ -8,29 +8,29 @@ ghost use Rattle.interpreter.specs.Hearing.{ends_named_one, ends_one, ends_reque
 ghost use Rattle.interpreter.specs.Hearing.{errors_told, held_buffer, returned};
 
 use crate::names::Names;
-use crate::steps::{AnswerEffect, ErrorNumbers, Told};
+use crate::steps::{ErrorNumbers, NextStep, Told};
 use requests::{Answer, Outcome};
 use script_calls::{NamedMessage, NamedRequest, Pending, error_of, status_after};
 use statements::{Name, RequestName, RequestNames};
 use std::alloc::{AllocError, Global};
 
 /// The error is told, if there is one.
-fn error_told(error: Option<u8>) -> AnswerEffect
+fn error_told(error: Option<u8>) -> NextStep
     ensures { result ≡ error_told error }
 {
     match error {
-        Some(number) => AnswerEffect::Told(Told::Error(number)),
-        None => AnswerEffect::Nothing,
+        Some(number) => NextStep::error(number),
+        None => NextStep::Nothing,
     }
 }
 
 /// The errors are told, if there are any.
-fn errors_told(errors: ErrorNumbers) -> AnswerEffect
+fn errors_told(errors: ErrorNumbers) -> NextStep
     ensures { result ≡ errors_told errors }
 {
     match errors.as_slice() {
-        [] => AnswerEffect::Nothing,
-        [_, ..] => AnswerEffect::Told(Told::Errors(errors)),
+        [] => NextStep::Nothing,
+        [_, ..] => NextStep::Told(Told::Errors(errors)),
     }
 }
 
@@ -80,12 +80,8 @@ impl Names {
     }
 
     /// The one operation that was waited for or tested has ended so, and its buffer comes back to this name.
-    fn end_with(
-        &mut self,
-        name: &Option<Name>,
-        outcome: Outcome,
-    ) -> Result<AnswerEffect, AllocError>
-        ensures { IfOk result (λ heard. ends_with name.now outcome self.old ≡ (heard, self.new)) }
+    fn end_with(&mut self, name: &Option<Name>, outcome: Outcome) -> Result<NextStep, AllocError>
+        ensures { IfOk result (λ next. ends_with name.now outcome self.old ≡ (next, self.new)) }
     {
         let error = error_of(&outcome);
         let last = status_after(self.last, &outcome);
@@ -99,8 +95,8 @@ impl Names {
         &mut self,
         requested: RequestName,
         outcome: Outcome,
-    ) -> Result<AnswerEffect, AllocError>
-        ensures { IfOk result (λ heard. ends_requested requested outcome self.old ≡ (heard, self.new)) }
+    ) -> Result<NextStep, AllocError>
+        ensures { IfOk result (λ next. ends_requested requested outcome self.old ≡ (next, self.new)) }
     {
         match requested {
             RequestName::Null => self.end_with(&None, outcome),
@@ -117,8 +113,8 @@ impl Names {
         message: &Name,
         buffer: Name,
         outcome: Outcome,
-    ) -> Result<AnswerEffect, AllocError>
-        ensures { IfOk result (λ heard. ends_message message.now buffer outcome self.old ≡ (heard, self.new)) }
+    ) -> Result<NextStep, AllocError>
+        ensures { IfOk result (λ next. ends_message message.now buffer outcome self.old ≡ (next, self.new)) }
     {
         self.messages.set(message, NamedMessage::Ended)?;
         let name = Some(buffer);
@@ -126,8 +122,8 @@ impl Names {
     }
 
     /// An operation that was waited for alone has ended so.
-    fn end_one(&mut self, pending: Pending, outcome: Outcome) -> Result<AnswerEffect, AllocError>
-        ensures { IfOk result (λ heard. ends_one pending outcome self.old ≡ (heard, self.new)) }
+    fn end_one(&mut self, pending: Pending, outcome: Outcome) -> Result<NextStep, AllocError>
+        ensures { IfOk result (λ next. ends_one pending outcome self.old ≡ (next, self.new)) }
     {
         match pending {
             Pending::Waiting(requested) => self.end_requested(requested, outcome),
@@ -136,7 +132,7 @@ impl Names {
             other => {
                 drop(other);
                 drop(outcome);
-                Ok(AnswerEffect::Nothing)
+                Ok(NextStep::misfit())
             }
         }
     }
@@ -159,8 +155,8 @@ impl Names {
         &mut self,
         requested: Option<RequestName>,
         outcome: Outcome,
-    ) -> Result<AnswerEffect, AllocError>
-        ensures { IfOk result (λ heard. ends_named_one requested outcome self.old ≡ (heard, self.new)) }
+    ) -> Result<NextStep, AllocError>
+        ensures { IfOk result (λ next. ends_named_one requested outcome self.old ≡ (next, self.new)) }
     {
         match requested {
             Some(requested) => {
@@ -170,7 +166,7 @@ impl Names {
             }
             None => {
                 drop(outcome);
-                Ok(AnswerEffect::Nothing)
+                Ok(NextStep::misfit())
             }
         }
     }
@@ -181,8 +177,8 @@ impl Names {
         pending: Pending,
         index: usize,
         outcome: Outcome,
-    ) -> Result<AnswerEffect, AllocError>
-        ensures { IfOk result (λ heard. ends_at pending index outcome self.old ≡ (heard, self.new)) }
+    ) -> Result<NextStep, AllocError>
+        ensures { IfOk result (λ next. ends_at pending index outcome self.old ≡ (next, self.new)) }
     {
         match pending {
             Pending::WaitingForSeveral(several) => {
@@ -195,7 +191,7 @@ impl Names {
             other => {
                 drop(other);
                 drop(outcome);
-                Ok(AnswerEffect::Nothing)
+                Ok(NextStep::misfit())
             }
         }
     }
@@ -234,14 +230,9 @@ impl Names {
         Ok(errors)
     }
 
-    /// The operations that were waited for together have ended so, in the order in which the statement names them. The
-    /// only error is want of memory.
-    pub fn hear_all(
-        &mut self,
-        pending: Pending,
-        outcomes: Vec<Outcome>,
-    ) -> Result<AnswerEffect, AllocError>
-        ensures { IfOk result (λ heard. ends_all pending outcomes.items self.old ≡ (heard, self.new)) }
+    /// The operations that were waited for together have ended so, in the order in which the statement names them.
+    fn end_all(&mut self, pending: Pending, outcomes: Vec<Outcome>) -> Result<NextStep, AllocError>
+        ensures { IfOk result (λ next. ends_all pending outcomes.items self.old ≡ (next, self.new)) }
     {
         match pending {
             Pending::WaitingForSeveral(several) => {
@@ -251,27 +242,23 @@ impl Names {
             other => {
                 drop(other);
                 drop(outcomes);
-                Ok(AnswerEffect::Nothing)
+                Ok(NextStep::misfit())
             }
         }
     }
 
     /// What was waited for is answered so.
-    pub(crate) fn end(
-        &mut self,
-        pending: Pending,
-        answer: Answer,
-    ) -> Result<AnswerEffect, AllocError>
-        ensures { IfOk result (λ heard. ends_by pending answer self.old ≡ (heard, self.new)) }
+    pub(crate) fn end(&mut self, pending: Pending, answer: Answer) -> Result<NextStep, AllocError>
+        ensures { IfOk result (λ next. ends_by pending answer self.old ≡ (next, self.new)) }
     {
         match answer {
             Answer::One(outcome) => self.end_one(pending, outcome),
             Answer::Index(index, outcome) => self.end_at(pending, index, outcome),
             Answer::IndexUndefined => {
                 drop(pending);
-                Ok(AnswerEffect::Nothing)
+                Ok(NextStep::Nothing)
             }
-            Answer::All(outcomes) => self.hear_all(pending, outcomes.into_vec()),
+            Answer::All(outcomes) => self.end_all(pending, outcomes.into_vec()),
         }
     }
 }

@@ -1,24 +1,22 @@
-//! What follows from a statement, and from the answer to its call.
+//! What comes next of a statement: when it is acted on, and behind each answer to a call of it.
 
 ghost use Rattle.std.specs.Prelude.{◌≡◌, ◌++◌, [], ◌∷◌, OnOk};
+ghost use Rattle.interpreter.specs.Numbers.{err_intern};
 
+use crate::numbers::ERR_INTERN;
 use communicators::CommunicatorComparison;
 use engine_calls::Call;
 use script_calls::Pending;
 use std::alloc::{AllocError, Global};
 use std::marker::Model;
 
-/// What a statement asks for.
+/// A call that a statement makes.
 #[derive(Drop)]
-pub enum StatementCall {
-    /// No more than a change of names.
-    Nothing,
-    /// A call of the engine, whose answer is for this.
-    Call(Call, Pending),
-    /// It is refused without a call, with this number, and has changed nothing.
-    Refused(u8),
-    /// It uses a name that isn't set, or a buffer that is lent, and has changed nothing.
-    Faulty,
+pub struct PendingCall {
+    /// The call.
+    pub call: Call,
+    /// What its answer is for.
+    pub pending: Pending,
 }
 
 /// The numbers of errors, in order. Contracts see them as a list.
@@ -60,10 +58,10 @@ impl ErrorNumbers {
     }
 }
 
-/// What a rank tells of an answer, beside what its names then stand for.
+/// What a rank tells of a statement, beside what its names then stand for.
 #[derive(Drop)]
 pub enum Told {
-    /// A call is refused with this number, or an operation ended with this error.
+    /// A call is refused with this number, with or without being made, or an operation ended with this error.
     Error(u8),
     /// Several operations ended, some with these errors.
     Errors(ErrorNumbers),
@@ -79,13 +77,36 @@ pub enum Told {
     Comparison(CommunicatorComparison),
 }
 
-/// What is made of an answer, beside a change of names.
+/// What comes next of a statement, beside a change of names.
 #[derive(Drop)]
-pub enum AnswerEffect {
+pub enum NextStep {
     /// Nothing more: the statement is done.
     Nothing,
-    /// The statement makes another call, whose answer is for this.
-    Call(Call, Pending),
-    /// The statement is done, and this is told.
+    /// It makes this call.
+    Call(PendingCall),
+    /// It is done, and this is told.
     Told(Told),
+}
+
+impl NextStep {
+    /// This call is made, whose answer is for this.
+    pub(crate) fn calling(call: Call, pending: Pending) -> NextStep
+        ensures { result ≡ NextStep.Call (record { call = call; pending = pending }) }
+    {
+        NextStep::Call(PendingCall { call, pending })
+    }
+
+    /// This error, or the refusal of this number, is told.
+    pub(crate) fn error(number: u8) -> NextStep
+        ensures { result ≡ NextStep.Told (Told.Error number) }
+    {
+        NextStep::Told(Told::Error(number))
+    }
+
+    /// The answer isn't one to the call that it was awaited for, which is told as an error of its own; no name changes.
+    pub(crate) fn misfit() -> NextStep
+        ensures { result ≡ NextStep.Told (Told.Error err_intern) }
+    {
+        NextStep::error(ERR_INTERN)
+    }
 }

@@ -44,7 +44,7 @@ impl From<io::Error> for Fault {
 fn unprinted(e: SimulateError) -> Fault {
     match e {
         SimulateError::OutOfMemory => Fault::OutOfMemory,
-        SimulateError::Script(_) | SimulateError::Output => Fault::Output,
+        SimulateError::Line(_) | SimulateError::Output => Fault::Output,
     }
 }
 

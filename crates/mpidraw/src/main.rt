@@ -34,7 +34,7 @@ fn drawing_of(alloc: Global, picture: &Picture, form: Form) -> Result<String, Al
 /// Says why the file was not drawn to its end, and answers the status.
 fn told_of(rt: &(impl Eprint + AllocGlobal), text: &[u8], stopped: Stopped) -> u8 {
     match stopped.error {
-        SimulateError::Script(line) => faulty_events(rt, text, line, stopped.fault),
+        SimulateError::Line(line) => faulty_events(rt, text, line, stopped.fault),
         SimulateError::OutOfMemory => refused(rt, 14, None),
         SimulateError::Output => 3,
     }

@@ -123,7 +123,7 @@ fn run(rt: &(impl Files + Print + Eprint + AllocGlobal), name: &str) -> u8 {
     match ended {
         Ok(()) => 0,
         Err(Stopped { error, fault }) => match error {
-            SimulateError::Script(line) => tell_fault(rt, &text, line, fault),
+            SimulateError::Line(line) => tell_fault(rt, &text, line, fault),
             SimulateError::OutOfMemory => tell_refusal(rt, 14, None),
             SimulateError::Output => tell_output(rt),
         },

@@ -20,7 +20,7 @@ fn run<W: Write>(
     writeln!(out, "== {name}")?;
     match simulate(rt.alloc(), &text, out) {
         Ok(()) => writeln!(out, "ended"),
-        Err(SimulateError::Script(line)) => writeln!(out, "refused 51 line {line}"),
+        Err(SimulateError::Line(line)) => writeln!(out, "refused 51 line {line}"),
         Err(SimulateError::OutOfMemory) => writeln!(out, "refused 14"),
         Err(SimulateError::Output) => writeln!(out, "no output"),
     }

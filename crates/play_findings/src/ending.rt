@@ -3,7 +3,7 @@
 ghost use Rattle.std.specs.Prelude.{◌≡◌, ◌↔◌, All, IsTrue};
 ghost use Rattle.play_findings.specs.Endings.{CannotGoOn, EndsSo, HasEnded, HasEndedWell};
 
-use script_plays::{Played, Stage};
+use script_plays::{Played, RunnerState};
 use world::World;
 
 /// How a play ended.
@@ -21,46 +21,46 @@ pub enum Verdict {
 
 /// Whether a rank has no next step as it stands.
 fn cannot_go_on(player: &Played) -> bool
-    ensures { IsTrue result ↔ CannotGoOn player.now.stage }
+    ensures { IsTrue result ↔ CannotGoOn player.now.state }
 {
-    match player.stage() {
-        Stage::Ready(_) => false,
-        Stage::Waits(_) | Stage::Over(_) => true,
+    match player.state() {
+        RunnerState::Ready(_) => false,
+        RunnerState::Blocked(_) | RunnerState::Over(_, _) => true,
     }
 }
 
 fn has_ended_well(player: &Played) -> bool
-    ensures { IsTrue result ↔ HasEndedWell player.now.stage }
+    ensures { IsTrue result ↔ HasEndedWell player.now.state }
 {
-    match player.stage() {
-        Stage::Over(status) => *status == 0,
-        Stage::Ready(_) | Stage::Waits(_) => false,
+    match player.state() {
+        RunnerState::Over(status, _) => *status == 0,
+        RunnerState::Ready(_) | RunnerState::Blocked(_) => false,
     }
 }
 
 fn has_ended(player: &Played) -> bool
-    ensures { IsTrue result ↔ HasEnded player.now.stage }
+    ensures { IsTrue result ↔ HasEnded player.now.state }
 {
-    match player.stage() {
-        Stage::Over(_) => true,
-        Stage::Ready(_) | Stage::Waits(_) => false,
+    match player.state() {
+        RunnerState::Over(_, _) => true,
+        RunnerState::Ready(_) | RunnerState::Blocked(_) => false,
     }
 }
 
 fn have_ended_well(players: &[Played]) -> bool
-    ensures { IsTrue result ↔ All (λ p. HasEndedWell p.stage) players.now }
+    ensures { IsTrue result ↔ All (λ p. HasEndedWell p.state) players.now }
 {
     players.iter().all(|player| has_ended_well(player))
 }
 
 fn have_ended(players: &[Played]) -> bool
-    ensures { IsTrue result ↔ All (λ p. HasEnded p.stage) players.now }
+    ensures { IsTrue result ↔ All (λ p. HasEnded p.state) players.now }
 {
     players.iter().all(|player| has_ended(player))
 }
 
 fn cannot_all_go_on(players: &[Played]) -> bool
-    ensures { IsTrue result ↔ All (λ p. CannotGoOn p.stage) players.now }
+    ensures { IsTrue result ↔ All (λ p. CannotGoOn p.state) players.now }
 {
     players.iter().all(|player| cannot_go_on(player))
 }

@@ -5,7 +5,7 @@ use error_lines::{MetError, error_line};
 use play_events::ErrorAt;
 use play_faults::{Operation, OperationKind, Standing};
 use play_waits::{Group, Leftover, Page, add_source, add_tag};
-use script_plays::{Played, Stage};
+use script_plays::{Played, RunnerState};
 use std::alloc::AllocError;
 use vocabulary::{Source, Status};
 
@@ -43,7 +43,7 @@ fn add_status(page: &mut Page, status: Status) -> Result<(), AllocError> {
 }
 
 fn ended_well(player: &Played) -> bool {
-    matches!(player.stage(), Stage::Over(0))
+    matches!(player.state(), RunnerState::Over(0, _))
 }
 
 impl Teller<'_, '_, '_> {

@@ -10,7 +10,7 @@ use play_waits::{
     cycle_in, knot_in, waiting_of,
 };
 use script_files::parse;
-use script_plays::{Played, Stage};
+use script_plays::{Played, RunnerState};
 use script_runner::line_of_number;
 use std::alloc::{AllocError, Global};
 use stepped_plays::PlayError;
@@ -97,7 +97,7 @@ impl Teller<'_, '_, '_> {
     fn add_ends(&self, page: &mut Page) -> Result<(), AllocError> {
         for rank in 0..self.size {
             if let Some(player) = self.outcome.players.get(rank as usize) {
-                if let Stage::Over(status) = player.stage() {
+                if let RunnerState::Over(status, _) = player.state() {
                     if *status != 0 {
                         self.add_end(page, rank, player, *status)?;
                     }

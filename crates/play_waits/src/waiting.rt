@@ -8,7 +8,7 @@ use crate::entered::Entered;
 use crate::page::Page;
 use crate::words::{add_source, add_tag};
 use engine::{Call, Receive, Reply, Request, Send};
-use script_plays::{Played, Stage};
+use script_plays::{Played, RunnerState};
 use std::alloc::{AllocError, Global};
 use vocabulary::Source;
 use world::{Event, HistoryEntry};
@@ -278,8 +278,8 @@ pub fn waits_alone(call: &Call) -> bool {
 
 /// The blocked call of a rank.
 pub fn blocked_in(player: &Played) -> Option<&Call> {
-    match player.stage() {
-        Stage::Waits(call) => Some(call),
+    match player.state() {
+        RunnerState::Blocked(call) => Some(call),
         _ => None,
     }
 }

@@ -1,3 +1,4 @@
 pub mod Answers
 pub mod CommunicatorTexts
 pub mod Lines
+pub mod FrameKinds

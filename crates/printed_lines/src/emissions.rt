@@ -1,5 +1,6 @@
 //! The texts of datagrams that went out.
 
+use datagram::{Content, Frame};
 use std::fmt;
 use vocabulary::Endpoint;
 
@@ -42,7 +43,23 @@ pub enum FrameKind {
 
 impl FrameKind {
     ghost use Rattle.std.specs.Prelude.{◌≡◌};
+    ghost use Rattle.datagram.specs.Spelling.{content_text};
     ghost use Rattle.printed_lines.specs.Answers.{kind_text};
+    ghost use Rattle.printed_lines.specs.FrameKinds.{kind_of_body};
+
+    /// What a datagram of this content carries.
+    pub fn of(content: &Content<'_>) -> FrameKind
+        ensures { result ≡ kind_of_body (content_text content.now) }
+    {
+        match content {
+            Content::Frame(Frame::Eager(_)) => FrameKind::Eager,
+            Content::Frame(Frame::RequestToSend(_)) => FrameKind::Rts,
+            Content::Frame(Frame::ClearToSend(_)) => FrameKind::Cts,
+            Content::Frame(Frame::Data(_)) => FrameKind::Data,
+            Content::Ack(_) => FrameKind::Ack,
+            Content::Reset => FrameKind::Reset,
+        }
+    }
 
     /// The word of this kind.
     fn word(self) -> &'static str

@@ -24,7 +24,7 @@ use Rattle.statements.specs.declared.action.RequestName.TheVariants as requested
 use Rattle.vocabulary.specs.declared.envelope.Status.{Status}
 use Rattle.interpreter.specs.Hearing.{ends_named_one, hears, returned}
 use Rattle.interpreter.specs.NamesState.{NamesState, with_message, with_request}
-use Rattle.interpreter.specs.declared.steps.AnswerEffect.TheVariants as heards
+use Rattle.interpreter.specs.declared.steps.NextStep.TheVariants as nexts
 use Rattle.interpreter.specs.declared.steps.Told.TheVariants as tolds
 use Rattle.script_calls.specs.Told.{status_after}
 use Rattle.proof_interpreter.specs.Keeping.{AnswersAreKept, AnyIsKept}
@@ -124,7 +124,7 @@ given s name elements (endings.Comm place) so = absurd cc
 given s name elements endings.Replaced so = absurd cc
 given s name elements endings.Mismatch so = absurd cc
 
-gives_none : (s : NamesState) (p : Pending) → hears p (replies.Left (endings.Left None)) s ≡ (heards.Nothing, s)
+gives_none : (s : NamesState) (p : Pending) → hears p (replies.Left (endings.Left None)) s ≡ (nexts.Nothing, s)
 gives_none s pendings.Nothing = refl
 gives_none s (pendings.Starting name buffer) = refl
 gives_none s (pendings.StartingToWait buffer) = refl
@@ -142,7 +142,7 @@ gives_none s (pendings.AskingSize rank) = refl
 gives_none s pendings.Oversized = refl
 
 nothing : (s : NamesState) (p : Pending) (e : Ending) → ending_is e ≡ machine.Left None →
-    hears p (replies.Left e) s ≡ (heards.Nothing, s)
+    hears p (replies.Left e) s ≡ (nexts.Nothing, s)
 nothing s p (endings.Left None) so = gives_none s p
 nothing s p (endings.Left (Some v)) so = absurd cc
 nothing s p (endings.Comm place) so = absurd cc
@@ -150,24 +150,27 @@ nothing s p endings.Replaced so = absurd cc
 nothing s p endings.Mismatch so = absurd cc
 
 failed : (s : NamesState) (p : Pending) (e : Ending) (number : ℕ) → ending_is e ≡ machine.Failed number →
-    hears p (replies.Left e) s ≡ (heards.Told (tolds.Error number), s)
+    hears p (replies.Left e) s ≡ (nexts.Told (tolds.Error number), s)
 failed s p (endings.Left elements) number so = absurd cc
 failed s p (endings.Comm place) number so = absurd cc
 failed s p endings.Replaced number so =
     let same : 11 ≡ number = cc in
-    ap (λ (n : ℕ). (heards.Told (tolds.Error n), s)) same
+    ap (λ (n : ℕ). (nexts.Told (tolds.Error n), s)) same
 failed s p endings.Mismatch number so =
     let same : 12 ≡ number = cc in
-    ap (λ (n : ℕ). (heards.Told (tolds.Error n), s)) same
+    ap (λ (n : ℕ). (nexts.Told (tolds.Error n), s)) same
 
 asks_for_rank : (s : NamesState) (name : List ℕ) (place : ℕ) (e : Ending) → ending_is e ≡ machine.Comm (Some place) →
     hears (pendings.Making name) (replies.Left e) s ≡
-    (heards.Call (calls.Ask (Some place) questions.Rank) (pendings.Seating name place), s)
+    (nexts.Call (record { call = calls.Ask (Some place) questions.Rank; pending = pendings.Seating name place }), s)
 asks_for_rank s name place (endings.Left elements) so = absurd cc
 asks_for_rank s name place (endings.Comm None) so = absurd cc
 asks_for_rank s name place (endings.Comm (Some at)) so =
     let same : at ≡ place = cc in
-    ap (λ (n : ℕ). (heards.Call (calls.Ask (Some n) questions.Rank) (pendings.Seating name n), s)) same
+    ap (λ (n : ℕ). (
+      nexts.Call (record { call = calls.Ask (Some n) questions.Rank; pending = pendings.Seating name n }),
+      s,
+    )) same
 asks_for_rank s name place endings.Replaced so = absurd cc
 asks_for_rank s name place endings.Mismatch so = absurd cc
 

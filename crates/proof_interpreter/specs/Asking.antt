@@ -34,15 +34,15 @@ use Rattle.statements.specs.declared.collective_line.ReducingToAll.{ReducingToAl
 use Rattle.statements.specs.declared.collective_line.Scattering.{Scattering}
 use Rattle.interpreter.specs.Acting.{Acts, acts_on, receives_to_wait, sends_to_wait}
 use Rattle.interpreter.specs.NamesState.{NamesState, is_lent, is_root}
-use Rattle.interpreter.specs.declared.steps.StatementCall.TheVariants as askeds
+use Rattle.interpreter.specs.declared.steps.NextStep.TheVariants as nexts
 use Rattle.proof_interpreter.specs.Names.{AllStays, Holds, IsLent, OthersStay}
 
 -- it is this call, as the machine sees it
 abbrev pub Asks : Acts → machine.Call → Type 0
-Asks (askeds.Nothing, new) asked = ⊥
-Asks (askeds.Call call pending, new) asked = call_seen call ≡ asked
-Asks (askeds.Refused number, new) asked = ⊥
-Asks (askeds.Faulty, new) asked = ⊥
+Asks (None, new) asked = ⊥
+Asks (Some nexts.Nothing, new) asked = ⊥
+Asks (Some (nexts.Call made), new) asked = call_seen made.call ≡ asked
+Asks (Some (nexts.Told told), new) asked = ⊥
 
 -- it is this call, and every name stands for what it stood for
 abbrev pub AsksAlone : NamesState → Acts → machine.Call → Type 0
@@ -99,7 +99,7 @@ IsCountable block = nat_lt (length block.values) (2 ^ 32) ≡ true
 
 -- A buffer that isn't lent is set, and nothing is asked
 pub record IsSet (s : NamesState) (line : BufferLine) (acts : Acts) : Type 0 where
-  pub asks : acts.0 ≡ askeds.Nothing
+  pub asks : acts.0 ≡ Some nexts.Nothing
   pub holds : Holds acts.1 line.name line.value
   pub others : OthersStay s acts.1 None (Some line.name) None None
   pub last : acts.1.last ≡ s.last

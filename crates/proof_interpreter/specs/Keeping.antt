@@ -24,8 +24,8 @@ use Rattle.statements.specs.declared.action.RequestName.TheVariants as requested
 use Rattle.vocabulary.specs.declared.envelope.Status.{Status}
 use Rattle.interpreter.specs.Hearing.{Hears, hears}
 use Rattle.interpreter.specs.NamesState.{NamesState}
-use Rattle.interpreter.specs.declared.steps.AnswerEffect.{AnswerEffect}
-use Rattle.interpreter.specs.declared.steps.AnswerEffect.TheVariants as heards
+use Rattle.interpreter.specs.declared.steps.NextStep.{NextStep}
+use Rattle.interpreter.specs.declared.steps.NextStep.TheVariants as nexts
 use Rattle.interpreter.specs.declared.steps.Told.TheVariants as tolds
 use Rattle.proof_interpreter.specs.Names.{HasCome, Holds, HoldsBack, OthersStay, error_in, handed_back}
 use Rattle.proof_interpreter.specs.Names.{last_status, started_with}
@@ -46,14 +46,14 @@ StartsAreKept = (s : NamesState) (name : List ℕ) (buffer : Option (List ℕ)) 
 abbrev pub UnnamedStartsWait : Type 0
 UnnamedStartsWait = (s : NamesState) (buffer : Option (List ℕ)) (q : Request) →
     hears (pendings.StartingToWait buffer) (replies.Started q) s ≡
-    (heards.Call (calls.Wait (Some q)) (pendings.WaitingUnnamed buffer), s)
+    (nexts.Call (record { call = calls.Wait (Some q); pending = pendings.WaitingUnnamed buffer }), s)
 
 -- ---- one outcome (3.7.3)
 
 -- an error is told by its number, and nothing else is
-abbrev pub told_of : Option ℕ → AnswerEffect
-told_of None = heards.Nothing
-told_of (Some number) = heards.Told (tolds.Error number)
+abbrev pub told_of : Option ℕ → NextStep
+told_of None = nexts.Nothing
+told_of (Some number) = nexts.Told (tolds.Error number)
 
 -- The one request of this name has ended so: the name is null, and what is handed back is in the buffer with which it
 -- was started
@@ -157,9 +157,9 @@ abbrev pub errors_in : List queues.Outcome → List ℕ
 errors_in [] = []
 errors_in (o ∷ os) = with_error_in (error_in o) (errors_in os)
 
-abbrev pub all_told_of : List ℕ → AnswerEffect
-all_told_of [] = heards.Nothing
-all_told_of (number ∷ numbers) = heards.Told (tolds.Errors (number ∷ numbers))
+abbrev pub all_told_of : List ℕ → NextStep
+all_told_of [] = nexts.Nothing
+all_told_of (number ∷ numbers) = nexts.Told (tolds.Errors (number ∷ numbers))
 
 pub record AllHaveEnded (old : NamesState) (rs : List RequestName) (os : List Outcome) (new : NamesState) : Type 0 where
   pub each : EachHasEnded old rs os new
@@ -183,9 +183,9 @@ AllAreKept = (s : NamesState) (rs : List RequestName) (os : List Outcome) → Ar
 pub record ProbesAreKept : Type 0 where
   pub found :
       (s : NamesState) (p : Pending) (status : Status) →
-      hears p (replies.Probed (Some status)) s ≡ (heards.Nothing, record s { last = status })
-  pub none : (s : NamesState) (p : Pending) → hears p (replies.Probed None) s ≡ (heards.Told tolds.NoMessage, s)
-  pub unmatched : (s : NamesState) (p : Pending) → hears p (replies.Matched None) s ≡ (heards.Told tolds.NoMessage, s)
+      hears p (replies.Probed (Some status)) s ≡ (nexts.Nothing, record s { last = status })
+  pub none : (s : NamesState) (p : Pending) → hears p (replies.Probed None) s ≡ (nexts.Told tolds.NoMessage, s)
+  pub unmatched : (s : NamesState) (p : Pending) → hears p (replies.Matched None) s ≡ (nexts.Told tolds.NoMessage, s)
 
 -- the message that was taken out has the name of its statement
 pub record IsTakenOut (old new : NamesState) (name : List ℕ) (message : Option Request) (status : Status) : Type 0 where
@@ -212,10 +212,10 @@ pub record CollectivesAreKept : Type 0 where
       IsGiven s (hears (pendings.Entering (Some name)) (replies.Left e) s).1 name elements
   pub nothing :
       (s : NamesState) (p : Pending) (e : Ending) → ending_is e ≡ machine.Left None →
-      hears p (replies.Left e) s ≡ (heards.Nothing, s)
+      hears p (replies.Left e) s ≡ (nexts.Nothing, s)
   pub failed :
       (s : NamesState) (p : Pending) (e : Ending) (number : ℕ) → ending_is e ≡ machine.Failed number →
-      hears p (replies.Left e) s ≡ (heards.Told (tolds.Error number), s)
+      hears p (replies.Left e) s ≡ (nexts.Told (tolds.Error number), s)
 
 -- the name stands for a new communicator by its place, with the rank in it, which is asked for first; or for
 -- MPI_COMM_NULL
@@ -233,7 +233,7 @@ pub record CommunicatorsAreKept : Type 0 where
   pub asks :
       (s : NamesState) (name : List ℕ) (place : ℕ) (e : Ending) → ending_is e ≡ machine.Comm (Some place) →
       hears (pendings.Making name) (replies.Left e) s ≡
-      (heards.Call (calls.Ask (Some place) questions.Rank) (pendings.Seating name place), s)
+      (nexts.Call (record { call = calls.Ask (Some place) questions.Rank; pending = pendings.Seating name place }), s)
   pub made :
       (s : NamesState) (name : List ℕ) (place rank : ℕ) →
       IsMade s (hears (pendings.Seating name place) (replies.Fact (facts.Number rank)) s).1 name place rank
@@ -244,11 +244,11 @@ pub record CommunicatorsAreKept : Type 0 where
   pub size :
       (s : NamesState) (comm : Option ℕ) (rank : ℕ) →
       hears (pendings.AskingRank comm) (replies.Fact (facts.Number rank)) s ≡
-      (heards.Call (calls.Ask comm questions.Size) (pendings.AskingSize rank), s)
+      (nexts.Call (record { call = calls.Ask comm questions.Size; pending = pendings.AskingSize rank }), s)
   pub position :
       (s : NamesState) (rank size : ℕ) →
       hears (pendings.AskingSize rank) (replies.Fact (facts.Number size)) s ≡
-      (heards.Told (tolds.Position rank size), s)
+      (nexts.Told (tolds.Position rank size), s)
 
 -- ---- what says nothing of names
 

@@ -1,11 +1,10 @@
 -- That a refused statement changes nothing.
-use Rattle.std.specs.Prelude.{◌≡◌}
+use Rattle.std.specs.Prelude.{◌≡◌, Some, None}
 use Rattle.engine_calls.specs.declared.reply.Reply.TheVariants as replies
 use Rattle.interpreter.specs.Acting.{Acts, acts_on, receives_to_wait, sends_to_wait}
 use Rattle.interpreter.specs.Hearing.{hears}
 use Rattle.interpreter.specs.NamesState.{NamesState}
-use Rattle.interpreter.specs.declared.steps.AnswerEffect.TheVariants as heards
-use Rattle.interpreter.specs.declared.steps.StatementCall.TheVariants as askeds
+use Rattle.interpreter.specs.declared.steps.NextStep.TheVariants as nexts
 use Rattle.interpreter.specs.declared.steps.Told.TheVariants as tolds
 use Rattle.point_to_point_calls.specs.Refusals.{number_of_refusal}
 use Rattle.point_to_point_calls.specs.declared.refusal.Refusal.{Refusal}
@@ -16,12 +15,12 @@ use Rattle.proof_interpreter.specs.Names.{AllStays}
 
 -- the refusal's number is told, and every name is what it was
 abbrev pub IsUndone : NamesState → Acts → Type 0
-IsUndone s (askeds.Nothing, new) = Unit {0}
-IsUndone s (askeds.Call call pending, new) =
-    (why : Refusal) → (AllStays s (hears pending (replies.Refused why call) new).1) ×
-    ((hears pending (replies.Refused why call) new).0 ≡ heards.Told (tolds.Error (number_of_refusal why)))
-IsUndone s (askeds.Refused number, new) = new ≡ s
-IsUndone s (askeds.Faulty, new) = new ≡ s
+IsUndone s (None, new) = new ≡ s
+IsUndone s (Some nexts.Nothing, new) = Unit {0}
+IsUndone s (Some (nexts.Call made), new) =
+    (why : Refusal) → (AllStays s (hears made.pending (replies.Refused why made.call) new).1) ×
+    ((hears made.pending (replies.Refused why made.call) new).0 ≡ nexts.Told (tolds.Error (number_of_refusal why)))
+IsUndone s (Some (nexts.Told told), new) = new ≡ s
 
 -- so it is for every statement, and for the sends and receives of scripts, which wait in the same line
 pub record RefusedStatementsChangeNothing : Type 0 where

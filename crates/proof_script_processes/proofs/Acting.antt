@@ -14,8 +14,7 @@ use Rattle.interpreter.specs.Acting.{sends_from, sends_to_wait, sets, sets_layou
 use Rattle.interpreter.specs.Acting.{waits_for, waits_for_all, waits_for_several}
 use Rattle.interpreter.specs.NamesState.{NamesState, here, is_lent, is_root, is_root_at, message_at, place_named}
 use Rattle.interpreter.specs.NamesState.{with_buffer}
-use Rattle.interpreter.specs.declared.steps.StatementCall.{StatementCall}
-use Rattle.interpreter.specs.declared.steps.StatementCall.TheVariants as askeds
+use Rattle.interpreter.specs.declared.steps.NextStep.{NextStep}
 use Rattle.layouts.specs.Layouts.{Shape}
 use Rattle.requests.specs.declared.region.Places.{Places}
 use Rattle.requests.specs.declared.table.Request.{Request}
@@ -43,15 +42,13 @@ use Rattle.statements.specs.declared.layout_line.OldLayout.{OldLayout}
 use Rattle.statements.specs.declared.layout_line.OldLayout.TheVariants as olds
 use Rattle.vocabulary.specs.declared.mode.Mode.{Mode}
 use Rattle.vocabulary.specs.declared.mode.Mode.TheVariants as modes
-use Rattle.proof_script_processes.specs.Changing.{changed_call, changed_message, changed_names, changed_requests}
+use Rattle.proof_script_processes.specs.Changing.{changed_message, changed_names, changed_next, changed_requests}
 use Rattle.proof_script_processes.proofs.Tables.{message_same, request_same}
 
 -- what a statement asks for, with other requests
-abbrev pub changed_asked : (Request → Request) → StatementCall → StatementCall
-changed_asked change askeds.Nothing = askeds.Nothing
-changed_asked change (askeds.Call call pending) = askeds.Call (changed_call change call) pending
-changed_asked change (askeds.Refused number) = askeds.Refused number
-changed_asked change askeds.Faulty = askeds.Faulty
+abbrev pub changed_asked : (Request → Request) → Option NextStep → Option NextStep
+changed_asked change None = None
+changed_asked change (Some next) = Some (changed_next change next)
 
 abbrev pub changed_acts : (Request → Request) → Acts → Acts
 changed_acts change a = (changed_asked change a.0, changed_names change a.1)
@@ -192,7 +189,7 @@ landing_same change name x None (Some named) s = refl
 landing_same change name x (Some messages.Ended) None s = refl
 landing_same change name x (Some (messages.TakenOut q)) None s = refl
 landing_same change name x (Some messages.Ended) (Some named) s =
-    ap (λ (a : StatementCall). (a, changed_names change s)) (ended_same change (here s x.buffer))
+    ap (λ (a : Option NextStep). (a, changed_names change s)) (ended_same change (here s x.buffer))
 landing_same change name x (Some (messages.TakenOut q)) (Some named) s =
     taken_same change q named name x.buffer (here s x.buffer) s
 

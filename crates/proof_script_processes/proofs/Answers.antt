@@ -13,12 +13,12 @@ use Rattle.engine_calls.specs.declared.reply.Reply.{Reply}
 use Rattle.engine_calls.specs.declared.reply.Reply.TheVariants as replies
 use Rattle.interpreter.specs.Hearing.{Hears, counts, elements_taken, ended_each, ended_named, ends_all, ends_at}
 use Rattle.interpreter.specs.Hearing.{ends_by, ends_message, ends_named_one, ends_one, ends_requested, ends_with}
-use Rattle.interpreter.specs.Hearing.{error_told, errors_told, found_named, goes_on, hears, hears_match, hears_probe}
-use Rattle.interpreter.specs.Hearing.{held_buffer, learns, leaves, lent_by, returned, seat_taken, starts, taken_back}
-use Rattle.interpreter.specs.Hearing.{takes_elements, takes_seat, tells, with_error}
+use Rattle.interpreter.specs.Hearing.{error_told, errors_told, finds, goes_on, hears, hears_match, hears_probe}
+use Rattle.interpreter.specs.Hearing.{communicator_taken, held_buffer, learns, leaves, lent_by, returned, starts}
+use Rattle.interpreter.specs.Hearing.{taken_back, takes_communicator, takes_elements, tells, unawaited, with_error}
 use Rattle.interpreter.specs.NamesState.{NamesState, given_back, with_message, with_request}
-use Rattle.interpreter.specs.declared.steps.AnswerEffect.{AnswerEffect}
-use Rattle.interpreter.specs.declared.steps.AnswerEffect.TheVariants as heards
+use Rattle.interpreter.specs.declared.steps.NextStep.{NextStep}
+use Rattle.interpreter.specs.declared.steps.NextStep.TheVariants as nexts
 use Rattle.interpreter.specs.declared.steps.Told.TheVariants as tolds
 use Rattle.observation.specs.EngineCalls.{call_seen}
 use Rattle.proof_one_meaning.specs.Following.{IsCovered}
@@ -36,24 +36,21 @@ use Rattle.script_calls.specs.declared.pending.Pending.TheVariants as pendings
 use Rattle.statements.specs.declared.action.RequestName.{RequestName}
 use Rattle.statements.specs.declared.action.RequestName.TheVariants as requested
 use Rattle.vocabulary.specs.declared.envelope.Status.{Status}
-use Rattle.proof_script_processes.specs.Changing.{changed_call, changed_found, changed_names, changed_reply}
+use Rattle.proof_script_processes.specs.Changing.{changed_call, changed_found, changed_names, changed_next}
+use Rattle.proof_script_processes.specs.Changing.{changed_reply}
 use Rattle.proof_script_processes.specs.Processes.{steps_for}
 use Rattle.proof_script_processes.proofs.Tables.{buffer_same, with_message_same, with_request_same}
 
 -- what is made of an answer, with other requests
-abbrev pub changed_heard : (Request → Request) → AnswerEffect → AnswerEffect
-changed_heard change heards.Nothing = heards.Nothing
-changed_heard change (heards.Call call pending) = heards.Call (changed_call change call) pending
-changed_heard change (heards.Told told) = heards.Told told
-
 abbrev pub changed_hears : (Request → Request) → Hears → Hears
-changed_hears change made = (changed_heard change made.0, changed_names change made.1)
+changed_hears change made = (changed_next change made.0, changed_names change made.1)
 
 -- a call that follows from the answer to such a one is covered, and fewer follow from its own
-abbrev pub IsNext : Pending → AnswerEffect → Type 0
-IsNext p heards.Nothing = Unit {0}
-IsNext p (heards.Call call q) = IsCovered (call_seen call) × (steps_for (Some q) < steps_for (Some p))
-IsNext p (heards.Told told) = Unit {0}
+abbrev pub IsNext : Pending → NextStep → Type 0
+IsNext p nexts.Nothing = Unit {0}
+IsNext p (nexts.Call made) =
+    IsCovered (call_seen made.call) × (steps_for (Some made.pending) < steps_for (Some p))
+IsNext p (nexts.Told told) = Unit {0}
 
 -- both together
 abbrev pub Goes : (Request → Request) → Pending → (changed made : Hears) → Type 0
@@ -118,32 +115,35 @@ probe_go : (change : Request → Request) (p : Pending) (found : Option Status) 
 probe_go change p None s = (refl, tt)
 probe_go change p (Some status) s = (refl, tt)
 
-found_same : (change : Request → Request) (p : Pending) (message : Option Request) (s : NamesState) →
-    found_named p (option_map change message) (changed_names change s) ≡ changed_names change (found_named p message s)
-found_same change pendings.Nothing message s = refl
-found_same change (pendings.Starting n b) message s = refl
-found_same change (pendings.StartingToWait b) message s = refl
-found_same change (pendings.Waiting r) message s = refl
-found_same change (pendings.WaitingUnnamed b) message s = refl
-found_same change (pendings.WaitingForSeveral rs) message s = refl
-found_same change (pendings.Searching n) message s = with_message_same change s n (messages.TakenOut message)
-found_same change (pendings.Receiving n b) message s = refl
-found_same change (pendings.Making n) message s = refl
-found_same change (pendings.Seating n place) message s = refl
-found_same change (pendings.Entering n) message s = refl
-found_same change (pendings.AskingRank comm) message s = refl
-found_same change (pendings.AskingSize rank) message s = refl
-found_same change pendings.Oversized message s = refl
+finds_go : (change : Request → Request) (p : Pending) (message : Option Request) (status : Status) (s : NamesState) →
+    Goes change p (finds p (option_map change message, status) (changed_names change s)) (finds p (message, status) s)
+finds_go change pendings.Nothing message status s = (refl, tt)
+finds_go change (pendings.Starting n b) message status s = (refl, tt)
+finds_go change (pendings.StartingToWait b) message status s = (refl, tt)
+finds_go change (pendings.Waiting r) message status s = (refl, tt)
+finds_go change (pendings.WaitingUnnamed b) message status s = (refl, tt)
+finds_go change (pendings.WaitingForSeveral rs) message status s = (refl, tt)
+finds_go change (pendings.Searching n) message status s = (
+  ap (λ (x : NamesState). goes_on (record x { last = status }))
+      (with_message_same change s n (messages.TakenOut message)),
+  tt,
+)
+finds_go change (pendings.Receiving n b) message status s = (refl, tt)
+finds_go change (pendings.Making n) message status s = (refl, tt)
+finds_go change (pendings.Seating n place) message status s = (refl, tt)
+finds_go change (pendings.Entering n) message status s = (refl, tt)
+finds_go change (pendings.AskingRank comm) message status s = (refl, tt)
+finds_go change (pendings.AskingSize rank) message status s = (refl, tt)
+finds_go change pendings.Oversized message status s = (refl, tt)
 
 match_go : (change : Request → Request) (p : Pending) (found : Option (Option Request × Status)) (s : NamesState) →
     Goes change p (hears_match p (changed_found change found) (changed_names change s)) (hears_match p found s)
 match_go change p None s = (refl, tt)
-match_go change p (Some found) s =
-    (ap (λ (n : NamesState). goes_on (record n { last = found.1 })) (found_same change p found.0 s), tt)
+match_go change p (Some found) s = finds_go change p found.0 found.1 s
 
 -- OUTCOMES
 
-error_same : (change : Request → Request) (e : Option ℕ) → error_told e ≡ changed_heard change (error_told e)
+error_same : (change : Request → Request) (e : Option ℕ) → error_told e ≡ changed_next change (error_told e)
 error_same change None = refl
 error_same change (Some number) = refl
 
@@ -151,7 +151,7 @@ error_next : (p : Pending) (e : Option ℕ) → IsNext p (error_told e)
 error_next p None = tt
 error_next p (Some number) = tt
 
-errors_same : (change : Request → Request) (es : List ℕ) → errors_told es ≡ changed_heard change (errors_told es)
+errors_same : (change : Request → Request) (es : List ℕ) → errors_told es ≡ changed_next change (errors_told es)
 errors_same change [] = refl
 errors_same change (e ∷ es) = refl
 
@@ -162,7 +162,7 @@ errors_next p (e ∷ es) = tt
 with_same : (change : Request → Request) (name : Option (List ℕ)) (o : Outcome) (s : NamesState) →
     ends_with name o (changed_names change s) ≡ changed_hears change (ends_with name o s)
 with_same change name o s =
-    ap₂ (λ (h : AnswerEffect) (n : NamesState). (h, record n { last = status_after s.last o }))
+    ap₂ (λ (h : NextStep) (n : NamesState). (h, record n { last = status_after s.last o }))
     (error_same change (error_of o)) (returned_same change name o s)
 
 requested_go : (change : Request → Request) (p : Pending) (r : RequestName) (o : Outcome) (s : NamesState) →
@@ -213,7 +213,7 @@ named_go : (change : Request → Request) (p : Pending) (r : Option RequestName)
     Goes change p (ends_named_one r o (changed_names change s)) (ends_named_one r o s)
 named_go change p None o s = (refl, tt)
 named_go change p (Some r) o s = (
-  ap₂ (λ (h : AnswerEffect) (n : NamesState). (h, n)) (error_same change (error_of o)) (ended_same change r o s),
+  ap₂ (λ (h : NextStep) (n : NamesState). (h, n)) (error_same change (error_of o)) (ended_same change r o s),
   error_next p (error_of o),
 )
 
@@ -251,7 +251,7 @@ several_go : (change : Request → Request) (p : Pending) (rs : List RequestName
     ) (errors_told (ended_each rs os s).0, (ended_each rs os s).1)
 several_go change p rs os s = (
   ap (λ (x : List ℕ × NamesState). (errors_told x.0, x.1)) (each_same change rs os s)
-      ∙ ap (λ (h : AnswerEffect). (h, changed_names change (ended_each rs os s).1))
+      ∙ ap (λ (h : NextStep). (h, changed_names change (ended_each rs os s).1))
       (errors_same change (ended_each rs os s).0),
   errors_next p (ended_each rs os s).0,
 )
@@ -287,30 +287,36 @@ taken_same : (change : Request → Request) (name : Option (List ℕ)) (b : Opti
 taken_same change name None s = refl
 taken_same change name (Some b) s = given_same change s name b
 
+unawaited_go : (change : Request → Request) (p : Pending) (b : Option Contents) (s : NamesState) →
+    Goes change p (unawaited b, changed_names change s) (unawaited b, s)
+unawaited_go change p None s = (refl, tt)
+unawaited_go change p (Some b) s = (refl, tt)
+
 elements_go : (change : Request → Request) (p : Pending) (b : Option Contents) (s : NamesState) →
     Goes change p (takes_elements p b (changed_names change s)) (takes_elements p b s)
-elements_go change pendings.Nothing b s = (refl, tt)
-elements_go change (pendings.Starting n lent) b s = (refl, tt)
-elements_go change (pendings.StartingToWait lent) b s = (refl, tt)
-elements_go change (pendings.Waiting r) b s = (refl, tt)
-elements_go change (pendings.WaitingUnnamed lent) b s = (refl, tt)
-elements_go change (pendings.WaitingForSeveral rs) b s = (refl, tt)
-elements_go change (pendings.Searching n) b s = (refl, tt)
-elements_go change (pendings.Receiving n lent) b s = (refl, tt)
-elements_go change (pendings.Making n) b s = (refl, tt)
-elements_go change (pendings.Seating n place) b s = (refl, tt)
+elements_go change pendings.Nothing b s = unawaited_go change pendings.Nothing b s
+elements_go change (pendings.Starting n lent) b s = unawaited_go change (pendings.Starting n lent) b s
+elements_go change (pendings.StartingToWait lent) b s = unawaited_go change (pendings.StartingToWait lent) b s
+elements_go change (pendings.Waiting r) b s = unawaited_go change (pendings.Waiting r) b s
+elements_go change (pendings.WaitingUnnamed lent) b s = unawaited_go change (pendings.WaitingUnnamed lent) b s
+elements_go change (pendings.WaitingForSeveral rs) b s = unawaited_go change (pendings.WaitingForSeveral rs) b s
+elements_go change (pendings.Searching n) b s = unawaited_go change (pendings.Searching n) b s
+elements_go change (pendings.Receiving n lent) b s = unawaited_go change (pendings.Receiving n lent) b s
+elements_go change (pendings.Making n) b s = unawaited_go change (pendings.Making n) b s
+elements_go change (pendings.Seating n place) b s = unawaited_go change (pendings.Seating n place) b s
 elements_go change (pendings.Entering n) b s = (ap goes_on (taken_same change n b s), tt)
-elements_go change (pendings.AskingRank comm) b s = (refl, tt)
-elements_go change (pendings.AskingSize rank) b s = (refl, tt)
-elements_go change pendings.Oversized b s = (refl, tt)
+elements_go change (pendings.AskingRank comm) b s = unawaited_go change (pendings.AskingRank comm) b s
+elements_go change (pendings.AskingSize rank) b s = unawaited_go change (pendings.AskingSize rank) b s
+elements_go change pendings.Oversized b s = unawaited_go change pendings.Oversized b s
 
 seated_go : (change : Request → Request) (name : List ℕ) (place : Option ℕ) (s : NamesState) →
-    Goes change (pendings.Making name) (seat_taken name place (changed_names change s)) (seat_taken name place s)
+    Goes change (pendings.Making name) (communicator_taken name place (changed_names change s))
+    (communicator_taken name place s)
 seated_go change name None s = (refl, tt)
 seated_go change name (Some place) s = (refl, (tt, omega arith))
 
 seat_go : (change : Request → Request) (p : Pending) (place : Option ℕ) (s : NamesState) →
-    Goes change p (takes_seat p place (changed_names change s)) (takes_seat p place s)
+    Goes change p (takes_communicator p place (changed_names change s)) (takes_communicator p place s)
 seat_go change pendings.Nothing place s = (refl, tt)
 seat_go change (pendings.Starting n b) place s = (refl, tt)
 seat_go change (pendings.StartingToWait b) place s = (refl, tt)

@@ -14,10 +14,8 @@ use Rattle.interpreter.specs.Acting.{sends, sends_from, sends_to_wait, sets, set
 use Rattle.interpreter.specs.Acting.{waits_for, waits_for_all, waits_for_several}
 use Rattle.interpreter.specs.Hearing.{hears}
 use Rattle.interpreter.specs.NamesState.{NamesState, here, is_lent, is_root, place_named, with_buffer}
-use Rattle.interpreter.specs.declared.steps.StatementCall.{StatementCall}
-use Rattle.interpreter.specs.declared.steps.StatementCall.TheVariants as askeds
-use Rattle.interpreter.specs.declared.steps.AnswerEffect.{AnswerEffect}
-use Rattle.interpreter.specs.declared.steps.AnswerEffect.TheVariants as heards
+use Rattle.interpreter.specs.declared.steps.NextStep.{NextStep}
+use Rattle.interpreter.specs.declared.steps.NextStep.TheVariants as nexts
 use Rattle.layouts.specs.Layouts.{Shape}
 use Rattle.one_meaning.specs.Courses.{Calls, Refused, Replied, Told}
 use Rattle.perfect_groups.specs.Calls as machine
@@ -34,7 +32,7 @@ use Rattle.requests.specs.declared.table.Request.{Request}
 use Rattle.script_files.specs.declared.script.RankLine.{RankLine}
 use Rattle.script_files.specs.declared.script.ScriptStatement.{ScriptStatement}
 use Rattle.script_files.specs.declared.script.ScriptStatement.TheVariants as statements
-use Rattle.script_runner.specs.Running.{Does, RunnerState, along, does_after, does_by, next_of}
+use Rattle.script_runner.specs.Running.{Does, ScriptState, along, does_after, does_by, next_of}
 use Rattle.script_calls.specs.Entries.{entry_with, split_by}
 use Rattle.script_calls.specs.declared.pending.Pending.{Pending}
 use Rattle.script_calls.specs.declared.pending.Pending.TheVariants as pendings
@@ -58,11 +56,11 @@ use Rattle.proof_script_processes.proofs.Answers.{IsNext, hears_go}
 -- ---- what statements ask for
 
 -- a covered call, or none
-abbrev IsAsked : StatementCall → Type 0
-IsAsked askeds.Nothing = Unit {0}
-IsAsked (askeds.Call call pending) = IsCovered (call_seen call)
-IsAsked (askeds.Refused number) = Unit {0}
-IsAsked askeds.Faulty = Unit {0}
+abbrev IsAsked : Option NextStep → Type 0
+IsAsked None = Unit {0}
+IsAsked (Some nexts.Nothing) = Unit {0}
+IsAsked (Some (nexts.Call made)) = IsCovered (call_seen made.call)
+IsAsked (Some (nexts.Told told)) = Unit {0}
 
 sets_fine : (line : BufferLine) (s : NamesState) → IsAsked (sets line s).0
 sets_fine line s = go (is_lent s line.name)
@@ -205,12 +203,12 @@ abbrev IsFine : Option RunnerStep → Type 0
 IsFine None = Unit {0}
 IsFine (Some step) = IsFineStep step
 
-does_fine : (number : ℕ) (asked : StatementCall) (names : NamesState) → IsAsked asked →
-    IsFine (does number asked names).0
-does_fine number askeds.Nothing names f = tt
-does_fine number (askeds.Call call pending) names f = f
-does_fine number (askeds.Refused refusal) names f = tt
-does_fine number askeds.Faulty names f = tt
+does_fine : (number : ℕ) (next : Option NextStep) (names : NamesState) → IsAsked next →
+    IsFine (does number next names).0
+does_fine number None names f = tt
+does_fine number (Some nexts.Nothing) names f = tt
+does_fine number (Some (nexts.Call made)) names f = f
+does_fine number (Some (nexts.Told told)) names f = tt
 
 elements_fine : (number : ℕ) (o : Option Contents) → IsFineStep (prints_elements number o)
 elements_fine number None = tt
@@ -237,10 +235,10 @@ states_fine number (statements.Count name) c names =
 states_fine number (statements.Say words) c names = tt
 states_fine number statements.Fail c names = tt
 
-follows_fine : (p : Pending) (h : AnswerEffect) (names : NamesState) → IsNext p h → IsFine (follows h names).0
-follows_fine p heards.Nothing names n = tt
-follows_fine p (heards.Call call q) names n = n.0
-follows_fine p (heards.Told told) names n = tt
+follows_fine : (p : Pending) (next : NextStep) (names : NamesState) → IsNext p next → IsFine (follows next names).0
+follows_fine p nexts.Nothing names n = tt
+follows_fine p (nexts.Call made) names n = n.0
+follows_fine p (nexts.Told told) names n = tt
 
 heeds_fine : (o : Option Pending) (reply : Reply) (names : NamesState) → IsFine (heeds_by o reply names).0
 heeds_fine None reply names = tt
@@ -273,11 +271,11 @@ after_fine : (lines : List RankLine) (acted : Option RunnerStep × RankState) �
     AreFine (does_after lines acted)
 after_fine lines acted c f = or_fine lines acted.0 acted.1 (along lines acted.1) c f (along_fine lines acted.1 c)
 
-next_fine : (s : RunnerState) (reply : Option Reply) → AreCoveredLines s.lines → AreFine (next_of s reply)
+next_fine : (s : ScriptState) (reply : Option Reply) → AreCoveredLines s.lines → AreFine (next_of s reply)
 next_fine s None c = along_fine s.lines s.rank c
 next_fine s (Some reply) c = after_fine s.lines (heeds reply s.rank) c (heeds_fine s.rank.pending reply s.rank.names)
 
-told_fine : (s : RunnerState) (call : Call) (t : Told) → AreCoveredLines s.lines → AreFine (next_told s call t)
+told_fine : (s : ScriptState) (call : Call) (t : Told) → AreCoveredLines s.lines → AreFine (next_told s call t)
 told_fine s call (Replied (machine.OfFact (machine.Ranks ranks))) c =
     after_fine s.lines (tells_ranks s.rank.pending ranks s.rank.names) c (ranks_fine s.rank.pending ranks s.rank.names)
 told_fine s call (Replied (machine.OfFact (machine.Number n))) c =
@@ -298,7 +296,7 @@ told_fine s call (Replied (machine.OfCollective o)) c =
     next_fine s (Some (reply_for call (Replied (machine.OfCollective o)))) c
 told_fine s call (Refused number) c = next_fine s (Some (reply_for call (Refused number))) c
 
-by_told_fine : (s : RunnerState) (o : Option Call) (t : Option Told) → AreCoveredLines s.lines → AreFine (next_by s o t)
+by_told_fine : (s : ScriptState) (o : Option Call) (t : Option Told) → AreCoveredLines s.lines → AreFine (next_by s o t)
 by_told_fine s None t c = next_fine s None c
 by_told_fine s (Some call) None c = next_fine s None c
 by_told_fine s (Some call) (Some t) c = told_fine s call t c

@@ -6,8 +6,8 @@ use Rattle.engine_calls.specs.declared.call.Call.{Call}
 use Rattle.engine_calls.specs.declared.reply.Reply.{Reply}
 use Rattle.interpreter.specs.Hearing.{hears}
 use Rattle.interpreter.specs.NamesState.{NamesState}
-use Rattle.interpreter.specs.declared.steps.AnswerEffect.{AnswerEffect}
-use Rattle.interpreter.specs.declared.steps.AnswerEffect.TheVariants as heards
+use Rattle.interpreter.specs.declared.steps.NextStep.{NextStep}
+use Rattle.interpreter.specs.declared.steps.NextStep.TheVariants as nexts
 use Rattle.one_meaning.proofs.Turning.{comes_to_the_end}
 use Rattle.one_meaning.specs.Courses.{RecordsAgree, Refused, Replied, Told, accounts}
 use Rattle.one_meaning.specs.Turns.{Falls}
@@ -23,7 +23,7 @@ use Rattle.event_loop.specs.declared.runner.RunnerStep.TheVariants as steps
 use Rattle.script_runner.specs.ScriptRanks.{RankState, acts, follows, heeds_by}
 use Rattle.script_files.specs.declared.script.ScriptLine.{ScriptLine}
 use Rattle.script_files.specs.declared.script.RankLine.{RankLine}
-use Rattle.script_runner.specs.Running.{Does, RunnerState, along, does_after, does_by, next_of}
+use Rattle.script_runner.specs.Running.{Does, ScriptState, along, does_after, does_by, next_of}
 use Rattle.script_calls.specs.declared.pending.Pending.{Pending}
 use Rattle.script_calls.specs.declared.pending.Pending.TheVariants as pendings
 use Rattle.proof_script_processes.specs.Forgetting.{plain_request}
@@ -106,14 +106,14 @@ along_light (line ∷ rest) s g =
 -- ANSWERS
 
 follows_light :
-    (lines : List RankLine) (p : Pending) (h : AnswerEffect) (names : NamesState) → IsNext p h →
-    GoesOn (does_after lines (follows h names)) →
-    left_of (does_after lines (follows h names)) < 3 * length lines + steps_for (Some p)
-follows_light lines p heards.Nothing names n g =
+    (lines : List RankLine) (p : Pending) (next : NextStep) (names : NamesState) → IsNext p next →
+    GoesOn (does_after lines (follows next names)) →
+    left_of (does_after lines (follows next names)) < 3 * length lines + steps_for (Some p)
+follows_light lines p nexts.Nothing names n g =
     let u : left_of (along lines (record { names = names; pending = None })) < 3 * length lines = along_light lines (record { names = names; pending = None }) g in omega (arith, u)
-follows_light lines p (heards.Call call q) names n g =
-    let u : steps_for (Some q) < steps_for (Some p) = n.1 in omega (arith, u)
-follows_light lines p (heards.Told told) names n g = let u : 1 ≤ steps_for (Some p) = at_least p in omega (arith, u)
+follows_light lines p (nexts.Call made) names n g =
+    let u : steps_for (Some made.pending) < steps_for (Some p) = n.1 in omega (arith, u)
+follows_light lines p (nexts.Told told) names n g = let u : 1 ≤ steps_for (Some p) = at_least p in omega (arith, u)
 
 heeds_light :
     (lines : List RankLine) (o : Option Pending) (reply : Reply) (names : NamesState) →
@@ -134,17 +134,17 @@ ranks_light lines (Some p) ranks names g = let u : 1 ≤ steps_for (Some p) = at
 
 -- WHAT COMES NEXT
 
-untold_light : (s : RunnerState) → GoesOn (next_of s None) → left_of (next_of s None) < 3 * length s.lines +
+untold_light : (s : ScriptState) → GoesOn (next_of s None) → left_of (next_of s None) < 3 * length s.lines +
     steps_for s.rank.pending
 untold_light s g = let u : left_of (along s.lines s.rank) < 3 * length s.lines = along_light s.lines s.rank g in omega
     (arith, u)
 
 of_light :
-    (s : RunnerState) (call : Call) (t : Told) → GoesOn (next_of s (Some (reply_for call t))) →
+    (s : ScriptState) (call : Call) (t : Told) → GoesOn (next_of s (Some (reply_for call t))) →
     left_of (next_of s (Some (reply_for call t))) < 3 * length s.lines + steps_for s.rank.pending
 of_light s call t g = heeds_light s.lines s.rank.pending (reply_for call t) s.rank.names g
 
-told_light : (s : RunnerState) (call : Call) (t : Told) → GoesOn (next_told s call t) →
+told_light : (s : ScriptState) (call : Call) (t : Told) → GoesOn (next_told s call t) →
     left_of (next_told s call t) < 3 * length s.lines + steps_for s.rank.pending
 told_light s call (Replied (machine.OfFact (machine.Ranks ranks))) g =
     ranks_light s.lines s.rank.pending ranks s.rank.names g
@@ -165,7 +165,7 @@ told_light s call (Replied (machine.OfRequests queues.Blocked)) g =
 told_light s call (Replied (machine.OfCollective o)) g = of_light s call (Replied (machine.OfCollective o)) g
 told_light s call (Refused n) g = of_light s call (Refused n) g
 
-by_light : (s : RunnerState) (o : Option Call) (t : Option Told) → GoesOn (next_by s o t) →
+by_light : (s : ScriptState) (o : Option Call) (t : Option Told) → GoesOn (next_by s o t) →
     left_of (next_by s o t) < 3 * length s.lines + steps_for s.rank.pending
 by_light s None t g = untold_light s g
 by_light s (Some call) None g = untold_light s g

@@ -14,7 +14,7 @@ use Rattle.event_loop.specs.declared.runner.RunnerStep.{RunnerStep}
 use Rattle.event_loop.specs.declared.runner.RunnerStep.TheVariants as steps
 use Rattle.requests.specs.Regions.{handed_of}
 use Rattle.requests.specs.declared.table.Request.{Request}
-use Rattle.script_runner.specs.Running.{Does, RunnerState, next_of, opening}
+use Rattle.script_runner.specs.Running.{Does, ScriptState, next_of, opening}
 use Rattle.script_calls.specs.declared.pending.NamedRequest.{NamedRequest}
 use Rattle.script_calls.specs.declared.pending.NamedMessage.{NamedMessage}
 use Rattle.script_calls.specs.declared.pending.NamedMessage.TheVariants as messages
@@ -49,7 +49,7 @@ twice_entries {V = V} f twice (e ∷ es) =
     ap₂ (λ (x : Entry V) (xs : List (Entry V)). x ∷ xs)
     (ap (λ (v : V). record { name = e.name; value = v }) (twice e.value)) (twice_entries f twice es)
 
-twice_state : (s : RunnerState) → plain_state (plain_state s) ≡ plain_state s
+twice_state : (s : ScriptState) → plain_state (plain_state s) ≡ plain_state s
 twice_state s =
     ap₂ (λ (qs : List (Entry NamedRequest)) (ms : List (Entry NamedMessage)).
     record {
@@ -95,22 +95,22 @@ pub starts_follow : StartsFollow
 starts_follow scripts r = keys_are_no_matter (opening (script_at scripts r) r 0) None
 
 -- nothing is told, whatever the last call was
-untold_is : (s : RunnerState) (last : Option Call) → next_by s last None ≡ next_of s None
+untold_is : (s : ScriptState) (last : Option Call) → next_by s last None ≡ next_of s None
 untold_is s None = refl
 untold_is s (Some call) = refl
 
-next_plain : (s : RunnerState) (reply : Option Reply) →
+next_plain : (s : ScriptState) (reply : Option Reply) →
     next_of (plain_state (plain_state s)) (option_map plain_reply reply) ≡ plain_does (next_of s reply)
-next_plain s reply = ap (λ (x : RunnerState). next_of x (option_map plain_reply reply)) (twice_state s) ∙
+next_plain s reply = ap (λ (x : ScriptState). next_of x (option_map plain_reply reply)) (twice_state s) ∙
     keys_are_no_matter s reply
 
 -- what the process comes to
-after : (old new : RunnerState) (reply : Option Reply) (step : RunnerStep) (p : Running) (t : Option Told) →
+after : (old new : ScriptState) (reply : Option Reply) (step : RunnerStep) (p : Running) (t : Option Told) →
     Follows old reply p t → next_of old reply ≡ (step, new) →
     next_by p.state p.last t ≡ (plain_step step, plain_state new)
 after old new reply step p t f n = f ∙ ap plain_does n
 
-went : (new : RunnerState) (step : RunnerStep) (d : Does) → d ≡ (plain_step step, plain_state new) →
+went : (new : ScriptState) (step : RunnerStep) (d : Does) → d ≡ (plain_step step, plain_state new) →
     ((goes_to d).0 ≡ step_seen step) × Follows new None (goes_to d).1 None
     × ((call : Call) (reply : Reply) → step ≡ steps.Call call → IsReplyTo (plain_call call) reply →
     Follows new (Some reply) (goes_to d).1 (Some (told_of reply)))

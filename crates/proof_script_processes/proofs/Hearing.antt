@@ -23,7 +23,7 @@ use Rattle.requests.specs.declared.outcome.Failure.TheVariants as failures
 use Rattle.requests.specs.declared.outcome.Outcome.{Outcome}
 use Rattle.requests.specs.declared.outcome.Outcome.TheVariants as outcomes
 use Rattle.requests.specs.declared.table.Request.{Request}
-use Rattle.script_runner.specs.Running.{RunnerState, does_after, next_of}
+use Rattle.script_runner.specs.Running.{ScriptState, does_after, next_of}
 use Rattle.script_calls.specs.declared.pending.Pending.{Pending}
 use Rattle.std.specs.Global.{Vec}
 use Rattle.vocabulary.specs.declared.envelope.Status.{Status}
@@ -101,7 +101,7 @@ ranks_heard : (p : Option Pending) (ranks : Vec ℕ) (names : NamesState) → te
 ranks_heard None ranks names = refl
 ranks_heard (Some p) ranks names = refl
 
-facts_heard : (s : RunnerState) (call : Call) (f : Fact) → next_told s call (told_of (replies.Fact f)) ≡
+facts_heard : (s : ScriptState) (call : Call) (f : Fact) → next_told s call (told_of (replies.Fact f)) ≡
     next_of s (Some (replies.Fact f))
 facts_heard s call (facts.Number n) = refl
 facts_heard s call (facts.Ranks ranks) =

@@ -6,10 +6,8 @@ use Rattle.interpreter.specs.Acting as interpreted
 use Rattle.interpreter.specs.Acting.{acts_on, count_of, receives_to_wait, sends_to_wait}
 use Rattle.interpreter.specs.Hearing.{Hears, hears}
 use Rattle.interpreter.specs.NamesState.{NamesState, here}
-use Rattle.interpreter.specs.declared.steps.StatementCall.{StatementCall}
-use Rattle.interpreter.specs.declared.steps.StatementCall.TheVariants as askeds
-use Rattle.interpreter.specs.declared.steps.AnswerEffect.{AnswerEffect}
-use Rattle.interpreter.specs.declared.steps.AnswerEffect.TheVariants as heards
+use Rattle.interpreter.specs.declared.steps.NextStep.{NextStep}
+use Rattle.interpreter.specs.declared.steps.NextStep.TheVariants as nexts
 use Rattle.event_loop.specs.declared.runner.RunnerStep.{RunnerStep}
 use Rattle.script_runner.specs.ScriptRanks.{Acts, RankState, acts, does, does_asked, follows, follows_heard, heeds}
 use Rattle.script_runner.specs.ScriptRanks.{heeds_by, prints_count, prints_elements, says, states}
@@ -19,13 +17,13 @@ use Rattle.script_files.specs.declared.script.ScriptStatement.TheVariants as sta
 use Rattle.script_runner.specs.Running.{Does, along, does_by, does_or}
 use Rattle.script_calls.specs.declared.pending.Pending.{Pending}
 use Rattle.requests.specs.declared.table.Request.{Request}
-use Rattle.proof_script_processes.specs.Changing.{changed_does, changed_names, changed_rank, changed_reply}
-use Rattle.proof_script_processes.specs.Changing.{changed_step}
+use Rattle.proof_script_processes.specs.Changing.{changed_does, changed_names, changed_next, changed_rank}
+use Rattle.proof_script_processes.specs.Changing.{changed_reply, changed_step}
 use Rattle.proof_script_processes.specs.Forgetting.{plain_request}
 use Rattle.proof_script_processes.specs.ForgettingLaws.{KeysAreNoMatter, RequestsAreHandedOn}
 use Rattle.proof_script_processes.proofs.Acting.{action_same, changed_acts, changed_asked, receive_to_wait_same}
 use Rattle.proof_script_processes.proofs.Acting.{send_to_wait_same}
-use Rattle.proof_script_processes.proofs.Answers.{hears_go, changed_heard}
+use Rattle.proof_script_processes.proofs.Answers.{hears_go}
 
 -- what a rank does, with other requests
 abbrev changed_done : (Request → Request) → Acts → Acts
@@ -33,13 +31,13 @@ changed_done change a = (option_map (changed_step change) a.0, changed_rank chan
 
 -- LINES
 
-does_same : (change : Request → Request) (number : ℕ) (asked : StatementCall) (names : NamesState) →
-    does number (changed_asked change asked) (changed_names change names) ≡
-    changed_done change (does number asked names)
-does_same change number askeds.Nothing names = refl
-does_same change number (askeds.Call call pending) names = refl
-does_same change number (askeds.Refused refusal) names = refl
-does_same change number askeds.Faulty names = refl
+does_same : (change : Request → Request) (number : ℕ) (next : Option NextStep) (names : NamesState) →
+    does number (changed_asked change next) (changed_names change names) ≡
+    changed_done change (does number next names)
+does_same change number None names = refl
+does_same change number (Some nexts.Nothing) names = refl
+does_same change number (Some (nexts.Call made)) names = refl
+does_same change number (Some (nexts.Told told)) names = refl
 
 asked_same : (change : Request → Request) (number : ℕ) (changed made : interpreted.Acts) →
     changed ≡ changed_acts change made → does_asked number changed ≡ changed_done change (does_asked number made)
@@ -74,11 +72,11 @@ states_same change number statements.Fail names = refl
 
 -- ANSWERS
 
-follows_same : (change : Request → Request) (h : AnswerEffect) (names : NamesState) →
-    follows (changed_heard change h) (changed_names change names) ≡ changed_done change (follows h names)
-follows_same change heards.Nothing names = refl
-follows_same change (heards.Call call pending) names = refl
-follows_same change (heards.Told told) names = refl
+follows_same : (change : Request → Request) (next : NextStep) (names : NamesState) →
+    follows (changed_next change next) (changed_names change names) ≡ changed_done change (follows next names)
+follows_same change nexts.Nothing names = refl
+follows_same change (nexts.Call made) names = refl
+follows_same change (nexts.Told told) names = refl
 
 heeds_same : (change : Request → Request) (p : Option Pending) (reply : Reply) (names : NamesState) →
     heeds_by p (changed_reply change reply) (changed_names change names) ≡ changed_done change (heeds_by p reply names)

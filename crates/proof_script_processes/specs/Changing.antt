@@ -5,12 +5,14 @@ use Rattle.engine_calls.specs.declared.call.Call.TheVariants as calls
 use Rattle.engine_calls.specs.declared.reply.Reply.{Reply}
 use Rattle.engine_calls.specs.declared.reply.Reply.TheVariants as replies
 use Rattle.interpreter.specs.NamesState.{NamesState}
+use Rattle.interpreter.specs.declared.steps.NextStep.{NextStep}
+use Rattle.interpreter.specs.declared.steps.NextStep.TheVariants as nexts
 use Rattle.script_calls.specs.Tables.{Entry}
 use Rattle.event_loop.specs.declared.runner.RunnerStep.{RunnerStep}
 use Rattle.event_loop.specs.declared.runner.RunnerStep.TheVariants as steps
 use Rattle.script_runner.specs.ScriptRanks.{RankState}
 use Rattle.requests.specs.declared.table.Request.{Request}
-use Rattle.script_runner.specs.Running.{Does, RunnerState}
+use Rattle.script_runner.specs.Running.{Does, ScriptState}
 use Rattle.script_calls.specs.declared.pending.NamedRequest.{NamedRequest}
 use Rattle.script_calls.specs.declared.pending.NamedMessage.{NamedMessage}
 use Rattle.script_calls.specs.declared.pending.NamedMessage.TheVariants as messages
@@ -33,6 +35,13 @@ changed_call change (calls.Ask comm q) = calls.Ask comm q
 changed_call change (calls.Iprobe p) = calls.Iprobe p
 changed_call change (calls.Improbe p) = calls.Improbe p
 changed_call change (calls.Mrecv q into) = calls.Mrecv (option_map change q) into
+
+-- what comes next of a statement
+abbrev pub changed_next : (Request → Request) → NextStep → NextStep
+changed_next change nexts.Nothing = nexts.Nothing
+changed_next change (nexts.Call made) =
+    nexts.Call (record { call = changed_call change made.call; pending = made.pending })
+changed_next change (nexts.Told told) = nexts.Told told
 
 -- what a matching probe found
 abbrev pub changed_found : (Request → Request) → Option (Option Request × Status) → Option (Option Request × Status)
@@ -79,7 +88,7 @@ changed_names change s =
 abbrev pub changed_rank : (Request → Request) → RankState → RankState
 changed_rank change s = record { names = changed_names change s.names; pending = s.pending }
 
-abbrev pub changed_state : (Request → Request) → RunnerState → RunnerState
+abbrev pub changed_state : (Request → Request) → ScriptState → ScriptState
 changed_state change s = record { lines = s.lines; rank = changed_rank change s.rank }
 
 abbrev pub changed_does : (Request → Request) → Does → Does

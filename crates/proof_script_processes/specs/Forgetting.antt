@@ -5,7 +5,7 @@ use Rattle.engine_calls.specs.declared.call.Call.{Call}
 use Rattle.engine_calls.specs.declared.reply.Reply.{Reply}
 use Rattle.event_loop.specs.declared.runner.RunnerStep.{RunnerStep}
 use Rattle.requests.specs.declared.table.Request.{Request}
-use Rattle.script_runner.specs.Running.{Does, RunnerState}
+use Rattle.script_runner.specs.Running.{Does, ScriptState}
 use Rattle.script_calls.specs.declared.pending.NamedRequest.{NamedRequest}
 use Rattle.script_calls.specs.declared.pending.NamedMessage.{NamedMessage}
 use Rattle.vocabulary.specs.declared.envelope.Status.{Status}
@@ -38,7 +38,7 @@ plain_held h = changed_held plain_request h
 abbrev pub plain_message : NamedMessage → NamedMessage
 plain_message m = changed_message plain_request m
 
-abbrev pub plain_state : RunnerState → RunnerState
+abbrev pub plain_state : ScriptState → ScriptState
 plain_state s = changed_state plain_request s
 
 abbrev pub plain_does : Does → Does

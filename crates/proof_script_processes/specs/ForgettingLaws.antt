@@ -2,7 +2,7 @@
 use Rattle.std.specs.Prelude.{◌≡◌, Option, option_map}
 use Rattle.engine_calls.specs.declared.reply.Reply.{Reply}
 use Rattle.requests.specs.declared.table.Request.{Request}
-use Rattle.script_runner.specs.Running.{RunnerState, next_of}
+use Rattle.script_runner.specs.Running.{ScriptState, next_of}
 use Rattle.proof_script_processes.specs.Changing.{changed_does, changed_reply, changed_state}
 use Rattle.proof_script_processes.specs.Forgetting.{plain_does, plain_reply, plain_state}
 
@@ -10,11 +10,11 @@ use Rattle.proof_script_processes.specs.Forgetting.{plain_does, plain_reply, pla
 -- the same with these
 abbrev pub RequestsAreHandedOn : Type 0
 RequestsAreHandedOn =
-    (change : Request → Request) (s : RunnerState) (reply : Option Reply) →
+    (change : Request → Request) (s : ScriptState) (reply : Option Reply) →
     next_of (changed_state change s) (option_map (changed_reply change) reply) ≡
     changed_does change (next_of s reply)
 
 -- so what comes next is the same but for keys, where the state and the reply are the same but for keys
 abbrev pub KeysAreNoMatter : Type 0
-KeysAreNoMatter = (s : RunnerState) (reply : Option Reply) → next_of (plain_state s) (option_map plain_reply reply) ≡
+KeysAreNoMatter = (s : ScriptState) (reply : Option Reply) → next_of (plain_state s) (option_map plain_reply reply) ≡
     plain_does (next_of s reply)

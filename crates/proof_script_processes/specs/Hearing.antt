@@ -11,7 +11,7 @@ use Rattle.perfect_queues.specs.Completions as completions
 use Rattle.observation.specs.Endings.{ending_is}
 use Rattle.observation.specs.CoreCalls.{answer_seen, match_seen}
 use Rattle.point_to_point_calls.specs.Refusals.{number_of_refusal}
-use Rattle.script_runner.specs.Running.{RunnerState, next_of}
+use Rattle.script_runner.specs.Running.{ScriptState, next_of}
 use Rattle.proof_script_processes.specs.Forgetting.{plain_call, plain_reply}
 use Rattle.proof_script_processes.specs.Processes.{next_told}
 
@@ -36,5 +36,5 @@ IsReplyTo call _ = Unit {0}
 -- A runner goes on alike, whether its engine's reply is told to it, or what the machine tells of that
 abbrev pub RepliesAreHeard : Type 0
 RepliesAreHeard =
-    (s : RunnerState) (call : Call) (reply : Reply) → IsReplyTo call reply → next_told s call (told_of reply) ≡
+    (s : ScriptState) (call : Call) (reply : Reply) → IsReplyTo call reply → next_told s call (told_of reply) ≡
     next_of s (Some (plain_reply reply))

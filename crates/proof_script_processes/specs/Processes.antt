@@ -35,7 +35,7 @@ use Rattle.script_files.specs.declared.script.ScriptLine.{ScriptLine}
 use Rattle.script_files.specs.declared.script.RankLine.{RankLine}
 use Rattle.script_files.specs.declared.script.ScriptStatement.{ScriptStatement}
 use Rattle.script_files.specs.declared.script.ScriptStatement.TheVariants as statements
-use Rattle.script_runner.specs.Running.{Does, RunnerState, does_after, next_of, opening}
+use Rattle.script_runner.specs.Running.{Does, ScriptState, does_after, next_of, opening}
 use Rattle.script_calls.specs.declared.pending.Pending.{Pending}
 use Rattle.script_calls.specs.declared.pending.Pending.TheVariants as pendings
 use Rattle.statements.specs.declared.action.Action.{Action}
@@ -125,7 +125,7 @@ reply_for call (Replied (machine.OfFact f)) = replies.Fact (fact_for f)
 
 -- A runner between two steps, with the call that it made last, if that was its last step
 pub record Running : Type 0 where
-  pub state : RunnerState
+  pub state : ScriptState
   pub last : Option Call
 
 -- what it does, as the machine sees it
@@ -145,13 +145,13 @@ tells_ranks None ranks names = goes_on names
 tells_ranks (Some pending) ranks names = prints (members_text ranks) names
 
 -- what comes next, by what is told of the last call
-abbrev pub next_told : RunnerState → Call → Told → Does
+abbrev pub next_told : ScriptState → Call → Told → Does
 next_told s call (Replied (machine.OfFact (machine.Ranks ranks))) =
     does_after s.lines (tells_ranks s.rank.pending ranks s.rank.names)
 next_told s call t = next_of s (Some (reply_for call t))
 
 -- what comes next; nothing is told where the last step was no call
-abbrev pub next_by : RunnerState → Option Call → Option Told → Does
+abbrev pub next_by : ScriptState → Option Call → Option Told → Does
 next_by s None t = next_of s None
 next_by s (Some call) None = next_of s None
 next_by s (Some call) (Some t) = next_told s call t

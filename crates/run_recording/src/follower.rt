@@ -1,11 +1,7 @@
 //! Running a file of events line by line, and keeping what happens.
 
-ghost use Rattle.std.specs.Prelude.{◌≡◌};
-ghost use Rattle.run_recording.specs.Kinds.{kind_of};
-
 use crate::printed::{Printed, behind_word, kept, printed_in};
 use crate::statement_lines::{Asked, asked_of};
-use datagram::{Content, Frame};
 use engine::Reply;
 use event_files::{EventLine, parse};
 use printed_lines::{FrameKind, LoadText};
@@ -32,20 +28,6 @@ struct Follower<'a> {
     texts: Vec<&'a [u8]>,
     simulation: Simulation,
     picture: Picture,
-}
-
-/// What a datagram carries.
-fn kind_of(content: &Content<'_>) -> FrameKind
-    ensures { result ≡ kind_of content.now }
-{
-    match content {
-        Content::Frame(Frame::Eager(_)) => FrameKind::Eager,
-        Content::Frame(Frame::RequestToSend(_)) => FrameKind::Rts,
-        Content::Frame(Frame::ClearToSend(_)) => FrameKind::Cts,
-        Content::Frame(Frame::Data(_)) => FrameKind::Data,
-        Content::Ack(_) => FrameKind::Ack,
-        Content::Reset => FrameKind::Reset,
-    }
 }
 
 /// Whether a call blocked its rank.
@@ -203,7 +185,7 @@ impl<'a> Follower<'a> {
             };
             let header = datagram.header;
             let load = LoadText {
-                kind: kind_of(&datagram.content),
+                kind: FrameKind::of(&datagram.content),
                 sequence: header.sequence,
             };
             let emission = Emission {
@@ -300,7 +282,7 @@ pub fn record(alloc: Global, text: &[u8]) -> Result<Recording, Stopped> {
     };
     match parse(alloc, text) {
         Ok(file) => followed(alloc, texts, file.size, file.lines.into_vec()),
-        Err(ParseError::Line(line)) => Err(stopped_by(SimulateError::Script(line))),
+        Err(ParseError::Line(line)) => Err(stopped_by(SimulateError::Line(line))),
         Err(ParseError::OutOfMemory) => Err(stopped_by(SimulateError::OutOfMemory)),
     }
 }

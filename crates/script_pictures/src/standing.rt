@@ -1,7 +1,7 @@
 //! How a rank stands in a play.
 
 use crate::rank_lines::Manner;
-use script_plays::{Played, Stage};
+use script_plays::{Played, RunnerState};
 use stepped_plays::SteppedPlay;
 
 /// How a rank stands between two moves.
@@ -28,7 +28,7 @@ pub(crate) fn standing_of(play: &SteppedPlay, rank: u16) -> Standing {
             printed: player.lines().len(),
             refused: player.refused().len(),
             history,
-            is_ready: matches!(player.stage(), Stage::Ready(_)),
+            is_ready: matches!(player.state(), RunnerState::Ready(_)),
         },
         None => Standing {
             left: 0,
@@ -42,8 +42,8 @@ pub(crate) fn standing_of(play: &SteppedPlay, rank: u16) -> Standing {
 
 /// The status with which a rank has ended, if it has.
 pub(crate) fn status_of(player: &Played) -> Option<u8> {
-    match player.stage() {
-        Stage::Over(status) => Some(*status),
+    match player.state() {
+        RunnerState::Over(status, _) => Some(*status),
         _ => None,
     }
 }

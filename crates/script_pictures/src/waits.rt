@@ -4,7 +4,7 @@ use engine::{Call, Request};
 use play_waits::{
     Waiter, blocked_in, communicators_of, left_of, requests_in, waiting_of, waits_alone,
 };
-use script_plays::{Move, Played, Stage, play};
+use script_plays::{Move, Played, RunnerState, play};
 use std::alloc::{AllocError, Global};
 use stepped_plays::{PlayError, SteppedPlay, scripts_of};
 use world::World;
@@ -24,7 +24,7 @@ fn is_over(play: &SteppedPlay) -> bool {
         && !play
             .players()
             .iter()
-            .any(|player| matches!(player.stage(), Stage::Ready(_)))
+            .any(|player| matches!(player.state(), RunnerState::Ready(_)))
 }
 
 /// Whether this rank is blocked in a call that changes nothing by itself.

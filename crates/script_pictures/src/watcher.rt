@@ -9,13 +9,12 @@ use crate::standing::{LastStatement, Standing, standing_of, status_of};
 use crate::unfollowed::{Unfollowed, reason_of};
 use crate::waits::{EndedPlay, StuckRank};
 use crate::{ScriptPicture, Shown};
-use datagram::{Content, Frame};
 use error_lines::{MetError, uncalled_error};
 use play_events::ScriptLines;
 use printed_lines::{FrameKind, LoadText};
 use run_drawings::{Change, Delivery, Emission, Note, Tone};
 use script_files::{Script, ScriptLine};
-use script_plays::{Move, Stage};
+use script_plays::{Move, RunnerState};
 use std::alloc::{AllocError, Global};
 use stepped_plays::{PlayError, SteppedPlay};
 
@@ -41,18 +40,6 @@ pub(crate) struct Watcher<'t, 's> {
     happenings: Happenings,
     /// The line that the lowest rank couldn't follow, and that rank.
     unfollowed: Option<(u16, Unfollowed)>,
-}
-
-/// What a datagram carries.
-fn kind_of(content: &Content<'_>) -> FrameKind {
-    match content {
-        Content::Frame(Frame::Eager(_)) => FrameKind::Eager,
-        Content::Frame(Frame::RequestToSend(_)) => FrameKind::Rts,
-        Content::Frame(Frame::ClearToSend(_)) => FrameKind::Cts,
-        Content::Frame(Frame::Data(_)) => FrameKind::Data,
-        Content::Ack(_) => FrameKind::Ack,
-        Content::Reset => FrameKind::Reset,
-    }
 }
 
 /// The lines of a printed text as one, `; ` between two.
@@ -280,8 +267,10 @@ impl<'t, 's> Watcher<'t, 's> {
         };
         let line = self.number_of_line(rank);
         let met = match self.play.player(rank) {
-            Some(player) => match player.stage() {
-                Stage::Ready(Some(reply)) => { self.errors.refused(self.alloc, rank, line, reply)? }
+            Some(player) => match player.state() {
+                RunnerState::Ready(Some(reply)) => {
+                    self.errors.refused(self.alloc, rank, line, reply)?
+                }
                 _ => Vec::new(self.alloc),
             },
             None => Vec::new(self.alloc),
@@ -395,7 +384,7 @@ impl<'t, 's> Watcher<'t, 's> {
             self.arrows.push(None)?;
             return Ok(());
         };
-        let kind = kind_of(&datagram.content);
+        let kind = FrameKind::of(&datagram.content);
         let is_all = self.shown == Shown::Datagrams;
         if !is_all && matches!(kind, FrameKind::Ack) {
             self.arrows.push(None)?;

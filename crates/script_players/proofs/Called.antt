@@ -10,10 +10,10 @@ use Rattle.engine_calls.specs.declared.reply.Reply.TheVariants as replies
 use Rattle.point_to_point_calls.specs.Refusals.{number_of_refusal}
 use Rattle.point_to_point_calls.specs.declared.refusal.Refusal as lower
 use Rattle.point_to_point_calls.specs.declared.refusal.Refusal.TheVariants as lowers
-use Rattle.script_players.specs.Players.{AreAlike, CallGoes, IsHandedBack, number_in, refused_so, stage_by}
-use Rattle.script_players.specs.declared.played.Stage.{Stage}
-use Rattle.script_players.specs.declared.played.Stage.TheVariants.{Ready}
-use Rattle.script_runner.specs.Running.{RunnerState}
+use Rattle.script_players.specs.Players.{AreAlike, CallGoes, IsHandedBack, number_in, refused_so, state_by}
+use Rattle.event_loop.specs.declared.loop_state.RunnerState.{RunnerState}
+use Rattle.event_loop.specs.declared.loop_state.RunnerState.TheVariants.{Ready}
+use Rattle.script_runner.specs.Running.{ScriptState}
 use Rattle.world.specs.Faults.{event_fault, first_fault}
 use Rattle.world.specs.Steps.{ByTheEngine, ByTheWorld, ForRoom, IsRefusedBy, IsWhy, Went, entry_of}
 use Rattle.world.specs.WorldState.{WorldState}
@@ -43,21 +43,21 @@ engine_refuses w r call refused out h (ByTheEngine e a is o ran) = (e.refused, i
 
 -- and its runner is told
 pub call_refused : (w v : WorldState) (r : ℕ) (call : Call) (failed : Failed) (before after : List ℕ)
-    (old new : Stage) → r < length w.engines → IsRefusedBy w (events.Call r call) failed v →
+    (old new : RunnerState Call) → r < length w.engines → IsRefusedBy w (events.Call r call) failed v →
     IsHandedBack failed new before after →
-    (s : RunnerState) (lines : List (List ℕ)) →
-    CallGoes w r call (Err failed) (record { runner = s; stage = old; lines = lines; refused = before }) v
-    (record { runner = s; stage = new; lines = lines; refused = after })
+    (s : ScriptState) (lines : List (List ℕ)) →
+    CallGoes w r call (Err failed) (record { runner = s; state = old; lines = lines; refused = before }) v
+    (record { runner = s; state = new; lines = lines; refused = after })
 call_refused w v r call failed before after old new h g back s lines =
     let e = engine_refuses w r call failed.refused g.out h g.why in
     let b = back e.0 r call e.1 g.back in (
       replies.Refused e.0 call,
       g,
       subst (λ (x : world_refusal.WorldRefusal). refused_so x call (replies.Refused e.0 call)) (sym e.1) refl,
-      ap (λ (x : Stage). record { runner = s; stage = x; lines = lines; refused = after }) b.0
+      ap (λ (x : RunnerState Call). record { runner = s; state = x; lines = lines; refused = after }) b.0
           ∙ ap (λ (x : List ℕ). record {
             runner = s;
-            stage = Ready (Some (replies.Refused e.0 call));
+            state = Ready (Some (replies.Refused e.0 call));
             lines =
                 lines;
             refused = x;
@@ -92,17 +92,17 @@ place_below w v event added g =
 pub call_taken : (w v : WorldState) (r : ℕ) (call : Call) (added : Stepped) (g : Went w (events.Call r call) added v)
     (entry : HistoryEntry) (history : List HistoryEntry) → history ≡ v.history →
     entry ≡ get_or history added.place entry →
-    (told : Option Reply) → AreAlike entry.reply told → (old new : Stage) (refused : List ℕ) →
-    (entry.event ≡ events.Call r call → new ≡ stage_by call told entry.completion) →
-    (s : RunnerState) (lines : List (List ℕ)) →
-    CallGoes w r call (Ok added) (record { runner = s; stage = old; lines = lines; refused = refused }) v
-    (record { runner = s; stage = new; lines = lines; refused = refused })
+    (told : Option Reply) → AreAlike entry.reply told → (old new : RunnerState Call) (refused : List ℕ) →
+    (entry.event ≡ events.Call r call → new ≡ state_by call told entry.completion) →
+    (s : ScriptState) (lines : List (List ℕ)) →
+    CallGoes w r call (Ok added) (record { runner = s; state = old; lines = lines; refused = refused }) v
+    (record { runner = s; state = new; lines = lines; refused = refused })
 call_taken w v r call added g entry history same is told alike old new refused stands s lines = (
   g,
   told,
   subst (λ (y : HistoryEntry). AreAlike y.reply told) e alike,
-  ap (λ (x : Stage). record { runner = s; stage = x; lines = lines; refused = refused })
-      (stands (ap (λ (y : HistoryEntry). y.event) e) ∙ ap (λ (y : HistoryEntry). stage_by call told y.completion) e),
+  ap (λ (x : RunnerState Call). record { runner = s; state = x; lines = lines; refused = refused })
+      (stands (ap (λ (y : HistoryEntry). y.event) e) ∙ ap (λ (y : HistoryEntry). state_by call told y.completion) e),
 )
   where
     e : entry ≡ entry_of (events.Call r call) g.gave

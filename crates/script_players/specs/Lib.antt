@@ -1,2 +1,1 @@
 pub mod Players
-pub mod Copies

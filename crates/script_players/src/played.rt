@@ -1,16 +1,15 @@
 //! A rank that plays in a world.
 
 ghost use Rattle.std.specs.Prelude.{◌≡◌, ◌<◌, ℕ, [], List, length, IfOk, OnOk, Result, Some, None};
-ghost use Rattle.script_players.specs.Players.{CallGoes, IsHandedBack, PlayerGoes, StepGoes, TakesTold, is_over};
-ghost use Rattle.script_players.specs.Players.{told_at};
-ghost use Rattle.script_players.specs.Players.{stage_by, told_completion};
-ghost use Rattle.script_runner.specs.Running.{RunnerState, opening};
+ghost use Rattle.script_players.specs.Players.{AreAlike, CallGoes, IsHandedBack, PlayerGoes, StepGoes, TakesTold};
+ghost use Rattle.script_players.specs.Players.{is_over, state_by, told_at, told_completion};
+ghost use Rattle.script_runner.specs.Running.{ScriptState, opening};
 ghost use Rattle.world.specs.declared.event.Stepped.{Stepped};
 
-use crate::copies::{completion_as_reply, told_again};
 use datagram::Bytes;
 use engine::{Call, Completion, Reply};
-use event_loop::{Runner, RunnerStep};
+use event_loop::{Runner, RunnerState, RunnerStep};
+use replies::{completion_as_reply, reply_copied};
 use script_files::Script;
 use script_runner::ScriptRunner;
 use std::alloc::{AllocError, Global};
@@ -19,22 +18,12 @@ use std::mem;
 use vocabulary::replace;
 use world::{Event, Failed, HistoryEntry, World, WorldRefusal};
 
-/// How a rank stands.
-#[derive(Drop)]
-pub enum Stage {
-    /// Its runner may go on, told this or nothing.
-    Ready(Option<Reply>),
-    /// This call of it is blocked.
-    Waits(Call),
-    /// Its script has ended with this status.
-    Over(u8),
-}
-
-/// A rank that plays in a world: its runner, how it stands, what it printed, and the numbers of its refused calls.
+/// A rank that plays in a world: its runner, what that waits for, what it printed, and the numbers of its refused
+/// calls.
 #[derive(Drop)]
 pub struct Played {
     runner: ScriptRunner,
-    stage: Stage,
+    state: RunnerState<Call>,
     lines: Vec<Bytes>,
     refused: Vec<u8>,
 }
@@ -44,62 +33,76 @@ impl Model for Played {
 
     ghost Value = { PlayerState };
 
-    ghost view = { λ p. record { runner = p.runner; stage = p.stage; lines = p.lines.items; refused = p.refused.items } };
+    ghost view = { λ p. record { runner = p.runner; state = p.state; lines = p.lines.items; refused = p.refused.items } };
 }
 
 /// Takes what a rank that may go on was told last. None where it may not.
-fn take_told(stage: &mut Stage) -> Option<Option<Reply>>
-    ensures { TakesTold stage.old result stage.new }
+fn take_told(state: &mut RunnerState<Call>) -> Option<Option<Reply>>
+    ensures { TakesTold state.old result state.new }
 {
-    match mem::replace(stage, Stage::Ready(None)) {
-        Stage::Ready(told) => Some(told),
+    match mem::replace(state, RunnerState::Ready(None)) {
+        RunnerState::Ready(told) => Some(told),
         other => {
-            replace(stage, other);
+            replace(state, other);
             None
         }
     }
 }
 
-/// How a rank stands whose call was taken, and that is told this of it.
-fn stage_after(
+/// The same reply once more, if there is one.
+fn told_again(alloc: Global, reply: &Option<Reply>) -> Result<Option<Reply>, AllocError>
+    ensures { IfOk result (λ copy. AreAlike reply.now copy) }
+{
+    match reply {
+        Some(reply) => Ok(Some(reply_copied(alloc, reply)?)),
+        None => Ok(None),
+    }
+}
+
+/// What a rank waits for whose call was taken, and that is told this of it.
+fn state_by(
     alloc: Global,
     call: &Call,
     told: Option<Reply>,
     completion: &Option<Completion>,
-) -> Result<Stage, AllocError>
-    ensures { IfOk result (λ stage. stage ≡ stage_by call.now told completion.now) }
+) -> Result<RunnerState<Call>, AllocError>
+    ensures { IfOk result (λ state. state ≡ state_by call.now told completion.now) }
 {
     match (completion, told) {
         (Some(completion), told) => {
             drop(told);
-            Ok(Stage::Ready(Some(completion_as_reply(alloc, completion)?)))
+            Ok(RunnerState::Ready(Some(completion_as_reply(alloc, completion)?)))
         }
-        (None, Some(Reply::Blocked)) => Ok(Stage::Waits(call.try_clone(alloc)?)),
-        (None, told) => Ok(Stage::Ready(told)),
+        (None, Some(Reply::Blocked)) => Ok(RunnerState::Blocked(call.try_clone(alloc)?)),
+        (None, told) => Ok(RunnerState::Ready(told)),
     }
 }
 
-/// How a rank stands once the call of this entry was taken, and it is told this of it.
-fn stage_behind(
+/// What a rank waits for once the call of this entry was taken, and it is told this of it.
+fn state_behind(
     alloc: Global,
     entry: &HistoryEntry,
     told: Option<Reply>,
-) -> Result<Stage, AllocError>
+) -> Result<RunnerState<Call>, AllocError>
     ensures { (rank : ℕ) (call : Call) → entry.now.event ≡ Event.Call rank call →
-        IfOk result (λ stage. stage ≡ stage_by call told entry.now.completion) }
+        IfOk result (λ state. state ≡ state_by call told entry.now.completion) }
 {
     match &entry.event {
-        Event::Call(_, call) => stage_after(alloc, call, told, &entry.completion),
+        Event::Call(_, call) => state_by(alloc, call, told, &entry.completion),
         _ => {
             drop(told);
-            Ok(Stage::Ready(None))
+            Ok(RunnerState::Ready(None))
         }
     }
 }
 
 /// A refused call's number is noted, and the call goes back to its runner.
-fn hand_back(failed: Failed, stage: &mut Stage, refused: &mut Vec<u8>) -> Result<(), AllocError>
-    ensures { OnOk result (IsHandedBack failed stage.new refused.old.items refused.new.items) }
+fn hand_back(
+    failed: Failed,
+    state: &mut RunnerState<Call>,
+    refused: &mut Vec<u8>,
+) -> Result<(), AllocError>
+    ensures { OnOk result (IsHandedBack failed state.new refused.old.items refused.new.items) }
 {
     let Failed {
         refused: why,
@@ -109,7 +112,7 @@ fn hand_back(failed: Failed, stage: &mut Stage, refused: &mut Vec<u8>) -> Result
     match (why, event) {
         (WorldRefusal::Engine(why), Event::Call(_, call)) => {
             refused.push(why.number())?;
-            replace(stage, Stage::Ready(Some(Reply::Refused(why, call))));
+            replace(state, RunnerState::Ready(Some(Reply::Refused(why, call))));
             Ok(())
         }
         (_, event) => {
@@ -125,24 +128,24 @@ fn call(
     world: &mut World,
     rank: u16,
     call: Call,
-    stage: &mut Stage,
+    state: &mut RunnerState<Call>,
     refused: &mut Vec<u8>,
 ) -> Result<(), AllocError>
     requires { rank < length world.old.engines }
-    ensures exact { OnOk result ((answer : Result Stepped Failed) × ((s : RunnerState) (lines : List (List ℕ)) →
+    ensures exact { OnOk result ((answer : Result Stepped Failed) × ((s : ScriptState) (lines : List (List ℕ)) →
         CallGoes world.old rank call answer
-        (record { runner = s; stage = stage.old; lines = lines; refused = refused.old.items })
-        world.new (record { runner = s; stage = stage.new; lines = lines; refused = refused.new.items }))) }
+        (record { runner = s; state = state.old; lines = lines; refused = refused.old.items })
+        world.new (record { runner = s; state = state.new; lines = lines; refused = refused.new.items }))) }
 {
     match world.step(Event::Call(rank, call)) {
         Ok(stepped) => {
             let entry = &world.history()[stepped.place];
             let told = told_again(alloc, &entry.reply)?;
-            let next = stage_behind(alloc, entry, told)?;
-            replace(stage, next);
+            let next = state_behind(alloc, entry, told)?;
+            replace(state, next);
             Ok(())
         }
-        Err(failed) => hand_back(failed, stage, refused),
+        Err(failed) => hand_back(failed, state, refused),
     }
 }
 
@@ -152,26 +155,26 @@ fn follow(
     world: &mut World,
     rank: u16,
     step: RunnerStep,
-    stage: &mut Stage,
+    state: &mut RunnerState<Call>,
     lines: &mut Vec<Bytes>,
     refused: &mut Vec<u8>,
 ) -> Result<(), AllocError>
     requires { rank < length world.old.engines }
-    ensures exact { OnOk result ((s : RunnerState) →
+    ensures exact { OnOk result ((s : ScriptState) →
         StepGoes world.old rank step
-        (record { runner = s; stage = stage.old; lines = lines.old.items; refused = refused.old.items })
-        world.new (record { runner = s; stage = stage.new; lines = lines.new.items; refused = refused.new.items })) }
+        (record { runner = s; state = state.old; lines = lines.old.items; refused = refused.old.items })
+        world.new (record { runner = s; state = state.new; lines = lines.new.items; refused = refused.new.items })) }
 {
     match step {
         RunnerStep::Print(line) => {
             lines.push(line)?;
             Ok(())
         }
-        RunnerStep::End(status, _) => {
-            replace(stage, Stage::Over(status));
+        RunnerStep::End(status, line) => {
+            replace(state, RunnerState::Over(status, line));
             Ok(())
         }
-        RunnerStep::Call(asked) => call(alloc, world, rank, asked, stage, refused),
+        RunnerStep::Call(asked) => call(alloc, world, rank, asked, state, refused),
     }
 }
 
@@ -181,7 +184,7 @@ fn go_on(
     world: &mut World,
     rank: u16,
     runner: &mut ScriptRunner,
-    stage: &mut Stage,
+    state: &mut RunnerState<Call>,
     lines: &mut Vec<Bytes>,
     refused: &mut Vec<u8>,
 ) -> Result<(), AllocError>
@@ -189,35 +192,39 @@ fn go_on(
     ensures { OnOk result (
         PlayerGoes world.old rank (record {
           runner = runner.old;
-          stage = stage.old;
+          state = state.old;
           lines = lines.old.items;
           refused =
               refused.old.items;
         })
         world.new (record {
           runner = runner.new;
-          stage = stage.new;
+          state = state.new;
           lines = lines.new.items;
           refused =
               refused.new.items;
         })) }
 {
-    match take_told(stage) {
+    match take_told(state) {
         Some(told) => {
             let step = runner.next(told);
-            follow(alloc, world, rank, step, stage, lines, refused)
+            follow(alloc, world, rank, step, state, lines, refused)
         }
         None => Ok(()),
     }
 }
 
 /// A blocked call is answered, if it is so.
-fn hear(alloc: Global, stage: &mut Stage, completion: &Option<Completion>) -> Result<(), AllocError>
-    ensures { OnOk result (stage.new ≡ told_at completion.now stage.old) }
+fn hear(
+    alloc: Global,
+    state: &mut RunnerState<Call>,
+    completion: &Option<Completion>,
+) -> Result<(), AllocError>
+    ensures { OnOk result (state.new ≡ told_at completion.now state.old) }
 {
-    if let (Stage::Waits(_), Some(completion)) = (&*stage, completion) {
+    if let (RunnerState::Blocked(_), Some(completion)) = (&*state, completion) {
         let told = completion_as_reply(alloc, completion)?;
-        replace(stage, Stage::Ready(Some(told)));
+        replace(state, RunnerState::Ready(Some(told)));
     }
     Ok(())
 }
@@ -228,7 +235,7 @@ impl Played {
         ensures { IfOk result
             (λ player. player ≡ record {
               runner = opening script rank 0;
-              stage = Stage.Ready None;
+              state = RunnerState.Ready None;
               lines = [];
               refused =
                   [];
@@ -236,7 +243,7 @@ impl Played {
     {
         Ok(Played {
             runner: ScriptRunner::new(alloc, script, rank, 0)?,
-            stage: Stage::Ready(None),
+            state: RunnerState::Ready(None),
             lines: Vec::new(alloc),
             refused: Vec::new(alloc),
         })
@@ -252,7 +259,7 @@ impl Played {
             world,
             rank,
             &mut self.runner,
-            &mut self.stage,
+            &mut self.state,
             &mut self.lines,
             &mut self.refused,
         )
@@ -262,7 +269,7 @@ impl Played {
     pub fn hear(&mut self, alloc: Global, completion: &Option<Completion>) -> Result<(), AllocError>
         ensures { OnOk result (self.new ≡ told_completion completion.now self.old) }
     {
-        hear(alloc, &mut self.stage, completion)
+        hear(alloc, &mut self.state, completion)
     }
 
     /// The runner of its script: how many lines are left to it, and whether it awaits an answer.
@@ -272,11 +279,11 @@ impl Played {
         &self.runner
     }
 
-    /// How it stands.
-    pub fn stage(&self) -> &Stage
-        ensures { result.now ≡ self.now.stage }
+    /// What its runner waits for.
+    pub fn state(&self) -> &RunnerState<Call>
+        ensures { result.now ≡ self.now.state }
     {
-        &self.stage
+        &self.state
     }
 
     /// The lines that it printed, in order.
@@ -295,8 +302,8 @@ impl Played {
 
     /// Whether its script has ended.
     pub fn has_ended(&self) -> bool
-        ensures { result ≡ is_over self.now.stage }
+        ensures { result ≡ is_over self.now.state }
     {
-        matches!(self.stage, Stage::Over(_))
+        matches!(self.state, RunnerState::Over(_, _))
     }
 }

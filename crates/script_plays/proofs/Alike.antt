@@ -7,7 +7,7 @@ use Rattle.engine_calls.specs.declared.reply.Reply.TheVariants as replies
 use Rattle.proof_one_meaning.specs.Plays.{Player}
 use Rattle.event_loop.specs.declared.runner.RunnerStep.{RunnerStep}
 use Rattle.event_loop.specs.declared.runner.RunnerStep.TheVariants as steps
-use Rattle.script_runner.specs.Running.{NextGives, RunnerState}
+use Rattle.script_runner.specs.Running.{NextGives, ScriptState}
 use Rattle.script_plays.specs.Alike.{AnswersAreAlike, CallsAreAlike, EndsAreAlike, IsReadyAlike, LinesAreAlike}
 use Rattle.script_players.specs.Players.{PlayerState}
 use Rattle.proof_script_processes.specs.Following.{GoesAlong}
@@ -20,7 +20,7 @@ is_end (steps.Call call) = 0
 is_end (steps.Print line) = 0
 is_end (steps.End status line) = 1
 
-along : (p : PlayerState) (reply : Option Reply) (q : Player Running) (step : RunnerStep) (s : RunnerState) →
+along : (p : PlayerState) (reply : Option Reply) (q : Player Running) (step : RunnerStep) (s : ScriptState) →
     IsReadyAlike p reply q → NextGives p.runner reply step s → (step ≡ steps.End 6 None → ⊥) →
     GoesAlong s step q.process q.told
 along p reply q step s a n six = runners_follow p.runner s reply step q.process q.told a.follows n six

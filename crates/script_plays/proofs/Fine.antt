@@ -7,13 +7,14 @@ use Rattle.std.proofs.lemmas.Option.{same_Some}
 use Rattle.engine_calls.specs.declared.reply.Completion.{Completion}
 use Rattle.event_loop.specs.declared.runner.RunnerStep.{RunnerStep}
 use Rattle.event_loop.specs.declared.runner.RunnerStep.TheVariants as steps
-use Rattle.script_runner.specs.Running.{RunnerState}
+use Rattle.script_runner.specs.Running.{ScriptState}
 use Rattle.script_plays.specs.Joined.{AreFine, HasNotSix, IsFine}
 use Rattle.script_players.specs.Players.{PlayerState, number_in, told_completion, told_if}
 use Rattle.script_plays.specs.Playing.{CallMoves, EventGives, GoGives, GoesBy, MoveGives, PlayState, ScheduleGives}
 use Rattle.script_plays.specs.Playing.{StepMoves, with_told}
-use Rattle.script_players.specs.declared.played.Stage.{Stage}
-use Rattle.script_players.specs.declared.played.Stage.TheVariants.{Over, Ready, Waits}
+use Rattle.engine_calls.specs.declared.call.Call.{Call}
+use Rattle.event_loop.specs.declared.loop_state.RunnerState.{RunnerState}
+use Rattle.event_loop.specs.declared.loop_state.RunnerState.TheVariants.{Blocked, Over, Ready}
 use Rattle.script_plays.specs.declared.moves.Move.{Move}
 use Rattle.script_plays.specs.declared.moves.Move.TheVariants as moves
 use Rattle.world.specs.declared.event.Event.{Event}
@@ -48,11 +49,11 @@ one_back old new r p a is e fine back x y at = go (x == r) refl
 same_back : (old new : PlayState) → new ≡ old → AreFine new → AreFine old
 same_back old new e fine = subst AreFine e fine
 
-not_six : (p : PlayerState) (reply : Option _) → p.stage ≡ Ready reply → HasNotSix p.stage
+not_six : (p : PlayerState) (reply : Option _) → p.state ≡ Ready reply → HasNotSix p.state
 not_six p reply e = subst HasNotSix (sym e) tt
 
-step_back : (old : PlayState) (r : ℕ) (p : PlayerState) (s : RunnerState) (step : RunnerStep) (new : PlayState) →
-    slice_get old.players r ≡ Some p → HasNotSix p.stage → StepMoves old r p s step new → AreFine new → AreFine old
+step_back : (old : PlayState) (r : ℕ) (p : PlayerState) (s : ScriptState) (step : RunnerStep) (new : PlayState) →
+    slice_get old.players r ≡ Some p → HasNotSix p.state → StepMoves old r p s step new → AreFine new → AreFine old
 step_back old r p s (steps.Print line) new is six g fine =
     one_back old.players new r p _ is (ap (λ (x : PlayState). x.players) g) fine
     (λ f. record { limit = f.limit; six = six })
@@ -72,21 +73,21 @@ step_back old r p s (steps.Call call) new is six g fine = go g.0 g.1
 go_back : (old : PlayState) (r : ℕ) (o : Option PlayerState) (new : PlayState) → slice_get old.players r ≡ o →
     GoGives old r o new → AreFine new → AreFine old
 go_back old r None new is g fine = same_back old new g fine
-go_back old r (Some p) new is g fine = go p.stage refl g
+go_back old r (Some p) new is g fine = go p.state refl g
   where
-    go : (stage : Stage) → p.stage ≡ stage → GoesBy old r p stage new → AreFine old
+    go : (state : RunnerState Call) → p.state ≡ state → GoesBy old r p state new → AreFine old
     go (Ready reply) e h = step_back old r p h.1 h.0 new is (not_six p reply e) h.3 fine
-    go (Waits call) e h = same_back old new h fine
-    go (Over status) e h = same_back old new h fine
+    go (Blocked call) e h = same_back old new h fine
+    go (Over status line) e h = same_back old new h fine
 
 -- what an answer leaves of a player
 told_back : (p : PlayerState) (c : Completion) → IsFine (told_completion (Some c) p) → IsFine p
-told_back p c f = go p.stage refl f
+told_back p c f = go p.state refl f
   where
-    go : (stage : Stage) → p.stage ≡ stage → IsFine (told_if stage c p) → IsFine p
-    go (Waits call) e f = record { limit = f.limit; six = subst HasNotSix (sym e) tt }
+    go : (state : RunnerState Call) → p.state ≡ state → IsFine (told_if state c p) → IsFine p
+    go (Blocked call) e f = record { limit = f.limit; six = subst HasNotSix (sym e) tt }
     go (Ready reply) e f = f
-    go (Over status) e f = f
+    go (Over status line) e f = f
 
 event_back : (old : PlayState) (event : Event) (result : Result Stepped Failed) (new : PlayState) →
     EventGives old event result new → AreFine new → AreFine old

@@ -13,7 +13,8 @@ use Rattle.perfect_groups.specs.Events.{Called}
 use Rattle.observation.specs.EngineCalls.{call_seen, told_call}
 use Rattle.observation.specs.Requests.{request_given}
 use Rattle.requests.specs.declared.table.Request.{Request}
-use Rattle.script_players.specs.Players.{AreAlike, IsCopyOf, IsCopyOfFact}
+use Rattle.replies.specs.Copies.{IsCopyOf, IsCopyOfFact}
+use Rattle.script_players.specs.Players.{AreAlike}
 use Rattle.vocabulary.specs.declared.endpoint.Endpoint.{Endpoint}
 use Rattle.world.specs.Steps.{TakesCall}
 

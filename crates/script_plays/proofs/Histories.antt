@@ -4,13 +4,13 @@ use Rattle.std.proofs.Common.{refl, sym, ap, ◌∙◌, subst, append-nil, appen
 use Rattle.engine_calls.specs.declared.call.Call.{Call}
 use Rattle.event_loop.specs.declared.runner.RunnerStep.{RunnerStep}
 use Rattle.event_loop.specs.declared.runner.RunnerStep.TheVariants as steps
-use Rattle.script_runner.specs.Running.{RunnerState}
+use Rattle.script_runner.specs.Running.{ScriptState}
 use Rattle.script_plays.specs.Events.{AreEventsOf, HistoriesAreOfSchedules, IsEventOf, WorldsHaveHistories}
 use Rattle.script_players.specs.Players.{PlayerState}
 use Rattle.script_plays.specs.Playing.{CallMoves, EventGives, GoGives, GoesBy, MoveGives, PlayState, ScheduleGives}
 use Rattle.script_plays.specs.Playing.{StepMoves}
-use Rattle.script_players.specs.declared.played.Stage.{Stage}
-use Rattle.script_players.specs.declared.played.Stage.TheVariants.{Over, Ready, Waits}
+use Rattle.event_loop.specs.declared.loop_state.RunnerState.{RunnerState}
+use Rattle.event_loop.specs.declared.loop_state.RunnerState.TheVariants.{Blocked, Over, Ready}
 use Rattle.script_plays.specs.declared.moves.Move.{Move}
 use Rattle.script_plays.specs.declared.moves.Move.TheVariants as moves
 use Rattle.world.specs.Steps.{entry_of}
@@ -28,7 +28,7 @@ data Adds (m : Move) (old new : PlayState) : Type 0 where
   Nothing : new.world.history ≡ old.world.history → Adds m old new
   One : (e : HistoryEntry) → IsEventOf m e.event → new.world.history ≡ old.world.history ++ e ∷ [] → Adds m old new
 
-call_adds : (old : PlayState) (r : ℕ) (p : PlayerState) (s : RunnerState) (call : Call) (result : Result Stepped Failed)
+call_adds : (old : PlayState) (r : ℕ) (p : PlayerState) (s : ScriptState) (call : Call) (result : Result Stepped Failed)
     (new : PlayState) → CallMoves old r p s call result new → Adds (moves.Go r) old new
 call_adds old r p s call (Ok added) new g =
     One (entry_of (events.Call r call) g.1.gave) refl (ap (λ (x : PlayState). x.world.history) g.4 ∙ g.1.history)
@@ -36,22 +36,23 @@ call_adds old r p s call (Err failed) new g =
     Nothing (ap (λ (x : PlayState). x.world.history) g.4 ∙
     ap (λ (x : Rattle.world.specs.WorldState.WorldState). x.history) g.2.unchanged)
 
-step_adds : (old : PlayState) (r : ℕ) (p : PlayerState) (s : RunnerState) (step : RunnerStep) (new : PlayState) →
+step_adds : (old : PlayState) (r : ℕ) (p : PlayerState) (s : ScriptState) (step : RunnerStep) (new : PlayState) →
     StepMoves old r p s step new → Adds (moves.Go r) old new
 step_adds old r p s (steps.Print line) new g = Nothing (ap (λ (x : PlayState). x.world.history) g)
 step_adds old r p s (steps.End status line) new g = Nothing (ap (λ (x : PlayState). x.world.history) g)
 step_adds old r p s (steps.Call call) new g = call_adds old r p s call g.0 new g.1
 
-go_adds : (old : PlayState) (r : ℕ) (p : PlayerState) (stage : Stage) (new : PlayState) → GoesBy old r p stage new →
+go_adds : (old : PlayState) (r : ℕ) (p : PlayerState) (state : RunnerState Call) (new : PlayState) →
+    GoesBy old r p state new →
     Adds (moves.Go r) old new
 go_adds old r p (Ready reply) new g = step_adds old r p g.1 g.0 new g.3
-go_adds old r p (Waits call) new g = Nothing (ap (λ (x : PlayState). x.world.history) g)
-go_adds old r p (Over status) new g = Nothing (ap (λ (x : PlayState). x.world.history) g)
+go_adds old r p (Blocked call) new g = Nothing (ap (λ (x : PlayState). x.world.history) g)
+go_adds old r p (Over status line) new g = Nothing (ap (λ (x : PlayState). x.world.history) g)
 
 may_add : (old : PlayState) (r : ℕ) (p : Option PlayerState) (new : PlayState) → GoGives old r p new →
     Adds (moves.Go r) old new
 may_add old r None new g = Nothing (ap (λ (x : PlayState). x.world.history) g)
-may_add old r (Some p) new g = go_adds old r p p.stage new g
+may_add old r (Some p) new g = go_adds old r p p.state new g
 
 event_adds : (m : Move) (event : Event) → IsEventOf m event →
     (old : PlayState) (result : Result Stepped Failed) (new : PlayState) → EventGives old event result new →

@@ -22,15 +22,15 @@ use Rattle.proof_one_meaning.specs.Plays.{players_at_start, told_by, with_player
 use Rattle.point_to_point_calls.specs.Refusals.{number_of_refusal}
 use Rattle.event_loop.specs.declared.runner.RunnerStep.{RunnerStep}
 use Rattle.event_loop.specs.declared.runner.RunnerStep.TheVariants as steps
-use Rattle.script_runner.specs.Running.{NextGives, RunnerState}
+use Rattle.script_runner.specs.Running.{NextGives, ScriptState}
 use Rattle.script_files.specs.declared.script.ScriptLine.{ScriptLine}
 use Rattle.script_plays.specs.Alike.{IsAlike, IsAlikeAt, IsReadyAlike}
 use Rattle.script_plays.specs.Joined.{AreFine, IsFine}
-use Rattle.script_players.specs.Players.{PlayerState, number_in, refused_so, stage_by, stage_by_reply}
+use Rattle.script_players.specs.Players.{PlayerState, number_in, refused_so, state_by, state_by_reply}
 use Rattle.script_plays.specs.Playing.{CallMoves, HasHeadline, PlayGives, PlayState, StepMoves}
 use Rattle.script_plays.specs.declared.moves.Move.{Move}
-use Rattle.script_players.specs.declared.played.Stage.{Stage}
-use Rattle.script_players.specs.declared.played.Stage.TheVariants.{Over, Ready, Waits}
+use Rattle.event_loop.specs.declared.loop_state.RunnerState.{RunnerState}
+use Rattle.event_loop.specs.declared.loop_state.RunnerState.TheVariants.{Blocked, Over, Ready}
 use Rattle.proof_script_processes.specs.Hearing.{told_of}
 use Rattle.proof_script_processes.specs.Processes.{Running, next_in_script, running_at_start}
 use Rattle.world.specs.Headline.{history_seen}
@@ -89,9 +89,9 @@ still scripts old j w same =
       fresh = subst HasNoRestart (sym same) j.fresh;
     }
 
-pub ready_alike : (p : PlayerState) (reply : Option Reply) (q : Player Running) → p.stage ≡ Ready reply → IsAlike p q →
+pub ready_alike : (p : PlayerState) (reply : Option Reply) (q : Player Running) → p.state ≡ Ready reply → IsAlike p q →
     IsReadyAlike p reply q
-ready_alike p reply q e a = subst (λ (stage : Stage). IsAlikeAt stage p q) e a
+ready_alike p reply q e a = subst (λ (state : RunnerState Call). IsAlikeAt state p q) e a
 
 abbrev status_in : RunnerStep → ℕ
 status_in (steps.End status line) = status
@@ -101,8 +101,8 @@ status_in (steps.Print line) = 0
 -- A RUNNER'S STEP
 
 pub prints : (scripts : List (List ScriptLine)) (old : PlayState) (j : Joined scripts old) (r : ℕ) (p : PlayerState)
-    (reply : Option Reply) (line : List ℕ) (s : RunnerState) (new : PlayState) → slice_get old.players r ≡ Some p →
-    p.stage ≡ Ready reply → NextGives p.runner reply (steps.Print line) s → StepMoves old r p s (steps.Print line) new →
+    (reply : Option Reply) (line : List ℕ) (s : ScriptState) (new : PlayState) → slice_get old.players r ≡ Some p →
+    p.state ≡ Ready reply → NextGives p.runner reply (steps.Print line) s → StepMoves old r p s (steps.Print line) new →
     Joined scripts new
 prints scripts old j r p reply line s new is e n g =
     let t = lines_are_alike p reply (j.now r) line s (ready_alike p reply (j.now r) e (j.alike r p is)) n in
@@ -112,12 +112,12 @@ prints scripts old j r p reply line s new is e n g =
     (alike_set old.players r _ j.now (gone_on next_in_script (j.now r) None false (line ∷ []) false) j.alike t.1))
 
 pub ends : (scripts : List (List ScriptLine)) (old : PlayState) (j : Joined scripts old) (r : ℕ) (p : PlayerState)
-    (reply : Option Reply) (status : ℕ) (line : Option ℕ) (s : RunnerState) (new : PlayState) →
+    (reply : Option Reply) (status : ℕ) (line : Option ℕ) (s : ScriptState) (new : PlayState) →
     slice_get old.players r ≡ Some p →
-    p.stage ≡ Ready reply → NextGives p.runner reply (steps.End status line) s →
+    p.state ≡ Ready reply → NextGives p.runner reply (steps.End status line) s →
     StepMoves old r p s (steps.End status line) new → AreFine new → Joined scripts new
 ends scripts old j r p reply status line s new is e n g fine =
-    let f : IsFine (record { runner = s; stage = Over status; lines = p.lines; refused = p.refused }) =
+    let f : IsFine (record { runner = s; state = Over status line; lines = p.lines; refused = p.refused }) =
     fine r _ (ap (λ (x : PlayState). slice_get x.players r) g ∙ set_there old.players r _ p is) in
     let t = ends_are_alike p reply (j.now r) status line s (ready_alike p reply (j.now r) e (j.alike r p is)) n (λ six. f.six (ap status_in six)) in
     subst (Joined scripts) (sym g)
@@ -128,9 +128,9 @@ ends scripts old j r p reply status line s new is e n g fine =
 -- a call that is refused by a rule
 pub refused : (scripts : List (List ScriptLine)) (done : List Move) (old : PlayState) → PlayGives scripts done old →
     HasHeadline old.world →
-    (j : Joined scripts old) (r : ℕ) (p : PlayerState) (reply : Option Reply) (call : Call) (s : RunnerState)
+    (j : Joined scripts old) (r : ℕ) (p : PlayerState) (reply : Option Reply) (call : Call) (s : ScriptState)
     (failed : Failed) (new : PlayState) →
-    slice_get old.players r ≡ Some p → p.stage ≡ Ready reply → NextGives p.runner reply (steps.Call call) s →
+    slice_get old.players r ≡ Some p → p.state ≡ Ready reply → NextGives p.runner reply (steps.Call call) s →
     CallMoves old r p s call (Err failed) new → AreFine new → Joined scripts new
 refused scripts done old reached head j r p reply call s failed new is e n g fine = go failed.refused refl g.3 g.4
   where
@@ -139,11 +139,11 @@ refused scripts done old reached head j r p reply call s failed new is e n g fin
           world = g.0;
           players =
               slice_set old.players r
-              (record { runner = s; stage = Ready (Some g.1); lines = p.lines; refused = p.refused ++ number_in x });
+              (record { runner = s; state = Ready (Some g.1); lines = p.lines; refused = p.refused ++ number_in x });
         } →
         Joined scripts new
     go (refusals.Engine why) x told ne =
-        let f : IsFine (record { runner = s; stage = Ready (Some g.1); lines = p.lines; refused = p.refused ++ number_of_refusal why ∷ [] }) =
+        let f : IsFine (record { runner = s; state = Ready (Some g.1); lines = p.lines; refused = p.refused ++ number_of_refusal why ∷ [] }) =
         fine r _ (ap (λ (y : PlayState). slice_get y.players r) ne ∙ set_there old.players r _ p is) in
         let numbers = later p.refused (number_of_refusal why ∷ []) f.limit in
         let fault : HasFault (length scripts) (history_seen old.world.history) r (call_seen call) (number_of_refusal why) =
@@ -158,7 +158,7 @@ refused scripts done old reached head j r p reply call s failed new is e n g fin
               slice_set old.players r
               (record {
                 runner = s;
-                stage = Ready (Some y);
+                state = Ready (Some y);
                 lines = p.lines;
                 refused =
                     p.refused ++ number_of_refusal why ∷ [];
@@ -179,8 +179,8 @@ refused scripts done old reached head j r p reply call s failed new is e n g fin
 -- A call that is taken: its reply is seen, and told to its runner, unless it blocks. What else the event brings is left
 -- out here
 pub replied : (scripts : List (List ScriptLine)) (old : PlayState) (j : Joined scripts old) (r : ℕ) (p : PlayerState)
-    (reply : Option Reply) (call : Call) (s : RunnerState) (told : Reply) (w : WorldState) →
-    slice_get old.players r ≡ Some p → p.stage ≡ Ready reply → NextGives p.runner reply (steps.Call call) s →
+    (reply : Option Reply) (call : Call) (s : ScriptState) (told : Reply) (w : WorldState) →
+    slice_get old.players r ≡ Some p → p.state ≡ Ready reply → NextGives p.runner reply (steps.Call call) s →
     IsTaken told →
     history_seen w.history ≡ history_seen old.world.history ++ told_call (first_endpoint r) call (Some told) →
     IsHistory (length scripts) send_limit (history_seen w.history) →
@@ -189,17 +189,17 @@ pub replied : (scripts : List (List ScriptLine)) (old : PlayState) (j : Joined s
       world = w;
       players =
           slice_set old.players r
-          (record { runner = s; stage = stage_by_reply call (Some told); lines = p.lines; refused = p.refused });
+          (record { runner = s; state = state_by_reply call (Some told); lines = p.lines; refused = p.refused });
     })
 replied scripts old j r p reply call s told w is e n taken more there = go told taken more
   where
     t : IsAt next_in_script (j.now r) (Rattle.one_meaning.specs.Courses.Calls (call_seen call))
-        × IsAlike (record { runner = s; stage = Waits call; lines = p.lines; refused = p.refused })
+        × IsAlike (record { runner = s; state = Blocked call; lines = p.lines; refused = p.refused })
         (gone_on next_in_script (j.now r) None true [] false)
         × ((told : Reply) →
         Rattle.proof_script_processes.specs.Hearing.IsReplyTo
         (Rattle.proof_script_processes.specs.Forgetting.plain_call call) told →
-        IsAlike (record { runner = s; stage = Ready (Some told); lines = p.lines; refused = p.refused })
+        IsAlike (record { runner = s; state = Ready (Some told); lines = p.lines; refused = p.refused })
         (gone_on next_in_script (j.now r) (Some (told_of told)) false [] false))
     t = calls_are_alike p reply (j.now r) call s p.refused (ready_alike p reply (j.now r) e (j.alike r p is)) n
 
@@ -212,7 +212,7 @@ replied scripts old j r p reply call s told w is e n taken more there = go told 
           world = w;
           players =
               slice_set old.players r
-              (record { runner = s; stage = Ready (Some told); lines = p.lines; refused = p.refused });
+              (record { runner = s; state = Ready (Some told); lines = p.lines; refused = p.refused });
         })
     answered told m tm bm to h =
         grow scripts old j (with_player j.now r (gone_on next_in_script (j.now r) (Some (told_of told)) false [] false))
@@ -230,7 +230,7 @@ replied scripts old j r p reply call s told w is e n taken more there = go told 
           world = w;
           players =
               slice_set old.players r
-              (record { runner = s; stage = stage_by_reply call (Some told); lines = p.lines; refused = p.refused });
+              (record { runner = s; state = state_by_reply call (Some told); lines = p.lines; refused = p.refused });
         })
     go (replies.Started q) k h = answered (replies.Started q) _ refl refl tt h
     go (replies.Done a) k h = answered (replies.Done a) _ refl refl tt h

@@ -13,16 +13,16 @@ use Rattle.event_loop.specs.declared.runner.RunnerStep.{RunnerStep}
 use Rattle.event_loop.specs.declared.runner.RunnerStep.TheVariants as steps
 use Rattle.requests.specs.declared.table.Request.{Request}
 use Rattle.script_files.specs.declared.script.ScriptLine.{ScriptLine}
-use Rattle.script_players.specs.Players.{AreAlike, PlayerState, number_in, refused_so, stage_by}
-use Rattle.script_players.specs.declared.played.Stage.{Stage}
-use Rattle.script_players.specs.declared.played.Stage.TheVariants.{Over, Ready, Waits}
+use Rattle.script_players.specs.Players.{AreAlike, PlayerState, number_in, refused_so, state_by}
+use Rattle.event_loop.specs.declared.loop_state.RunnerState.{RunnerState}
+use Rattle.event_loop.specs.declared.loop_state.RunnerState.TheVariants.{Blocked, Over, Ready}
 use Rattle.script_plays.specs.Playing.{CallMoves, EventGives, GoGives, GoesBy, HasHeadline, MoveGives, PlayGives}
 use Rattle.script_plays.specs.Playing.{PlayState, ScheduleGives, StepMoves, play_opening, players_of, with_told}
 use Rattle.script_plays.specs.declared.moves.Move.{Move}
 use Rattle.script_plays.specs.declared.moves.Move.TheVariants as moves
 use Rattle.proof_script_processes.specs.Processes.{script_at}
 use Rattle.proof_script_processes.specs.Changing.{changed_call, changed_reply, changed_state, changed_step}
-use Rattle.script_runner.specs.Running.{NextGives, RunnerState, opening}
+use Rattle.script_runner.specs.Running.{NextGives, ScriptState, opening}
 use Rattle.world.specs.Given.{NamesOwn, WasGiven}
 use Rattle.world.specs.Headline.{history_seen}
 use Rattle.world.specs.Steps.{CallRuns, TakesCall, Went, entry_of}
@@ -59,20 +59,20 @@ players_in st = st.players
 
 -- A CALL
 
-took : (changes : ℕ → Request → Request) (old : PlayState) (r : ℕ) (s : RunnerState) (call : Call) (more : Stepped)
+took : (changes : ℕ → Request → Request) (old : PlayState) (r : ℕ) (s : ScriptState) (call : Call) (more : Stepped)
     (w : WorldState) (went : Went old.world (events.Call r call) more w) (told : Option Reply) →
     AreAlike went.gave.reply told → HasHeadline old.world → HasNoRestart (history_seen old.world.history) →
     AllGiven changes w.history → changed_state (changes r) s ≡ s →
-    IsKeptAt (changes r) (stage_by call told went.gave.completion) s
+    IsKeptAt (changes r) (state_by call told went.gave.completion) s
 took changes old r s call more w went told alike head fresh all k =
     let x : Replies went.gave.reply told = replies_to went.ran.engine went.ran.ran.mid call went.gave.reply told went.ran.ran.event alike in
-    subst (λ (o : Option Reply). IsKeptAt (changes r) (stage_by call o went.gave.completion) s) (sym x.replied)
+    subst (λ (o : Option Reply). IsKeptAt (changes r) (state_by call o went.gave.completion) s) (sym x.replied)
     (taken_keeps (changes r) call x.reply went.gave.completion s k x.taken (λ q given. all r q
     (subst (λ (h : List HistoryEntry). WasGiven h (first_endpoint r) q) (sym went.history)
     (given_last old.world.history (entry_of (events.Call r call) went.gave) (first_endpoint r) q
     (record { endpoint = call_at old.world w r call more head fresh went; gave = x.given q given })))))
 
-call_kept : (changes : ℕ → Request → Request) (old mid : PlayState) (r : ℕ) (p : PlayerState) (s : RunnerState)
+call_kept : (changes : ℕ → Request → Request) (old mid : PlayState) (r : ℕ) (p : PlayerState) (s : ScriptState)
     (call : Call) (result : Result Stepped Failed) → HasHeadline old.world →
     HasNoRestart (history_seen old.world.history) → AllGiven changes mid.world.history →
     CallMoves old r p s call result mid → changed_call (changes r) call ≡ call → changed_state (changes r) s ≡ s →
@@ -89,7 +89,7 @@ call_kept changes old mid r p s call (Err failed) head fresh all g c k kept = go
           world = g.0;
           players =
               slice_set old.players r
-              (record { runner = s; stage = Ready (Some g.1); lines = p.lines; refused = p.refused ++ number_in x });
+              (record { runner = s; state = Ready (Some g.1); lines = p.lines; refused = p.refused ++ number_in x });
         } →
         AreKept changes mid.players
     go (refusals.Engine why) told e =
@@ -106,7 +106,7 @@ call_kept changes old mid r p s call (Err failed) head fresh all g c k kept = go
 
 -- A RUNNER'S STEP
 
-step_kept : (changes : ℕ → Request → Request) (old mid : PlayState) (r : ℕ) (p : PlayerState) (s : RunnerState)
+step_kept : (changes : ℕ → Request → Request) (old mid : PlayState) (r : ℕ) (p : PlayerState) (s : ScriptState)
     (step : RunnerStep) → HasHeadline old.world → HasNoRestart (history_seen old.world.history) →
     AllGiven changes mid.world.history → StepMoves old r p s step mid → changed_step (changes r) step ≡ step →
     changed_state (changes r) s ≡ s → AreKept changes old.players → AreKept changes mid.players
@@ -118,7 +118,7 @@ step_kept changes old mid r p s (steps.Call call) head fresh all g c k kept =
     call_kept changes old mid r p s call g.0 head fresh all g.1 (call_keeps (changes r) call c) k kept
 
 -- one that ends for want of memory
-end_kept : (changes : ℕ → Request → Request) (old mid : PlayState) (r : ℕ) (p : PlayerState) (s : RunnerState)
+end_kept : (changes : ℕ → Request → Request) (old mid : PlayState) (r : ℕ) (p : PlayerState) (s : ScriptState)
     (step : RunnerStep) → StepMoves old r p s step mid → step ≡ steps.End 6 None → AreKept changes old.players →
     AreKept changes mid.players
 end_kept changes old mid r p s (steps.End status line) g is kept =
@@ -130,15 +130,15 @@ go_kept : (changes : ℕ → Request → Request) (old mid : PlayState) (r : ℕ
     slice_get old.players r ≡ o → HasHeadline old.world → HasNoRestart (history_seen old.world.history) →
     AllGiven changes mid.world.history → GoGives old r o mid → AreKept changes old.players → AreKept changes mid.players
 go_kept changes old mid r None is head fresh all g kept = subst (AreKept changes) (sym (ap players_in g)) kept
-go_kept changes old mid r (Some p) is head fresh all g kept = go p.stage refl g
+go_kept changes old mid r (Some p) is head fresh all g kept = go p.state refl g
   where
-    go : (stage : Stage) → p.stage ≡ stage → GoesBy old r p stage mid → AreKept changes mid.players
-    go (Waits call) e h = subst (AreKept changes) (sym (ap players_in h)) kept
-    go (Over status) e h = subst (AreKept changes) (sym (ap players_in h)) kept
+    go : (state : RunnerState Call) → p.state ≡ state → GoesBy old r p state mid → AreKept changes mid.players
+    go (Blocked call) e h = subst (AreKept changes) (sym (ap players_in h)) kept
+    go (Over status line) e h = subst (AreKept changes) (sym (ap players_in h)) kept
     go (Ready reply) e h = by h.2
       where
         mine : IsKeptAt (changes r) (Ready reply) p.runner
-        mine = subst (λ (x : Stage). IsKeptAt (changes r) x p.runner) e (kept r p is)
+        mine = subst (λ (x : RunnerState Call). IsKeptAt (changes r) x p.runner) e (kept r p is)
 
         by : NextGives p.runner reply h.0 h.1 → AreKept changes mid.players
         by (inl n) =
@@ -196,8 +196,8 @@ begin_kept scripts changes r p is = subst (IsKept (changes r)) (player_at 0 scri
 
 -- A CALL OF A SCRIPT NAMES REQUESTS OF ITS OWN RANK ALONE
 pub calls_name_own : (scripts : List (List ScriptLine)) (schedule : List Move) (st : PlayState) →
-    PlayGives scripts schedule st → (r : ℕ) (p : PlayerState) (reply : Option Reply) (call : Call) (s : RunnerState) →
-    slice_get st.players r ≡ Some p → p.stage ≡ Ready reply → NextGives p.runner reply (steps.Call call) s →
+    PlayGives scripts schedule st → (r : ℕ) (p : PlayerState) (reply : Option Reply) (call : Call) (s : ScriptState) →
+    slice_get st.players r ≡ Some p → p.state ≡ Ready reply → NextGives p.runner reply (steps.Call call) s →
     NamesOwn st.world.history (first_endpoint r) call
 calls_name_own scripts schedule st g r p reply call s is e (inr six) = absurd (no_call call six.0)
 calls_name_own scripts schedule st g r p reply call s is e (inl n) =
@@ -209,7 +209,7 @@ calls_name_own scripts schedule st g r p reply call s is e (inl n) =
 
     mine : IsKeptAt (changes r) (Ready reply) p.runner
     mine =
-        subst (λ (x : Stage). IsKeptAt (changes r) x p.runner) e
+        subst (λ (x : RunnerState Call). IsKeptAt (changes r) x p.runner) e
         (all_kept scripts changes schedule [] (play_opening scripts) st
         (refl, headline_of schedule (play_opening scripts) st g) g
         (λ x q given. given_are_kept st.world.history (first_endpoint x) q given) (begin_kept scripts changes) r p is)

@@ -7,7 +7,7 @@ use Rattle.std.proofs.lemmas.Option.{get_or_from_slice_get, slice_get-get_or}
 use Rattle.script_files.specs.declared.script.ScriptLine.{ScriptLine}
 use Rattle.script_players.proofs.Called.{entry_there}
 use Rattle.script_players.specs.Players.{PlayerGoes, PlayerState}
-use Rattle.script_players.specs.declared.played.Stage.TheVariants.{Ready}
+use Rattle.event_loop.specs.declared.loop_state.RunnerState.TheVariants.{Ready}
 use Rattle.script_plays.proofs.Goes.{goes_so, put}
 use Rattle.script_plays.proofs.Sizes.{begin_players, move_players, move_size, opening_size}
 use Rattle.vocabulary.specs.MessageLimits.{least}
@@ -55,13 +55,13 @@ length_more (x ∷ players) p = ap suc (length_more players p)
 -- one player more
 pub begun_more : (players : List PlayerState) (script : List ScriptLine) (rest before : List (List ScriptLine))
     (all : List PlayerState) (p : PlayerState) (k : ℕ) → k ≡ length players →
-    p ≡ record { runner = opening script k 0; stage = Ready None; lines = []; refused = [] } → before ≡ script ∷ rest →
+    p ≡ record { runner = opening script k 0; state = Ready None; lines = []; refused = [] } → before ≡ script ∷ rest →
     players ++ players_of (length players) before ≡ all →
     (players ++ p ∷ []) ++ players_of (length (players ++ p ∷ [])) rest ≡ all
 begun_more players script rest before all p k ke e be h =
     append_assoc players (p ∷ []) (players_of (length (players ++ p ∷ [])) rest)
     ∙ (ap₂ (λ (q : PlayerState) (n : ℕ). players ++ q ∷ players_of n rest)
-    (e ∙ ap (λ (n : ℕ). record { runner = opening script n 0; stage = Ready None; lines = []; refused = [] }) ke)
+    (e ∙ ap (λ (n : ℕ). record { runner = opening script n 0; state = Ready None; lines = []; refused = [] }) ke)
     (length_more players p)
     ∙ (ap (λ (xs : List (List ScriptLine)). players ++ players_of (length players) xs) (sym be) ∙ h))
 

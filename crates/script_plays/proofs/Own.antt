@@ -17,15 +17,16 @@ use Rattle.observation.specs.Requests.{message_given, request_given}
 use Rattle.event_loop.specs.declared.runner.RunnerStep.{RunnerStep}
 use Rattle.event_loop.specs.declared.runner.RunnerStep.TheVariants as steps
 use Rattle.requests.specs.declared.table.Request.{Request}
-use Rattle.script_players.specs.Players.{PlayerState, as_reply, stage_by, stage_by_reply, told_completion, told_if}
-use Rattle.script_players.specs.declared.played.Stage.{Stage}
-use Rattle.script_players.specs.declared.played.Stage.TheVariants.{Over, Ready, Waits}
+use Rattle.replies.specs.Copies.{reply_of}
+use Rattle.script_players.specs.Players.{PlayerState, state_by, state_by_reply, told_completion, told_if}
+use Rattle.event_loop.specs.declared.loop_state.RunnerState.{RunnerState}
+use Rattle.event_loop.specs.declared.loop_state.RunnerState.TheVariants.{Blocked, Over, Ready}
 use Rattle.script_plays.proofs.Joining.{not_at, set_get, set_other}
 use Rattle.proof_script_processes.proofs.Running.{requests_are_handed_on}
 use Rattle.proof_script_processes.specs.Changing.{changed_call, changed_does, changed_found, changed_reply}
 use Rattle.proof_script_processes.specs.Changing.{changed_requests, changed_state, changed_step}
 use Rattle.proof_script_processes.specs.Processes.{call_in}
-use Rattle.script_runner.specs.Running.{Does, NextGives, RunnerState, next_of}
+use Rattle.script_runner.specs.Running.{Does, NextGives, ScriptState, next_of}
 use Rattle.vocabulary.specs.declared.endpoint.Endpoint.{Endpoint}
 use Rattle.vocabulary.specs.declared.envelope.Status.{Status}
 use Rattle.world.specs.Given.{GivesRequest, NamesOwn, WasGiven, WasGivenIf, requests_named}
@@ -183,23 +184,23 @@ names_own h x call e = all_given h x (requests_named call) (sym (named_change (k
 
 -- A PLAYER WHOSE REQUESTS STAY
 
-abbrev pub IsKeptAt : (Request → Request) → Stage → RunnerState → Type 0
+abbrev pub IsKeptAt : (Request → Request) → RunnerState Call → ScriptState → Type 0
 IsKeptAt change (Ready reply) s = (changed_state change s ≡ s) × (option_map (changed_reply change) reply ≡ reply)
-IsKeptAt change (Waits call) s = changed_state change s ≡ s
-IsKeptAt change (Over status) s = Unit {0}
+IsKeptAt change (Blocked call) s = changed_state change s ≡ s
+IsKeptAt change (Over status line) s = Unit {0}
 
 abbrev pub IsKept : (Request → Request) → PlayerState → Type 0
-IsKept change p = IsKeptAt change p.stage p.runner
+IsKept change p = IsKeptAt change p.state p.runner
 
 -- what it does next has requests that stay
-pub steps_keep : (change : Request → Request) (old new : RunnerState) (reply : Option Reply) (step : RunnerStep) →
+pub steps_keep : (change : Request → Request) (old new : ScriptState) (reply : Option Reply) (step : RunnerStep) →
     changed_state change old ≡ old → option_map (changed_reply change) reply ≡ reply → next_of old reply ≡ (step, new) →
     (changed_step change step ≡ step) × (changed_state change new ≡ new)
 steps_keep change old new reply step s r n =
     let e : changed_does change (step, new) ≡ (step, new) =
     ap (changed_does change) (sym n)
     ∙ (sym (requests_are_handed_on change old reply) ∙
-    (ap₂ (λ (x : RunnerState) (y : Option Reply). next_of x y) s r ∙ n))
+    (ap₂ (λ (x : ScriptState) (y : Option Reply). next_of x y) s r ∙ n))
     in
     (ap (λ (d : Does). d.0) e, ap (λ (d : Does). d.1) e)
 
@@ -227,41 +228,42 @@ reply_keeps change (replies.Matched found) k g = ap replies.Matched (found_keeps
     found_keeps (Some (Some q, status)) h = ap (λ (y : Request). Some (Some y, status)) (h q refl)
 reply_keeps change (replies.Refused why back) k g = absurd k
 
-answer_keeps : (change : Request → Request) (c : Completion) → changed_reply change (as_reply c) ≡ as_reply c
+answer_keeps : (change : Request → Request) (c : Completion) → changed_reply change (reply_of c) ≡ reply_of c
 answer_keeps change (completions.Requests a) = refl
 answer_keeps change (completions.Collective a) = refl
 
-stage_keeps : (change : Request → Request) (call : Call) (reply : Reply) (s : RunnerState) →
+state_keeps : (change : Request → Request) (call : Call) (reply : Reply) (s : ScriptState) →
     changed_state change s ≡ s → changed_reply change reply ≡ reply →
-    IsKeptAt change (stage_by_reply call (Some reply)) s
-stage_keeps change call (replies.Started q) s k r = (k, ap Some r)
-stage_keeps change call (replies.Done a) s k r = (k, ap Some r)
-stage_keeps change call replies.Pending s k r = (k, ap Some r)
-stage_keeps change call replies.Accepted s k r = (k, ap Some r)
-stage_keeps change call replies.Blocked s k r = k
-stage_keeps change call (replies.Left a) s k r = (k, ap Some r)
-stage_keeps change call (replies.Fact f) s k r = (k, ap Some r)
-stage_keeps change call (replies.Probed found) s k r = (k, ap Some r)
-stage_keeps change call (replies.Matched found) s k r = (k, ap Some r)
-stage_keeps change call (replies.Refused why back) s k r = (k, ap Some r)
+    IsKeptAt change (state_by_reply call (Some reply)) s
+state_keeps change call (replies.Started q) s k r = (k, ap Some r)
+state_keeps change call (replies.Done a) s k r = (k, ap Some r)
+state_keeps change call replies.Pending s k r = (k, ap Some r)
+state_keeps change call replies.Accepted s k r = (k, ap Some r)
+state_keeps change call replies.Blocked s k r = k
+state_keeps change call (replies.Left a) s k r = (k, ap Some r)
+state_keeps change call (replies.Fact f) s k r = (k, ap Some r)
+state_keeps change call (replies.Probed found) s k r = (k, ap Some r)
+state_keeps change call (replies.Matched found) s k r = (k, ap Some r)
+state_keeps change call (replies.Refused why back) s k r = (k, ap Some r)
 
 -- a call was taken, and its reply gives a request that stays
-pub taken_keeps : (change : Request → Request) (call : Call) (reply : Reply) (c : Option Completion) (s : RunnerState) →
+pub taken_keeps : (change : Request → Request) (call : Call) (reply : Reply) (c : Option Completion) (s : ScriptState) →
     changed_state change s ≡ s → IsTaken reply → ((q : Request) → request_given reply ≡ Some q → change q ≡ q) →
-    IsKeptAt change (stage_by call (Some reply) c) s
-taken_keeps change call reply None s k t g = stage_keeps change call reply s k (reply_keeps change reply t g)
+    IsKeptAt change (state_by call (Some reply) c) s
+taken_keeps change call reply None s k t g = state_keeps change call reply s k (reply_keeps change reply t g)
 taken_keeps change call reply (Some c) s k t g = (k, ap Some (answer_keeps change c))
 
 -- a blocked call was answered
 pub told_keeps : (change : Request → Request) (c : Option Completion) (p : PlayerState) → IsKept change p →
     IsKept change (told_completion c p)
 told_keeps change None p k = k
-told_keeps change (Some c) p k = go p.stage refl k
+told_keeps change (Some c) p k = go p.state refl k
   where
-    go : (stage : Stage) → p.stage ≡ stage → IsKeptAt change stage p.runner → IsKept change (told_if stage c p)
-    go (Ready reply) e h = subst (λ (x : Stage). IsKeptAt change x p.runner) (sym e) h
-    go (Waits call) e h = (h, ap Some (answer_keeps change c))
-    go (Over status) e h = subst (λ (x : Stage). IsKeptAt change x p.runner) (sym e) h
+    go : (state : RunnerState Call) → p.state ≡ state → IsKeptAt change state p.runner →
+        IsKept change (told_if state c p)
+    go (Ready reply) e h = subst (λ (x : RunnerState Call). IsKeptAt change x p.runner) (sym e) h
+    go (Blocked call) e h = (h, ap Some (answer_keeps change c))
+    go (Over status line) e h = subst (λ (x : RunnerState Call). IsKeptAt change x p.runner) (sym e) h
 
 -- ALL PLAYERS
 

@@ -19,10 +19,10 @@ use Rattle.point_to_point_calls.specs.declared.refusal.Refusal.TheVariants as lo
 use Rattle.event_loop.specs.declared.runner.RunnerStep.TheVariants as steps
 use Rattle.script_files.specs.declared.script.ScriptLine.{ScriptLine}
 use Rattle.script_players.specs.Players.{PlayerState}
-use Rattle.script_players.specs.declared.played.Stage.TheVariants.{Ready}
+use Rattle.event_loop.specs.declared.loop_state.RunnerState.TheVariants.{Ready}
 use Rattle.script_plays.specs.Playing.{HasHeadline, PlayGives, PlayState}
 use Rattle.script_plays.specs.declared.moves.Move.{Move}
-use Rattle.script_runner.specs.Running.{NextGives, RunnerState}
+use Rattle.script_runner.specs.Running.{NextGives, ScriptState}
 use Rattle.proof_network_bridge.specs.Joined.{limit_in}
 use Rattle.vocabulary.specs.Limits.{send_limit}
 use Rattle.vocabulary.specs.declared.endpoint.Endpoint.{Endpoint}
@@ -110,8 +110,8 @@ engine_rule w head fresh r e call back why there own limit gives a b =
 -- IN A PLAY
 pub refused_by_rule : (scripts : List (List ScriptLine)) (schedule : List Move) (st : PlayState) →
     PlayGives scripts schedule st → HasHeadline st.world → (w : WorldState) (r : ℕ) (call : Call) (failed : Failed) →
-    IsRefusedBy st.world (events.Call r call) failed w → (p : PlayerState) (reply : Option Reply) (s : RunnerState) →
-    slice_get st.players r ≡ Some p → p.stage ≡ Ready reply → NextGives p.runner reply (steps.Call call) s →
+    IsRefusedBy st.world (events.Call r call) failed w → (p : PlayerState) (reply : Option Reply) (s : ScriptState) →
+    slice_get st.players r ≡ Some p → p.state ≡ Ready reply → NextGives p.runner reply (steps.Call call) s →
     (why : lower.Refusal) → failed.refused ≡ refusals.Engine why → number_of_refusal why ≢ 13 →
     number_of_refusal why ≢ 14 →
     HasFault (length scripts) (history_seen st.world.history) r (call_seen call) (number_of_refusal why)

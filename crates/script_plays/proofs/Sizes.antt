@@ -9,13 +9,14 @@ use Rattle.engine_calls.specs.declared.reply.Completion.{Completion}
 use Rattle.proof_network_bridge.specs.Joined.{limit_in, opening_engines}
 use Rattle.event_loop.specs.declared.runner.RunnerStep.{RunnerStep}
 use Rattle.event_loop.specs.declared.runner.RunnerStep.TheVariants as steps
-use Rattle.script_runner.specs.Running.{RunnerState}
+use Rattle.script_runner.specs.Running.{ScriptState}
 use Rattle.script_files.specs.declared.script.ScriptLine.{ScriptLine}
 use Rattle.script_players.specs.Players.{PlayerState, told_completion}
 use Rattle.script_plays.specs.Playing.{CallMoves, EventGives, GoGives, GoesBy, MoveGives, PlayState, ScheduleGives}
 use Rattle.script_plays.specs.Playing.{StepMoves, play_opening, players_of, with_told}
-use Rattle.script_players.specs.declared.played.Stage.{Stage}
-use Rattle.script_players.specs.declared.played.Stage.TheVariants.{Over, Ready, Waits}
+use Rattle.engine_calls.specs.declared.call.Call.{Call}
+use Rattle.event_loop.specs.declared.loop_state.RunnerState.{RunnerState}
+use Rattle.event_loop.specs.declared.loop_state.RunnerState.TheVariants.{Blocked, Over, Ready}
 use Rattle.script_plays.specs.declared.moves.Move.{Move}
 use Rattle.script_plays.specs.declared.moves.Move.TheVariants as moves
 use Rattle.world.specs.Steps.{IsRefusedBy, Went}
@@ -46,7 +47,7 @@ refused_kept : (f : List EngineState → ℕ) → IsKept f →
 refused_kept f kept old event failed new h = ap (λ (w : WorldState). f w.engines) h.unchanged
 
 call_kept : (f : List EngineState → ℕ) → IsKept f →
-    (old : PlayState) (r : ℕ) (p : PlayerState) (s : RunnerState) (call : _) (result : Result Stepped Failed)
+    (old : PlayState) (r : ℕ) (p : PlayerState) (s : ScriptState) (call : _) (result : Result Stepped Failed)
     (new : PlayState) → CallMoves old r p s call result new → f new.world.engines ≡ f old.world.engines
 call_kept f kept old r p s call (Ok added) new g = ap (λ (x : PlayState). f x.world.engines) g.4 ∙
     kept old.world (events.Call r call) added g.0 g.1
@@ -54,24 +55,25 @@ call_kept f kept old r p s call (Err failed) new g = ap (λ (x : PlayState). f x
     refused_kept f kept old.world (events.Call r call) failed g.0 g.2
 
 step_kept : (f : List EngineState → ℕ) → IsKept f →
-    (old : PlayState) (r : ℕ) (p : PlayerState) (s : RunnerState) (step : RunnerStep) (new : PlayState) →
+    (old : PlayState) (r : ℕ) (p : PlayerState) (s : ScriptState) (step : RunnerStep) (new : PlayState) →
     StepMoves old r p s step new → f new.world.engines ≡ f old.world.engines
 step_kept f kept old r p s (steps.Print line) new g = ap (λ (x : PlayState). f x.world.engines) g
 step_kept f kept old r p s (steps.End status line) new g = ap (λ (x : PlayState). f x.world.engines) g
 step_kept f kept old r p s (steps.Call call) new g = call_kept f kept old r p s call g.0 new g.1
 
 go_kept : (f : List EngineState → ℕ) → IsKept f →
-    (old : PlayState) (r : ℕ) (p : PlayerState) (stage : Stage) (new : PlayState) → GoesBy old r p stage new →
+    (old : PlayState) (r : ℕ) (p : PlayerState) (state : RunnerState Call) (new : PlayState) →
+    GoesBy old r p state new →
     f new.world.engines ≡ f old.world.engines
 go_kept f kept old r p (Ready reply) new g = step_kept f kept old r p g.1 g.0 new g.3
-go_kept f kept old r p (Waits call) new g = ap (λ (x : PlayState). f x.world.engines) g
-go_kept f kept old r p (Over status) new g = ap (λ (x : PlayState). f x.world.engines) g
+go_kept f kept old r p (Blocked call) new g = ap (λ (x : PlayState). f x.world.engines) g
+go_kept f kept old r p (Over status line) new g = ap (λ (x : PlayState). f x.world.engines) g
 
 may_kept : (f : List EngineState → ℕ) → IsKept f →
     (old : PlayState) (r : ℕ) (p : Option PlayerState) (new : PlayState) → GoGives old r p new →
     f new.world.engines ≡ f old.world.engines
 may_kept f kept old r None new g = ap (λ (x : PlayState). f x.world.engines) g
-may_kept f kept old r (Some p) new g = go_kept f kept old r p p.stage new g
+may_kept f kept old r (Some p) new g = go_kept f kept old r p p.state new g
 
 event_kept : (f : List EngineState → ℕ) → IsKept f →
     (event : Event) (old : PlayState) (result : Result Stepped Failed) (new : PlayState) →
@@ -143,27 +145,28 @@ told_long players r c (Some p) = set_long players r (told_completion c p)
 abbrev long : PlayState → ℕ
 long x = length x.players
 
-call_players : (old : PlayState) (r : ℕ) (p : PlayerState) (s : RunnerState) (call : _) (result : Result Stepped Failed)
+call_players : (old : PlayState) (r : ℕ) (p : PlayerState) (s : ScriptState) (call : _) (result : Result Stepped Failed)
     (new : PlayState) → CallMoves old r p s call result new → length new.players ≡ length old.players
 call_players old r p s call (Ok added) new g = ap long g.4 ∙ set_long old.players r _
 call_players old r p s call (Err failed) new g = ap long g.4 ∙ set_long old.players r _
 
-step_players : (old : PlayState) (r : ℕ) (p : PlayerState) (s : RunnerState) (step : RunnerStep) (new : PlayState) →
+step_players : (old : PlayState) (r : ℕ) (p : PlayerState) (s : ScriptState) (step : RunnerStep) (new : PlayState) →
     StepMoves old r p s step new → length new.players ≡ length old.players
 step_players old r p s (steps.Print line) new g = ap long g ∙ set_long old.players r _
 step_players old r p s (steps.End status line) new g = ap long g ∙ set_long old.players r _
 step_players old r p s (steps.Call call) new g = call_players old r p s call g.0 new g.1
 
-go_players : (old : PlayState) (r : ℕ) (p : PlayerState) (stage : Stage) (new : PlayState) → GoesBy old r p stage new →
+go_players : (old : PlayState) (r : ℕ) (p : PlayerState) (state : RunnerState Call) (new : PlayState) →
+    GoesBy old r p state new →
     length new.players ≡ length old.players
 go_players old r p (Ready reply) new g = step_players old r p g.1 g.0 new g.3
-go_players old r p (Waits call) new g = ap long g
-go_players old r p (Over status) new g = ap long g
+go_players old r p (Blocked call) new g = ap long g
+go_players old r p (Over status line) new g = ap long g
 
 may_players : (old : PlayState) (r : ℕ) (p : Option PlayerState) (new : PlayState) → GoGives old r p new →
     length new.players ≡ length old.players
 may_players old r None new g = ap long g
-may_players old r (Some p) new g = go_players old r p p.stage new g
+may_players old r (Some p) new g = go_players old r p p.state new g
 
 event_players : (event : Event) (old : PlayState) (result : Result Stepped Failed) (new : PlayState) →
     EventGives old event result new → length new.players ≡ length old.players

@@ -24,16 +24,17 @@ use Rattle.proof_one_meaning.proofs.Beginnings.{beginnings_are_histories}
 use Rattle.proof_one_meaning.specs.Plays.{Player, PlaysOn, PlaysTheMeaning, WasAnswered, players_at_start, with_player}
 use Rattle.event_loop.specs.declared.runner.RunnerStep.{RunnerStep}
 use Rattle.event_loop.specs.declared.runner.RunnerStep.TheVariants as steps
-use Rattle.script_runner.specs.Running.{NextGives, RunnerState, opening}
+use Rattle.script_runner.specs.Running.{NextGives, ScriptState, opening}
 use Rattle.script_files.specs.declared.script.ScriptLine.{ScriptLine}
 use Rattle.script_plays.specs.Alike.{IsAlike, IsAlikeAt, IsOverAlike, WaitsAlike}
 use Rattle.script_plays.specs.Joined.{AreFine}
-use Rattle.script_players.specs.Players.{PlayerState, as_reply, is_over, stage_by, told_if}
+use Rattle.replies.specs.Copies.{reply_of}
+use Rattle.script_players.specs.Players.{PlayerState, is_over, state_by, told_if}
 use Rattle.script_plays.specs.PlayLaws.{PlaysAreTheMeaning}
 use Rattle.script_plays.specs.Playing.{CallMoves, EventGives, GoGives, GoesBy, HasHeadline, MoveGives, PlayGives}
 use Rattle.script_plays.specs.Playing.{PlayState, ScheduleGives, StepMoves, play_opening, players_of, with_told}
-use Rattle.script_players.specs.declared.played.Stage.{Stage}
-use Rattle.script_players.specs.declared.played.Stage.TheVariants.{Over, Ready, Waits}
+use Rattle.event_loop.specs.declared.loop_state.RunnerState.{RunnerState}
+use Rattle.event_loop.specs.declared.loop_state.RunnerState.TheVariants.{Blocked, Over, Ready}
 use Rattle.script_plays.specs.declared.moves.Move.{Move}
 use Rattle.script_plays.specs.declared.moves.Move.TheVariants as moves
 use Rattle.proof_script_processes.specs.Hearing.{told_of}
@@ -70,12 +71,13 @@ true_false : (b : Bool) → b ≡ true → b ≡ false → ⊥
 true_false true h k = absurd (grind arith)
 true_false false h k = absurd (grind arith)
 
-over_alike : (p : PlayerState) (status : ℕ) (q : Player Running) → p.stage ≡ Over status → IsAlike p q → IsOverAlike p q
-over_alike p status q e a = subst (λ (stage : Stage). IsAlikeAt stage p q) e a
+over_alike : (p : PlayerState) (status : ℕ) (line : Option ℕ) (q : Player Running) → p.state ≡ Over status line →
+    IsAlike p q → IsOverAlike p q
+over_alike p status line q e a = subst (λ (state : RunnerState Call). IsAlikeAt state p q) e a
 
-waits_alike : (p : PlayerState) (call : Call) (q : Player Running) → p.stage ≡ Waits call → IsAlike p q →
+waits_alike : (p : PlayerState) (call : Call) (q : Player Running) → p.state ≡ Blocked call → IsAlike p q →
     WaitsAlike p call q
-waits_alike p call q e a = subst (λ (stage : Stage). IsAlikeAt stage p q) e a
+waits_alike p call q e a = subst (λ (state : RunnerState Call). IsAlikeAt state p q) e a
 
 -- AN ANSWER TO A BLOCKED CALL
 
@@ -88,7 +90,7 @@ told_as : (e : Endpoint) (c : Completion) → told_completion e (Some c) ≡ Com
 told_as e (completions.Requests a) = refl
 told_as e (completions.Collective o) = refl
 
-as_told : (c : Completion) → Replied (seen_events.as_reply (answer_in c)) ≡ told_of (as_reply c)
+as_told : (c : Completion) → Replied (seen_events.as_reply (answer_in c)) ≡ told_of (reply_of c)
 as_told (completions.Requests a) = refl
 as_told (completions.Collective o) = refl
 
@@ -96,20 +98,20 @@ as_told (completions.Collective o) = refl
 waited : (scripts : List (List ScriptLine)) → Premises scripts →
     (st : PlayState) (j : Joined scripts st) (r : ℕ) (a : machine.Answer) →
     IsHistory (length scripts) send_limit (history_seen st.world.history ++ Completed (first_endpoint r) a ∷ []) →
-    (p : PlayerState) → slice_get st.players r ≡ Some p → (call : Call) × (p.stage ≡ Waits call)
-waited scripts pre st j r a there p is = by p.stage refl
+    (p : PlayerState) → slice_get st.players r ≡ Some p → (call : Call) × (p.state ≡ Blocked call)
+waited scripts pre st j r a there p is = by p.state refl
   where
     blocked : ((j.now r).blocked ≡ true) × ((j.now r).ended ≡ false)
     blocked =
         scripts_blocked scripts (length scripts) j.moves j.now (history_seen st.world.history) pre.few pre.some
         pre.covered pre.agrees j.through r a there
 
-    by : (stage : Stage) → p.stage ≡ stage → (call : Call) × (p.stage ≡ Waits call)
+    by : (state : RunnerState Call) → p.state ≡ state → (call : Call) × (p.state ≡ Blocked call)
     by (Ready reply) e =
         absurd (true_false (j.now r).blocked blocked.0 (ready_alike p reply (j.now r) e (j.alike r p is)).free)
-    by (Over status) e =
-        absurd (true_false (j.now r).ended (over_alike p status (j.now r) e (j.alike r p is)).ended blocked.1)
-    by (Waits call) e = (call, e)
+    by (Over status line) e =
+        absurd (true_false (j.now r).ended (over_alike p status line (j.now r) e (j.alike r p is)).ended blocked.1)
+    by (Blocked call) e = (call, e)
 
 -- and is told
 answered : (scripts : List (List ScriptLine)) → Premises scripts →
@@ -126,7 +128,7 @@ answered scripts pre st j r c w h there = go
     q' : Player Running
     q' = record {
       process = (j.now r).process;
-      told = Some (told_of (as_reply c));
+      told = Some (told_of (reply_of c));
       blocked = false;
       lines =
           (j.now r).lines;
@@ -152,8 +154,8 @@ answered scripts pre st j r c w h there = go
         grow scripts st j (with_player j.now r q') w st.players on (alike_none st.players r j.now q' j.alike is)
     go (Some p) is =
         let t = waited scripts pre st j r (answer_in c) (subst (IsHistory (length scripts) send_limit) more there) p is in
-        subst (λ (stage : Stage). Joined scripts
-        (record { world = w; players = slice_set st.players r (told_if stage c p) })) (sym t.1)
+        subst (λ (state : RunnerState Call). Joined scripts
+        (record { world = w; players = slice_set st.players r (told_if state c p) })) (sym t.1)
         (grow scripts st j (with_player j.now r q') w _ on
         (alike_set st.players r _ j.now q' j.alike
         (answers_are_alike p t.0 (j.now r) c (waits_alike p t.0 (j.now r) t.1 (j.alike r p is)))))
@@ -216,9 +218,9 @@ set_twice (x ∷ xs) zero a b = refl
 set_twice (x ∷ xs) (suc r) a b = ap (λ (ys : List PlayerState). x ∷ ys) (set_twice xs r a b)
 
 taken : (scripts : List (List ScriptLine)) → Premises scripts → (old : PlayState) → HasHeadline old.world →
-    (j : Joined scripts old) (r : ℕ) (p : PlayerState) (reply : Option Reply) (call : Call) (s : RunnerState)
+    (j : Joined scripts old) (r : ℕ) (p : PlayerState) (reply : Option Reply) (call : Call) (s : ScriptState)
     (added : Stepped) (new : PlayState) →
-    slice_get old.players r ≡ Some p → p.stage ≡ Ready reply → NextGives p.runner reply (steps.Call call) s →
+    slice_get old.players r ≡ Some p → p.state ≡ Ready reply → NextGives p.runner reply (steps.Call call) s →
     CallMoves old r p s call (Ok added) new → IsHistory (length scripts) send_limit (history_seen new.world.history) →
     Joined scripts new
 taken scripts pre old head j r p reply call s added new is e n g history = go g.1.gave.completion refl
@@ -252,7 +254,7 @@ taken scripts pre old head j r p reply call s added new is e n g history = go g.
         (ap (λ (x : Endpoint). told_completion x c) first))
 
     player : Option Reply → Option Completion → PlayerState
-    player o c = record { runner = s; stage = stage_by call o c; lines = p.lines; refused = p.refused }
+    player o c = record { runner = s; state = state_by call o c; lines = p.lines; refused = p.refused }
 
     state : WorldState → Option Reply → Option Completion → PlayState
     state w o c = record { world = w; players = slice_set old.players r (player o c) }
@@ -313,22 +315,22 @@ taken scripts pre old head j r p reply call s added new is e n g history = go g.
             (beginnings_are_histories (length scripts) (history_seen half.history)
             (Completed (first_endpoint r) (answer_in c)) answer_there)
 
-        waits : (call : Call) × (now.stage ≡ Waits call)
+        waits : (call : Call) × (now.state ≡ Blocked call)
         waits = waited scripts pre mid joined r (answer_in c) answer_there now at
 
-        same : slice_set mid.players r (told_if now.stage c now) ≡
+        same : slice_set mid.players r (told_if now.state c now) ≡
             slice_set old.players r (player (Some told.reply) (Some c))
         same =
-            ap (λ (stage : Stage). slice_set mid.players r (told_if stage c now)) waits.1
+            ap (λ (state : RunnerState Call). slice_set mid.players r (told_if state c now)) waits.1
             ∙ set_twice old.players r now (player (Some told.reply) (Some c))
 
 -- A MOVE
 
 steps_on : (scripts : List (List ScriptLine)) → Premises scripts → (done : List Move) (old : PlayState) →
     PlayGives scripts done old → HasHeadline old.world →
-    (j : Joined scripts old) (r : ℕ) (p : PlayerState) (reply : Option Reply) (step : RunnerStep) (s : RunnerState)
+    (j : Joined scripts old) (r : ℕ) (p : PlayerState) (reply : Option Reply) (step : RunnerStep) (s : ScriptState)
     (new : PlayState) →
-    slice_get old.players r ≡ Some p → p.stage ≡ Ready reply → NextGives p.runner reply step s →
+    slice_get old.players r ≡ Some p → p.state ≡ Ready reply → NextGives p.runner reply step s →
     StepMoves old r p s step new → AreFine new →
     IsHistory (length scripts) send_limit (history_seen new.world.history) →
     Joined scripts new
@@ -348,12 +350,12 @@ goes : (scripts : List (List ScriptLine)) → Premises scripts → (done : List 
     GoGives old r o new → AreFine new → IsHistory (length scripts) send_limit (history_seen new.world.history) →
     Joined scripts new
 goes scripts pre done old reached head j r None new is g fine history = subst (Joined scripts) (sym g) j
-goes scripts pre done old reached head j r (Some p) new is g fine history = go p.stage refl g
+goes scripts pre done old reached head j r (Some p) new is g fine history = go p.state refl g
   where
-    go : (stage : Stage) → p.stage ≡ stage → GoesBy old r p stage new → Joined scripts new
+    go : (state : RunnerState Call) → p.state ≡ state → GoesBy old r p state new → Joined scripts new
     go (Ready reply) e h = steps_on scripts pre done old reached head j r p reply h.0 h.1 new is e h.2 h.3 fine history
-    go (Waits call) e h = subst (Joined scripts) (sym h) j
-    go (Over status) e h = subst (Joined scripts) (sym h) j
+    go (Blocked call) e h = subst (Joined scripts) (sym h) j
+    go (Over status line) e h = subst (Joined scripts) (sym h) j
 
 moved : (scripts : List (List ScriptLine)) → Premises scripts → (done : List Move) (old : PlayState) →
     PlayGives scripts done old → HasHeadline old.world → Joined scripts old → (m : Move) (new : PlayState) →
@@ -413,16 +415,17 @@ begun scripts = record {
 
 -- THE WHOLE
 
-lines_same : (p : PlayerState) (q : Player Running) → (stage : Stage) → IsAlikeAt stage p q → q.lines ≡ p.lines
+lines_same : (p : PlayerState) (q : Player Running) → (state : RunnerState Call) → IsAlikeAt state p q →
+    q.lines ≡ p.lines
 lines_same p q (Ready reply) a = a.lines
-lines_same p q (Waits call) a = a.lines
-lines_same p q (Over status) a = a.lines
+lines_same p q (Blocked call) a = a.lines
+lines_same p q (Over status line) a = a.lines
 
-ended_same : (p : PlayerState) (q : Player Running) → (stage : Stage) → IsAlikeAt stage p q → is_over stage ≡ true →
-    q.ended ≡ true
+ended_same : (p : PlayerState) (q : Player Running) → (state : RunnerState Call) → IsAlikeAt state p q →
+    is_over state ≡ true → q.ended ≡ true
 ended_same p q (Ready reply) a o = absurd (grind arith)
-ended_same p q (Waits call) a o = absurd (grind arith)
-ended_same p q (Over status) a o = a.ended
+ended_same p q (Blocked call) a o = absurd (grind arith)
+ended_same p q (Over status line) a o = a.ended
 
 pub plays_are_the_meaning : PlaysAreTheMeaning
 plays_are_the_meaning scripts schedule new some few g covered agrees fine r p is =
@@ -431,8 +434,8 @@ plays_are_the_meaning scripts schedule new some few g covered agrees fine r p is
     let m : PlaysTheMeaning (j.now r) (meaning_of (length scripts) scripts r) =
     scripts_play_their_meaning scripts (length scripts) j.moves j.now (history_seen new.world.history) few some covered
     agrees j.through r in
-    let same : (j.now r).lines ≡ p.lines = lines_same p (j.now r) p.stage (j.alike r p is) in
+    let same : (j.now r).lines ≡ p.lines = lines_same p (j.now r) p.state (j.alike r p is) in
     record {
       lines = (m.lines.0, m.lines.1 ∙ ap (λ (ls : List (List ℕ)). ls ++ m.lines.0) same);
-      whole = λ o. m.whole (ended_same p (j.now r) p.stage (j.alike r p is) o) ∙ same;
+      whole = λ o. m.whole (ended_same p (j.now r) p.state (j.alike r p is) o) ∙ same;
     }

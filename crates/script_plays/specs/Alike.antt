@@ -7,10 +7,11 @@ use Rattle.one_meaning.specs.Courses.{Calls, Ends, Prints}
 use Rattle.observation.specs.EngineCalls.{call_seen}
 use Rattle.proof_one_meaning.specs.Plays.{IsAt, Player, gone_on}
 use Rattle.event_loop.specs.declared.runner.RunnerStep.TheVariants as steps
-use Rattle.script_runner.specs.Running.{NextGives, RunnerState}
-use Rattle.script_players.specs.Players.{PlayerState, as_reply}
-use Rattle.script_players.specs.declared.played.Stage.{Stage}
-use Rattle.script_players.specs.declared.played.Stage.TheVariants.{Over, Ready, Waits}
+use Rattle.script_runner.specs.Running.{NextGives, ScriptState}
+use Rattle.replies.specs.Copies.{reply_of}
+use Rattle.script_players.specs.Players.{PlayerState}
+use Rattle.event_loop.specs.declared.loop_state.RunnerState.{RunnerState}
+use Rattle.event_loop.specs.declared.loop_state.RunnerState.TheVariants.{Blocked, Over, Ready}
 use Rattle.proof_script_processes.specs.Following.{Follows}
 use Rattle.proof_script_processes.specs.Forgetting.{plain_call}
 use Rattle.proof_script_processes.specs.Hearing.{IsReplyTo, told_of}
@@ -36,53 +37,53 @@ pub record IsOverAlike (p : PlayerState) (q : Player Running) : Type 0 where
   pub ended : q.ended ≡ true
   pub lines : q.lines ≡ p.lines
 
-abbrev pub IsAlikeAt : Stage → PlayerState → Player Running → Type 0
+abbrev pub IsAlikeAt : RunnerState Call → PlayerState → Player Running → Type 0
 IsAlikeAt (Ready reply) p q = IsReadyAlike p reply q
-IsAlikeAt (Waits call) p q = WaitsAlike p call q
-IsAlikeAt (Over status) p q = IsOverAlike p q
+IsAlikeAt (Blocked call) p q = WaitsAlike p call q
+IsAlikeAt (Over status line) p q = IsOverAlike p q
 
 abbrev pub IsAlike : PlayerState → Player Running → Type 0
-IsAlike p q = IsAlikeAt p.stage p q
+IsAlike p q = IsAlikeAt p.state p q
 
 -- A line that a runner prints is one that its process prints, and they stay alike
 abbrev pub LinesAreAlike : Type 0
 LinesAreAlike =
-    (p : PlayerState) (reply : Option Reply) (q : Player Running) (line : List ℕ) (s : RunnerState) →
+    (p : PlayerState) (reply : Option Reply) (q : Player Running) (line : List ℕ) (s : ScriptState) →
     IsReadyAlike p reply q → NextGives p.runner reply (steps.Print line) s →
     IsAt next_in_script q (Prints line) ×
-    IsAlike (record { runner = s; stage = Ready None; lines = p.lines ++ line ∷ []; refused = p.refused })
+    IsAlike (record { runner = s; state = Ready None; lines = p.lines ++ line ∷ []; refused = p.refused })
     (gone_on next_in_script q None false (line ∷ []) false)
 
 -- and so is an end, but where the runner ends with 6
 abbrev pub EndsAreAlike : Type 0
 EndsAreAlike =
-    (p : PlayerState) (reply : Option Reply) (q : Player Running) (status : ℕ) (line : Option ℕ) (s : RunnerState) →
+    (p : PlayerState) (reply : Option Reply) (q : Player Running) (status : ℕ) (line : Option ℕ) (s : ScriptState) →
     IsReadyAlike p reply q → NextGives p.runner reply (steps.End status line) s →
     (steps.End status line ≡ steps.End 6 None → ⊥) →
     IsAt next_in_script q (Ends status) ×
-    IsAlike (record { runner = s; stage = Over status; lines = p.lines; refused = p.refused })
+    IsAlike (record { runner = s; state = Over status line; lines = p.lines; refused = p.refused })
     (gone_on next_in_script q None false [] true)
 
 -- and a call; they stay alike where both are told the reply, or neither is, for the call is blocked
 abbrev pub CallsAreAlike : Type 0
 CallsAreAlike =
-    (p : PlayerState) (reply : Option Reply) (q : Player Running) (call : Call) (s : RunnerState) (refused : List ℕ) →
+    (p : PlayerState) (reply : Option Reply) (q : Player Running) (call : Call) (s : ScriptState) (refused : List ℕ) →
     IsReadyAlike p reply q → NextGives p.runner reply (steps.Call call) s →
     IsAt next_in_script q (Calls (call_seen call))
-    × IsAlike (record { runner = s; stage = Waits call; lines = p.lines; refused = refused })
+    × IsAlike (record { runner = s; state = Blocked call; lines = p.lines; refused = refused })
     (gone_on next_in_script q None true [] false)
     × ((told : Reply) → IsReplyTo (plain_call call) told →
-    IsAlike (record { runner = s; stage = Ready (Some told); lines = p.lines; refused = refused })
+    IsAlike (record { runner = s; state = Ready (Some told); lines = p.lines; refused = refused })
     (gone_on next_in_script q (Some (told_of told)) false [] false))
 
 -- and so they stay when a blocked call is answered
 abbrev pub AnswersAreAlike : Type 0
 AnswersAreAlike =
     (p : PlayerState) (call : Call) (q : Player Running) (c : Completion) → WaitsAlike p call q →
-    IsAlike (record p { stage = Ready (Some (as_reply c)) })
+    IsAlike (record p { state = Ready (Some (reply_of c)) })
     (record {
       process = q.process;
-      told = Some (told_of (as_reply c));
+      told = Some (told_of (reply_of c));
       blocked = false;
       lines = q.lines;
       ended =

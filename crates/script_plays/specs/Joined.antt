@@ -5,8 +5,9 @@ use Rattle.one_meaning.specs.Courses.{Course, RecordsAgree, accounts}
 use Rattle.script_files.specs.declared.script.ScriptLine.{ScriptLine}
 use Rattle.script_players.specs.Players.{PlayerState, is_over}
 use Rattle.script_plays.specs.Playing.{PlayState}
-use Rattle.script_players.specs.declared.played.Stage.{Stage}
-use Rattle.script_players.specs.declared.played.Stage.TheVariants.{Over, Ready, Waits}
+use Rattle.engine_calls.specs.declared.call.Call.{Call}
+use Rattle.event_loop.specs.declared.loop_state.RunnerState.{RunnerState}
+use Rattle.event_loop.specs.declared.loop_state.RunnerState.TheVariants.{Blocked, Over, Ready}
 use Rattle.proof_script_processes.specs.Processes.{Running}
 use Rattle.proof_script_processes.specs.ScriptLaws.{AreCoveredScripts, meaning_of}
 
@@ -14,22 +15,22 @@ use Rattle.proof_script_processes.specs.ScriptLaws.{AreCoveredScripts, meaning_o
 -- ended
 pub record Shows (p : PlayerState) (end : Course Running) : Type 0 where
   pub lines : (rest : List (List ℕ)) × (end.lines ≡ p.lines ++ rest)
-  pub whole : is_over p.stage ≡ true → end.lines ≡ p.lines
+  pub whole : is_over p.state ≡ true → end.lines ≡ p.lines
 
 -- no call was refused by a limit or for want of memory
 abbrev pub HasNoLimit : PlayerState → Type 0
 HasNoLimit p = AllByRecursion (λ x. (x ≢ 13) × (x ≢ 14)) p.refused
 
 -- no runner ended with 6, for want of memory
-abbrev pub HasNotSix : Stage → Type 0
+abbrev pub HasNotSix : RunnerState Call → Type 0
 HasNotSix (Ready reply) = Unit {0}
-HasNotSix (Waits call) = Unit {0}
-HasNotSix (Over status) = status ≢ 6
+HasNotSix (Blocked call) = Unit {0}
+HasNotSix (Over status line) = status ≢ 6
 
 -- neither limits nor want of memory came in
 pub record IsFine (p : PlayerState) : Type 0 where
   pub limit : HasNoLimit p
-  pub six : HasNotSix p.stage
+  pub six : HasNotSix p.state
 
 abbrev pub AreFine : PlayState → Type 0
 AreFine st = (r : ℕ) (p : PlayerState) → slice_get st.players r ≡ Some p → IsFine p

@@ -6,13 +6,13 @@ use Rattle.engine_calls.specs.declared.reply.Completion.{Completion}
 use Rattle.engine_calls.specs.declared.reply.Reply.{Reply}
 use Rattle.event_loop.specs.declared.runner.RunnerStep.{RunnerStep}
 use Rattle.event_loop.specs.declared.runner.RunnerStep.TheVariants as steps
-use Rattle.script_runner.specs.Running.{NextGives, RunnerState, opening}
+use Rattle.script_runner.specs.Running.{NextGives, ScriptState, opening}
 use Rattle.script_files.specs.declared.script.ScriptLine.{ScriptLine}
 use Rattle.script_plays.specs.declared.moves.Move.{Move}
 use Rattle.script_plays.specs.declared.moves.Move.TheVariants as moves
-use Rattle.script_players.specs.Players.{AreAlike, PlayerState, number_in, refused_so, stage_by, told_completion}
-use Rattle.script_players.specs.declared.played.Stage.{Stage}
-use Rattle.script_players.specs.declared.played.Stage.TheVariants.{Over, Ready, Waits}
+use Rattle.script_players.specs.Players.{AreAlike, PlayerState, number_in, refused_so, state_by, told_completion}
+use Rattle.event_loop.specs.declared.loop_state.RunnerState.{RunnerState}
+use Rattle.event_loop.specs.declared.loop_state.RunnerState.TheVariants.{Blocked, Over, Ready}
 use Rattle.world.specs.Headline.{IsRunOfMachine, SessionsAreTrue}
 use Rattle.world.specs.Steps.{IsRefusedBy, Went}
 use Rattle.world.specs.WorldState.{WorldState, opening_world}
@@ -33,7 +33,7 @@ with_told players r c (Some p) = slice_set players r (told_completion c p)
 
 -- A call of a rank's runner: the world takes it, and the runner is told what the history holds of its answer; or it is
 -- refused, and the runner is told so
-abbrev pub CallMoves : PlayState → (rank : ℕ) → PlayerState → RunnerState → Call → Result Stepped Failed → PlayState →
+abbrev pub CallMoves : PlayState → (rank : ℕ) → PlayerState → ScriptState → Call → Result Stepped Failed → PlayState →
     Type 0
 CallMoves old r p s call (Ok added) new =
     (w : WorldState) × (went : Went old.world (events.Call r call) added w) ×
@@ -41,7 +41,7 @@ CallMoves old r p s call (Ok added) new =
     × (new ≡ record {
       world = w;
       players =
-          slice_set old.players r (record p { runner = s; stage = stage_by call told went.gave.completion });
+          slice_set old.players r (record p { runner = s; state = state_by call told went.gave.completion });
     })
 CallMoves old r p s call (Err failed) new =
     (w : WorldState) × (reply : Reply) × IsRefusedBy old.world (events.Call r call) failed w ×
@@ -50,30 +50,30 @@ CallMoves old r p s call (Err failed) new =
       world = w;
       players =
           slice_set old.players r
-          (record p { runner = s; stage = Ready (Some reply); refused = p.refused ++ number_in failed.refused });
+          (record p { runner = s; state = Ready (Some reply); refused = p.refused ++ number_in failed.refused });
     })
 
 -- a runner's step
-abbrev pub StepMoves : PlayState → (rank : ℕ) → PlayerState → RunnerState → RunnerStep → PlayState → Type 0
+abbrev pub StepMoves : PlayState → (rank : ℕ) → PlayerState → ScriptState → RunnerStep → PlayState → Type 0
 StepMoves old r p s (steps.Print line) new =
     new ≡ record old {
       players =
-          slice_set old.players r (record p { runner = s; stage = Ready None; lines = p.lines ++ line ∷ [] });
+          slice_set old.players r (record p { runner = s; state = Ready None; lines = p.lines ++ line ∷ [] });
     }
 StepMoves old r p s (steps.End status line) new =
-    new ≡ record old { players = slice_set old.players r (record p { runner = s; stage = Over status }) }
+    new ≡ record old { players = slice_set old.players r (record p { runner = s; state = Over status line }) }
 StepMoves old r p s (steps.Call call) new = (result : Result Stepped Failed) × CallMoves old r p s call result new
 
-abbrev pub GoesBy : PlayState → (rank : ℕ) → PlayerState → Stage → PlayState → Type 0
-GoesBy old r p (Ready reply) new = (step : RunnerStep) × (s : RunnerState) × NextGives p.runner reply step s ×
+abbrev pub GoesBy : PlayState → (rank : ℕ) → PlayerState → RunnerState Call → PlayState → Type 0
+GoesBy old r p (Ready reply) new = (step : RunnerStep) × (s : ScriptState) × NextGives p.runner reply step s ×
     StepMoves old r p s step new
-GoesBy old r p (Waits call) new = new ≡ old
-GoesBy old r p (Over status) new = new ≡ old
+GoesBy old r p (Blocked call) new = new ≡ old
+GoesBy old r p (Over status line) new = new ≡ old
 
 -- `Go`: at a blocked, ended or unknown rank nothing
 abbrev pub GoGives : PlayState → (rank : ℕ) → Option PlayerState → PlayState → Type 0
 GoGives old r None new = new ≡ old
-GoGives old r (Some p) new = GoesBy old r p p.stage new
+GoGives old r (Some p) new = GoesBy old r p p.state new
 
 -- a delivery or a tick: refused, it changes nothing of the players; else the answer to a blocked call is told
 abbrev pub EventGives : PlayState → Event → Result Stepped Failed → PlayState → Type 0
@@ -110,7 +110,7 @@ ScheduleGives old (m ∷ ms) new = HasHeadline old.world ×
 abbrev pub players_of : (rank : ℕ) → List (List ScriptLine) → List PlayerState
 players_of r [] = []
 players_of r (script ∷ scripts) =
-    record { runner = opening script r 0; stage = Ready None; lines = []; refused = [] } ∷ players_of (ℕ.suc r) scripts
+    record { runner = opening script r 0; state = Ready None; lines = []; refused = [] } ∷ players_of (ℕ.suc r) scripts
 
 abbrev pub play_opening : List (List ScriptLine) → PlayState
 play_opening scripts = record { world = opening_world (length scripts); players = players_of 0 scripts }

@@ -6,8 +6,8 @@ use Rattle.datatypes.specs.Transfers.{whole_copies}
 use Rattle.layouts.specs.Layouts.{Shape}
 use Rattle.line_diagnostics.specs.declared.fault.LineFault.{LineFault}
 use Rattle.line_diagnostics.specs.Lacks.{lack_of_action, lack_of_statement, lacks_buffer, lacks_layout, lacks_place}
-use Rattle.interpreter.specs.declared.steps.StatementCall.{StatementCall}
-use Rattle.interpreter.specs.declared.steps.StatementCall.TheVariants as askeds
+use Rattle.interpreter.specs.declared.steps.NextStep.{NextStep}
+use Rattle.interpreter.specs.declared.steps.NextStep.TheVariants as nexts
 use Rattle.interpreter.specs.Acting as interpreted
 use Rattle.interpreter.specs.Faults.{FaultyWhere, is_faulty}
 use Rattle.interpreter.specs.NamesState.{NamesState, here, holdings}
@@ -22,12 +22,12 @@ use Rattle.script_files.specs.declared.script.ScriptStatement.TheVariants as sta
 use Rattle.script_runner.specs.Standing.{StopsWhere, is_stop}
 
 -- what isn't faulty doesn't end the script
-goes_on : (number : ℕ) (asked : StatementCall) (names : NamesState) → is_faulty asked ≡ false →
-    is_stop (does number asked names).0 ≡ false
-goes_on number askeds.Nothing names e = refl
-goes_on number (askeds.Call call pending) names e = refl
-goes_on number (askeds.Refused refusal) names e = refl
-goes_on number askeds.Faulty names e = absurd cc
+goes_on : (number : ℕ) (next : Option NextStep) (names : NamesState) → is_faulty next ≡ false →
+    is_stop (does number next names).0 ≡ false
+goes_on number None names e = absurd cc
+goes_on number (Some nexts.Nothing) names e = refl
+goes_on number (Some (nexts.Call made)) names e = refl
+goes_on number (Some (nexts.Told told)) names e = refl
 
 -- a statement that is faulty ends the script, and no other
 asked_stops : (fault : Option LineFault) (number : ℕ) (acted : interpreted.Acts) (names : NamesState) →

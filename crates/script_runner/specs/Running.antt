@@ -10,17 +10,17 @@ use Rattle.script_runner.specs.ScriptRanks as script
 use Rattle.script_runner.specs.ScriptRanks.{Acts, RankState, acts, heeds}
 
 -- A rank that runs a script: the lines that are left, what its names stand for, and what it waits for.
-pub record RunnerState : Type 0 where
+pub record ScriptState : Type 0 where
   pub lines : List RankLine
   pub rank : RankState
 
 -- a script for a rank at its start: no name is set
-abbrev pub opening : List ScriptLine → (rank incarnation : ℕ) → RunnerState
+abbrev pub opening : List ScriptLine → (rank incarnation : ℕ) → ScriptState
 opening lines own incarnation = record { lines = lines_for own incarnation lines; rank = script.opening own }
 
 -- what a rank does, and what it then stands at
 abbrev pub Does : Type 0
-Does = RunnerStep × RunnerState
+Does = RunnerStep × ScriptState
 
 abbrev pub does_by : List RankLine → Option RunnerStep → RankState → Does → Does
 does_by rest (Some step) s otherwise = (step, record { lines = rest; rank = s })
@@ -40,7 +40,7 @@ abbrev pub does_after : List RankLine → Acts → Does
 does_after lines acted = does_or lines acted (along lines acted.1)
 
 -- what comes next, told this reply or none
-abbrev pub next_of : RunnerState → Option Reply → Does
+abbrev pub next_of : ScriptState → Option Reply → Does
 next_of s None = along s.lines s.rank
 next_of s (Some reply) = does_after s.lines (heeds reply s.rank)
 
@@ -49,6 +49,6 @@ abbrev pub IsMore : List RankLine → Option Reply → Type 0
 IsMore lines reply = (lines ≢ []) ⊎ (reply ≢ None)
 
 -- What comes next is what the script says; or memory is wanting for it, and the script ends with status 6
-abbrev pub NextGives : RunnerState → Option Reply → RunnerStep → RunnerState → Type 0
+abbrev pub NextGives : ScriptState → Option Reply → RunnerStep → ScriptState → Type 0
 NextGives old reply step new =
     (next_of old reply ≡ (step, new)) ⊎ ((step ≡ steps.End 6 None) × IsMore old.lines reply)

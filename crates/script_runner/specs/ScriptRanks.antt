@@ -9,12 +9,10 @@ use Rattle.event_loop.specs.declared.runner.RunnerStep.TheVariants as steps
 use Rattle.script_files.specs.declared.script.RankLine.{RankLine}
 use Rattle.script_files.specs.declared.script.ScriptStatement.{ScriptStatement}
 use Rattle.script_files.specs.declared.script.ScriptStatement.TheVariants as statements
-use Rattle.printed_lines.specs.Lines.{elements_line, error_line, words_line}
+use Rattle.printed_lines.specs.Lines.{elements_line, words_line}
 use Rattle.script_calls.specs.declared.pending.Pending.{Pending}
-use Rattle.interpreter.specs.declared.steps.StatementCall.{StatementCall}
-use Rattle.interpreter.specs.declared.steps.StatementCall.TheVariants as askeds
-use Rattle.interpreter.specs.declared.steps.AnswerEffect.{AnswerEffect}
-use Rattle.interpreter.specs.declared.steps.AnswerEffect.TheVariants as heards
+use Rattle.interpreter.specs.declared.steps.NextStep.{NextStep}
+use Rattle.interpreter.specs.declared.steps.NextStep.TheVariants as nexts
 use Rattle.interpreter.specs.Acting as interpreted
 use Rattle.interpreter.specs.Hearing as heard
 use Rattle.interpreter.specs.NamesState.{NamesState, here, no_names}
@@ -49,24 +47,22 @@ prints line names = (Some (steps.Print line), record { names = names; pending = 
 abbrev pub makes_call : Call → Pending → NamesState → Acts
 makes_call call pending names = (Some (steps.Call call), record { names = names; pending = Some pending })
 
--- what a statement of this line asks for is done; a refusal without a call is printed as any
-abbrev pub does : ℕ → StatementCall → NamesState → Acts
-does number askeds.Nothing names = goes_on names
-does number (askeds.Call call pending) names = makes_call call pending names
-does number (askeds.Refused refusal) names = prints (error_line refusal) names
-does number askeds.Faulty names = stops number names
-
-abbrev pub does_asked : ℕ → interpreted.Acts → Acts
-does_asked number acted = does number acted.0 acted.1
-
--- what follows from an answer is done
-abbrev pub follows : AnswerEffect → NamesState → Acts
-follows heards.Nothing names = goes_on names
-follows (heards.Call call pending) names = makes_call call pending names
-follows (heards.Told told) names = prints (line_of told) names
+-- what comes next of a statement is done
+abbrev pub follows : NextStep → NamesState → Acts
+follows nexts.Nothing names = goes_on names
+follows (nexts.Call made) names = makes_call made.call made.pending names
+follows (nexts.Told told) names = prints (line_of told) names
 
 abbrev pub follows_heard : heard.Hears → Acts
 follows_heard made = follows made.0 made.1
+
+-- the same of a statement of this line, unless it is faulty
+abbrev pub does : ℕ → Option NextStep → NamesState → Acts
+does number None names = stops number names
+does number (Some next) names = follows next names
+
+abbrev pub does_asked : ℕ → interpreted.Acts → Acts
+does_asked number acted = does number acted.0 acted.1
 
 -- ---- what asks for no call
 

@@ -23,9 +23,9 @@ pub struct ScriptRunner {
 }
 
 impl Model for ScriptRunner {
-    ghost use Rattle.script_runner.specs.Running.{RunnerState};
+    ghost use Rattle.script_runner.specs.Running.{ScriptState};
 
-    ghost Value = { RunnerState };
+    ghost Value = { ScriptState };
 
     ghost view = { λ r. record { lines = r.lines; rank = r.rank } };
 }

@@ -10,9 +10,9 @@ ghost use Rattle.script_runner.specs.ScriptRanks.{prints_elements, says, states}
 use crate::lines::line_of;
 use engine_calls::Reply;
 use event_loop::RunnerStep;
-use interpreter::{AnswerEffect, Names, StatementCall};
+use interpreter::{Names, NextStep, PendingCall};
 use line_diagnostics::{LineFault, lack_of_statement};
-use printed_lines::{count_line, elements_line, error_line, status_line, words_line};
+use printed_lines::{count_line, elements_line, status_line, words_line};
 use script_calls::Pending;
 use script_files::{RankLine, ScriptStatement};
 use statements::Name;
@@ -56,28 +56,38 @@ impl ScriptRank {
         self.pending.is_some()
     }
 
-    /// What the line of this number asks for is done.
-    fn on_statement_call(
-        &mut self,
-        number: usize,
-        asked: StatementCall,
-    ) -> Result<Option<RunnerStep>, AllocError>
-        ensures { IfOk result (λ step. does number asked self.old.names ≡ (step, self.new)) }
+    /// What comes next of a statement is done: its call is made and the answer awaited, or what is told is printed.
+    fn on_next_step(&mut self, next: NextStep) -> Result<Option<RunnerStep>, AllocError>
+        ensures { IfOk result (λ step. follows next self.old.names ≡ (step, self.new)) }
     {
-        match asked {
-            StatementCall::Nothing => {
+        match next {
+            NextStep::Nothing => {
                 replace(&mut self.pending, None);
                 Ok(None)
             }
-            StatementCall::Call(call, pending) => {
+            NextStep::Call(made) => {
+                let PendingCall { call, pending } = made;
                 replace(&mut self.pending, Some(pending));
                 Ok(Some(RunnerStep::Call(call)))
             }
-            StatementCall::Refused(refusal) => {
+            NextStep::Told(told) => {
                 replace(&mut self.pending, None);
-                Ok(Some(RunnerStep::Print(error_line(self.alloc, refusal)?)))
+                Ok(Some(RunnerStep::Print(line_of(self.alloc, told)?)))
             }
-            StatementCall::Faulty => {
+        }
+    }
+
+    /// What comes next of the line of this number is done; where it is faulty, the script ends.
+    fn on_statement(
+        &mut self,
+        number: usize,
+        next: Option<NextStep>,
+    ) -> Result<Option<RunnerStep>, AllocError>
+        ensures { IfOk result (λ step. does number next self.old.names ≡ (step, self.new)) }
+    {
+        match next {
+            Some(next) => self.on_next_step(next),
+            None => {
                 replace(&mut self.pending, None);
                 Ok(Some(RunnerStep::End(1, Some(number))))
             }
@@ -129,16 +139,16 @@ impl ScriptRank {
     {
         match statement {
             ScriptStatement::Action(action) => {
-                let asked = self.names.act(action)?;
-                self.on_statement_call(number, asked)
+                let next = self.names.act(action)?;
+                self.on_statement(number, next)
             }
             ScriptStatement::Send(sending) => {
-                let asked = self.names.send_to_wait(&sending)?;
-                self.on_statement_call(number, asked)
+                let next = self.names.send_to_wait(&sending)?;
+                self.on_statement(number, next)
             }
             ScriptStatement::Recv(receiving) => {
-                let asked = self.names.receive_to_wait(receiving)?;
-                self.on_statement_call(number, asked)
+                let next = self.names.receive_to_wait(receiving)?;
+                self.on_statement(number, next)
             }
             spoken => {
                 let step = self.speak(number, spoken)?;
@@ -157,21 +167,6 @@ impl ScriptRank {
         self.state(number, statement)
     }
 
-    /// What follows from an answer is done.
-    fn follow(&mut self, heard: AnswerEffect) -> Result<Option<RunnerStep>, AllocError>
-        requires { self.old.pending ≡ None }
-        ensures { IfOk result (λ step. follows heard self.old.names ≡ (step, self.new)) }
-    {
-        match heard {
-            AnswerEffect::Nothing => Ok(None),
-            AnswerEffect::Call(call, pending) => {
-                replace(&mut self.pending, Some(pending));
-                Ok(Some(RunnerStep::Call(call)))
-            }
-            AnswerEffect::Told(told) => Ok(Some(RunnerStep::Print(line_of(self.alloc, told)?))),
-        }
-    }
-
     /// What is made of the answer to the last call: what follows from it at once, if anything does. The only error is
     /// want of memory.
     pub fn on_reply(&mut self, reply: Reply) -> Result<Option<RunnerStep>, AllocError>
@@ -179,8 +174,8 @@ impl ScriptRank {
     {
         match self.pending.take() {
             Some(pending) => {
-                let heard = self.names.hear(pending, reply)?;
-                self.follow(heard)
+                let next = self.names.hear(pending, reply)?;
+                self.on_next_step(next)
             }
             None => {
                 drop(reply);

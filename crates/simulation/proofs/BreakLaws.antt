@@ -10,7 +10,7 @@ use Rattle.simulation.proofs.PrintLaws.{begins_more, begins_none}
 -- printing a part was cut off
 pub breaks_in : (e : SimulateError) (Begins : Part → Type 0) (part : Part) (old new : Option (List ℕ)) → Begins part →
     CutsOff e old new part.printed → BreaksOff e Begins old new
-breaks_in (errors.Script number) Begins part old new b c = c
+breaks_in (errors.Line number) Begins part old new b c = c
 breaks_in errors.OutOfMemory Begins part old new b c = record { part = part; begins = b; prints = c }
 breaks_in errors.Output Begins part old new b c = tt
 
@@ -29,7 +29,7 @@ breaks_output e Begins old new is = subst (λ (x : SimulateError). BreaksOff x B
 -- what is begun here is begun there
 pub breaks_wider : (e : SimulateError) (B C : Part → Type 0) (old new : Option (List ℕ)) → ((part : Part) → B part → C part)
     → BreaksOff e B old new → BreaksOff e C old new
-breaks_wider (errors.Script number) B C old new wider b = b
+breaks_wider (errors.Line number) B C old new wider b = b
 breaks_wider errors.OutOfMemory B C old new wider b =
     record { part = b.part; begins = wider b.part b.begins; prints = b.prints }
 breaks_wider errors.Output B C old new wider b = tt
@@ -37,7 +37,7 @@ breaks_wider errors.Output B C old new wider b = tt
 -- behind another part
 pub breaks_behind : (e : SimulateError) (B C : Part → Type 0) (first : Part) (x y z : Option (List ℕ)) →
     ((part : Part) → B part → C (joined first part)) → Prints x y first.printed → BreaksOff e B y z → BreaksOff e C x z
-breaks_behind (errors.Script number) B C first x y z wider prints b = b
+breaks_behind (errors.Line number) B C first x y z wider prints b = b
 breaks_behind errors.OutOfMemory B C first x y z wider prints b = record {
   part = joined first b.part;
   begins = wider b.part b.begins;

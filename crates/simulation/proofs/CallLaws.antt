@@ -1,23 +1,21 @@
 -- The parts that calls and statements make.
 use Rattle.std.proofs.Common.{◌≡◌, ℕ, Bool, true, false, List, [], ◌∷◌, ◌++◌, Option, Some, None, Result, Ok, Err, refl, sym, ap, subst, ◌∙◌}
 use Rattle.interpreter.specs.Acting.{acts_on}
-use Rattle.interpreter.specs.declared.steps.AnswerEffect.{AnswerEffect}
-use Rattle.interpreter.specs.declared.steps.StatementCall.{StatementCall}
-use Rattle.interpreter.specs.declared.steps.StatementCall.TheVariants as asked
-use Rattle.engine_calls.specs.declared.call.Call.{Call}
+use Rattle.interpreter.specs.declared.steps.NextStep.{NextStep}
+use Rattle.interpreter.specs.declared.steps.NextStep.TheVariants as nexts
+use Rattle.interpreter.specs.declared.steps.PendingCall.{PendingCall}
+use Rattle.interpreter.specs.declared.steps.Told.{Told}
 use Rattle.line_diagnostics.specs.declared.fault.LineFault.{LineFault}
 use Rattle.script_calls.specs.declared.pending.Pending.{Pending}
-use Rattle.simulation.specs.Lines.{refusal_line}
 use Rattle.simulation.specs.Parts.{ActGives, AskGives, CallGives, CallsGive, FollowingGives, FurtherCall, FurtherGives}
 use Rattle.simulation.specs.Parts.{Part, Standing, call_lines, call_makes, joined, no_part, printed_part, standing, step_part, taken_lines}
-use Rattle.simulation.specs.Printed.{refused_lines, stepped_lines}
+use Rattle.simulation.specs.Printed.{refused_lines, stepped_lines, told_lines}
 use Rattle.simulation.specs.Printing.{CutsOff, Prints}
 use Rattle.simulation.specs.RankAnswers.{Heeded, IsFaulty, IsMade, heeded, is_silent, made_in, takes_back, with_names}
 use Rattle.simulation.specs.Turns.{ActRuns, AskRuns, CallRuns, CallsRun, FollowingRuns, FurtherRuns, Runs, TakenGives}
 use Rattle.simulation.specs.declared.error.SimulateError.{SimulateError}
 use Rattle.simulation.specs.declared.calls.Acted.{Acted}
 use Rattle.simulation.specs.declared.calls.Acted.TheVariants as acted
-use Rattle.simulation.specs.declared.ranks.PendingCall.{PendingCall}
 use Rattle.simulation.specs.declared.ranks.RankNames.{RankNames}
 use Rattle.statements.specs.declared.action.Action.{Action}
 use Rattle.world.specs.Headline.{IsRunOfMachine}
@@ -30,7 +28,7 @@ use Rattle.world.specs.declared.event.Stepped.{Stepped}
 use Rattle.simulation.proofs.PrintLaws.{prints_more, prints_none}
 
 -- what a question answered
-pub question_made : (w : WorldState) (added : Stepped) (pending : Pending) (from to : RankNames) (heard : AnswerEffect)
+pub question_made : (w : WorldState) (added : Stepped) (pending : Pending) (from to : RankNames) (heard : NextStep)
     (next : Option PendingCall) (old new : Option (List ℕ)) → IsMade (made_in w added pending from) heard to →
     Prints old new (heeded heard).told → next ≡ (heeded heard).next →
     Prints old new (made_in w added pending from).0.told × (next ≡ (made_in w added pending from).0.next)
@@ -54,7 +52,7 @@ question_taken w added pending from to next old new silent prints is goes = (
 )
 
 -- a call whose answer is
-pub step_taken : (w : WorldState) (added : Stepped) (pending : Pending) (from to : RankNames) (heard : AnswerEffect)
+pub step_taken : (w : WorldState) (added : Stepped) (pending : Pending) (from to : RankNames) (heard : NextStep)
     (next : Option PendingCall) (old new : Option (List ℕ)) → is_silent pending ≡ false →
     Prints old new (stepped_lines w added) → IsMade (made_in w added pending from) heard to →
     next ≡ (heeded heard).next → TakenGives w added pending from old new next to
@@ -156,24 +154,23 @@ following_some rank asks from to old new r = record { part = r.part; gives = r.g
 -- ---- statements
 
 pub asked_nothing : (rank : ℕ) (at : Standing) (old : Option (List ℕ)) →
-    AskRuns rank asked.Nothing at old old acted.Done at
+    AskRuns rank (Some nexts.Nothing) at old old acted.Done at
 asked_nothing rank at old = record { part = no_part; gives = (refl, refl); prints = prints_none old }
 
-pub asked_refused : (rank number : ℕ) (at : Standing) (old new : Option (List ℕ)) →
-    Prints old new (refusal_line number ∷ []) → AskRuns rank (asked.Refused number) at old new acted.Done at
-asked_refused rank number at old new prints = record {
-  part = printed_part (refusal_line number ∷ []);
+pub asked_told : (rank : ℕ) (told : Told) (at : Standing) (old new : Option (List ℕ)) →
+    Prints old new (told_lines told) → AskRuns rank (Some (nexts.Told told)) at old new acted.Done at
+asked_told rank told at old new prints = record {
+  part = printed_part (told_lines told);
   gives = (refl, refl);
   prints = prints;
 }
 
-pub asked_calls : (rank : ℕ) (call : Call) (pending : Pending) (from to : Standing) (old new : Option (List ℕ)) →
-    CallsRun rank (record { call = call; pending = pending }) from old new to →
-    AskRuns rank (asked.Call call pending) from old new acted.Done to
-asked_calls rank call pending from to old new r = record { part = r.part; gives = r.gives; prints = r.prints }
+pub asked_calls : (rank : ℕ) (asks : PendingCall) (from to : Standing) (old new : Option (List ℕ)) →
+    CallsRun rank asks from old new to → AskRuns rank (Some (nexts.Call asks)) from old new acted.Done to
+asked_calls rank asks from to old new r = record { part = r.part; gives = r.gives; prints = r.prints }
 
 pub asked_faulty : (rank : ℕ) (from to : Standing) (old : Option (List ℕ)) →
-    AskRuns rank asked.Faulty from old old (acted.Faulty None) to
+    AskRuns rank None from old old (acted.Faulty None) to
 asked_faulty rank from to old = (refl, refl, prints_none old)
 
 -- a statement that can't be followed
@@ -182,19 +179,19 @@ pub act_lacks : (rank : ℕ) (action : Action) (fault : Option LineFault) (from 
 act_lacks rank action fault from to old faulty = (faulty, prints_none old)
 
 -- a statement that is followed
-pub act_asks : (rank : ℕ) (action : Action) (w v : WorldState) (s mid t : RankNames) (call : StatementCall)
+pub act_asks : (rank : ℕ) (action : Action) (w v : WorldState) (s mid t : RankNames) (next : Option NextStep)
     (done : Acted) (old new : Option (List ℕ)) →
-    call ≡ (acts_on action s.names).0 → mid ≡ with_names s (acts_on action s.names).1 →
-    AskRuns rank call (standing w mid) old new done (standing v t) →
+    next ≡ (acts_on action s.names).0 → mid ≡ with_names s (acts_on action s.names).1 →
+    AskRuns rank next (standing w mid) old new done (standing v t) →
     ActRuns rank action (standing w s) old new done (standing v t)
-act_asks rank action w v s mid t call acted.Done old new is goes r =
+act_asks rank action w v s mid t next acted.Done old new is goes r =
     let at : AskRuns rank (acts_on action s.names).0 (standing w mid) old new acted.Done (standing v t) =
-    subst (λ (c : StatementCall). AskRuns rank c (standing w mid) old new acted.Done (standing v t)) is r in
+    subst (λ (c : Option NextStep). AskRuns rank c (standing w mid) old new acted.Done (standing v t)) is r in
     let there : AskRuns rank (acts_on action s.names).0 (standing w (with_names s (acts_on action s.names).1)) old new
     acted.Done (standing v t) =
     subst (λ (n : RankNames). AskRuns rank (acts_on action s.names).0 (standing w n) old new acted.Done (standing v t))
     goes at in
     record { part = there.part; gives = there.gives; prints = there.prints }
-act_asks rank action w v s mid t call (acted.Faulty fault) old new is goes r =
+act_asks rank action w v s mid t next (acted.Faulty fault) old new is goes r =
     let why : IsFaulty None action s.names = (sym is ∙ r.0, tt) in
     (subst (λ (f : Option LineFault). IsFaulty f action s.names) (sym r.1) why, r.2)

@@ -79,7 +79,7 @@ lines_more from mid to lines line x y z a b = record {
 pub lines_stop : (e : SimulateError) (fault : Option LineFault) (from mid : Scene) (all before behind : List EventLine)
     (line : EventLine) (x y z : Option (List ℕ)) → all ≡ before ++ line ∷ behind → LinesRun from before x y mid →
     LineStops e fault mid line y z → StopsBy e fault from all x z
-lines_stop (errors.Script number) fault from mid all before behind line x y z is run s = record {
+lines_stop (errors.Line number) fault from mid all before behind line x y z is run s = record {
   before = before;
   line = line;
   behind = behind;

@@ -65,14 +65,14 @@ cuts_output e old new lines is = subst (λ (x : SimulateError). CutsOff x old ne
 -- printing the first lines was cut off
 pub cuts_front : (e : SimulateError) (old new : Option (List ℕ)) (xs ys : List (List ℕ)) → CutsOff e old new xs →
     CutsOff e old new (xs ++ ys)
-cuts_front (errors.Script line) old new xs ys c = c
+cuts_front (errors.Line line) old new xs ys c = c
 cuts_front errors.OutOfMemory old new xs ys c = begins_front old new xs ys c
 cuts_front errors.Output old new xs ys c = tt
 
 -- printing the others was cut off
 pub cuts_more : (e : SimulateError) (old mid new : Option (List ℕ)) (xs ys : List (List ℕ)) → Prints old mid xs →
     CutsOff e mid new ys → CutsOff e old new (xs ++ ys)
-cuts_more (errors.Script line) old mid new xs ys a c = c
+cuts_more (errors.Line line) old mid new xs ys a c = c
 cuts_more errors.OutOfMemory old mid new xs ys a c = begins_more old mid new xs ys a c
 cuts_more errors.Output old mid new xs ys a c = tt
 

@@ -9,8 +9,9 @@ use Rattle.event_files.specs.declared.file.EventLine.{EventLine}
 use Rattle.event_files.specs.declared.file.EventStatement.{EventStatement}
 use Rattle.event_files.specs.declared.file.EventStatement.TheVariants as statements
 use Rattle.interpreter.specs.Acting.{acts_on}
-use Rattle.interpreter.specs.declared.steps.StatementCall.{StatementCall}
-use Rattle.interpreter.specs.declared.steps.StatementCall.TheVariants as asked
+use Rattle.interpreter.specs.declared.steps.NextStep.{NextStep}
+use Rattle.interpreter.specs.declared.steps.NextStep.TheVariants as nexts
+use Rattle.interpreter.specs.declared.steps.PendingCall.{PendingCall}
 use Rattle.line_diagnostics.specs.declared.fault.LineFault.{LineFault}
 use Rattle.simulation.specs.Courses.{BehindEvent, CompletedBy, CompletedIn, Course, EventGives, IsOpening, LineGives, RestartGives, Scene, scene}
 use Rattle.simulation.specs.Files.{FileRuns, FileStops, LinesRun, RunsWhole, Stops, StopsBy, answers_of, events_of}
@@ -19,7 +20,6 @@ use Rattle.simulation.specs.Printing.{Prints}
 use Rattle.simulation.specs.RankAnswers.{entry_in}
 use Rattle.simulation.specs.declared.error.SimulateError.{SimulateError}
 use Rattle.simulation.specs.declared.error.SimulateError.TheVariants as errors
-use Rattle.simulation.specs.declared.ranks.PendingCall.{PendingCall}
 use Rattle.tokens.specs.Lines.{lines_of}
 use Rattle.world.specs.Headline.{IsRunOfMachine}
 use Rattle.world.specs.Steps.{RunGives, StepGives}
@@ -87,13 +87,14 @@ of_following : (rank : ℕ) (next : Option PendingCall) (from : Standing) (part 
 of_following rank None from part to c = stays from.world to.world part [] c.0 (ap (λ (s : Standing). s.world) c.1)
 of_following rank (Some asks) from part to c = of_calls rank asks from part to c
 
-of_ask : (rank : ℕ) (call : StatementCall) (from : Standing) (part : Part) (to : Standing) →
-    AskGives rank call from part to → PartLeads from.world part to.world
-of_ask rank asked.Nothing from part to c = stays from.world to.world part [] c.0 (ap (λ (s : Standing). s.world) c.1)
-of_ask rank (asked.Call call pending) from part to c = of_calls rank _ from part to c
-of_ask rank (asked.Refused number) from part to c =
+of_ask : (rank : ℕ) (next : Option NextStep) (from : Standing) (part : Part) (to : Standing) →
+    AskGives rank next from part to → PartLeads from.world part to.world
+of_ask rank None from part to c = absurd c
+of_ask rank (Some nexts.Nothing) from part to c =
+    stays from.world to.world part [] c.0 (ap (λ (s : Standing). s.world) c.1)
+of_ask rank (Some (nexts.Call asks)) from part to c = of_calls rank asks from part to c
+of_ask rank (Some (nexts.Told told)) from part to c =
     stays from.world to.world part _ c.0 (ap (λ (s : Standing). s.world) c.1)
-of_ask rank asked.Faulty from part to c = absurd c
 
 world_at : (w v u : WorldState) (part : Part) → v ≡ u → PartLeads w part u → PartLeads w part v
 world_at w v u part is l = subst (λ (x : WorldState). PartLeads w part x) (sym is) l
@@ -171,10 +172,10 @@ file_runs file from to lines old new opening seen is r =
 pub file_stops : (file : EventFile) (e : SimulateError) (fault : Option LineFault) (from : Scene)
     (lines : List EventLine) (old new : Option (List ℕ)) → IsOpening file.size from → lines ≡ file.lines →
     StopsBy e fault from lines old new → FileStops file e fault old new
-file_stops file (errors.Script number) fault from lines old new opening is s = record {
+file_stops file (errors.Line number) fault from lines old new opening is s = record {
   from = from;
   opening = opening;
-  stops = subst (λ (ls : List EventLine). StopsBy (errors.Script number) fault from ls old new) is s;
+  stops = subst (λ (ls : List EventLine). StopsBy (errors.Line number) fault from ls old new) is s;
 }
 file_stops file errors.OutOfMemory fault from lines old new opening is s = inr (record {
   from = from;
@@ -197,13 +198,13 @@ text_runs text file old new says runs = record { file = file; says = says; runs 
 pub text_stops : (text : List ℕ) (file : EventFile) (e : SimulateError) (fault : Option LineFault)
     (old new : Option (List ℕ)) → FileSays 1 (lines_of text) file → FileStops file e fault old new →
     Stops text e fault old new
-text_stops text file (errors.Script number) fault old new says s = inr (record { file = file; says = says; stops = s })
+text_stops text file (errors.Line number) fault old new says s = inr (record { file = file; says = says; stops = s })
 text_stops text file errors.OutOfMemory fault old new says s = inr (record { file = file; says = says; stops = s })
 text_stops text file errors.Output fault old new says s = tt
 
 -- its first faulty line
 pub text_faulty : (text : List ℕ) (number : ℕ) (old : Option (List ℕ)) →
-    IsFirstFaultOfFile 1 (lines_of text) number → Stops text (errors.Script number) None old old
+    IsFirstFaultOfFile 1 (lines_of text) number → Stops text (errors.Line number) None old old
 text_faulty text number old is = inl (refl, is, prints_none old)
 
 pub text_first : (text : List ℕ) (old : Option (List ℕ)) → Stops text errors.OutOfMemory None old old

@@ -2,17 +2,15 @@
 use Rattle.std.proofs.Common.{◌≡◌, ◌⊎◌, inl, inr, ℕ, List, [], ◌∷◌, ◌++◌, Option, Some, None, Result, Ok, Err, refl, sym, ap}
 use Rattle.std.proofs.Common.{subst, ◌∙◌}
 use Rattle.std.proofs.lemmas.List.{append-nil}
-use Rattle.engine_calls.specs.declared.call.Call.{Call}
 use Rattle.engine_calls.specs.declared.reply.Completion.{Completion}
 use Rattle.event_files.specs.declared.file.EventLine.{EventLine}
 use Rattle.event_files.specs.declared.file.EventStatement.{EventStatement}
 use Rattle.event_files.specs.declared.file.EventStatement.TheVariants as statements
 use Rattle.interpreter.specs.Acting.{acts_on}
-use Rattle.interpreter.specs.declared.steps.AnswerEffect.{AnswerEffect}
-use Rattle.interpreter.specs.declared.steps.StatementCall.{StatementCall}
-use Rattle.interpreter.specs.declared.steps.StatementCall.TheVariants as asked
+use Rattle.interpreter.specs.declared.steps.NextStep.{NextStep}
+use Rattle.interpreter.specs.declared.steps.NextStep.TheVariants as nexts
+use Rattle.interpreter.specs.declared.steps.PendingCall.{PendingCall}
 use Rattle.line_diagnostics.specs.declared.fault.LineFault.{LineFault}
-use Rattle.script_calls.specs.declared.pending.Pending.{Pending}
 use Rattle.simulation.specs.Beginnings.{ActBegins, AskBegins, BreaksOff, CallMade, CallsBegin, CompletionBegins, EntryBegins}
 use Rattle.simulation.specs.Beginnings.{EventBegins, FollowingBegins, FurtherBegins, LineBegins, Starts}
 use Rattle.simulation.specs.Courses.{IsFaultyLine, IsSame, Ranks, Scene, found_at, names_at, or_fresh, scene}
@@ -26,7 +24,6 @@ use Rattle.simulation.specs.Turns.{CallRuns, LineActed}
 use Rattle.simulation.specs.declared.calls.Acted.TheVariants as acted
 use Rattle.simulation.specs.declared.error.SimulateError.{SimulateError}
 use Rattle.simulation.specs.declared.error.SimulateError.TheVariants as errors
-use Rattle.simulation.specs.declared.ranks.PendingCall.{PendingCall}
 use Rattle.simulation.specs.declared.ranks.RankNames.{RankNames}
 use Rattle.statements.specs.declared.action.Action.{Action}
 use Rattle.world.specs.Headline.{IsRunOfMachine}
@@ -119,13 +116,12 @@ second_breaks e rank asks from mid next x y z r b =
 -- ---- statements
 
 -- the calls that a statement asks for are cut off
-pub ask_breaks : (e : SimulateError) (rank : ℕ) (call : Call) (pending : Pending) (from : Standing)
-    (old new : Option (List ℕ)) →
-    BreaksOff e (λ part. CallsBegin rank (record { call = call; pending = pending }) from part) old new →
-    BreaksOff e (λ part. AskBegins rank (asked.Call call pending) from part) old new
-ask_breaks e rank call pending from old new b =
-    breaks_wider e (λ p. CallsBegin rank (record { call = call; pending = pending }) from p)
-    (λ p. AskBegins rank (asked.Call call pending) from p) old new (λ p begins. begins) b
+pub ask_breaks : (e : SimulateError) (rank : ℕ) (asks : PendingCall) (from : Standing) (old new : Option (List ℕ)) →
+    BreaksOff e (λ part. CallsBegin rank asks from part) old new →
+    BreaksOff e (λ part. AskBegins rank (Some (nexts.Call asks)) from part) old new
+ask_breaks e rank asks from old new b =
+    breaks_wider e (λ p. CallsBegin rank asks from p) (λ p. AskBegins rank (Some (nexts.Call asks)) from p) old new
+    (λ p begins. begins) b
 
 -- memory was wanting to say what a statement asks for
 pub act_first : (e : SimulateError) (rank : ℕ) (action : Action) (from : Standing) (old : Option (List ℕ)) →
@@ -134,14 +130,14 @@ act_first e rank action from old is = breaks_first e (λ p. ActBegins rank actio
 
 -- or to do it
 pub act_breaks : (e : SimulateError) (rank : ℕ) (action : Action) (w : WorldState) (s mid : RankNames)
-    (call : StatementCall) (old new : Option (List ℕ)) → call ≡ (acts_on action s.names).0 →
+    (next : Option NextStep) (old new : Option (List ℕ)) → next ≡ (acts_on action s.names).0 →
     mid ≡ with_names s (acts_on action s.names).1 →
-    BreaksOff e (λ part. AskBegins rank call (standing w mid) part) old new →
+    BreaksOff e (λ part. AskBegins rank next (standing w mid) part) old new →
     BreaksOff e (λ part. ActBegins rank action (standing w s) part) old new
-act_breaks e rank action w s mid call old new is goes b =
-    breaks_wider e (λ p. AskBegins rank call (standing w mid) p) (λ p. ActBegins rank action (standing w s) p) old new
+act_breaks e rank action w s mid next old new is goes b =
+    breaks_wider e (λ p. AskBegins rank next (standing w mid) p) (λ p. ActBegins rank action (standing w s) p) old new
     (λ p begins. inr (subst (λ (n : RankNames). AskBegins rank (acts_on action s.names).0 (standing w n) p) goes
-    (subst (λ (c : StatementCall). AskBegins rank c (standing w mid) p) is begins))) b
+    (subst (λ (c : Option NextStep). AskBegins rank c (standing w mid) p) is begins))) b
 
 -- ---- among all ranks
 
@@ -190,7 +186,7 @@ complete_first e size w ranks found entry completion old is completes wants =
 -- what follows is cut off
 pub complete_breaks : (e : SimulateError) (size : ℕ) (w : WorldState) (ranks : Ranks)
     (found : Option HistoryEntry) (entry : HistoryEntry) (completion : Completion) (s mid : RankNames)
-    (heard : AnswerEffect) (next : Option PendingCall) (x y : Option (List ℕ)) → found ≡ Some entry →
+    (heard : NextStep) (next : Option PendingCall) (x y : Option (List ℕ)) → found ≡ Some entry →
     entry.completion ≡ Some completion → found_at ranks entry.endpoint.rank ≡ Some s →
     IsMade (takes_completion completion s) heard mid → next ≡ (heeded heard).next →
     BreaksOff e (λ part. FollowingBegins entry.endpoint.rank next (standing w mid) part) x y →
@@ -259,7 +255,7 @@ event_breaks e size w v ranks event added x y z gives seen prints b =
 pub line_breaks : (e : SimulateError) (fault : Option LineFault) (from : Scene) (line : EventLine)
     (old new : Option (List ℕ)) → BreaksOff e (λ part. LineBegins line.statement from part) old new →
     LineStops e fault from line old new
-line_breaks (errors.Script number) fault from line old new b = absurd b
+line_breaks (errors.Line number) fault from line old new b = absurd b
 line_breaks errors.OutOfMemory fault from line old new b = b
 line_breaks errors.Output fault from line old new b = tt
 
@@ -298,7 +294,7 @@ line_cut e fault from number statement old new b =
 pub line_faulty : (t s : SimulationState) (fault lack : Option LineFault) (number rank : ℕ) (action : Action)
     (to : Scene) (old new : Option (List ℕ)) → t ≡ s → lack ≡ fault →
     LineActed rank action t.scene old new (acted.Faulty fault) to →
-    LineStops (errors.Script number) lack s.scene (record { number = number; statement = statements.Rank rank action })
+    LineStops (errors.Line number) lack s.scene (record { number = number; statement = statements.Rank rank action })
     old new
 line_faulty t s fault lack number rank action to old new same is r =
     let there : LineActed rank action s.scene old new (acted.Faulty fault) to =

@@ -7,7 +7,8 @@ use Rattle.std.proofs.Common.{◌⊎◌, inl, inr, arith}
 use Rattle.std.proofs.lemmas.Bool.{cases_eq}
 use Rattle.std.proofs.lemmas.Bool.Decides.{nat_tests}
 use Rattle.engine_calls.specs.declared.reply.Completion.{Completion}
-use Rattle.interpreter.specs.declared.steps.AnswerEffect.{AnswerEffect}
+use Rattle.interpreter.specs.declared.steps.NextStep.{NextStep}
+use Rattle.interpreter.specs.declared.steps.PendingCall.{PendingCall}
 use Rattle.simulation.specs.Courses.{AtRank, CompletedBy, CompletedIn, IsOnlyAt, IsSame, Ranks, Scene, found_at, names_at, or_fresh, scene}
 use Rattle.simulation.specs.Parts.{ActGives, CompletionGives, FollowingGives, Part, Standing, no_part, standing}
 use Rattle.simulation.specs.Printing.{Prints}
@@ -15,7 +16,6 @@ use Rattle.simulation.specs.RankAnswers.{Heeded, IsFaulty, IsMade, Made, fresh, 
 use Rattle.simulation.specs.Turns.{ActRuns, ActRunsAt, CompletedRuns, CompletionRuns, FollowingRuns, LineActed, Runs}
 use Rattle.simulation.specs.declared.calls.Acted.{Acted}
 use Rattle.simulation.specs.declared.calls.Acted.TheVariants as acted
-use Rattle.simulation.specs.declared.ranks.PendingCall.{PendingCall}
 use Rattle.simulation.specs.declared.ranks.RankNames.{RankNames}
 use Rattle.statements.specs.declared.action.Action.{Action}
 use Rattle.world.specs.WorldState.{WorldState}
@@ -170,7 +170,7 @@ completed_unnamed size w ranks found entry completion x is completes none =
 
 -- its names take the answer, and what follows is done
 pub completed_some : (size : ℕ) (w v : WorldState) (old new : BTreeMap ℕ RankNames) (found : Option HistoryEntry)
-    (entry : HistoryEntry) (completion : Completion) (s mid t : RankNames) (heard : AnswerEffect)
+    (entry : HistoryEntry) (completion : Completion) (s mid t : RankNames) (heard : NextStep)
     (next : Option PendingCall) (x y : Option (List ℕ)) → found ≡ Some entry → entry.completion ≡ Some completion →
     get nat_cmp old entry.endpoint.rank ≡ Some s →
     WritesThrough nat_cmp (nat_cmp entry.endpoint.rank) old t new →

@@ -4,15 +4,15 @@ use Rattle.engine_calls.specs.declared.reply.Completion.{Completion}
 use Rattle.event_files.specs.declared.file.EventStatement.{EventStatement}
 use Rattle.event_files.specs.declared.file.EventStatement.TheVariants as statements
 use Rattle.interpreter.specs.Acting.{acts_on}
-use Rattle.interpreter.specs.declared.steps.StatementCall.{StatementCall}
-use Rattle.interpreter.specs.declared.steps.StatementCall.TheVariants as asked
+use Rattle.interpreter.specs.declared.steps.NextStep.{NextStep}
+use Rattle.interpreter.specs.declared.steps.NextStep.TheVariants as nexts
 use Rattle.simulation.specs.Courses.{Scene, names_at, scene}
 use Rattle.simulation.specs.Parts.{CallGives, CallsGive, Part, Standing, answer_lines, joined, no_part, standing, step_part}
 use Rattle.simulation.specs.Printing.{PrintsBeginning}
 use Rattle.simulation.specs.RankAnswers.{entry_in, takes_completion, with_names}
 use Rattle.simulation.specs.declared.error.SimulateError.{SimulateError}
 use Rattle.simulation.specs.declared.error.SimulateError.TheVariants as errors
-use Rattle.simulation.specs.declared.ranks.PendingCall.{PendingCall}
+use Rattle.interpreter.specs.declared.steps.PendingCall.{PendingCall}
 use Rattle.statements.specs.declared.action.Action.{Action}
 use Rattle.world.specs.Headline.{IsRunOfMachine}
 use Rattle.world.specs.Steps.{StepGives}
@@ -45,11 +45,11 @@ FollowingBegins rank None from part = ⊥
 FollowingBegins rank (Some asks) from part = CallsBegin rank asks from part
 
 -- what a statement asks for
-abbrev pub AskBegins : (rank : ℕ) → StatementCall → Standing → Part → Type 0
-AskBegins rank asked.Nothing from part = ⊥
-AskBegins rank (asked.Call call pending) from part = CallsBegin rank (record { call = call; pending = pending }) from part
-AskBegins rank (asked.Refused number) from part = ⊥
-AskBegins rank asked.Faulty from part = ⊥
+abbrev pub AskBegins : (rank : ℕ) → Option NextStep → Standing → Part → Type 0
+AskBegins rank None from part = ⊥
+AskBegins rank (Some nexts.Nothing) from part = ⊥
+AskBegins rank (Some (nexts.Call asks)) from part = CallsBegin rank asks from part
+AskBegins rank (Some (nexts.Told told)) from part = ⊥
 
 -- a statement: nothing yet, or its calls
 abbrev pub ActBegins : (rank : ℕ) → Action → Standing → Part → Type 0
@@ -99,6 +99,6 @@ pub record Starts (Begins : Part → Type 0) (old new : Option (List ℕ)) : Typ
 
 -- A part was cut off: for want of memory. Where the output failed, what it took isn't known
 abbrev pub BreaksOff : SimulateError → (Begins : Part → Type 0) → (old new : Option (List ℕ)) → Type 0
-BreaksOff (errors.Script number) Begins old new = ⊥
+BreaksOff (errors.Line number) Begins old new = ⊥
 BreaksOff errors.OutOfMemory Begins old new = Starts Begins old new
 BreaksOff errors.Output Begins old new = Unit {0}

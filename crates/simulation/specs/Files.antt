@@ -63,13 +63,13 @@ pub record StopsCut (from : Scene) (lines : List EventLine) (old new : Option (L
 
 -- Where lines stop: at one that can't be followed, for want of memory, or where the output fails
 abbrev pub StopsBy : SimulateError → Option LineFault → Scene → List EventLine → (old new : Option (List ℕ)) → Type 0
-StopsBy (errors.Script number) fault from lines old new = StopsFaulty number fault from lines old new
+StopsBy (errors.Line number) fault from lines old new = StopsFaulty number fault from lines old new
 StopsBy errors.OutOfMemory fault from lines old new = StopsCut from lines old new
 StopsBy errors.Output fault from lines old new = Unit {0}
 
 -- where one line stops; nothing was printed of it, where it can't be followed
 abbrev pub LineStops : SimulateError → Option LineFault → Scene → EventLine → (old new : Option (List ℕ)) → Type 0
-LineStops (errors.Script number) fault from line old new =
+LineStops (errors.Line number) fault from line old new =
     (line.number ≡ number) × IsFaultyLine fault from line.statement × Prints old new []
 LineStops errors.OutOfMemory fault from line old new =
     Starts (λ part. LineBegins line.statement from part) old new
@@ -100,7 +100,7 @@ pub record LinesStop (file : EventFile) (error : SimulateError) (fault : Option 
 
 -- a file stops: for want of memory perhaps before its first line
 abbrev pub FileStops : EventFile → SimulateError → Option LineFault → (old new : Option (List ℕ)) → Type 0
-FileStops file (errors.Script number) fault old new = LinesStop file (errors.Script number) fault old new
+FileStops file (errors.Line number) fault old new = LinesStop file (errors.Line number) fault old new
 FileStops file errors.OutOfMemory fault old new =
     Prints old new [] ⊎ LinesStop file errors.OutOfMemory fault old new
 FileStops file errors.Output fault old new = Unit {0}
@@ -116,9 +116,9 @@ pub record RunsShort (text : List ℕ) (error : SimulateError) (fault : Option L
 -- followed by what the lines before it have done. For want of memory it stops anywhere, and what is printed is a
 -- beginning. Where the output failed, what it took isn't known
 abbrev pub Stops : List ℕ → SimulateError → Option LineFault → (old new : Option (List ℕ)) → Type 0
-Stops text (errors.Script number) fault old new =
+Stops text (errors.Line number) fault old new =
     ((fault ≡ None) × IsFirstFaultOfFile 1 (lines_of text) number × Prints old new []) ⊎
-    RunsShort text (errors.Script number) fault old new
+    RunsShort text (errors.Line number) fault old new
 Stops text errors.OutOfMemory fault old new = Prints old new [] ⊎ RunsShort text errors.OutOfMemory fault old new
 Stops text errors.Output fault old new = Unit {0}
 

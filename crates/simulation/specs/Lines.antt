@@ -8,15 +8,13 @@ use Rattle.printed_lines.specs.CommunicatorTexts.{communicator_text, comparison_
 use Rattle.printed_lines.specs.declared.communicators.ComparisonText.{ComparisonText}
 use Rattle.printed_lines.specs.declared.communicators.ComparisonText.TheVariants as comparison_texts
 use Rattle.printed_lines.specs.declared.emissions.EmissionText.{EmissionText}
-use Rattle.printed_lines.specs.declared.emissions.FrameKind.{FrameKind}
-use Rattle.printed_lines.specs.declared.emissions.FrameKind.TheVariants as kinds
+use Rattle.printed_lines.specs.FrameKinds.{kind_of_body}
 use Rattle.collective_steps.specs.declared.step.Ending.{Ending}
 use Rattle.collective_steps.specs.declared.step.Ending.TheVariants as endings
 use Rattle.communicators.specs.declared.question.CommunicatorComparison.{CommunicatorComparison}
 use Rattle.communicators.specs.declared.question.CommunicatorComparison.TheVariants as comparisons
 use Rattle.datagram.specs.Reading.{datagram_of}
-use Rattle.datagram.specs.Spelling.{AckBody, BodyText, ClearFrame, DataFrame, DatagramText, EagerFrame, FrameBody}
-use Rattle.datagram.specs.Spelling.{FrameText, RequestFrame, ResetBody}
+use Rattle.datagram.specs.Spelling.{DatagramText}
 use Rattle.datagram.specs.declared.refusal.DatagramRefusal as datagrams
 use Rattle.engine_calls.specs.declared.reply.Completion.{Completion}
 use Rattle.engine_calls.specs.declared.reply.Completion.TheVariants as completions
@@ -135,17 +133,6 @@ abbrev pub completion_line : (rank : ℕ) → Completion → List ℕ
 completion_line rank completion = told_line (Some rank) (completed_line completion)
 
 -- ---- datagrams
-
-abbrev pub kind_of_frame : FrameText → FrameKind
-kind_of_frame (EagerFrame e) = kinds.Eager
-kind_of_frame (RequestFrame r) = kinds.Rts
-kind_of_frame (ClearFrame c) = kinds.Cts
-kind_of_frame (DataFrame d) = kinds.Data
-
-abbrev pub kind_of_body : BodyText → FrameKind
-kind_of_body (FrameBody frame) = kind_of_frame frame
-kind_of_body (AckBody held) = kinds.Ack
-kind_of_body ResetBody = kinds.Reset
 
 -- what is told of a datagram of this number: from where to where it goes, what it carries, and its sequence
 abbrev pub emission_of : ℕ → DatagramText → EmissionText

@@ -4,14 +4,13 @@ use Rattle.std.specs.Prelude.{◌≡◌, ℕ, Bool, true, false, List, [], ◌�
 use Rattle.std.specs.Prelude.{if◌then◌else◌}
 use Rattle.engine_calls.specs.declared.reply.Completion.{Completion}
 use Rattle.interpreter.specs.Acting.{Acts, acts_on}
-use Rattle.interpreter.specs.declared.steps.StatementCall.{StatementCall}
-use Rattle.interpreter.specs.declared.steps.StatementCall.TheVariants as asked
+use Rattle.interpreter.specs.declared.steps.NextStep.{NextStep}
+use Rattle.interpreter.specs.declared.steps.NextStep.TheVariants as nexts
 use Rattle.interpreter.specs.NamesState.{NamesState}
 use Rattle.script_calls.specs.declared.pending.Pending.{Pending}
-use Rattle.simulation.specs.Lines.{refusal_line}
-use Rattle.simulation.specs.Printed.{refused_lines, stepped_lines}
+use Rattle.simulation.specs.Printed.{refused_lines, stepped_lines, told_lines}
 use Rattle.simulation.specs.RankAnswers.{Made, is_silent, made_in, nothing_heeded, takes_back, takes_completion, with_names}
-use Rattle.simulation.specs.declared.ranks.PendingCall.{PendingCall}
+use Rattle.interpreter.specs.declared.steps.PendingCall.{PendingCall}
 use Rattle.simulation.specs.declared.ranks.RankNames.{RankNames}
 use Rattle.statements.specs.declared.action.Action.{Action}
 use Rattle.world.specs.Headline.{IsRunOfMachine}
@@ -111,13 +110,12 @@ pub record CallsGive (rank : ℕ) (asks : PendingCall) (from : Standing) (part :
 
 -- ---- a statement
 
--- what a statement asks for is done, and the names stand for this; one that can't be followed is none
-abbrev pub AskGives : (rank : ℕ) → StatementCall → Standing → Part → Standing → Type 0
-AskGives rank asked.Nothing from part to = (part ≡ no_part) × (to ≡ from)
-AskGives rank (asked.Call call pending) from part to =
-    CallsGive rank (record { call = call; pending = pending }) from part to
-AskGives rank (asked.Refused number) from part to = (part ≡ printed_part (refusal_line number ∷ [])) × (to ≡ from)
-AskGives rank asked.Faulty from part to = ⊥
+-- what comes next of a statement is done, and the names stand for this; one that can't be followed does nothing
+abbrev pub AskGives : (rank : ℕ) → Option NextStep → Standing → Part → Standing → Type 0
+AskGives rank None from part to = ⊥
+AskGives rank (Some nexts.Nothing) from part to = (part ≡ no_part) × (to ≡ from)
+AskGives rank (Some (nexts.Call asks)) from part to = CallsGive rank asks from part to
+AskGives rank (Some (nexts.Told told)) from part to = (part ≡ printed_part (told_lines told)) × (to ≡ from)
 
 -- what a statement does, by what the interpreter makes of it
 abbrev pub ActGives : (rank : ℕ) → Action → Standing → Part → Standing → Type 0

@@ -20,6 +20,6 @@ PrintsBeginning old new lines = (first rest : List (List ℕ)) × (lines ≡ fir
 -- Printing these lines was cut off: for want of memory behind one of them. Where the output failed, what it took isn't
 -- known
 abbrev pub CutsOff : SimulateError → (old new : Option (List ℕ)) → List (List ℕ) → Type 0
-CutsOff (errors.Script line) old new lines = ⊥
+CutsOff (errors.Line line) old new lines = ⊥
 CutsOff errors.OutOfMemory old new lines = PrintsBeginning old new lines
 CutsOff errors.Output old new lines = Unit {0}

@@ -1,30 +1,23 @@
 -- What the names of a rank of a file of events make of answers, and what follows from them.
 use Rattle.std.specs.Prelude.{◌≡◌, ℕ, nat_lt, Bool, true, false, List, [], Option, Some, None, if◌then◌else◌}
 use Rattle.std.specs.Prelude.{option_and_then, slice_get}
-use Rattle.engine_calls.specs.declared.call.Call.{Call}
 use Rattle.engine_calls.specs.declared.reply.Completion.{Completion}
-use Rattle.engine_calls.specs.declared.reply.Completion.TheVariants as completions
 use Rattle.engine_calls.specs.declared.reply.Reply.{Reply}
 use Rattle.engine_calls.specs.declared.reply.Reply.TheVariants as replies
 use Rattle.interpreter.specs.Acting.{acts_on}
-use Rattle.interpreter.specs.Hearing.{Hears, ends_all, hears, taken_back}
+use Rattle.interpreter.specs.Hearing.{Hears, hears, taken_back}
 use Rattle.interpreter.specs.NamesState.{NamesState, holdings, no_names}
-use Rattle.interpreter.specs.declared.steps.AnswerEffect.{AnswerEffect}
-use Rattle.interpreter.specs.declared.steps.AnswerEffect.TheVariants as effects
-use Rattle.interpreter.specs.declared.steps.StatementCall.{StatementCall}
-use Rattle.interpreter.specs.declared.steps.StatementCall.TheVariants as asked
+use Rattle.interpreter.specs.declared.steps.NextStep.{NextStep}
+use Rattle.interpreter.specs.declared.steps.NextStep.TheVariants as nexts
+use Rattle.interpreter.specs.declared.steps.PendingCall.{PendingCall}
 use Rattle.line_diagnostics.specs.Lacks.{lack_of_action}
 use Rattle.line_diagnostics.specs.declared.fault.LineFault.{LineFault}
 use Rattle.script_calls.specs.declared.pending.Pending.{Pending}
 use Rattle.script_calls.specs.declared.pending.Pending.TheVariants as pendings
 use Rattle.simulation.specs.Printed.{told_lines}
-use Rattle.simulation.specs.declared.copies.Copied.{Copied}
-use Rattle.simulation.specs.declared.copies.Copied.TheVariants as copies
-use Rattle.simulation.specs.declared.ranks.Followed.{Followed}
-use Rattle.simulation.specs.declared.ranks.Followed.TheVariants as followed
-use Rattle.simulation.specs.declared.ranks.PendingCall.{PendingCall}
 use Rattle.simulation.specs.declared.ranks.RankNames.{RankNames}
 use Rattle.statements.specs.declared.action.Action.{Action}
+use Rattle.replies.specs.Copies.{reply_of}
 use Rattle.world.specs.WorldState.{WorldState}
 use Rattle.world.specs.declared.event.Event.{Event}
 use Rattle.world.specs.declared.event.Event.TheVariants as events
@@ -53,10 +46,10 @@ pub record Heeded : Type 0 where
 abbrev pub nothing_heeded : Heeded
 nothing_heeded = record { next = None; told = [] }
 
-abbrev pub heeded : AnswerEffect → Heeded
-heeded effects.Nothing = nothing_heeded
-heeded (effects.Call call pending) = record { next = Some (record { call = call; pending = pending }); told = [] }
-heeded (effects.Told told) = record { next = None; told = told_lines told }
+abbrev pub heeded : NextStep → Heeded
+heeded nexts.Nothing = nothing_heeded
+heeded (nexts.Call asks) = record { next = Some asks; told = [] }
+heeded (nexts.Told told) = record { next = None; told = told_lines told }
 
 -- what follows from an answer, and what its rank then stands at
 abbrev pub Made : Type 0
@@ -86,11 +79,6 @@ is_blocked (replies.Refused refused call) = false
 abbrev pub takes_reply : Pending → Reply → RankNames → Made
 takes_reply pending reply s =
     if is_blocked reply then blocks pending s else made_by (hears pending reply s.names) s.blocked
-
--- the answer of a call that was blocked is heard as that of one that ends at once
-abbrev pub reply_of : Completion → Reply
-reply_of (completions.Requests answer) = replies.Done answer
-reply_of (completions.Collective ending) = replies.Left ending
 
 abbrev pub takes_awaited : (blocked : Option Pending) → Completion → RankNames → Made
 takes_awaited None completion s = (nothing_heeded, s)
@@ -148,20 +136,8 @@ made_in w added pending s = makes_of pending (reply_in (entry_in w added)) s
 
 -- ---- what the functions of the program give
 
--- what the names make of a copy
-abbrev pub hears_copied : Pending → Copied → NamesState → Hears
-hears_copied pending (copies.Reply reply) names = hears pending reply names
-hears_copied pending (copies.Outcomes outcomes) names = ends_all pending outcomes.items names
-
--- the names make of a copy what they make of the answer itself, but for the members of a communicator, of which nothing
--- is heeded
-abbrev pub IsHeardAs : Copied → Reply → Type 0
-IsHeardAs copied reply = (pending : Pending) (names : NamesState) →
-    (heeded (hears_copied pending copied names).0 ≡ heeded (hears pending reply names).0)
-    × ((hears_copied pending copied names).1 ≡ (hears pending reply names).1)
-
 -- what was heard is this, and its rank stands so now
-abbrev pub IsMade : Made → AnswerEffect → RankNames → Type 0
+abbrev pub IsMade : Made → NextStep → RankNames → Type 0
 IsMade made heard new = (heeded heard ≡ made.0) × (new ≡ made.1)
 
 -- why a statement can't be followed, as far as memory lasts to tell
@@ -171,11 +147,5 @@ IsWhy (Some fault) why = why ≡ Some fault
 
 -- a statement can't be followed by what the names stand for, for this reason
 abbrev pub IsFaulty : Option LineFault → Action → NamesState → Type 0
-IsFaulty fault action names = ((acts_on action names).0 ≡ asked.Faulty) ×
+IsFaulty fault action names = ((acts_on action names).0 ≡ None) ×
     IsWhy fault (lack_of_action (holdings names) action)
-
--- what a statement asks for; or why it can't be followed
-abbrev pub FollowGives : Action → (old : RankNames) → Followed → (new : RankNames) → Type 0
-FollowGives action old (followed.Asks call) new =
-    (call ≡ (acts_on action old.names).0) × (new ≡ with_names old (acts_on action old.names).1)
-FollowGives action old (followed.Lacks fault) new = IsFaulty fault action old.names

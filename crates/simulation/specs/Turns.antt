@@ -1,8 +1,7 @@
 -- What the functions of the program give: parts of a file, with what a writer then holds, where that is known.
 use Rattle.std.specs.Prelude.{◌≡◌, ℕ, List, [], ◌∷◌, Option, Some, None, Result, Ok, Err}
 use Rattle.engine_calls.specs.declared.reply.Completion.{Completion}
-use Rattle.interpreter.specs.declared.steps.StatementCall.{StatementCall}
-use Rattle.interpreter.specs.declared.steps.StatementCall.TheVariants as asked
+use Rattle.interpreter.specs.declared.steps.NextStep.{NextStep}
 use Rattle.line_diagnostics.specs.declared.fault.LineFault.{LineFault}
 use Rattle.event_files.specs.declared.file.EventStatement.{EventStatement}
 use Rattle.event_files.specs.declared.file.EventStatement.TheVariants as statements
@@ -15,7 +14,7 @@ use Rattle.simulation.specs.Printing.{Prints}
 use Rattle.simulation.specs.RankAnswers.{IsFaulty, is_silent, made_in}
 use Rattle.simulation.specs.declared.calls.Acted.{Acted}
 use Rattle.simulation.specs.declared.calls.Acted.TheVariants as acted
-use Rattle.simulation.specs.declared.ranks.PendingCall.{PendingCall}
+use Rattle.interpreter.specs.declared.steps.PendingCall.{PendingCall}
 use Rattle.simulation.specs.declared.ranks.RankNames.{RankNames}
 use Rattle.statements.specs.declared.action.Action.{Action}
 use Rattle.world.specs.WorldState.{WorldState}
@@ -55,10 +54,10 @@ abbrev pub CompletionRuns : (rank : ℕ) → Completion → Standing → (old ne
 CompletionRuns rank completion from old new to = Runs (λ part. CompletionGives rank completion from part to) old new
 
 -- a statement is done, or can't be followed for this reason
-abbrev pub AskRuns : (rank : ℕ) → StatementCall → Standing → (old new : Option (List ℕ)) → Acted → Standing → Type 0
-AskRuns rank call from old new acted.Done to = Runs (λ part. AskGives rank call from part to) old new
-AskRuns rank call from old new (acted.Faulty fault) to =
-    (call ≡ asked.Faulty) × (fault ≡ None) × Prints old new []
+abbrev pub AskRuns : (rank : ℕ) → Option NextStep → Standing → (old new : Option (List ℕ)) → Acted → Standing → Type 0
+AskRuns rank next from old new acted.Done to = Runs (λ part. AskGives rank next from part to) old new
+AskRuns rank next from old new (acted.Faulty fault) to =
+    (next ≡ None) × (fault ≡ None) × Prints old new []
 
 abbrev pub ActRuns : (rank : ℕ) → Action → Standing → (old new : Option (List ℕ)) → Acted → Standing → Type 0
 ActRuns rank action from old new acted.Done to = Runs (λ part. ActGives rank action from part to) old new

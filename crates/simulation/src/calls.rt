@@ -9,11 +9,11 @@ ghost use Rattle.simulation.specs.Printing.{CutsOff, Prints};
 ghost use Rattle.simulation.specs.RankAnswers.{entry_in, heeded, is_silent, IsMade, made_in, reply_in, takes_back, with_names};
 ghost use Rattle.simulation.specs.Turns.{ActRuns, AskRuns, CallRuns, CallsRun, FollowingRuns, FurtherRuns, TakenGives};
 
+use crate::SimulateError;
 use crate::event_printing::{print_refused, print_stepped, print_told};
-use crate::ranks::{Followed, PendingCall, RankNames};
-use crate::{SimulateError, print_refusal};
+use crate::ranks::RankNames;
 use engine::Reply;
-use interpreter::{AnswerEffect, StatementCall};
+use interpreter::{NextStep, PendingCall};
 use line_diagnostics::LineFault;
 use script_calls::Pending;
 use statements::Action;
@@ -67,24 +67,24 @@ fn hear_reply(
     world: &World,
     stepped: Stepped,
     pending: Pending,
-) -> Result<AnswerEffect, AllocError>
+) -> Result<NextStep, AllocError>
     ensures { IfOk result (λ heard. IsMade (made_in world.now stepped pending names.old) heard names.new) }
 {
     match reply_in(world, stepped) {
         Some(reply) => names.hear_reply(pending, reply),
         None => {
             drop(pending);
-            Ok(AnswerEffect::Nothing)
+            Ok(NextStep::Nothing)
         }
     }
 }
 
 /// The further call that follows from an answer, if one does.
-pub fn next_of(heard: AnswerEffect) -> Option<PendingCall>
+pub fn next_of(heard: NextStep) -> Option<PendingCall>
     ensures { result ≡ (heeded heard).next }
 {
     match heard {
-        AnswerEffect::Call(call, pending) => Some(PendingCall { call, pending }),
+        NextStep::Call(asking) => Some(asking),
         other => {
             drop(other);
             None
@@ -93,13 +93,13 @@ pub fn next_of(heard: AnswerEffect) -> Option<PendingCall>
 }
 
 /// What is told of an answer, where its event isn't printed by itself.
-fn print_heard<W: Write>(heard: &AnswerEffect, out: &mut W) -> Result<(), SimulateError>
+fn print_heard<W: Write>(heard: &NextStep, out: &mut W) -> Result<(), SimulateError>
     ensures ok { OnOk result (Prints (W.contents out.old) (W.contents out.new) (heeded heard.now).told) }
     ensures err { IfErr result (λ e. e ≡ SimulateError.Output) }
 {
     match heard {
-        AnswerEffect::Told(told) => Ok(print_told(told, out)?),
-        AnswerEffect::Nothing | AnswerEffect::Call(_, _) => Ok(()),
+        NextStep::Told(told) => Ok(print_told(told, out)?),
+        NextStep::Nothing | NextStep::Call(_) => Ok(()),
     }
 }
 
@@ -274,13 +274,13 @@ pub fn call_following<W: Write>(
     }
 }
 
-/// What a statement asks for is done.
-#[tactic(auto, using(crate::proofs::CallLaws::asked_nothing, crate::proofs::CallLaws::asked_refused, crate::proofs::CallLaws::asked_calls, crate::proofs::CallLaws::asked_faulty, crate::proofs::StopLaws::ask_breaks, crate::proofs::BreakLaws::breaks_output))]
+/// What comes next of a statement is done, if it can be followed.
+#[tactic(auto, using(crate::proofs::CallLaws::asked_nothing, crate::proofs::CallLaws::asked_told, crate::proofs::CallLaws::asked_calls, crate::proofs::CallLaws::asked_faulty, crate::proofs::StopLaws::ask_breaks, crate::proofs::BreakLaws::breaks_output))]
 fn ask<W: Write>(
     world: &mut World,
     rank: u16,
     names: &mut RankNames,
-    asked: StatementCall,
+    asked: Option<NextStep>,
     out: &mut W,
 ) -> Result<Acted, SimulateError>
     ensures ok { IfOk result (λ acted. AskRuns rank asked (standing world.old names.old) (W.contents out.old)
@@ -289,17 +289,18 @@ fn ask<W: Write>(
         (W.contents out.old) (W.contents out.new)) }
 {
     match asked {
-        StatementCall::Nothing => Ok(Acted::Done),
-        StatementCall::Call(call, pending) => {
-            let asking = PendingCall { call, pending };
+        Some(NextStep::Nothing) => Ok(Acted::Done),
+        Some(NextStep::Call(asking)) => {
             call_both(world, rank, names, asking, out)?;
             Ok(Acted::Done)
         }
-        StatementCall::Refused(number) => {
-            print_refusal(number, out)?;
+        Some(NextStep::Told(told)) => {
+            let printed = print_told(&told, out);
+            drop(told);
+            printed?;
             Ok(Acted::Done)
         }
-        StatementCall::Faulty => Ok(Acted::Faulty(None)),
+        None => Ok(Acted::Faulty(None)),
     }
 }
 
@@ -317,8 +318,10 @@ pub fn act<W: Write>(
     ensures err { IfErr result (λ e. BreaksOff e (λ part. ActBegins rank action (standing world.old names.old) part)
         (W.contents out.old) (W.contents out.new)) }
 {
-    match names.follow(action)? {
-        Followed::Lacks(fault) => Ok(Acted::Faulty(fault)),
-        Followed::Asks(asked) => ask(world, rank, names, asked, out),
+    if let Some(fault) = names.lack_of(&action) {
+        drop(action);
+        return Ok(Acted::Faulty(Some(fault)));
     }
+    let asked = names.act(action)?;
+    ask(world, rank, names, asked, out)
 }

@@ -10,7 +10,7 @@ use std::io;
 #[derive(Clone, Copy, Debug, PartialEq, Eq)]
 pub enum SimulateError {
     /// This line is faulty, which is refusal number 51; the first line is 1.
-    Script(usize),
+    Line(usize),
     /// A growth was refused, which is refusal number 14.
     OutOfMemory,
     /// The output failed.

@@ -56,7 +56,7 @@ fn run_file<W: Write>(alloc: Global, file: EventFile, out: &mut W) -> Result<(),
 
 /// Runs a file of events, and prints the answer of each.
 ///
-/// The whole file is read before anything runs. `Script` names the first line that is no statement, or the line at
+/// The whole file is read before anything runs. `Line` names the first line that is no statement, or the line at
 /// which a name that isn't set, or a buffer that is lent, was used; what ran before that is printed. The fault says
 /// which name, where the line was reached.
 #[tactic(auto, using(crate::proofs::RunLaws::text_runs, crate::proofs::RunLaws::text_stops, crate::proofs::RunLaws::text_faulty, crate::proofs::RunLaws::text_first))]
@@ -67,7 +67,7 @@ pub fn simulate_or_tell<W: Write>(alloc: Global, text: &[u8], out: &mut W) -> Re
 {
     match parse(alloc, text) {
         Ok(file) => run_file(alloc, file, out),
-        Err(ParseError::Line(line)) => Err(Stopped::by(SimulateError::Script(line))),
+        Err(ParseError::Line(line)) => Err(Stopped::by(SimulateError::Line(line))),
         Err(ParseError::OutOfMemory) => Err(Stopped::by(SimulateError::OutOfMemory)),
     }
 }

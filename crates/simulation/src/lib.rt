@@ -2,7 +2,6 @@
 #![tactic(auto)]
 
 mod calls;
-mod copies;
 mod error;
 mod event_printing;
 mod files;

@@ -3,16 +3,16 @@
 ghost use Rattle.std.specs.Prelude.{◌≡◌, ◌∷◌, [], map, IfErr, IfOk, OnOk};
 ghost use Rattle.printed_lines.specs.Answers.{answer_text, emission_text, outcome_text};
 ghost use Rattle.printed_lines.specs.CommunicatorTexts.{position_text};
-ghost use Rattle.datagram.specs.Spelling.{content_text, datagram_text};
+ghost use Rattle.datagram.specs.Spelling.{datagram_text};
 ghost use Rattle.simulation.specs.Lines.{answer_line, compared, completion_line, datagram_lines, emission_of};
-ghost use Rattle.simulation.specs.Lines.{ending_line, fact_line, kind_of_body, match_line, outcome_line, outcomes_line};
+ghost use Rattle.simulation.specs.Lines.{ending_line, fact_line, match_line, outcome_line, outcomes_line};
 ghost use Rattle.simulation.specs.Lines.{probe_line, refusal_line, reply_line, taken_line, told_line};
 ghost use Rattle.simulation.specs.Printing.{CutsOff, Prints};
 
 use crate::error::SimulateError;
 use collective_steps::Ending;
 use communicators::CommunicatorComparison;
-use datagram::{Content, Datagram, Frame};
+use datagram::Datagram;
 use engine_calls::{Completion, Fact, Reply};
 use printed_lines::{
     CommunicatorText, ComparisonText, EmissionText, FrameKind, LoadText, MembersText, MessageText,
@@ -251,20 +251,6 @@ pub fn print_refusal<W: Write>(number: u8, out: &mut W) -> io::Result<()>
     print_text(&printed_lines::AnswerText::Refused(number), out)
 }
 
-/// What a datagram carries, as it is told.
-fn kind_of(content: &Content<'_>) -> FrameKind
-    ensures { result ≡ kind_of_body (content_text content.now) }
-{
-    match content {
-        Content::Frame(Frame::Eager(_)) => FrameKind::Eager,
-        Content::Frame(Frame::RequestToSend(_)) => FrameKind::Rts,
-        Content::Frame(Frame::ClearToSend(_)) => FrameKind::Cts,
-        Content::Frame(Frame::Data(_)) => FrameKind::Data,
-        Content::Ack(_) => FrameKind::Ack,
-        Content::Reset => FrameKind::Reset,
-    }
-}
-
 /// The text of a datagram that was emitted, by its number.
 fn emission_of(number: usize, datagram: &Datagram<'_>) -> EmissionText
     ensures { result ≡ emission_of number (datagram_text datagram.now) }
@@ -276,7 +262,7 @@ fn emission_of(number: usize, datagram: &Datagram<'_>) -> EmissionText
             target: datagram.header.target,
         },
         load: LoadText {
-            kind: kind_of(&datagram.content),
+            kind: FrameKind::of(&datagram.content),
             sequence: datagram.header.sequence,
         },
     }

@@ -1,35 +1,18 @@
 //! A rank of a file of events: what its names stand for, and what its blocked call is for.
 
-ghost use Rattle.std.specs.Prelude.{◌≡◌, IfOk, OnOk};
-ghost use Rattle.interpreter.specs.Hearing.{taken_back};
-ghost use Rattle.simulation.specs.RankAnswers.{FollowGives, fresh, hears_copied, is_blocked, IsMade, own_rank};
+ghost use Rattle.std.specs.Prelude.{◌≡◌, Some, IfOk, IfSome, OnOk};
+ghost use Rattle.interpreter.specs.Acting.{acts_on};
+ghost use Rattle.interpreter.specs.Hearing.{hears, taken_back};
+ghost use Rattle.simulation.specs.RankAnswers.{fresh, is_blocked, IsFaulty, IsMade, own_rank};
 ghost use Rattle.simulation.specs.RankAnswers.{takes_completion, takes_reply, with_names};
 
-use crate::copies::{Copied, copy_completion, copy_reply};
 use engine::{Call, Completion, Reply};
-use interpreter::{AnswerEffect, Names, StatementCall};
+use interpreter::{Names, NextStep};
 use line_diagnostics::LineFault;
+use replies::{completion_as_reply, reply_copied};
 use script_calls::Pending;
 use statements::Action;
 use std::alloc::{AllocError, Global};
-
-/// A call that a statement makes, and what its answer is for.
-#[derive(Drop)]
-pub struct PendingCall {
-    /// The call.
-    pub call: Call,
-    /// What its answer is for.
-    pub pending: Pending,
-}
-
-/// Whether a statement can be followed.
-#[derive(Drop)]
-pub enum Followed {
-    /// It can, and asks for this.
-    Asks(StatementCall),
-    /// It can't, for this reason; none where memory is wanting to tell it.
-    Lacks(Option<LineFault>),
-}
 
 /// What the names of a rank stand for, and what the answer of its blocked call is for, if one is blocked.
 #[derive(Drop)]
@@ -63,14 +46,11 @@ impl RankNames {
         }
     }
 
-    fn hear(&mut self, pending: Pending, copied: Copied) -> Result<AnswerEffect, AllocError>
-        ensures { IfOk result (λ heard. (hears_copied pending copied self.old.names ≡ (heard, self.new.names))
+    fn hear(&mut self, pending: Pending, reply: Reply) -> Result<NextStep, AllocError>
+        ensures { IfOk result (λ heard. (hears pending reply self.old.names ≡ (heard, self.new.names))
             × (self.new.blocked ≡ self.old.blocked)) }
     {
-        match copied {
-            Copied::Reply(reply) => self.names.hear(pending, reply),
-            Copied::Outcomes(outcomes) => self.names.hear_all(pending, outcomes),
-        }
+        self.names.hear(pending, reply)
     }
 
     /// The answer to a call, which was for this: of one that blocks, its answer is yet to come. The only error is want
@@ -80,15 +60,15 @@ impl RankNames {
         &mut self,
         pending: Pending,
         reply: &Reply,
-    ) -> Result<AnswerEffect, AllocError>
+    ) -> Result<NextStep, AllocError>
         ensures { IfOk result (λ heard. IsMade (takes_reply pending reply.now self.old) heard self.new) }
     {
         if is_blocked(reply) {
             self.blocked = Some(pending);
-            return Ok(AnswerEffect::Nothing);
+            return Ok(NextStep::Nothing);
         }
-        match copy_reply(self.names.allocator(), reply) {
-            Ok(copied) => self.hear(pending, copied),
+        match reply_copied(self.names.allocator(), reply) {
+            Ok(copy) => self.hear(pending, copy),
             Err(e) => {
                 drop(pending);
                 Err(e)
@@ -97,16 +77,16 @@ impl RankNames {
     }
 
     /// The answer of the call that was blocked. The only error is want of memory.
-    #[tactic(auto, using(crate::proofs::RankLaws::copy_made))]
-    pub fn hear_completion(&mut self, completion: &Completion) -> Result<AnswerEffect, AllocError>
+    #[tactic(auto, using(crate::proofs::RankLaws::same_made))]
+    pub fn hear_completion(&mut self, completion: &Completion) -> Result<NextStep, AllocError>
         ensures { IfOk result (λ heard. IsMade (takes_completion completion.now self.old) heard self.new) }
     {
-        let copied = copy_completion(self.names.allocator(), completion)?;
+        let copy = completion_as_reply(self.names.allocator(), completion)?;
         match self.blocked.take() {
-            Some(pending) => self.hear(pending, copied),
+            Some(pending) => self.hear(pending, copy),
             None => {
-                drop(copied);
-                Ok(AnswerEffect::Nothing)
+                drop(copy);
+                Ok(NextStep::Nothing)
             }
         }
     }
@@ -118,15 +98,22 @@ impl RankNames {
         self.names.take_back(pending, call)
     }
 
-    /// What a statement asks for, if it can be followed; else nothing changes, and why is found as far as memory lasts.
-    /// The only error is want of memory.
-    pub fn follow(&mut self, action: Action) -> Result<Followed, AllocError>
-        ensures { IfOk result (λ followed. FollowGives action self.old followed self.new) }
+    /// Why a statement can't be followed, as far as memory lasts to find it.
+    pub fn lack_of(&self, action: &Action) -> Option<LineFault>
+        ensures { IfSome result (λ fault. IsFaulty (Some fault) action.now self.now.names) }
     {
-        if let Ok(Some(fault)) = self.names.lack_of(&action) {
-            drop(action);
-            return Ok(Followed::Lacks(Some(fault)));
+        match self.names.lack_of(action) {
+            Ok(Some(fault)) => Some(fault),
+            Ok(None) | Err(_) => None,
         }
-        Ok(Followed::Asks(self.names.act(action)?))
+    }
+
+    /// What comes next of a statement; none where it can't be followed, and then nothing changes. The only error is
+    /// want of memory.
+    pub fn act(&mut self, action: Action) -> Result<Option<NextStep>, AllocError>
+        ensures { IfOk result (λ next. (next ≡ (acts_on action self.old.names).0)
+            × (self.new ≡ with_names self.old (acts_on action self.old.names).1)) }
+    {
+        self.names.act(action)
     }
 }

@@ -158,7 +158,7 @@ impl Simulation {
             Acted::Done => Ok(()),
             Acted::Faulty(fault) => {
                 replace(&mut self.lack, fault);
-                Err(SimulateError::Script(line))
+                Err(SimulateError::Line(line))
             }
         }
     }
@@ -181,7 +181,7 @@ impl Simulation {
 
     /// One line of a file of events, with what it prints.
     ///
-    /// `Script` names the line where a name that isn't set, or a buffer that is lent, was used; then the line has
+    /// `Line` names the line where a name that isn't set, or a buffer that is lent, was used; then the line has
     /// printed nothing, and `take_lack` tells why.
     #[tactic(auto, using(crate::proofs::StopLaws::line_breaks))]
     pub fn run<W: Write>(&mut self, line: EventLine, out: &mut W) -> Result<(), SimulateError>

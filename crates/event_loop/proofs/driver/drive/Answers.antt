@@ -11,14 +11,14 @@ returns-clause-exact g c =
       times = on.times;
       now = on.now;
       course = on.course;
-      standing = c.make_rounds.new.rank.standing;
+      state = c.make_rounds.new.rank.state;
       clock = (_, c.now-start.ensures, on.clock);
       rounds_on = subst
           (λ (s : LoopState). Rounds g.P.Runner.does g.T.Transport.passed g.T.Transport.waits c.args.patience
           (record {
             engine = c.args.rank.now.engine;
             runner = c.args.rank.now.runner;
-            standing = s;
+            state = s;
             transport = c.args.transport.now;
           })
           on.times on.course) c.replace.ensures on.rounds_on;

@@ -20,8 +20,8 @@ loop-preserved g c =
             (record {
               engine = c.make_round.new.rank.engine;
               runner = c.make_round.new.rank.runner;
-              standing =
-                  c.make_round.new.rank.standing;
+              state =
+                  c.make_round.new.rank.state;
               transport = c.make_round.new.transport;
             })
             driven.2 exact,
@@ -37,7 +37,7 @@ returns-in-Ok-Some-clause-exact g c =
       course = record {
         engine = c.loop.rank.engine;
         runner = c.loop.rank.runner;
-        standing = c.loop.rank.standing;
+        state = c.loop.rank.state;
         transport =
             c.loop.transport;
       };
@@ -55,7 +55,7 @@ returns-in-Err-clause-exact g c =
       course = record {
         engine = c.loop.rank.engine;
         runner = c.loop.rank.runner;
-        standing = c.loop.rank.standing;
+        state = c.loop.rank.state;
         transport =
             c.loop.transport;
       };

@@ -11,13 +11,13 @@ invariant-loop g l =
     (record {
       engine = l.fn.rank.engine;
       runner = l.fn.rank.runner;
-      standing = l.fn.rank.standing;
+      state = l.fn.rank.state;
       transport = l.fn.transport;
     })
     times
     (record {
       engine = l.rank.engine;
       runner = l.rank.runner;
-      standing = l.rank.standing;
+      state = l.rank.state;
       transport = l.transport;
     }))

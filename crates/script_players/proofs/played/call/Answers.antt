@@ -10,7 +10,7 @@ returns-in_ok-next-in-Ok c = record {
     Ok c.in-Ok.stepped,
     λ s lines. call_taken c.args.world.now c.step.new.self c.args.rank c.args.call c.in-Ok.stepped c.in-Ok.ensures.exact
         c.index-history-stepped.result c.history.result.now c.history.ensures.entries c.index-history-stepped.is
-        c.in_ok-told-in-Ok.told c.in_ok-told-in-Ok.ensures c.args.stage.now c.replace.new.place
+        c.in_ok-told-in-Ok.told c.in_ok-told-in-Ok.ensures c.args.state.now c.replace.new.place
         c.args.refused.now.items
         (λ is. c.replace.ensures ∙ c.in_ok-next-in-Ok.ensures c.args.rank c.args.call is) s lines,
   );
@@ -23,7 +23,7 @@ returns-in-Err c = record {
       (λ back. (
         Err c.in-Err.failed,
         λ s lines. call_refused c.args.world.now c.step.new.self c.args.rank c.args.call c.in-Err.failed
-            c.args.refused.now.items c.hand_back.new.refused.items c.args.stage.now c.hand_back.new.stage c.requires
+            c.args.refused.now.items c.hand_back.new.refused.items c.args.state.now c.hand_back.new.state c.requires
             c.in-Err.ensures.exact back s lines,
       )) c.hand_back.ensures;
 }

@@ -1,6 +1,6 @@
-use Rattle.std.proofs.Common.{◌∙◌, Some, sym, ap}
+use Rattle.std.proofs.Common.{◌∙◌, Option, Some, sym, ap}
 use Rattle.script_calls.specs.declared.pending.Pending.TheVariants as pendings
-use Rattle.interpreter.specs.declared.steps.StatementCall.{StatementCall}
+use Rattle.interpreter.specs.declared.steps.NextStep.{NextStep}
 use Rattle.interpreter.specs.Acting.{Acts, places_named}
 use Rattle.interpreter.specs.NamesState.{here, place_named}
 use Rattle.interpreter.proofs.CallLaws.{receive_made}
@@ -13,4 +13,4 @@ returns c =
     c.args.self.now
     (pendings.Starting c.args.request (Some c.args.receiving.buffer)) c.in_ok-call.call c.lend_for.new.self
     c.in_ok-call.ensures
-    ∙ ap (λ (asked : StatementCall). let acted : Acts = (asked, c.lend_for.new.self) in acted) (sym c.asked_by.ensures)
+    ∙ ap (λ (next : Option NextStep). let acted : Acts = (next, c.lend_for.new.self) in acted) (sym c.asked_by.ensures)

@@ -1,5 +1,5 @@
-use Rattle.std.proofs.Common.{◌∙◌, sym, ap}
-use Rattle.interpreter.specs.declared.steps.StatementCall.{StatementCall}
+use Rattle.std.proofs.Common.{◌∙◌, Option, sym, ap}
+use Rattle.interpreter.specs.declared.steps.NextStep.{NextStep}
 use Rattle.interpreter.specs.Acting.{Acts, blocks_named}
 use Rattle.interpreter.specs.NamesState.{here, is_root, place_named}
 use Rattle.interpreter.proofs.CallLaws.{scatter_made}
@@ -11,5 +11,5 @@ returns c =
     (here c.args.self.now c.args.said.into)
     (blocks_named c.args.self.now (is_root c.args.self.now c.args.said.communicator c.args.said.root)
     c.args.said.buffer) c.args.self.now
-    ∙ ap (λ (asked : StatementCall). let acted : Acts = (asked, c.args.self.now) in acted)
+    ∙ ap (λ (next : Option NextStep). let acted : Acts = (next, c.args.self.now) in acted)
     (sym (rw c.in_ok-call.ensures at c.asked_by.ensures))

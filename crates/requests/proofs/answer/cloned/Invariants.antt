@@ -1,6 +1,6 @@
 -- The outcomes so far are copied.
 use Rattle.std.proofs.Common.{◌≡◌, take}
-use Rattle.simulation.proofs.copies.copy_outcomes.Given as goal
+use Rattle.requests.proofs.answer.cloned.Given as goal
 
 abbrev pub invariant-loop-outcome : goal.invariant-loop-outcome
 invariant-loop-outcome l = l.copies.items ≡ take l.outcome-index l.outcomes
