@@ -102,10 +102,7 @@ fn go_on<R: Wait, P: Runner, T: Transport>(
     };
     match rank.runner.next(reply) {
         RunnerStep::Call(call) => {
-            replace(
-                &mut rank.state.runner,
-                state_after(rank.engine.call(call)),
-            );
+            replace(&mut rank.state.runner, state_after(rank.engine.call(call)));
         }
         RunnerStep::Print(line) => return go_on_behind(rt, rank, transport, line.as_slice()),
         RunnerStep::End(status, line) => {

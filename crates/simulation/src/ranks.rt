@@ -56,11 +56,7 @@ impl RankNames {
     /// The answer to a call, which was for this: of one that blocks, its answer is yet to come. The only error is want
     /// of memory.
     #[tactic(auto, using(crate::proofs::RankLaws::reply_made))]
-    pub fn hear_reply(
-        &mut self,
-        pending: Pending,
-        reply: &Reply,
-    ) -> Result<NextStep, AllocError>
+    pub fn hear_reply(&mut self, pending: Pending, reply: &Reply) -> Result<NextStep, AllocError>
         ensures { IfOk result (λ heard. IsMade (takes_reply pending reply.now self.old) heard self.new) }
     {
         if is_blocked(reply) {

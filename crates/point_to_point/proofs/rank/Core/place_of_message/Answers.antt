@@ -11,6 +11,6 @@ pub returns-in-Any : goal.returns-in-Any
 returns-in-Any c =
     let r = posted_by 0 c.args.routed.now in
     let sought : place_for r c.args.self.now.places ≡ sought_at c.args.routed.now.route.named r c.args.self.now.places =
-        search rules in
+    search rules in
     c.place_for.ensures ∙ ap (λ (p : PostedReceive). place_for p c.self.inside.queues.places) c.posted_by.ensures
     ∙ ap (λ (h : Held). place_for r h.places) c.self.view_is ∙ sought
