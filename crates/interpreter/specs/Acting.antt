@@ -266,15 +266,14 @@ waits_for_several call rs (Some requests) s = asks (call requests) (pendings.Wai
 
 -- ---- communicators
 
--- a collective on a communicator that is set makes another one, which has this name then (MPI 3.1, 6.4.2)
-abbrev pub makes : (name : List ℕ) → (comm : Option (Option ℕ)) → Entry → NamesState → Acts
-makes name None entry s = faulty s
-makes name (Some comm) entry s = asks (calls.Enter comm entry) (pendings.Making name) s
-
 -- a collective that hands no block in is entered on a communicator that is set
 abbrev pub enters : (comm : Option (Option ℕ)) → Entry → Pending → NamesState → Acts
 enters None entry pending s = faulty s
 enters (Some comm) entry pending s = asks (calls.Enter comm entry) pending s
+
+-- a collective on a communicator that is set makes another one, which has this name then (MPI 3.1, 6.4.2)
+abbrev pub makes : (name : List ℕ) → (comm : Option (Option ℕ)) → Entry → NamesState → Acts
+makes name comm entry s = enters comm entry (pendings.Making name) s
 
 -- ---- collectives that make no communicator (MPI 3.1, 5)
 
