@@ -197,6 +197,17 @@ def sends_head_on(script):
     return f"only because messages are buffered(.*\n)*rank {one} waits at line {script.number(one, places[0])}: "
 
 
+def only_tested(script):
+    one, other = script.pair()
+    request = script.name("q")
+    sent, into = script.buffer(one, "int32", 1), script.buffer(other, "int32", 1)
+    place = script.add(one, f"isend {request} world {other} 34 {sent}")
+    script.add(one, f"test {request}")
+    script.add(other, f"recv world {one} 34 {into}")
+    line = script.number(one, place)
+    return f"well only because messages are buffered(.*\n)*rank {one} ended with request {request} \\(line {line}\\) never waited for"
+
+
 def entered_differently(script):
     odd, kind = script.source.randrange(script.size), script.source.choice(("kind", "root", "length"))
     for rank in range(script.size):
@@ -305,9 +316,8 @@ def other_refusal(script):
 
 
 FAULTS = (
-    too_long, wrong_type, no_such_rank, never_waited, never_received, never_sent, sends_head_on, entered_differently, not_entered,
-    not_taken,
-    not_set, race, other_refusal, wrong_tag, wrong_communicator, overwritten_request, race_to_a_deadlock,
+    too_long, wrong_type, no_such_rank, never_waited, never_received, never_sent, sends_head_on, only_tested, entered_differently,
+    not_entered, not_taken, not_set, race, other_refusal, wrong_tag, wrong_communicator, overwritten_request, race_to_a_deadlock,
 )
 # Behind these others can't go on, so that a fault of theirs comes last.
 LAST = (never_sent, entered_differently, not_entered, not_set, wrong_tag, wrong_communicator, race_to_a_deadlock)
