@@ -6,10 +6,10 @@ ghost use Rattle.point_to_point_calls.specs.declared.refusal.Refusal.{Refusal};
 ghost use Rattle.sessions.specs.Peers.{IsIdlePeer};
 ghost use Rattle.c_rank.specs.Answers.{refusal};
 ghost use Rattle.c_rank.specs.Calls.{Answers};
-ghost use Rattle.c_rank.specs.Handing.{HandsNext};
+ghost use Rattle.c_rank.specs.OutgoingDatagrams.{HandsNext};
 ghost use Rattle.c_rank.specs.State.{IsNoPlace, IsOpening, RankState, Ticks, number_of_result};
-ghost use Rattle.c_rank.specs.Taking.{TakesOf};
-ghost use Rattle.c_exports.specs.Holding.{OnHeld};
+ghost use Rattle.c_rank.specs.AnswerCopies.{TakesOf};
+ghost use Rattle.c_exports.specs.HandleContents.{OnHeld};
 
 use crate::handle::Handle;
 use c_rank::{AnswerRecord, CallRecord, OutgoingRecord, PlaceRecord, Rank, refusal};

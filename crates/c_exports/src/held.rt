@@ -19,7 +19,7 @@ pub struct Held {
 impl Model for Held {
     ghost use Rattle.std.specs.Prelude.{◌≡◌, Option};
     ghost use Rattle.c_rank.specs.State.{RankState};
-    ghost use Rattle.c_exports.specs.Holding.{holds};
+    ghost use Rattle.c_exports.specs.HandleContents.{holds};
 
     ghost also_owns = { λ h. holds h.at h.value };
 }

@@ -1,16 +1,44 @@
 -- Steps of handing out what a rank has.
-use Rattle.std.proofs.Common.{◌≡◌, ℕ, zero, suc, ◌<◌, ◌≤◌, Bool, true, false, List, [], ◌∷◌, ◌++◌, length, drop, refl, sym, ap, subst}
+use Rattle.std.proofs.Common.{
+  ◌≡◌,
+  ℕ,
+  zero,
+  suc,
+  ◌<◌,
+  ◌≤◌,
+  Bool,
+  true,
+  false,
+  List,
+  [],
+  ◌∷◌,
+  ◌++◌,
+  length,
+  drop,
+  refl,
+  sym,
+  ap,
+  subst,
+}
 use Rattle.std.proofs.Common.{◌∙◌, arith, inl, inr, append_assoc}
 use Rattle.std.specs.Prelude.{◌⊎◌, ◌||◌, if◌then◌else◌, nat_lt, not, Option, None, Some, max}
 use Rattle.std.proofs.lemmas.List.{append-nil}
 use Rattle.delayed_acknowledgements.specs.declared.delayed.DelayedAcknowledgement.{DelayedAcknowledgement}
 use Rattle.engine_calls.specs.EngineState.{EngineState, without_out}
 use Rattle.port_transport.specs.Wires.{Parcel}
-use Rattle.outgoing_datagrams.specs.Outgoing.{HandsOn, HandsOut, HandsOutKept, NoneFits, kept_going, kept_in, late_at}
+use Rattle.outgoing_datagrams.specs.HandedDatagrams.{
+  HandsOn,
+  HandsOut,
+  HandsOutKept,
+  NoneFits,
+  kept_going,
+  kept_in,
+  late_at,
+}
 use Rattle.outgoing_datagrams.specs.Runs.{Stands, joined}
 use Rattle.outgoing_datagrams.specs.declared.record.OutgoingRecord.{OutgoingRecord}
-use Rattle.outgoing_datagrams.proofs.Handing.{hands_joined}
-use Rattle.c_rank.specs.Handing.{HandsAll, HandsFirst, KeepsRest, pending}
+use Rattle.outgoing_datagrams.proofs.HandedSteps.{hands_joined}
+use Rattle.c_rank.specs.OutgoingDatagrams.{HandsAll, HandsFirst, KeepsRest, pending}
 use Rattle.c_rank.specs.State.{RankState}
 
 -- more waits behind

@@ -1,4 +1,4 @@
-pub mod Turning
+pub mod ByteOrderLaws
 pub mod HandingSteps
-pub mod Answering
+pub mod AnswerLaws
 pub mod MeaningSteps

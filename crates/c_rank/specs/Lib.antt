@@ -1,9 +1,9 @@
 pub mod Kinds
 pub mod Elements
-pub mod Handing
+pub mod OutgoingDatagrams
 pub mod Meanings
 pub mod Answers
 pub mod Clocks
 pub mod State
 pub mod Calls
-pub mod Taking
+pub mod AnswerCopies

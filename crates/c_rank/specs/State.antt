@@ -8,7 +8,7 @@ use Rattle.point_to_point_calls.specs.Refusals.{IsRefusal, number_of_refusal}
 use Rattle.point_to_point_calls.specs.declared.refusal.Refusal.{Refusal}
 use Rattle.vocabulary.specs.MessageLimits.{limit_of}
 use Rattle.vocabulary.specs.declared.message_limit.MessageLimit.{MessageLimit}
-use Rattle.outgoing_datagrams.specs.Outgoing.{SendingState}
+use Rattle.outgoing_datagrams.specs.HandedDatagrams.{SendingState}
 use Rattle.c_rank.specs.Clocks.{after_telling, waits}
 use Rattle.c_rank.specs.declared.clock.RankClock.{RankClock}
 use Rattle.c_rank.specs.declared.rank.ReceivedData.{ReceivedData}

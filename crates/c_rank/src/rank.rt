@@ -11,9 +11,9 @@ ghost use Rattle.point_to_point_calls.specs.declared.refusal.Refusal.{Refusal};
 ghost use Rattle.requests.specs.Table.{finished_at};
 ghost use Rattle.sessions.specs.Peers.{IsIdlePeer};
 ghost use Rattle.c_rank.specs.Calls.{Answers, AnswersMeant, Finishes, Tells, TellsReply, look_told, type_out};
-ghost use Rattle.c_rank.specs.Handing.{HandsFirst, HandsNext, KeepsRest, pending};
+ghost use Rattle.c_rank.specs.OutgoingDatagrams.{HandsFirst, HandsNext, KeepsRest, pending};
 ghost use Rattle.c_rank.specs.State.{IsNoLimit, IsNoPlace, IsOpening, TellsTime, Ticks, number_of_result, place_said};
-ghost use Rattle.c_rank.specs.Taking.{Takes, TakesOf};
+ghost use Rattle.c_rank.specs.AnswerCopies.{Takes, TakesOf};
 ghost use Rattle.vocabulary.specs.MessageLimits.{limit_of};
 ghost use Rattle.c_rank.specs.declared.meaning.Meant.TheVariants as meant;
 

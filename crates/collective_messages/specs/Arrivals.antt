@@ -8,8 +8,8 @@ use Rattle.collective_messages.specs.declared.refusal.CollectiveRefusal.{Collect
 use Rattle.collective_messages.specs.declared.refusal.CollectiveRefusal.TheVariants as refusals
 use Rattle.datatypes.specs.Contents.{values_of}
 use Rattle.groups.specs.Groups.{HasNoRepeats}
-use Rattle.payload.specs.Spelling.{PartFits, PartText, PayloadText, Differing, NothingMore, ElementsText, ContextText}
-use Rattle.payload.specs.Spelling.{ChoiceText, NullText, GroupText, elements_of}
+use Rattle.payload.specs.Spellings.{PartFits, PartText, PayloadText, Differing, NothingMore, ElementsText, ContextText}
+use Rattle.payload.specs.Spellings.{ChoiceText, NullText, GroupText, elements_of}
 use Rattle.payload.specs.declared.record.Record.{Record}
 use Rattle.vocabulary.specs.BasicTypes.{size_of}
 use Rattle.vocabulary.specs.declared.endpoint.Endpoint.{Endpoint}

@@ -4,8 +4,8 @@ use Rattle.collective_messages.specs.declared.message.MessageContent.TheVariants
 use Rattle.collective_messages.specs.declared.message.CollectiveMessage.{CollectiveMessage}
 use Rattle.datatypes.specs.Contents.{AreWithin, bytes_of}
 use Rattle.vocabulary.specs.BasicTypes.{size_of}
-use Rattle.payload.specs.Spelling.{PartFits, PartText, PayloadText, Differing, NothingMore, ElementsText, ContextText}
-use Rattle.payload.specs.Spelling.{ChoiceText, NullText, GroupText}
+use Rattle.payload.specs.Spellings.{PartFits, PartText, PayloadText, Differing, NothingMore, ElementsText, ContextText}
+use Rattle.payload.specs.Spellings.{ChoiceText, NullText, GroupText}
 
 -- what a part says
 abbrev pub part_said : MessageContent → PartText

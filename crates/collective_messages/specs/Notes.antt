@@ -2,7 +2,7 @@
 use Rattle.std.specs.Prelude.{ℕ, Bool, true, false, ◌==◌, ◌&&◌, ◌||◌, not, List, Option, Some, None, position}
 use Rattle.std.specs.Prelude.{slice_get, filter, if◌then◌else◌}
 use Rattle.std.specs.List.{list_any, list_all}
-use Rattle.collective_messages.specs.Entering.{agrees, no_choice}
+use Rattle.collective_messages.specs.Entries.{agrees, no_choice}
 use Rattle.collective_messages.specs.declared.entry.Entry.{Entry}
 use Rattle.collective_messages.specs.declared.note.Note.{Note}
 use Rattle.collective_messages.specs.declared.note.NoteContent.{NoteContent}

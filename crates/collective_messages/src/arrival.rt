@@ -4,8 +4,8 @@ ghost use Rattle.std.specs.Prelude.{◌≡◌, ◌*◌, ◌/◌, ◌<◌, length
 ghost use Rattle.std.specs.List.{list_any};
 ghost use Rattle.datatypes.specs.Contents.{element_at};
 ghost use Rattle.collective_messages.specs.Arrivals.{ArrivalGives, SaidGives, names_beyond, ranks_in};
-ghost use Rattle.payload.specs.Spelling.{AreElements, ElementsText, GroupText, PartFits, elements_of, part_text};
-ghost use Rattle.payload.specs.Spelling.{payload_text};
+ghost use Rattle.payload.specs.Spellings.{AreElements, ElementsText, GroupText, PartFits, elements_of, part_text};
+ghost use Rattle.payload.specs.Spellings.{payload_text};
 
 use crate::address::Address;
 use crate::note::{Note, NoteContent};

@@ -1,7 +1,7 @@
 //! The elements that a rank hands in.
 
 ghost use Rattle.std.specs.Prelude.{◌≡◌, ◌<◌, ◌≤◌, ◌^◌, IfOk, IfErr, OnErr, length};
-ghost use Rattle.collective_messages.specs.Entering.{elements_in};
+ghost use Rattle.collective_messages.specs.Entries.{elements_in};
 
 use datatypes::Buffer;
 use payload::Elements;

@@ -2,7 +2,7 @@
 
 ghost use Rattle.std.specs.Prelude.{◌≡◌, IfOk};
 ghost use Rattle.std.specs.Option.{option_copied};
-ghost use Rattle.collective_messages.specs.Entering.{agrees, is_making, own_choice, own_elements, record_of, rooted_at};
+ghost use Rattle.collective_messages.specs.Entries.{agrees, is_making, own_choice, own_elements, record_of, rooted_at};
 
 use crate::block::Block;
 use crate::role::Role;

@@ -2,7 +2,7 @@
 
 ghost use Rattle.std.specs.Prelude.{◌≡◌};
 ghost use Rattle.collective_messages.specs.Messages.{IsWithinType, says};
-ghost use Rattle.payload.specs.Spelling.{payload_text};
+ghost use Rattle.payload.specs.Spellings.{payload_text};
 
 use datatypes::Buffer;
 use payload::{Choice, Direction, NewGroup, Payload, PayloadContent, Record};

@@ -1,3 +1,3 @@
 pub mod Places
-pub mod Seeing
+pub mod NoteLaws
 pub mod Blocks

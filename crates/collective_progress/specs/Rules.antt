@@ -3,13 +3,13 @@ use Rattle.std.specs.Prelude.{ℕ, Bool, true, false, ◌*◌, ◌-◌, ◌==◌
 use Rattle.std.specs.Prelude.{nat_lt, if◌then◌else◌}
 use Rattle.collective_progress.specs.declared.rules.Rule.{Rule}
 use Rattle.collective_progress.specs.declared.rules.Rule.TheVariants.{WrongType, WrongCount, NoRoot, NotDefined}
-use Rattle.collective_messages.specs.Entering.{record_of}
+use Rattle.collective_messages.specs.Entries.{record_of}
 use Rattle.collective_messages.specs.Ways.{root_of}
 use Rattle.collective_messages.specs.declared.entry.Entry.{Entry}
 use Rattle.collective_messages.specs.declared.entry.Entry.TheVariants.{Bcast, Gather, Scatter, Reduce, Allreduce}
 use Rattle.datatypes.specs.Contents.{Contents}
 use Rattle.layouts.specs.Buffers.{is_same_type}
-use Rattle.payload.specs.Spelling.{elements_of}
+use Rattle.payload.specs.Spellings.{elements_of}
 use Rattle.payload.specs.declared.record.Elements.{Elements}
 use Rattle.reductions.specs.Operations.{is_defined}
 use Rattle.vocabulary.specs.BasicTypes.{size_of}

@@ -1,7 +1,7 @@
 //! The verdict by what was found so far.
 
 ghost use Rattle.std.specs.Prelude.{◌≡◌, ◌==◌, length};
-ghost use Rattle.collective_messages.specs.Entering.{own_choice};
+ghost use Rattle.collective_messages.specs.Entries.{own_choice};
 ghost use Rattle.collective_messages.specs.Notes.{choice_known, choice_of_note, have_entered, member_at, note_at};
 ghost use Rattle.collective_messages.specs.Verdicts.{verdict, verdict_told};
 ghost use Rattle.collective_progress.specs.Progress.{AreFirst, IsProgress};

@@ -239,7 +239,7 @@ impl Progress {
     }
 
     /// Where the first note stands that tells that the member with this rank has entered.
-    #[tactic(auto, using(crate::proofs::Seeing::slot_is, crate::proofs::Seeing::slot_taken))]
+    #[tactic(auto, using(crate::proofs::NoteLaws::slot_is, crate::proofs::NoteLaws::slot_taken))]
     pub fn entry_place(&self, inside: &Inside, notes: &[Note], rank: u16) -> Option<usize>
         requires { IsProgress inside.now notes.now self.now }
         ensures { result ≡
@@ -311,7 +311,7 @@ impl Progress {
     }
 
     /// Where the first note stands that tells with what the rank leaves.
-    #[tactic(auto, using(crate::proofs::Seeing::result_is))]
+    #[tactic(auto, using(crate::proofs::NoteLaws::result_is))]
     pub fn result_place(&self, inside: &Inside, notes: &[Note]) -> Option<usize>
         requires { IsProgress inside.now notes.now self.now }
         ensures { result ≡ result_place inside.now.context inside.now.number notes.now }

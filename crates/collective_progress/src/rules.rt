@@ -4,7 +4,7 @@ ghost use Rattle.std.specs.Prelude.{◌≡◌};
 ghost use Rattle.vocabulary.specs.MessageLimits.{limit_of};
 ghost use Rattle.collective_progress.specs.Rules.{block_bytes, block_limit, is_other_type, is_rooted, is_undefined, is_wrong_total};
 ghost use Rattle.collective_progress.specs.Rules.{number_of_rule, rule_broken};
-ghost use Rattle.payload.specs.Spelling.{elements_of};
+ghost use Rattle.payload.specs.Spellings.{elements_of};
 
 use collective_messages::{Entry, root_of};
 use payload::{RECORD_BYTES, Record};

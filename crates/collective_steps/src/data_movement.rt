@@ -262,7 +262,7 @@ fn tell_block(
 }
 
 /// Its block to each of these members but the rank itself.
-#[tactic(auto, using(crate::proofs::Scattered::blocks_more, crate::proofs::Scattered::block_fits))]
+#[tactic(auto, using(crate::proofs::ScatterLaws::blocks_more, crate::proofs::ScatterLaws::block_fits))]
 fn blocks_to_others(
     alloc: Global,
     seat: &Seat,
@@ -279,7 +279,7 @@ fn blocks_to_others(
 }
 
 /// What the root of a scatter does that has a block for each member: it leaves with its own.
-#[tactic(auto, using(crate::proofs::Scattered::block_fits))]
+#[tactic(auto, using(crate::proofs::ScatterLaws::block_fits))]
 fn scatter_block(
     alloc: Global,
     seat: &Seat,

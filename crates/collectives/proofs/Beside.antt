@@ -3,7 +3,7 @@ use Rattle.std.proofs.Common.{ℕ, Bool, true, false, List, [], ◌∷◌, Optio
 use Rattle.collective_messages.specs.declared.entry.Inside.{Inside}
 use Rattle.collective_messages.specs.declared.note.Note.{Note}
 use Rattle.collective_progress.specs.Progress.{IsKeptOf, Seen, unseen}
-use Rattle.collective_progress.proofs.Seeing.{kept_behind, told_kept, unseen_kept}
+use Rattle.collective_progress.proofs.NoteLaws.{kept_behind, told_kept, unseen_kept}
 use Rattle.collectives.specs.Calls.{is_ended, kept_with, present_met}
 use Rattle.collectives.specs.State.{told_in}
 use Rattle.context_agreement.specs.Communicators.{ContextsState}

@@ -7,7 +7,7 @@ ghost use Rattle.collectives.specs.Calls.{IsReady, MessageRefused, entry_rule, i
 ghost use Rattle.collectives.specs.Calls.{limit_at, after_lesson, most_collectives, present_met};
 ghost use Rattle.collective_messages.specs.Messages.{IsFitting};
 ghost use Rattle.collective_messages.specs.Tallies.{count_in};
-ghost use Rattle.payload.specs.Spelling.{payload_text};
+ghost use Rattle.payload.specs.Spellings.{payload_text};
 ghost use Rattle.collective_progress.specs.Progress.{IsKeptOf};
 ghost use Rattle.collective_steps.specs.Steps.{IsPrepared, IsPreparedEntry, IsRefusal, MeetsLimit};
 ghost use Rattle.collective_messages.specs.declared.note.Note as notes;

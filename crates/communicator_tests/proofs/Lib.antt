@@ -1,1 +1,1 @@
-pub mod Entering
+pub mod EntryLaws

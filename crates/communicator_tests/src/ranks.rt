@@ -70,7 +70,7 @@ pub(crate) fn rank_of(alloc: Global, rank: u16, size: u16) -> Option<Communicato
 }
 
 /// The rank enters a collective of the communicator at a place, where no rank is known to be replaced.
-#[tactic(auto, using(crate::proofs::Entering::entry_allowed))]
+#[tactic(auto, using(crate::proofs::EntryLaws::entry_allowed))]
 pub(crate) fn enter(rank: &mut Communicators, place: usize, entry: Entry) -> Step {
     if let Some(fault) = rank.fault_of_entry(
         false,

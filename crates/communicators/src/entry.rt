@@ -8,7 +8,7 @@ ghost use Rattle.collectives.specs.Calls.{IsReady, MessageRefused, entered, entr
 ghost use Rattle.collectives.specs.Calls.{lesson_ending, limit_at, after_lesson, most_collectives, with_note};
 ghost use Rattle.collective_steps.specs.Steps.{IsPreparedEntry, IsRefusal, MeetsLimit, contexts_after, ending_of};
 ghost use Rattle.collectives.specs.State.{after_step};
-ghost use Rattle.payload.specs.Spelling.{payload_text};
+ghost use Rattle.payload.specs.Spellings.{payload_text};
 
 use crate::communicators::Communicators;
 use collective_messages::{Address, CollectiveRefusal, Entry};

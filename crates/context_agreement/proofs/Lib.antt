@@ -1,3 +1,3 @@
-pub mod Giving
-pub mod Cutting
-pub mod Sorting
+pub mod ContextLaws
+pub mod RowParts
+pub mod RowOrder

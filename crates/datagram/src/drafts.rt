@@ -1,7 +1,7 @@
 //! The bytes of a datagram, as they are kept.
 
 ghost use Rattle.std.specs.Prelude.{◌≡◌, IfOk, IsOkUnless};
-ghost use Rattle.datagram.specs.Spelling.{content_text, datagram_text, spelling, BodyFits, SequenceFits};
+ghost use Rattle.datagram.specs.Spellings.{content_text, datagram_text, spelling, BodyFits, SequenceFits};
 
 use crate::bytes::{Bytes, Storage};
 use crate::datagram::{Content, Datagram};

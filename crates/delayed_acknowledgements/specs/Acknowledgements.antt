@@ -3,8 +3,8 @@ use Rattle.std.specs.Prelude.{◌≡◌, ◌≢◌, ◌≤◌, ◌⊎◌, ℕ, L
 use Rattle.std.specs.Prelude.{Err, IsSomeAnd}
 use Rattle.datagram.specs.declared.datagram.Header.{Header}
 use Rattle.datagram.specs.declared.refusal.DatagramRefusal.{DatagramRefusal}
-use Rattle.datagram.specs.Reading.{datagram_of}
-use Rattle.datagram.specs.Spelling.{DatagramText, BodyText, FrameBody, AckBody, ResetBody}
+use Rattle.datagram.specs.ByteMeanings.{datagram_of}
+use Rattle.datagram.specs.Spellings.{DatagramText, BodyText, FrameBody, AckBody, ResetBody}
 use Rattle.delayed_acknowledgements.specs.declared.acknowledgements.Acknowledgement.{Acknowledgement}
 
 abbrev pub if_acknowledgement : Header → BodyText → Option Acknowledgement

@@ -5,7 +5,7 @@
 //! follow each other to one endpoint need not go then: any datagram may be lost, and this one isn't missed.
 
 ghost use Rattle.std.specs.Prelude.{◌≡◌, ◌↔◌, IsTrue};
-ghost use Rattle.datagram.specs.Reading.{datagram_of};
+ghost use Rattle.datagram.specs.ByteMeanings.{datagram_of};
 ghost use Rattle.delayed_acknowledgements.specs.Acknowledgements.{Covers, IsUrgent, acknowledgement};
 
 use datagram::{Content, Datagram, Header, read_form};

@@ -1,8 +1,8 @@
 -- What is read of a message of the job is what its bytes say.
 use Rattle.std.proofs.Common.{◌≡◌, ℕ, Bool, true, false, List, Option, Some, None, if◌then◌else◌, refl, subst, sym, ◌∙◌}
 use Rattle.collective_messages.specs.Arrivals.{names_beyond}
-use Rattle.payload.specs.Reading.{payload_of}
-use Rattle.payload.specs.Spelling.{PayloadText}
+use Rattle.payload.specs.ByteMeanings.{payload_of}
+use Rattle.payload.specs.Spellings.{PayloadText}
 use Rattle.engine.specs.JobPayloads.{payload_in, within_job}
 
 by_test : (b : Bool) (q p : PayloadText) → (if b then None else Some q) ≡ Some p → (Some q ≡ Some p) × (b ≡ false)

@@ -5,11 +5,11 @@ use Rattle.collective_steps.specs.declared.step.Ending.{Ending}
 use Rattle.collective_transfers.specs.Payloads.{Taken, Whole}
 use Rattle.collective_transfers.specs.State as payloads
 use Rattle.collective_transfers.specs.State.{after_announcing, after_data, after_return, is_due, whole_with}
-use Rattle.datagram.specs.Spelling.{DataText}
+use Rattle.datagram.specs.Spellings.{DataText}
 use Rattle.point_to_point_calls.specs.declared.refusal.Refusal.{Refusal}
-use Rattle.sessions.specs.Heard.{HeardText}
+use Rattle.sessions.specs.HeardBytes.{HeardText}
 use Rattle.vocabulary.specs.declared.endpoint.Endpoint.{Endpoint}
-use Rattle.engine.proofs.Hearing.{for_any}
+use Rattle.engine.proofs.DatagramLaws.{for_any}
 use Rattle.engine.specs.Datagrams.{IsNoticed, PieceGives, PieceGivesBy, WhyNotTaken, WhyUnnoticed, lesson_in}
 use Rattle.engine.specs.Datagrams.{numbers_met, payloads_met}
 use Rattle.engine.specs.Parts.{LastPieceGives, MessageGives, PartsGive, engine_with}

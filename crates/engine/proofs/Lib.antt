@@ -1,10 +1,10 @@
-pub mod Entered
-pub mod Ruled
+pub mod EntryLaws
+pub mod EntryFaults
 pub mod JobPayloads
-pub mod Taken
+pub mod MessageLaws
 pub mod Replies
-pub mod Announced
-pub mod Hearing
-pub mod Turning
+pub mod PayloadPieces
+pub mod DatagramLaws
+pub mod TurnLaws
 pub mod LastPiece
 pub mod WithoutMemory

@@ -8,8 +8,8 @@ use Rattle.vocabulary.specs.BasicTypes.{size_of}
 use Rattle.datatypes.specs.Contents.{bytes_of}
 use Rattle.datagram.specs.declared.kinds.Clearance.{Clearance}
 use Rattle.datagram.specs.declared.kinds.Clearance.TheVariants.{Send, Drop}
-use Rattle.datagram.specs.Spelling.{ClearFrame, DataFrame, EagerFrame, FrameText, RequestFrame, RequestText}
-use Rattle.datagram.specs.Spelling.{OutgoingText, outgoing_text}
+use Rattle.datagram.specs.Spellings.{ClearFrame, DataFrame, EagerFrame, FrameText, RequestFrame, RequestText}
+use Rattle.datagram.specs.Spellings.{OutgoingText, outgoing_text}
 use Rattle.incarnation.specs.declared.place.Place.{Place}
 use Rattle.match_queues.specs.Arrivals.{arrival_at}
 use Rattle.match_queues.specs.declared.envelope.PostedReceive.{PostedReceive}
@@ -21,14 +21,14 @@ use Rattle.requests.specs.declared.table.TableEntry.{TableEntry}
 use Rattle.point_to_point.specs.CoreState.{CoreState}
 use Rattle.datagram.specs.declared.frame.Outgoing.{Outgoing}
 use Rattle.point_to_point_calls.specs.Frames.{as_list}
-use Rattle.point_to_point_calls.specs.Hearing.{CanGo, announced_of, data_frames, wanted_frames}
+use Rattle.point_to_point_calls.specs.FrameNews.{CanGo, announced_of, data_frames, wanted_frames}
 use Rattle.point_to_point.specs.Arrivals.{called_for, news_frames, after_lesson}
-use Rattle.point_to_point_calls.specs.Receiving.{answer_on_arrival}
+use Rattle.point_to_point_calls.specs.ReceiveMatches.{answer_on_arrival}
 use Rattle.sessions.specs.declared.refusal.SessionRefusal as lower
 use Rattle.sessions.specs.declared.refusal.SessionRefusal.TheVariants as lowers
 use Rattle.sessions.specs.Refusals as lowest
 use Rattle.sessions.specs.Events.{AreFor, CanSend, sendings}
-use Rattle.sessions.specs.Heard.{HeardText}
+use Rattle.sessions.specs.HeardBytes.{HeardText}
 use Rattle.engine.specs.Datagrams.{frame_in, news_of, replies}
 
 -- ---- to whom they go

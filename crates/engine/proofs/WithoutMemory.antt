@@ -5,17 +5,17 @@ use Rattle.std.specs.Prelude.{◌⊎◌, if◌then◌else◌, ◌==◌, is_some}
 use Rattle.collective_transfers.specs.Payloads.{Whole}
 use Rattle.collective_transfers.specs.State as payloads
 use Rattle.collective_transfers.specs.State.{is_due, whole_with}
-use Rattle.datagram.specs.Spelling.{ClearFrame, ClearText, DataFrame, DataText, EagerFrame, FrameText, OutgoingText}
-use Rattle.datagram.specs.Spelling.{RequestFrame, RequestText}
+use Rattle.datagram.specs.Spellings.{ClearFrame, ClearText, DataFrame, DataText, EagerFrame, FrameText, OutgoingText}
+use Rattle.datagram.specs.Spellings.{RequestFrame, RequestText}
 use Rattle.datagram.specs.declared.kinds.Clearance.{Clearance}
 use Rattle.datagram.specs.declared.kinds.Clearance.TheVariants.{Drop, Send}
 use Rattle.datagram.specs.declared.kinds.Plane.{Plane}
 use Rattle.datagram.specs.declared.kinds.Plane.TheVariants.{Collective, PointToPoint}
-use Rattle.payload.specs.Reading.{payload_of}
+use Rattle.payload.specs.ByteMeanings.{payload_of}
 use Rattle.point_to_point.specs.Arrivals.{news_fault}
 use Rattle.point_to_point.specs.CoreState.{CoreState}
-use Rattle.point_to_point_calls.specs.Hearing.{bad_unless, first_of, frame_fault, heard_fault, plane_fault}
-use Rattle.point_to_point_calls.specs.Hearing.{transfers_met}
+use Rattle.point_to_point_calls.specs.FrameNews.{bad_unless, first_of, frame_fault, heard_fault, plane_fault}
+use Rattle.point_to_point_calls.specs.FrameNews.{transfers_met}
 use Rattle.point_to_point_calls.specs.Refusals.{IsRefusal}
 use Rattle.point_to_point_calls.specs.declared.refusal.Refusal.{Refusal}
 use Rattle.point_to_point_calls.specs.declared.refusal.Refusal.TheVariants as refusals
@@ -24,8 +24,8 @@ use Rattle.rendezvous.specs.State.{is_next, offered}
 use Rattle.sessions.specs.Events as links
 use Rattle.sessions.specs.Events.{event_limit, first_limit, heard_limit, is_worn_out, last_limit, sends_limit}
 use Rattle.sessions.specs.Events.{word_limit}
-use Rattle.sessions.specs.Heard.{Acknowledges, Follows, Hands, HeardText, Holds, Nothing, Repeats, WordText}
-use Rattle.sessions.specs.Heard.{session_met}
+use Rattle.sessions.specs.HeardBytes.{Acknowledges, Follows, Hands, HeardText, Holds, Nothing, Repeats, WordText}
+use Rattle.sessions.specs.HeardBytes.{session_met}
 use Rattle.sessions.specs.Peers.{peer_at}
 use Rattle.sessions.specs.SessionsState.{SessionsState}
 use Rattle.sessions.specs.declared.peers.Peer.{Peer}
@@ -36,7 +36,7 @@ use Rattle.engine.specs.Datagrams.{HeardGives, HeardGivesBy, NoticeText, OfAnnou
 use Rattle.engine.specs.Datagrams.{PieceGives, PieceGivesBy, WhyNoPiece, WhyNoPieceBy, WhyNotTaken, WhyUnnoticed}
 use Rattle.engine.specs.Datagrams.{announcement_fault, answer_fault, answer_to, data_for, early_fault, form_fault}
 use Rattle.engine.specs.Datagrams.{frame_in, hold_fault, news_of, notice_in, numbers_met, replies, unwanted, whole_in}
-use Rattle.engine.specs.Following.{IsTurnRefusal, WhyUnread, news_met}
+use Rattle.engine.specs.HeldFrameEnds.{IsTurnRefusal, WhyUnread, news_met}
 use Rattle.engine_calls.specs.EngineState.{EngineState}
 use Rattle.engine_calls.specs.Refusals.{fault_of_sessions, first_fault, of_sessions}
 

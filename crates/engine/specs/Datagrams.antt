@@ -13,31 +13,41 @@ use Rattle.collectives.specs.State.{State, after_step}
 use Rattle.collective_steps.specs.Steps.{contexts_after, ending_of}
 use Rattle.collectives.specs.declared.collective.ReadyMessage.{ReadyMessage}
 use Rattle.collective_steps.specs.declared.step.Ending.{Ending}
-use Rattle.datagram.specs.Reading.{datagram_of}
-use Rattle.datagram.specs.Spelling.{ClearFrame, ClearText, DataFrame, DataText, DatagramText, EagerFrame, EagerText}
-use Rattle.datagram.specs.Spelling.{OutgoingText}
-use Rattle.datagram.specs.Spelling.{FrameText, RequestFrame, RequestText, clear_text, data_text, eager_text}
-use Rattle.datagram.specs.Spelling.{request_text}
+use Rattle.datagram.specs.ByteMeanings.{datagram_of}
+use Rattle.datagram.specs.Spellings.{ClearFrame, ClearText, DataFrame, DataText, DatagramText, EagerFrame, EagerText}
+use Rattle.datagram.specs.Spellings.{OutgoingText}
+use Rattle.datagram.specs.Spellings.{FrameText, RequestFrame, RequestText, clear_text, data_text, eager_text}
+use Rattle.datagram.specs.Spellings.{request_text}
 use Rattle.datagram.specs.declared.kinds.Clearance.{Clearance}
 use Rattle.datagram.specs.declared.kinds.Clearance.TheVariants.{Drop, Send}
 use Rattle.datagram.specs.declared.kinds.Plane.{Plane}
 use Rattle.datagram.specs.declared.kinds.Plane.TheVariants as planes
-use Rattle.payload.specs.Reading.{payload_of}
-use Rattle.payload.specs.Spelling.{PartFits, PayloadText}
-use Rattle.point_to_point_calls.specs.Hearing.{NewsText, bad_unless, data_frames, transfers_met}
+use Rattle.payload.specs.ByteMeanings.{payload_of}
+use Rattle.payload.specs.Spellings.{PartFits, PayloadText}
+use Rattle.point_to_point_calls.specs.FrameNews.{NewsText, bad_unless, data_frames, transfers_met}
 use Rattle.point_to_point_calls.specs.Refusals.{IsRefusal}
 use Rattle.point_to_point_calls.specs.declared.refusal.Refusal.{Refusal}
 use Rattle.point_to_point_calls.specs.declared.refusal.Refusal.TheVariants as refusals
 use Rattle.point_to_point.specs.CoreState.{CoreState, with_numbers}
 use Rattle.point_to_point.specs.Arrivals.{after_news, news_fault, news_frames}
-use Rattle.point_to_point.specs.Waiting.{after_wake}
+use Rattle.point_to_point.specs.Completions.{after_wake}
 use Rattle.rendezvous.specs.Pieces.{pieces_of}
 use Rattle.rendezvous.specs.State.{is_next, with_announced}
 use Rattle.rendezvous.specs.declared.transfers.Numbers.{Numbers}
-use Rattle.sessions.specs.Arranging.{IsArranged}
+use Rattle.sessions.specs.OutgoingOrder.{IsArranged}
 use Rattle.sessions.specs.Events.{TurnedAway, after_event, event_limit}
-use Rattle.sessions.specs.Following.{acknowledged_at, ready_from, turn_of, without_ready}
-use Rattle.sessions.specs.Heard.{Acknowledges, Follows, Hands, HeardText, Holds, Nothing, Repeats, WordText, heard_of}
+use Rattle.sessions.specs.HeldFrames.{acknowledged_at, ready_from, turn_of, without_ready}
+use Rattle.sessions.specs.HeardBytes.{
+  Acknowledges,
+  Follows,
+  Hands,
+  HeardText,
+  Holds,
+  Nothing,
+  Repeats,
+  WordText,
+  heard_of,
+}
 use Rattle.sessions.specs.SessionsState.{SessionsState}
 use Rattle.sessions.specs.declared.heard.Unheard.{Unheard}
 use Rattle.sessions.specs.declared.refusal.SessionRefusal as lower

@@ -1,8 +1,8 @@
 -- Which messages of collectives are messages of the job.
 use Rattle.std.specs.Prelude.{ℕ, List, Option, Some, None, if◌then◌else◌}
 use Rattle.collective_messages.specs.Arrivals.{names_beyond}
-use Rattle.payload.specs.Reading.{payload_of}
-use Rattle.payload.specs.Spelling.{PayloadText}
+use Rattle.payload.specs.ByteMeanings.{payload_of}
+use Rattle.payload.specs.Spellings.{PayloadText}
 
 -- what a message says, unless it names a rank that a job of so many ranks lacks
 abbrev pub within_job : (size : ℕ) → Option PayloadText → Option PayloadText

@@ -2,7 +2,7 @@
 use Rattle.std.specs.Prelude.{Option, option_and_then}
 use Rattle.vocabulary.specs.declared.basic_type.BasicType.{BasicType}
 use Rattle.engine_calls.specs.EngineState.{EngineState}
-use Rattle.engine_calls.specs.Routing.{route_at}
+use Rattle.engine_calls.specs.Routes.{route_at}
 use Rattle.point_to_point.specs.Looks.{type_found}
 use Rattle.point_to_point_calls.specs.declared.call.Probe.{Probe}
 

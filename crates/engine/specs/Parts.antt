@@ -5,13 +5,13 @@ use Rattle.collective_steps.specs.declared.step.Ending.{Ending}
 use Rattle.collective_transfers.specs.Payloads.{Taken, Whole}
 use Rattle.collective_transfers.specs.State as payloads
 use Rattle.collective_transfers.specs.State.{after_return}
-use Rattle.datagram.specs.Spelling.{RequestText}
+use Rattle.datagram.specs.Spellings.{RequestText}
 use Rattle.point_to_point.specs.Arrivals.{after_news}
 use Rattle.point_to_point.specs.CoreState.{CoreState, with_numbers}
 use Rattle.point_to_point_calls.specs.declared.refusal.Refusal.{Refusal}
 use Rattle.rendezvous.specs.State.{with_announced}
 use Rattle.sessions.specs.Events.{after_event}
-use Rattle.sessions.specs.Heard.{HeardText}
+use Rattle.sessions.specs.HeardBytes.{HeardText}
 use Rattle.sessions.specs.SessionsState.{SessionsState}
 use Rattle.engine.specs.Datagrams.{IsNoticed, IsTold, WhyUnnoticed, answer_to, lesson_alone, lesson_in, numbers_met}
 use Rattle.engine.specs.Datagrams.{payloads_met}

@@ -1,7 +1,7 @@
 //! How an engine answers calls.
 
 ghost use Rattle.std.specs.Prelude.{◌≡◌, ◌≤◌, ◌+◌, ◌*◌, length};
-ghost use Rattle.engine.specs.Answering.{IsOther};
+ghost use Rattle.engine.specs.CallKinds.{IsOther};
 ghost use Rattle.engine_calls.specs.Calls.{CallGives, CoreGives, RefusedLeaves};
 ghost use Rattle.engine_calls.specs.declared.call.Call.TheVariants as calls;
 

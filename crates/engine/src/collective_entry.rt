@@ -3,7 +3,7 @@
 ghost use Rattle.std.specs.Prelude.{◌≡◌, ◌≤◌, ◌+◌, ◌*◌, None, OnErr, IfErr, length, false};
 ghost use Rattle.collectives.specs.Calls.{entry_rule, limit_at};
 ghost use Rattle.engine_calls.specs.Calls.{EnteringGives, RefusedLeaves, reply_on_entry};
-ghost use Rattle.engine.specs.Entering.{GoingGives};
+ghost use Rattle.engine.specs.CollectiveEntries.{GoingGives};
 ghost use Rattle.engine.specs.Parts.{StayInPlace, state_of};
 ghost use Rattle.engine_calls.specs.Faults.{fault_of};
 ghost use Rattle.engine_calls.specs.declared.call.Call.TheVariants as calls;

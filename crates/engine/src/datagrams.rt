@@ -1,11 +1,11 @@
 //! How an engine takes datagrams in.
 
 ghost use Rattle.std.specs.Prelude.{◌≡◌, ◌≤◌, ◌<◌, ◌+◌, ◌*◌, length, IfErr, IfOk, None, OnErr, OnOk, Some};
-ghost use Rattle.datagram.specs.Spelling.{eager_text};
-ghost use Rattle.point_to_point_calls.specs.Hearing.{frame_option, news_text};
+ghost use Rattle.datagram.specs.Spellings.{eager_text};
+ghost use Rattle.point_to_point_calls.specs.FrameNews.{frame_option, news_text};
 ghost use Rattle.point_to_point.specs.Arrivals.{CanTake, news_fault};
 ghost use Rattle.sessions.specs.Windows.{StaysWithin};
-ghost use Rattle.sessions.specs.Heard.{heard_text, word_text, CanHear, WordFits};
+ghost use Rattle.sessions.specs.HeardBytes.{heard_text, word_text, CanHear, WordFits};
 ghost use Rattle.sessions.specs.Events.{after_event, event_limit};
 ghost use Rattle.engine_calls.specs.Refusals.{fault_of_sessions};
 ghost use Rattle.engine.specs.Datagrams.{DatagramGives, HeardGives, NewsGives, SourceIsKnown, RefusedDatagramLeaves};

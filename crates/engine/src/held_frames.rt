@@ -6,15 +6,15 @@
 
 ghost use Rattle.std.specs.Prelude.{◌≡◌, ◌≤◌, ◌<◌, ◌+◌, ◌*◌, length, Err, IfErr, IfOk, OnOk, Some, slice_set, suc};
 ghost use Rattle.reliable_link.specs.ReceiverState.{advanced};
-ghost use Rattle.sessions.specs.Arranging.{IsArranged};
+ghost use Rattle.sessions.specs.OutgoingOrder.{IsArranged};
 ghost use Rattle.sessions.specs.Events.{taught_known};
-ghost use Rattle.sessions.specs.Following.{ready_from, turn_of};
-ghost use Rattle.sessions.specs.Heard.{heard_text, word_text, CanHear, WordFits};
+ghost use Rattle.sessions.specs.HeldFrames.{ready_from, turn_of};
+ghost use Rattle.sessions.specs.HeardBytes.{heard_text, word_text, CanHear, WordFits};
 ghost use Rattle.sessions.specs.Peers.{peer_at};
 ghost use Rattle.sessions.specs.Spellings.{ack_of};
 ghost use Rattle.sessions.specs.Windows.{room};
-ghost use Rattle.engine.specs.Following.{FollowEnds, GoesOrStays, IsTurnRefusal, IsWant, LeavesTurn};
-ghost use Rattle.engine.specs.Following.{NextIsRefused};
+ghost use Rattle.engine.specs.HeldFrameEnds.{FollowEnds, GoesOrStays, IsTurnRefusal, IsWant, LeavesTurn};
+ghost use Rattle.engine.specs.HeldFrameEnds.{NextIsRefused};
 ghost use Rattle.engine.specs.Datagrams.{HasFollowed, HeardGives, IsTakenInUnless, says_nothing, without_next};
 ghost use Rattle.engine.specs.Datagrams.{turn_from, woken_engine};
 

@@ -3,10 +3,10 @@
 ghost use Rattle.std.specs.Prelude.{◌≡◌, ◌≤◌, ◌<◌, [], true, false, length, IfErr, None, OnErr, OnOk, Option, Some};
 ghost use Rattle.collective_steps.specs.declared.step.Ending.{Ending};
 ghost use Rattle.collective_transfers.specs.State.{is_due};
-ghost use Rattle.datagram.specs.Spelling.{data_text};
+ghost use Rattle.datagram.specs.Spellings.{data_text};
 ghost use Rattle.point_to_point_calls.specs.Refusals.{IsRefusal};
 ghost use Rattle.sessions.specs.Windows.{StaysWithin};
-ghost use Rattle.sessions.specs.Heard.{heard_text, CanHear};
+ghost use Rattle.sessions.specs.HeardBytes.{heard_text, CanHear};
 ghost use Rattle.sessions.specs.Events.{after_event, event_limit};
 ghost use Rattle.engine_calls.specs.Refusals.{fault_of_sessions};
 ghost use Rattle.engine.specs.Datagrams.{PieceGives, PieceGivesBy, received};

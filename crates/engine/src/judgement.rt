@@ -1,7 +1,7 @@
 //! Which rule or limit a call would meet now.
 
 ghost use Rattle.std.specs.Prelude.{◌≡◌};
-ghost use Rattle.engine.specs.Answering.{HandsNoData};
+ghost use Rattle.engine.specs.CallKinds.{HandsNoData};
 ghost use Rattle.engine_calls.specs.Faults.{fault_of};
 ghost use Rattle.engine_calls.specs.declared.call.Call.TheVariants as calls;
 

@@ -1,8 +1,8 @@
 //! What of a datagram concerns a collective.
 
 ghost use Rattle.std.specs.Prelude.{◌≡◌, option_map};
-ghost use Rattle.datagram.specs.Spelling.{clear_text, data_text, eager_text, frame_text, request_text};
-ghost use Rattle.sessions.specs.Heard.{word_text};
+ghost use Rattle.datagram.specs.Spellings.{clear_text, data_text, eager_text, frame_text, request_text};
+ghost use Rattle.sessions.specs.HeardBytes.{word_text};
 ghost use Rattle.engine.specs.Datagrams.{announcement_on, is_from_collective, is_to_collective, notice_in};
 ghost use Rattle.engine.specs.Datagrams.{notice_of_frame, notice_of_message, notice_text};
 

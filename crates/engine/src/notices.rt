@@ -4,9 +4,9 @@ ghost use Rattle.std.specs.Prelude.{◌≡◌, ◌≤◌, All, length, IfErr, If
 ghost use Rattle.collective_messages.specs.Messages.{IsFitting};
 ghost use Rattle.collectives.specs.Calls.{after_lesson};
 ghost use Rattle.engine.specs.JobPayloads.{payload_in};
-ghost use Rattle.payload.specs.Spelling.{payload_text};
+ghost use Rattle.payload.specs.Spellings.{payload_text};
 ghost use Rattle.sessions.specs.Windows.{StaysWithin};
-ghost use Rattle.sessions.specs.Heard.{CanHear, heard_text};
+ghost use Rattle.sessions.specs.HeardBytes.{CanHear, heard_text};
 ghost use Rattle.engine.specs.Datagrams.{lesson_in, numbers_met, payloads_met, received};
 ghost use Rattle.engine.specs.Parts.{MessageGives, PartsGive, StayInPlace, TellingGives, state_of};
 ghost use Rattle.engine_calls.specs.EngineState.{or_before};

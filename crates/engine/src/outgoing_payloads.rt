@@ -4,10 +4,10 @@ ghost use Rattle.std.specs.Prelude.{◌≡◌, ◌≤◌, ◌<◌, [], ◌∷◌
 ghost use Rattle.std.specs.Prelude.{OnErr, OnOk, Option, Some};
 ghost use Rattle.collective_steps.specs.declared.step.Ending.{Ending};
 ghost use Rattle.collective_transfers.specs.State.{announced_to};
-ghost use Rattle.datagram.specs.Spelling.{clear_text, request_text, OutgoingText};
+ghost use Rattle.datagram.specs.Spellings.{clear_text, request_text, OutgoingText};
 ghost use Rattle.point_to_point_calls.specs.Refusals.{IsRefusal};
 ghost use Rattle.sessions.specs.Windows.{StaysWithin};
-ghost use Rattle.sessions.specs.Heard.{heard_text, CanHear};
+ghost use Rattle.sessions.specs.HeardBytes.{heard_text, CanHear};
 ghost use Rattle.sessions.specs.Events.{AreFor, CanSend, after_event, event_limit, sendings};
 ghost use Rattle.vocabulary.specs.Limits.{greatest_limit};
 ghost use Rattle.engine_calls.specs.Refusals.{fault_of_sessions};

@@ -34,7 +34,7 @@ use Rattle.engine_calls.specs.Faults.{broken, fault_of, free_fault, group_limit,
 use Rattle.engine_calls.specs.Faults.{receive_rules, routed_limit, send_rules}
 use Rattle.engine_calls.specs.Frames.{frame_limit}
 use Rattle.engine_calls.specs.Refusals.{first_fault}
-use Rattle.engine_calls.specs.Routing.{call_route, probe_by, receive_by, route_at, send_by}
+use Rattle.engine_calls.specs.Routes.{call_route, probe_by, receive_by, route_at, send_by}
 use Rattle.engine_calls.specs.declared.call.Call.{Call}
 use Rattle.engine_calls.specs.declared.call.Call.TheVariants as calls
 use Rattle.point_to_point_calls.specs.declared.call.Probe.{Probe}

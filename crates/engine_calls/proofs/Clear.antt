@@ -4,8 +4,8 @@ use Rattle.vocabulary.specs.declared.envelope.Source.{Source}
 use Rattle.vocabulary.specs.declared.envelope.Source.TheVariants as sources
 use Rattle.incarnation.specs.declared.place.Place.{Place}
 use Rattle.point_to_point_calls.specs.Calls.{IsWithin}
-use Rattle.point_to_point_calls.specs.Hearing.{first_of}
-use Rattle.point_to_point_calls.specs.Sending.{announced_to, or_worn_out}
+use Rattle.point_to_point_calls.specs.FrameNews.{first_of}
+use Rattle.point_to_point_calls.specs.SendRules.{announced_to, or_worn_out}
 use Rattle.point_to_point_calls.specs.CoreCalls.{RoutedCall}
 use Rattle.point_to_point_calls.specs.CoreCalls as calls
 use Rattle.point_to_point_calls.specs.declared.call.RoutedProbe.{RoutedProbe}
@@ -18,8 +18,8 @@ use Rattle.point_to_point.specs.Calls.{argument_fault, call_fault, call_frame, f
 use Rattle.point_to_point.specs.Calls.{request_fault_at}
 use Rattle.point_to_point.specs.CoreState.{CoreState}
 use Rattle.point_to_point.specs.Messages.{message_fault, probe_rule, region_rule, search_limit}
-use Rattle.point_to_point.specs.Receiving.{receive_fault, receive_frame, receive_rule}
-use Rattle.point_to_point.specs.Sending.{or_full}
+use Rattle.point_to_point.specs.Receives.{receive_fault, receive_frame, receive_rule}
+use Rattle.point_to_point.specs.Sends.{or_full}
 use Rattle.requests.specs.Regions.{handed_of, is_unfit_to_receive}
 use Rattle.requests.specs.Table.{is_full}
 use Rattle.requests.specs.declared.awaited_requests.Awaited.{Awaited}

@@ -1,7 +1,7 @@
 -- What a judgement gives, by what came of it.
 use Rattle.std.proofs.Common.{◌≡◌, [], Option, Some, None, Result, Ok, Err, sym, ap, subst, ◌∙◌}
 use Rattle.point_to_point_calls.specs.CoreCalls as core_calls
-use Rattle.point_to_point_calls.specs.Sending.{IsAddressed}
+use Rattle.point_to_point_calls.specs.SendRules.{IsAddressed}
 use Rattle.point_to_point_calls.specs.declared.call.HandedBack.{HandedBack}
 use Rattle.point_to_point_calls.specs.declared.call.MessageReceive.{MessageReceive}
 use Rattle.point_to_point_calls.specs.declared.call.Probe.{Probe}
@@ -11,7 +11,7 @@ use Rattle.point_to_point_calls.specs.declared.refusal.Refusal.{Refusal}
 use Rattle.point_to_point_calls.specs.declared.sends.AddressedSend.{AddressedSend}
 use Rattle.point_to_point.specs.Calls.{fault_at}
 use Rattle.point_to_point.specs.Messages.{probe_rule, search_limit}
-use Rattle.point_to_point_calls.specs.Hearing.{first_of}
+use Rattle.point_to_point_calls.specs.FrameNews.{first_of}
 use Rattle.requests.specs.declared.awaited_requests.Awaited.{Awaited}
 use Rattle.requests.specs.declared.region.Region.{Region}
 use Rattle.requests.specs.declared.table.Request.{Request}

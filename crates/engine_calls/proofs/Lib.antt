@@ -2,8 +2,8 @@ pub mod Limits
 pub mod Clear
 pub mod Asks
 pub mod Looks
-pub mod Answering
-pub mod Stepping
-pub mod Ordered
+pub mod ReplyLaws
+pub mod StepFrames
+pub mod FrameOrder
 pub mod Laws
 pub mod Judged

@@ -6,7 +6,7 @@ use Rattle.std.specs.Prelude.{option_map}
 use Rattle.vocabulary.specs.declared.envelope.Source.{Source}
 use Rattle.vocabulary.specs.declared.envelope.Source.TheVariants.{Any, Rank, Null}
 use Rattle.vocabulary.specs.declared.mode.Mode.{Mode}
-use Rattle.datagram.specs.Spelling.{FrameText, OutgoingText}
+use Rattle.datagram.specs.Spellings.{FrameText, OutgoingText}
 use Rattle.datatypes.specs.Contents.{Contents}
 use Rattle.incarnation.specs.declared.place.Place.{Place}
 use Rattle.requests.specs.Regions.{sent_from}
@@ -18,8 +18,8 @@ use Rattle.point_to_point_calls.specs.Calls.{NeedsMemory}
 use Rattle.point_to_point.specs.Calls.{call_frame, call_rank}
 use Rattle.point_to_point.specs.CoreState.{CoreState}
 use Rattle.point_to_point.specs.Messages.{message_frame}
-use Rattle.point_to_point.specs.Receiving.{receive_frame}
-use Rattle.point_to_point_calls.specs.Sending.{destination, frame_to, frame_unless, frame_with, rank_to, rank_unless}
+use Rattle.point_to_point.specs.Receives.{receive_frame}
+use Rattle.point_to_point_calls.specs.SendRules.{destination, frame_to, frame_unless, frame_with, rank_to, rank_unless}
 use Rattle.rendezvous.specs.State.{State}
 use Rattle.sessions.specs.declared.refusal.SessionRefusal as lower
 use Rattle.sessions.specs.Events.{event_limit}

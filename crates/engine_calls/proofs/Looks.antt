@@ -7,7 +7,7 @@ use Rattle.communicators.specs.Routes.{RouteText}
 use Rattle.match_queues.specs.declared.envelope.Message.{Message}
 use Rattle.perfect_groups.specs.Calls.{held_at}
 use Rattle.perfect_groups.specs.Faults.{is_source_beyond, is_within}
-use Rattle.point_to_point_calls.specs.Receiving.{status_of}
+use Rattle.point_to_point_calls.specs.ReceiveMatches.{status_of}
 use Rattle.point_to_point_calls.specs.CoreCalls as core_calls
 use Rattle.point_to_point_calls.specs.declared.refusal.Refusal.{Refusal}
 use Rattle.point_to_point_calls.specs.declared.refusal.Refusal.TheVariants as refusals
@@ -26,7 +26,7 @@ use Rattle.engine_calls.specs.EngineState.{EngineState, GroupsState, Rest, membe
 use Rattle.engine_calls.specs.Faults.{broken, fault_of, free_fault, group_limit, is_busy, is_replaced, look_rules}
 use Rattle.engine_calls.specs.Faults.{on_route}
 use Rattle.engine_calls.specs.Refusals.{first_fault}
-use Rattle.engine_calls.specs.Routing.{probe_by, route_at}
+use Rattle.engine_calls.specs.Routes.{probe_by, route_at}
 use Rattle.engine_calls.specs.declared.call.Call.TheVariants as calls
 use Rattle.point_to_point_calls.specs.declared.call.Probe.{Probe}
 use Rattle.engine_calls.specs.declared.reply.Reply.TheVariants as replies

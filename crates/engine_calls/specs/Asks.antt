@@ -5,7 +5,7 @@ use Rattle.communicators.specs.Members.{Held}
 use Rattle.communicators.specs.Routes.{RouteText, route_text}
 use Rattle.communicators.specs.Rules.{known_by}
 use Rattle.communicators.specs.declared.route.Route.{Route}
-use Rattle.datagram.specs.Spelling.{FrameFits, frame_text}
+use Rattle.datagram.specs.Spellings.{FrameFits, frame_text}
 use Rattle.perfect_groups.specs.Calls.{held_at}
 use Rattle.perfect_groups.specs.Faults.{is_no_target, is_source_beyond, is_within, names_replaced}
 use Rattle.point_to_point_calls.specs.Calls as cores
@@ -25,13 +25,13 @@ use Rattle.engine_calls.specs.EngineState.{EngineState, GroupsState, Rest, membe
 use Rattle.engine_calls.specs.Faults.{broken, fault_of, group_limit}
 use Rattle.engine_calls.specs.Frames.{frame_limit}
 use Rattle.engine_calls.specs.Refusals.{first_fault}
-use Rattle.engine_calls.specs.Routing.{call_route, core_call, route_at, send_by}
+use Rattle.engine_calls.specs.Routes.{call_route, core_call, route_at, send_by}
 use Rattle.engine_calls.specs.declared.probes.JudgedProbe.{JudgedProbe}
 use Rattle.engine_calls.specs.declared.receives.JudgedReceive.{JudgedReceive}
 use Rattle.engine_calls.specs.declared.call.Call.{Call}
 use Rattle.engine_calls.specs.declared.call.Call.TheVariants as calls
 use Rattle.point_to_point_calls.specs.Frames.{addressed}
-use Rattle.point_to_point_calls.specs.Sending.{IsAddressed}
+use Rattle.point_to_point_calls.specs.SendRules.{IsAddressed}
 use Rattle.point_to_point_calls.specs.declared.call.MessageReceive.{MessageReceive}
 use Rattle.point_to_point_calls.specs.declared.sends.AddressedSend.{AddressedSend}
 use Rattle.requests.specs.declared.region.Region.{Region}

@@ -24,7 +24,7 @@ use Rattle.vocabulary.specs.declared.envelope.Status.{Status}
 use Rattle.engine_calls.specs.EngineState.{EngineState, member_of}
 use Rattle.engine_calls.specs.Faults.{fault_of}
 use Rattle.engine_calls.specs.Frames.{AreWhole, after_frame, step_limit, step_numbers, step_payloads, step_sendings}
-use Rattle.engine_calls.specs.Routing.{core_call, core_reply, route_at}
+use Rattle.engine_calls.specs.Routes.{core_call, core_reply, route_at}
 use Rattle.engine_calls.specs.declared.call.Call.{Call}
 use Rattle.engine_calls.specs.declared.call.Call.TheVariants as calls
 use Rattle.point_to_point_calls.specs.declared.call.Probe.{Probe}

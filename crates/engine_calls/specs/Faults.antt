@@ -18,7 +18,7 @@ use Rattle.vocabulary.specs.declared.envelope.Source.{Source}
 use Rattle.engine_calls.specs.EngineState.{EngineState, member_of}
 use Rattle.engine_calls.specs.Frames.{frame_limit}
 use Rattle.engine_calls.specs.Refusals.{first_fault, of_entry_rule}
-use Rattle.engine_calls.specs.Routing.{probe_by, receive_by, route_at, send_by}
+use Rattle.engine_calls.specs.Routes.{probe_by, receive_by, route_at, send_by}
 use Rattle.engine_calls.specs.declared.call.Call.{Call}
 use Rattle.engine_calls.specs.declared.call.Call.TheVariants as calls
 use Rattle.point_to_point_calls.specs.declared.call.Probe.{Probe}

@@ -5,16 +5,16 @@ use Rattle.std.specs.List.{AllByRecursion}
 use Rattle.collective_messages.specs.Messages.{IsWithinType, says}
 use Rattle.collective_messages.specs.declared.message.CollectiveMessage.{CollectiveMessage}
 use Rattle.collective_transfers.specs.Payloads.{Announced}
-use Rattle.datagram.specs.Spelling.{EagerFrame, FrameText, RequestFrame, OutgoingText}
+use Rattle.datagram.specs.Spellings.{EagerFrame, FrameText, RequestFrame, OutgoingText}
 use Rattle.datagram.specs.declared.kinds.Plane.TheVariants.{Collective}
 use Rattle.incarnation.specs.declared.place.Place.{Place}
-use Rattle.payload.specs.Spelling.{PayloadFits, spelling}
+use Rattle.payload.specs.Spellings.{PayloadFits, spelling}
 use Rattle.point_to_point_calls.specs.declared.refusal.Refusal.{Refusal}
 use Rattle.point_to_point_calls.specs.declared.refusal.Refusal.TheVariants as refusals
 use Rattle.rendezvous.specs.State.{is_full_to, next_to, with_begun}
 use Rattle.rendezvous.specs.declared.transfers.Numbers.{Numbers}
 use Rattle.sessions.specs.Events.{after_event, event_limit}
-use Rattle.sessions.specs.Heard.{HeardText}
+use Rattle.sessions.specs.HeardBytes.{HeardText}
 use Rattle.sessions.specs.SessionsState.{SessionsState}
 use Rattle.vocabulary.specs.declared.mode.Mode.TheVariants.{Standard}
 use Rattle.vocabulary.specs.declared.basic_type.BasicType.TheVariants.{Byte}

@@ -9,10 +9,10 @@ use Rattle.collective_transfers.specs.State as payloads
 use Rattle.communicators.specs.Members.{Held}
 use Rattle.collective_steps.specs.declared.step.Ending.{Ending}
 use Rattle.context_agreement.specs.Communicators.{ContextsState}
-use Rattle.datagram.specs.Spelling.{EagerFrame, FrameText, RequestFrame, OutgoingText}
+use Rattle.datagram.specs.Spellings.{EagerFrame, FrameText, RequestFrame, OutgoingText}
 use Rattle.datagram.specs.declared.kinds.Plane.TheVariants.{Collective}
 use Rattle.incarnation.specs.declared.place.Place.{Place}
-use Rattle.payload.specs.Spelling.{spelling}
+use Rattle.payload.specs.Spellings.{spelling}
 use Rattle.point_to_point_calls.specs.declared.refusal.Refusal.{Refusal}
 use Rattle.point_to_point_calls.specs.declared.refusal.Refusal.TheVariants as refusals
 use Rattle.point_to_point.specs.CoreState as cores

@@ -3,10 +3,10 @@
 ghost use Rattle.std.specs.Prelude.{◌≡◌, ◌≤◌, ◌++◌, ◌==◌, [], ◌∷◌, false, All, IfErr, IfOk, IfSome, None, Some, OnErr};
 ghost use Rattle.std.specs.Prelude.{OnOk, filter, length, map};
 ghost use Rattle.collective_messages.specs.Messages.{IsFitting, says};
-ghost use Rattle.datagram.specs.Spelling.{outgoing_text};
-ghost use Rattle.payload.specs.Spelling.{spelling};
+ghost use Rattle.datagram.specs.Spellings.{outgoing_text};
+ghost use Rattle.payload.specs.Spellings.{spelling};
 ghost use Rattle.sessions.specs.Events.{CanSend, after_event, event_limit, sendings};
-ghost use Rattle.sessions.specs.Heard.{CanHear, heard_option};
+ghost use Rattle.sessions.specs.HeardBytes.{CanHear, heard_option};
 ghost use Rattle.sessions.specs.Windows.{StaysWithin};
 ghost use Rattle.vocabulary.specs.Limits.{eager_limit, greatest_limit};
 ghost use Rattle.engine_calls.specs.Frames.{AreWhole, IsWhole, all_can_go, by_rank, can_go, is_sendable, payload_frame};
@@ -325,7 +325,7 @@ fn add_for<'a>(
 }
 
 /// The frames of messages that go to the first rank, then those that go to the second, and so on.
-#[tactic(auto, using(crate::proofs::Stepping::by_rank_more))]
+#[tactic(auto, using(crate::proofs::StepFrames::by_rank_more))]
 fn frames_rank_for_rank<'a>(
     alloc: Global,
     size: u16,

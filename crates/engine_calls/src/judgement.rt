@@ -4,14 +4,14 @@ ghost use Rattle.std.specs.Option.{option_copied};
 ghost use Rattle.std.specs.Prelude.{◌≡◌, ◌||◌, ◌<◌, IfErr, IfOk, IfSome, Option, Some, None, OnErr, OnOk};
 ghost use Rattle.std.specs.Prelude.{is_some, option_map};
 ghost use Rattle.communicators.specs.Routes.{route_text};
-ghost use Rattle.datagram.specs.Spelling.{FrameFits, OutgoingText, frame_text};
+ghost use Rattle.datagram.specs.Spellings.{FrameFits, OutgoingText, frame_text};
 ghost use Rattle.perfect_groups.specs.Faults.{is_within};
 ghost use Rattle.point_to_point_calls.specs.Frames.{addressed};
 ghost use Rattle.engine_calls.specs.Asks.{groups_of, rule_of_source, rule_of_target};
 ghost use Rattle.engine_calls.specs.EngineState.{member_of};
 ghost use Rattle.engine_calls.specs.Faults.{group_limit};
 ghost use Rattle.engine_calls.specs.Frames.{after_frame, frame_limit};
-ghost use Rattle.engine_calls.specs.Routing.{call_route};
+ghost use Rattle.engine_calls.specs.Routes.{call_route};
 
 use crate::call::Call;
 use crate::refusal::of_sessions;

@@ -3,7 +3,7 @@
 ghost use Rattle.std.specs.Prelude.{◌≡◌, IfErr, IfOk, None, OnErr, OnOk};
 ghost use Rattle.point_to_point_calls.specs.Calls.{IsWithin};
 ghost use Rattle.point_to_point_calls.specs.CoreCalls as core_calls;
-ghost use Rattle.point_to_point_calls.specs.Sending.{IsAddressed};
+ghost use Rattle.point_to_point_calls.specs.SendRules.{IsAddressed};
 ghost use Rattle.point_to_point.specs.Calls.{CanSend, argument_fault, call_frame, limit_fault};
 ghost use Rattle.engine_calls.specs.Asks.{IsAsked, IsClear, SendJudged, asked_fault, engine_of, groups_of};
 ghost use Rattle.engine_calls.specs.Calls.{CoreGives};

@@ -2,13 +2,13 @@
 
 ghost use Rattle.std.specs.Prelude.{◌≡◌, None, Some, false};
 ghost use Rattle.requests.specs.Lists.{is_twice, named};
-ghost use Rattle.point_to_point.specs.Waiting.{tested, waited};
+ghost use Rattle.point_to_point.specs.Completions.{tested, waited};
 ghost use Rattle.sessions.specs.SessionsState.{SessionsState};
 ghost use Rattle.engine_calls.specs.Asks.{engine_of, groups_of};
 ghost use Rattle.engine_calls.specs.Calls.{CoreGives};
 ghost use Rattle.engine_calls.specs.EngineState.{GroupsState, Rest};
 ghost use Rattle.engine_calls.specs.Faults.{fault_of};
-ghost use Rattle.engine_calls.specs.Routing.{core_reply};
+ghost use Rattle.engine_calls.specs.Routes.{core_reply};
 ghost use Rattle.engine_calls.specs.declared.call.Call.TheVariants as calls;
 
 use crate::call::Call;

@@ -8,7 +8,7 @@ use Rattle.statements.specs.declared.action.Action.{Action}
 use Rattle.tokens.specs.Grammar.{Word}
 use Rattle.tokens.specs.Numbers.{number_or, number_up_to}
 use Rattle.tokens.specs.Results.{◌>>=◌}
-use Rattle.statements.specs.Reading.{action_of}
+use Rattle.statements.specs.LineWords.{action_of}
 use Rattle.tokens.specs.Fields.{first, end_of_line, rank_of}
 use Rattle.tokens.proofs.WordLaws.{bind_ok, made, same_word, if_some, capped_takes, capped_again, bounded_takes}
 use Rattle.tokens.proofs.WordLaws.{bounded_again}
@@ -19,8 +19,8 @@ use Rattle.event_files.specs.declared.verb.EventVerb.TheVariants as verbs
 use Rattle.event_files.specs.declared.file.EventStatement.{EventStatement}
 use Rattle.event_files.specs.declared.file.EventStatement.TheVariants as statements
 use Rattle.event_files.specs.Grammar.{SpellsStatement, IsWorld}
-use Rattle.event_files.specs.Reading.{verb_of, bytes_of, delivery_of, tick_of, stray_of, restart_of, act_of}
-use Rattle.event_files.specs.Reading.{statement_by, statement_of, positive, size_of}
+use Rattle.event_files.specs.LineWords.{verb_of, bytes_of, delivery_of, tick_of, stray_of, restart_of, act_of}
+use Rattle.event_files.specs.LineWords.{statement_by, statement_of, positive, size_of}
 use Rattle.event_files.proofs.VerbLaws.{verb_word, verb_takes, verb_again, no_verb}
 use Rattle.event_files.proofs.HexLaws.{bytes_take, bytes_again}
 

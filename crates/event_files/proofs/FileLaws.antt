@@ -13,7 +13,7 @@ use Rattle.tokens.proofs.LineLaws.{lines_fault}
 use Rattle.event_files.specs.declared.file.EventStatement.{EventStatement}
 use Rattle.event_files.specs.declared.file.EventLine.{EventLine}
 use Rattle.event_files.specs.declared.file.EventFile.{EventFile}
-use Rattle.event_files.specs.Reading.{statement_of, size_of, line_read}
+use Rattle.event_files.specs.LineWords.{statement_of, size_of, line_read}
 use Rattle.event_files.specs.Files.{Says, SaysSize, FileSays, IsFirstFaultOfFile, Answers, IsAnsweredBy}
 use Rattle.event_files.specs.Starts.{with_size, started, file_from}
 use Rattle.event_files.proofs.EventLaws.{statement_takes, statement_again, size_takes, size_again}

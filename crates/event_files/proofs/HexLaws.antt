@@ -11,7 +11,7 @@ use Rattle.tokens.specs.Grammar.{Word}
 use Rattle.tokens.specs.Results.{◌>>=◌, Fails}
 use Rattle.tokens.proofs.WordLaws.{bind_ok, made, pick, and_true, no_test}
 use Rattle.event_files.specs.Grammar.{IsDigit, AreBytes}
-use Rattle.event_files.specs.Reading.{digit_of, bytes_of}
+use Rattle.event_files.specs.LineWords.{digit_of, bytes_of}
 
 both : (a b : Bool) → (a && b) ≡ true → (a ≡ true) × (b ≡ true)
 both true b e = (refl, e)

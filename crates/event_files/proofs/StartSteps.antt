@@ -12,7 +12,7 @@ use Rattle.tokens.proofs.Lists.{shown, shown_all}
 use Rattle.event_files.specs.declared.file.EventLine.{EventLine}
 use Rattle.event_files.specs.declared.file.EventStatement.{EventStatement}
 use Rattle.event_files.proofs.FileLaws.{read_line}
-use Rattle.event_files.specs.Reading.{statement_of, size_of, line_read}
+use Rattle.event_files.specs.LineWords.{statement_of, size_of, line_read}
 use Rattle.event_files.specs.Starts.{with_size, file_from}
 
 -- what is left of a list that is shown

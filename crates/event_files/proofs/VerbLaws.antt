@@ -6,7 +6,7 @@ use Rattle.tokens.specs.Grammar.{Word, IsNumeral}
 use Rattle.tokens.proofs.WordLaws.{Yields, step, yielded, same_word, no_letters}
 use Rattle.event_files.specs.declared.verb.EventVerb.{EventVerb}
 use Rattle.event_files.specs.declared.verb.EventVerb.TheVariants as verbs
-use Rattle.event_files.specs.Reading.{verb_of}
+use Rattle.event_files.specs.LineWords.{verb_of}
 
 abbrev pub verb_word : EventVerb → Word
 verb_word verbs.Deliver = codes "deliver"

@@ -5,7 +5,7 @@ use Rattle.tokens.specs.Lines.{line_of, lines_from}
 use Rattle.tokens.specs.Results.{LineFails}
 use Rattle.event_files.specs.declared.file.EventLine.{EventLine}
 use Rattle.event_files.specs.declared.file.EventFile.{EventFile}
-use Rattle.event_files.specs.Reading.{size_of, line_read}
+use Rattle.event_files.specs.LineWords.{size_of, line_read}
 
 -- a file of so many ranks and the lines that are read behind `world N`
 abbrev pub with_size : ℕ → Result (List EventLine) ℕ → Result EventFile ℕ

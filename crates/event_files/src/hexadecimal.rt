@@ -2,14 +2,14 @@
 
 ghost use Rattle.std.specs.Prelude.{◌≡◌, ◌<◌, IfSome, IfOk};
 ghost use Rattle.tokens.specs.Results.{Gives};
-ghost use Rattle.event_files.specs.Reading.{digit_of, bytes_of};
+ghost use Rattle.event_files.specs.LineWords.{digit_of, bytes_of};
 
 use datagram::Bytes;
 use std::alloc::Global;
 use tokens::{LineError, require};
 
 /// The value of a lower-case hexadecimal digit.
-#[tactic(auto, unfolding(crate::specs::Reading::digit_of))]
+#[tactic(auto, unfolding(crate::specs::LineWords::digit_of))]
 fn digit_of(byte: u8) -> Option<u8>
     ensures value { result ≡ digit_of byte }
     ensures within { IfSome result (λ value. value < 16) }

@@ -3,7 +3,7 @@
 ghost use Rattle.std.specs.Prelude.{◌≡◌, ◌≤◌, ◌+◌, ◌∷◌, List, ℕ, length, drop, map, OnOk, IfErr};
 ghost use Rattle.tokens.specs.Lines.{line_of, lines_from, with_front, lines_of};
 ghost use Rattle.tokens.specs.Results.{Gives, GivesLines, LineFails};
-ghost use Rattle.event_files.specs.Reading.{statement_of, size_of, line_read};
+ghost use Rattle.event_files.specs.LineWords.{statement_of, size_of, line_read};
 ghost use Rattle.event_files.specs.Files.{Answers, IsAnsweredBy, FileSays};
 ghost use Rattle.event_files.specs.Starts.{file_from, StartGives};
 ghost use Rattle.event_files.specs.declared.file.EventFile.{EventFile};

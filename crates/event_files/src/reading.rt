@@ -2,7 +2,7 @@
 
 ghost use Rattle.std.specs.Prelude.{◌≡◌, ◌≤◌, IfOk};
 ghost use Rattle.tokens.specs.Results.{Gives};
-ghost use Rattle.event_files.specs.Reading.{delivery_of, tick_of, stray_of, restart_of, act_of, statement_of, size_of};
+ghost use Rattle.event_files.specs.LineWords.{delivery_of, tick_of, stray_of, restart_of, act_of, statement_of, size_of};
 
 use crate::file::EventStatement;
 use crate::hexadecimal::bytes_of;
@@ -12,7 +12,7 @@ use std::alloc::Global;
 use tokens::{LineError, Token, end_of_line, first, is, number_or, number_up_to, rank_of, require};
 
 /// `D`
-#[tactic(auto, unfolding(crate::specs::Reading::delivery_of))]
+#[tactic(auto, unfolding(crate::specs::LineWords::delivery_of))]
 fn delivery_of(words: &[Token]) -> Result<EventStatement, LineError>
     ensures { Gives (λ x. x) result (delivery_of words.now) }
 {
@@ -23,7 +23,7 @@ fn delivery_of(words: &[Token]) -> Result<EventStatement, LineError>
 }
 
 /// `R NOW`
-#[tactic(auto, unfolding(crate::specs::Reading::tick_of))]
+#[tactic(auto, unfolding(crate::specs::LineWords::tick_of))]
 fn tick_of(words: &[Token]) -> Result<EventStatement, LineError>
     ensures { Gives (λ x. x) result (tick_of words.now) }
 {
@@ -36,7 +36,7 @@ fn tick_of(words: &[Token]) -> Result<EventStatement, LineError>
 }
 
 /// `R HEX`
-#[tactic(auto, unfolding(crate::specs::Reading::stray_of))]
+#[tactic(auto, unfolding(crate::specs::LineWords::stray_of))]
 fn stray_of(alloc: Global, words: &[Token]) -> Result<EventStatement, LineError>
     ensures { Gives (λ x. x) result (stray_of words.now) }
 {
@@ -48,7 +48,7 @@ fn stray_of(alloc: Global, words: &[Token]) -> Result<EventStatement, LineError>
 }
 
 /// `R`
-#[tactic(auto, unfolding(crate::specs::Reading::restart_of))]
+#[tactic(auto, unfolding(crate::specs::LineWords::restart_of))]
 fn restart_of(words: &[Token]) -> Result<EventStatement, LineError>
     ensures { Gives (λ x. x) result (restart_of words.now) }
 {
@@ -58,7 +58,7 @@ fn restart_of(words: &[Token]) -> Result<EventStatement, LineError>
 }
 
 /// What the rank of this word does.
-#[tactic(auto, unfolding(crate::specs::Reading::act_of))]
+#[tactic(auto, unfolding(crate::specs::LineWords::act_of))]
 fn act_of(alloc: Global, rank: &[u8], words: &[Token]) -> Result<EventStatement, LineError>
     ensures { Gives (λ x. x) result (act_of rank.now words.now) }
 {
@@ -67,7 +67,7 @@ fn act_of(alloc: Global, rank: &[u8], words: &[Token]) -> Result<EventStatement,
 }
 
 /// What a line asks for, by its words.
-#[tactic(auto, unfolding(crate::specs::Reading::statement_of))]
+#[tactic(auto, unfolding(crate::specs::LineWords::statement_of))]
 pub(crate) fn statement_of(alloc: Global, words: &[Token]) -> Result<EventStatement, LineError>
     ensures { Gives (λ x. x) result (statement_of words.now) }
 {
@@ -82,7 +82,7 @@ pub(crate) fn statement_of(alloc: Global, words: &[Token]) -> Result<EventStatem
 }
 
 /// `world N`: how many ranks the world has.
-#[tactic(auto, unfolding(crate::specs::Reading::size_of))]
+#[tactic(auto, unfolding(crate::specs::LineWords::size_of))]
 pub(crate) fn size_of(words: &[Token]) -> Result<u16, LineError>
     ensures { Gives (λ x. x) result (size_of words.now) }
 {

@@ -1,7 +1,7 @@
 //! The first word of a line that asks for an event.
 
 ghost use Rattle.std.specs.Prelude.{◌≡◌};
-ghost use Rattle.event_files.specs.Reading.{verb_of};
+ghost use Rattle.event_files.specs.LineWords.{verb_of};
 
 use tokens::is;
 
@@ -19,7 +19,7 @@ pub(crate) enum EventVerb {
 }
 
 /// The event that the first word asks for, if it is no rank.
-#[tactic(auto, unfolding(crate::specs::Reading::verb_of))]
+#[tactic(auto, unfolding(crate::specs::LineWords::verb_of))]
 pub(crate) fn verb_of(word: &[u8]) -> Option<EventVerb>
     ensures { result ≡ verb_of word.now }
 {

@@ -9,8 +9,8 @@ use Rattle.engine.specs.Datagrams.{DatagramGives}
 use Rattle.event_loop.specs.declared.input.Input.{Input}
 use Rattle.event_loop.specs.declared.runner.RunnerStep.{RunnerStep}
 use Rattle.event_loop.specs.declared.runner.RunnerStep.TheVariants as steps
-use Rattle.event_loop.specs.Listening.{TakesIn, Word, after_all, after_one}
-use Rattle.event_loop.specs.Speaking.{Speaks}
+use Rattle.event_loop.specs.Input.{TakesIn, Word, after_all, after_one}
+use Rattle.event_loop.specs.RunnerLines.{Speaks}
 
 pub takes_more : (ws : List Word) (a b c : EngineState) (w : Word) → TakesIn a ws b → DatagramGives b w.0 w.1 c →
     TakesIn a (ws ++ w ∷ []) c

@@ -18,9 +18,9 @@ use Rattle.event_loop.specs.declared.loop_state.RunnerState.TheVariants.{Ready, 
 use Rattle.event_loop.specs.declared.loop_state.LoopState.{LoopState}
 use Rattle.event_loop.specs.declared.loop_state.TurnResult.{TurnResult}
 use Rattle.event_loop.specs.declared.transport.TransportFault.{TransportFault}
-use Rattle.event_loop.specs.Listening.{TakesIn, Word, after_all, nothing_heard, received}
-use Rattle.event_loop.specs.Speaking.{Speaks}
-use Rattle.event_loop.specs.Sending.{sent}
+use Rattle.event_loop.specs.Input.{TakesIn, Word, after_all, nothing_heard, received}
+use Rattle.event_loop.specs.RunnerLines.{Speaks}
+use Rattle.event_loop.specs.Output.{sent}
 
 -- the engine whose frames to each rank, from this one on, wait so long for their acknowledgements
 abbrev pub with_waits : EngineState → (rank : ℕ) → List ℕ → EngineState

@@ -4,7 +4,7 @@ ghost use Rattle.std.specs.Prelude.{◌≡◌, ◌+◌, ◌<◌, ◌^◌, Result
 ghost use Rattle.point_to_point_calls.specs.declared.refusal.Refusal.{Refusal};
 ghost use Rattle.engine.specs.Datagrams.{DatagramGives};
 ghost use Rattle.event_loop.specs.Exchanges.{FailsWith};
-ghost use Rattle.event_loop.specs.Listening.{ListensTo, after_one};
+ghost use Rattle.event_loop.specs.Input.{ListensTo, after_one};
 
 use crate::transport::{Transport, TransportFault};
 use datagram::LONGEST_DATAGRAM;

@@ -2,7 +2,7 @@
 
 ghost use Rattle.std.specs.Prelude.{◌≡◌, ◌+◌, ◌<◌, ◌^◌};
 ghost use Rattle.event_loop.specs.Exchanges.{FailsWith};
-ghost use Rattle.event_loop.specs.Sending.{SendsAll};
+ghost use Rattle.event_loop.specs.Output.{SendsAll};
 
 use crate::transport::{Transport, TransportFault};
 use datagram::Bytes;

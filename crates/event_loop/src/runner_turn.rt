@@ -2,7 +2,7 @@
 
 ghost use Rattle.std.specs.Prelude.{◌≡◌, ◌+◌, ◌<◌, ◌^◌};
 ghost use Rattle.event_loop.specs.Exchanges.{FailsWith};
-ghost use Rattle.event_loop.specs.Speaking.{SpeaksTo};
+ghost use Rattle.event_loop.specs.RunnerLines.{SpeaksTo};
 
 use crate::runner::{Runner, RunnerStep};
 use crate::transport::{Transport, TransportFault};

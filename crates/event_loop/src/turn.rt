@@ -2,7 +2,7 @@
 
 ghost use Rattle.std.specs.Prelude.{◌≡◌, ◌+◌, ◌<◌, ◌^◌, Option, None};
 ghost use Rattle.event_loop.specs.Exchanges.{FailsWith};
-ghost use Rattle.event_loop.specs.Speaking.{IsNoLine};
+ghost use Rattle.event_loop.specs.RunnerLines.{IsNoLine};
 ghost use Rattle.event_loop.specs.Turns.{TakesStep, GoesOnTo, TurnGives, is_ready, state_after, state_with, told_waits};
 ghost use Rattle.event_loop.specs.Turns.{IsSameTime};
 

@@ -1,4 +1,4 @@
 pub mod RankSetLemmas
 pub mod Repeats
 pub mod Selections
-pub mod Comparing
+pub mod ComparisonLaws

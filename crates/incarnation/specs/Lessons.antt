@@ -4,8 +4,8 @@ use Rattle.datagram.specs.declared.datagram.Header.{Header}
 use Rattle.incarnation.specs.declared.refusal.IncarnationRefusal.TheVariants.{StaleSource}
 use Rattle.incarnation.specs.declared.judgement.Judgement.{Judgement}
 use Rattle.incarnation.specs.declared.judgement.Judgement.TheVariants.{Current, Learn}
-use Rattle.incarnation.specs.Knowing.{Knowledge, known_at, after_learn}
-use Rattle.incarnation.specs.Judging.{judgement}
+use Rattle.incarnation.specs.Knowledge.{Knowledge, known_at, after_learn}
+use Rattle.incarnation.specs.Judgements.{judgement}
 
 -- a rank, and the incarnation that is learnt of it
 pub record Lesson : Type 0 where

@@ -1,4 +1,4 @@
-pub mod Restarting
-pub mod Knowing
-pub mod Judging
+pub mod Restarts
+pub mod Knowledge
+pub mod Judgements
 pub mod Lessons

@@ -1,7 +1,7 @@
 //! The incarnation at which a rank is started anew.
 
 ghost use Rattle.std.specs.Prelude.{◌≡◌};
-ghost use Rattle.incarnation.specs.Restarting.{incarnation_after};
+ghost use Rattle.incarnation.specs.Restarts.{incarnation_after};
 
 use crate::refusal::IncarnationRefusal;
 

@@ -1,8 +1,8 @@
 //! What a process knows of the ranks of its job.
 
 ghost use Rattle.std.specs.Prelude.{◌≡◌, ◌≢◌, ◌<◌, ℕ, max, length, IfOk, IsOkUnless};
-ghost use Rattle.incarnation.specs.Knowing.{known_at, opening, after_learn};
-ghost use Rattle.incarnation.specs.Judging.{JudgeGives, judgement};
+ghost use Rattle.incarnation.specs.Knowledge.{known_at, opening, after_learn};
+ghost use Rattle.incarnation.specs.Judgements.{JudgeGives, judgement};
 
 use crate::judgement::Judgement;
 use crate::place::Place;
@@ -29,7 +29,7 @@ pub struct Peers {
 
 impl Model for Peers {
     ghost use Rattle.std.specs.Prelude.{◌≡◌, ◌<◌, length};
-    ghost use Rattle.incarnation.specs.Knowing.{Knowledge};
+    ghost use Rattle.incarnation.specs.Knowledge.{Knowledge};
 
     ghost Value = { Knowledge };
 
@@ -85,7 +85,7 @@ impl Peers {
     /// job), 27 (for another rank or a later incarnation of this one, or from no other rank of the
     /// job), 28 (from a former incarnation of the source), 29 (for a former incarnation of this
     /// rank). It changes nothing, and takes no memory.
-    #[tactic(auto, unfolding(crate::specs::Judging::judgement))]
+    #[tactic(auto, unfolding(crate::specs::Judgements::judgement))]
     pub fn judge(&self, header: Header) -> Result<Judgement, IncarnationRefusal>
         ensures rule { JudgeGives self.now header result }
         ensures exact { result ≡ judgement self.now header }

@@ -11,8 +11,17 @@ use Rattle.statements.specs.declared.collective_line.Scattering.{Scattering}
 use Rattle.script_calls.specs.Entries.{entry_with}
 use Rattle.script_calls.specs.declared.pending.Pending.{Pending}
 use Rattle.script_calls.specs.declared.pending.Pending.TheVariants as pendings
-use Rattle.interpreter.specs.Acting.{Acts, asked_by, block_for, faulty, hands_in, hands_in_to, LendsFor, receives_into}
-use Rattle.interpreter.specs.Acting.{scatter_call, scatters_from, send_call, sends_from}
+use Rattle.interpreter.specs.StatementCalls.{
+  Acts,
+  asked_by,
+  block_for,
+  faulty,
+  hands_in,
+  hands_in_to,
+  LendsFor,
+  receives_into,
+}
+use Rattle.interpreter.specs.StatementCalls.{scatter_call, scatters_from, send_call, sends_from}
 use Rattle.interpreter.specs.NamesState.{NamesState}
 
 -- a send that has its call is made

@@ -6,7 +6,7 @@ use Rattle.datatypes.specs.Contents.{Contents}
 use Rattle.script_calls.specs.Tables.{Entry, value_at, with_value}
 use Rattle.script_calls.proofs.TableLaws.{set_same}
 use Rattle.interpreter.specs.NamesState.{NamesState}
-use Rattle.interpreter.specs.Acting.{LendGives}
+use Rattle.interpreter.specs.StatementCalls.{LendGives}
 
 lent : (t : NamesState) (name : List ℕ) (r : Option (Option Contents)) (after : List (Entry (Option Contents))) →
     r ≡ value_at t.buffers name →

@@ -39,12 +39,21 @@ use Rattle.statements.specs.Meanings.{offsets_made}
 use Rattle.statements.specs.declared.layout_line.LayoutLine.{LayoutLine}
 use Rattle.statements.specs.declared.action.BufferLine.{BufferLine}
 use Rattle.script_calls.specs.Tables.{value_at}
-use Rattle.interpreter.specs.Acting.{Acts, acts_on, asks_group, asks_rank, blocks_named, cancels_for, changes, compares}
-use Rattle.interpreter.specs.Acting.{faulty, hands_in, hands_in_to, is_lent_at_root, looks, makes, old_layout}
-use Rattle.interpreter.specs.Acting.{places_named, receives_by, receives_ended, receives_into, receives_taken}
-use Rattle.interpreter.specs.Acting.{receives_to_wait, request_named, requests_named, scatters_from, searches}
-use Rattle.interpreter.specs.Acting.{sends_from, sends_to_wait, sets_layout_of, sets_layout_unless, tests_for}
-use Rattle.interpreter.specs.Acting.{waits_for, waits_for_all, waits_for_several}
+use Rattle.interpreter.specs.StatementCalls.{
+  Acts,
+  acts_on,
+  asks_group,
+  asks_rank,
+  blocks_named,
+  cancels_for,
+  changes,
+  compares,
+}
+use Rattle.interpreter.specs.StatementCalls.{faulty, hands_in, hands_in_to, is_lent_at_root, looks, makes, old_layout}
+use Rattle.interpreter.specs.StatementCalls.{places_named, receives_by, receives_ended, receives_into, receives_taken}
+use Rattle.interpreter.specs.StatementCalls.{receives_to_wait, request_named, requests_named, scatters_from, searches}
+use Rattle.interpreter.specs.StatementCalls.{sends_from, sends_to_wait, sets_layout_of, sets_layout_unless, tests_for}
+use Rattle.interpreter.specs.StatementCalls.{waits_for, waits_for_all, waits_for_several}
 use Rattle.interpreter.specs.Faults.{FaultyWhere, is_faulty}
 use Rattle.interpreter.specs.NamesState.{NamesState, here, holdings, is_lent, is_lent_slot, is_root, message_at}
 use Rattle.interpreter.specs.NamesState.{place_named, slot_of, with_buffer}

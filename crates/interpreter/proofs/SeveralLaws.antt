@@ -4,7 +4,7 @@ use Rattle.std.specs.Prelude.{option_map}
 use Rattle.requests.specs.declared.outcome.Outcome.{Outcome}
 use Rattle.requests.specs.declared.table.Request.{Request}
 use Rattle.statements.specs.declared.action.RequestName.{RequestName}
-use Rattle.interpreter.specs.Hearing.{behind, ended_each}
+use Rattle.interpreter.specs.Answers.{behind, ended_each}
 use Rattle.interpreter.specs.NamesState.{NamesState}
 
 -- the requests that were found, before those of the rest

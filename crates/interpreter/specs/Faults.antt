@@ -2,7 +2,7 @@
 use Rattle.std.specs.Prelude.{◌≡◌, Bool, true, false, Option, Some, None}
 use Rattle.line_diagnostics.specs.declared.fault.LineFault.{LineFault}
 use Rattle.interpreter.specs.declared.steps.NextStep.{NextStep}
-use Rattle.interpreter.specs.Acting.{Acts, faulty}
+use Rattle.interpreter.specs.StatementCalls.{Acts, faulty}
 use Rattle.interpreter.specs.NamesState.{NamesState}
 
 -- whether a statement can't be followed

@@ -1,5 +1,5 @@
 pub mod Numbers
 pub mod NamesState
-pub mod Acting
+pub mod StatementCalls
 pub mod Faults
-pub mod Hearing
+pub mod Answers

@@ -10,7 +10,7 @@ use Rattle.statements.specs.declared.action.CommunicatorName.TheVariants as comm
 use Rattle.script_calls.specs.declared.pending.NamedRequest.{NamedRequest}
 use Rattle.script_calls.specs.declared.pending.NamedMessage.{NamedMessage}
 use Rattle.script_calls.specs.declared.pending.NamedCommunicator.{NamedCommunicator}
-use Rattle.script_calls.specs.Told.{empty_status}
+use Rattle.script_calls.specs.OutcomeTexts.{empty_status}
 use Rattle.script_calls.specs.Tables.{Entry, value_at, with_value}
 use Rattle.line_diagnostics.specs.Lacks.{Holdings}
 use Rattle.line_diagnostics.specs.declared.holder.Slot.{Slot}

@@ -2,9 +2,9 @@
 
 ghost use Rattle.std.specs.Prelude.{◌≡◌, IfOk, OnOk};
 ghost use Rattle.interpreter.specs.NamesState.{given_back};
-ghost use Rattle.interpreter.specs.Hearing.{counts, finds, hears, hears_match, hears_probe, leaves, lent_by};
-ghost use Rattle.interpreter.specs.Hearing.{learns, refuses_call, starts, taken_back, takes_communicator};
-ghost use Rattle.interpreter.specs.Hearing.{takes_elements, unawaited};
+ghost use Rattle.interpreter.specs.Answers.{counts, finds, hears, hears_match, hears_probe, leaves, lent_by};
+ghost use Rattle.interpreter.specs.Answers.{learns, refuses_call, starts, taken_back, takes_communicator};
+ghost use Rattle.interpreter.specs.Answers.{takes_elements, unawaited};
 
 use crate::names::Names;
 use crate::numbers::{ERR_COUNT, ERR_MISMATCH, ERR_REPLACED};

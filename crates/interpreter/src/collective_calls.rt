@@ -2,8 +2,8 @@
 
 ghost use Rattle.std.specs.Prelude.{◌≡◌, IfOk, Some};
 ghost use Rattle.interpreter.specs.NamesState.{here, is_root, place_named};
-ghost use Rattle.interpreter.specs.Acting.{block_for, blocks_named, broadcasts, enters, gathers, hands_in_to};
-ghost use Rattle.interpreter.specs.Acting.{is_lent_at_root, reduces, reduces_to_all, scatter_call, scatters};
+ghost use Rattle.interpreter.specs.StatementCalls.{block_for, blocks_named, broadcasts, enters, gathers, hands_in_to};
+ghost use Rattle.interpreter.specs.StatementCalls.{is_lent_at_root, reduces, reduces_to_all, scatter_call, scatters};
 
 use crate::calls::asked_by;
 use crate::names::Names;

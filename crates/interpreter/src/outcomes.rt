@@ -1,11 +1,11 @@
 //! What is made of the outcomes of operations.
 
 ghost use Rattle.std.specs.Prelude.{◌≡◌, IfOk, OnOk, slice_get};
-ghost use Rattle.script_calls.specs.Awaited.{null};
+ghost use Rattle.script_calls.specs.NamedThings.{null};
 ghost use Rattle.interpreter.specs.NamesState.{with_request};
-ghost use Rattle.interpreter.specs.Hearing.{ended_each, ended_named, ends_all, ends_at, ends_by, ends_message};
-ghost use Rattle.interpreter.specs.Hearing.{ends_named_one, ends_one, ends_requested, ends_with, EndsNext, error_told};
-ghost use Rattle.interpreter.specs.Hearing.{errors_told, held_buffer, returned};
+ghost use Rattle.interpreter.specs.Answers.{ended_each, ended_named, ends_all, ends_at, ends_by, ends_message};
+ghost use Rattle.interpreter.specs.Answers.{ends_named_one, ends_one, ends_requested, ends_with, EndsNext, error_told};
+ghost use Rattle.interpreter.specs.Answers.{errors_told, held_buffer, returned};
 
 use crate::names::Names;
 use crate::steps::{ErrorNumbers, NextStep, Told};

@@ -5,7 +5,7 @@ use Rattle.std.specs.Str.{bytes_eq}
 use Rattle.launch_plan.specs.declared.refusal.LaunchRefusal.{LaunchRefusal}
 use Rattle.launch_plan.specs.declared.refusal.LaunchRefusal.TheVariants as refusals
 use Rattle.launch_keeper.specs.Words.{Word}
-use Rattle.shown_words.specs.Shown.{shown}
+use Rattle.shown_words.specs.WordTexts.{shown}
 use Rattle.launch_diagnostics.specs.declared.fault.LaunchFault.{LaunchFault}
 use Rattle.launch_diagnostics.specs.declared.due.Due.{Due}
 use Rattle.launch_diagnostics.specs.declared.explanation.Explanation.{Explanation}

@@ -4,7 +4,7 @@ use Rattle.launch_plan.specs.declared.refusal.LaunchRefusal.{LaunchRefusal}
 use Rattle.launch_plan.specs.declared.refusal.LaunchRefusal.TheVariants as refusals
 use Rattle.launch_keeper.specs.Words.{Word}
 use Rattle.launch_plan.specs.Launches.{Launch}
-use Rattle.launch_plan.specs.Planning.{launch_of}
+use Rattle.launch_plan.specs.Plans.{launch_of}
 use Rattle.launch_plan.specs.Grammar.{ReachesFile}
 use Rattle.launch_diagnostics.specs.declared.fault.LaunchFault.{LaunchFault}
 

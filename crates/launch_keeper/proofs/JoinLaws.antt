@@ -5,7 +5,7 @@ use Rattle.std.specs.List.{flat_map}
 use Rattle.std.proofs.lemmas.Bool.{eqb-true, eq-eqb, false≢true}
 use Rattle.std.proofs.lemmas.List.{append-nil}
 use Rattle.std.proofs.lemmas.List.Concat.{flat_map-cons}
-use Rattle.launch_keeper.specs.Joined.{mark_of, ended, IsLine, AreLines, IsJoined, marked, join_outputs}
+use Rattle.launch_keeper.specs.JoinedOutput.{mark_of, ended, IsLine, AreLines, IsJoined, marked, join_outputs}
 
 -- a line as it is printed
 abbrev text_of : List ℕ → List ℕ → List ℕ

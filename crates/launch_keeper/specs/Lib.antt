@@ -3,5 +3,5 @@ pub mod Statuses
 pub mod Keepers
 pub mod Reports
 pub mod Roles
-pub mod Joined
-pub mod Told
+pub mod JoinedOutput
+pub mod StandardError

@@ -1,7 +1,7 @@
 //! What the launcher and its keepers tell on the standard error, a line each, without the line's end.
 
 ghost use Rattle.std.specs.Prelude.{◌≡◌};
-ghost use Rattle.launch_keeper.specs.Told.{is_rank_main, meaning};
+ghost use Rattle.launch_keeper.specs.StandardError.{is_rank_main, meaning};
 
 use crate::ending::ProgramEnding;
 use crate::keeper::After;
@@ -46,7 +46,7 @@ struct ExitStatusText<'a> {
 
 impl<'a> fmt::Display for ExitStatusText<'a> {
     ghost use Rattle.std.specs.Prelude.{Some};
-    ghost use Rattle.launch_keeper.specs.Told.{status_text};
+    ghost use Rattle.launch_keeper.specs.StandardError.{status_text};
 
     ghost output = { λ s. Some (status_text s.program.now s.status) };
 
@@ -69,7 +69,7 @@ struct Restart {
 
 impl fmt::Display for Restart {
     ghost use Rattle.std.specs.Prelude.{Some};
-    ghost use Rattle.launch_keeper.specs.Told.{restart_text};
+    ghost use Rattle.launch_keeper.specs.StandardError.{restart_text};
 
     ghost output = { λ r. Some (restart_text r.after) };
 
@@ -92,7 +92,7 @@ struct EndingText<'a> {
 
 impl<'a> fmt::Display for EndingText<'a> {
     ghost use Rattle.std.specs.Prelude.{Some};
-    ghost use Rattle.launch_keeper.specs.Told.{ending_text};
+    ghost use Rattle.launch_keeper.specs.StandardError.{ending_text};
 
     ghost output = { λ e. Some (ending_text e.program.now e.ending) };
 
@@ -130,7 +130,7 @@ pub struct EndingLine<'a> {
 
 impl<'a> fmt::Display for EndingLine<'a> {
     ghost use Rattle.std.specs.Prelude.{Some};
-    ghost use Rattle.launch_keeper.specs.Told.{ending_line};
+    ghost use Rattle.launch_keeper.specs.StandardError.{ending_line};
 
     ghost output = { λ e. Some (ending_line e.rank e.program.now e.ending e.after) };
 
@@ -154,7 +154,7 @@ pub struct LostKeeperLine {
 
 impl fmt::Display for LostKeeperLine {
     ghost use Rattle.std.specs.Prelude.{Some};
-    ghost use Rattle.launch_keeper.specs.Told.{lost_keeper_line};
+    ghost use Rattle.launch_keeper.specs.StandardError.{lost_keeper_line};
 
     ghost output = { λ l. Some (lost_keeper_line l.rank) };
 
@@ -177,7 +177,7 @@ pub struct UnstartedKeeperLine {
 
 impl fmt::Display for UnstartedKeeperLine {
     ghost use Rattle.std.specs.Prelude.{Some};
-    ghost use Rattle.launch_keeper.specs.Told.{unstarted_keeper_line};
+    ghost use Rattle.launch_keeper.specs.StandardError.{unstarted_keeper_line};
 
     ghost output = { λ u. Some (unstarted_keeper_line u.rank) };
 
@@ -199,7 +199,7 @@ pub struct TakenPortsLine {
 
 impl fmt::Display for TakenPortsLine {
     ghost use Rattle.std.specs.Prelude.{Some};
-    ghost use Rattle.launch_keeper.specs.Told.{taken_ports_line};
+    ghost use Rattle.launch_keeper.specs.StandardError.{taken_ports_line};
 
     ghost output = { λ t. Some (taken_ports_line t.base_port) };
 

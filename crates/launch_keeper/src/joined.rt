@@ -1,7 +1,7 @@
 //! The outputs of the ranks as one text.
 
 ghost use Rattle.std.specs.Prelude.{◌≡◌, [], ◌∷◌, ◌++◌, map, true, IfOk, OnOk};
-ghost use Rattle.launch_keeper.specs.Joined.{mark_of, marked, join_outputs, IsJoined};
+ghost use Rattle.launch_keeper.specs.JoinedOutput.{mark_of, marked, join_outputs, IsJoined};
 
 use std::alloc::{AllocError, Global};
 

@@ -19,7 +19,7 @@ use Rattle.launch_plan.specs.Options.{nothing_given, is_given, with_value, Openi
 use Rattle.launch_plan.specs.Options.{where_option, opening_of}
 use Rattle.launch_plan.specs.Configuration.{sets_of_file}
 use Rattle.launch_plan.specs.Launches.{Launch, is_within_limits, launch_with, limited}
-use Rattle.launch_plan.specs.Planning.{if_ended, sets_where, sets_behind, launch_of}
+use Rattle.launch_plan.specs.Plans.{if_ended, sets_where, sets_behind, launch_of}
 use Rattle.launch_plan.specs.Faults.{IsOfAWord}
 use Rattle.launch_plan.proofs.SetsLaws.{has_part}
 

@@ -27,10 +27,10 @@ use Rattle.launch_plan.specs.Configuration.{before_first_line, joined_lines, lin
 use Rattle.launch_plan.specs.declared.given_options.GivenOptions.{GivenOptions}
 use Rattle.launch_plan.specs.Options.{Opening}
 use Rattle.launch_plan.specs.Launches.{Launch, rank_count, launch_with, limited}
-use Rattle.launch_plan.specs.Planning.{if_ended, sets_behind}
-use Rattle.launch_plan.specs.Judging.{total_with, stage_after_first, stage_after_program, stage_after, stage_behind}
-use Rattle.launch_plan.specs.Judging.{count_at, count_of, IsCounted, total_or_none, total, count_ranks, tally_on}
-use Rattle.launch_plan.specs.Judging.{tally_end, tally_line, tally_lines, nothing_tallied, ranks_of, size_behind}
+use Rattle.launch_plan.specs.Plans.{if_ended, sets_behind}
+use Rattle.launch_plan.specs.SetFaults.{total_with, stage_after_first, stage_after_program, stage_after, stage_behind}
+use Rattle.launch_plan.specs.SetFaults.{count_at, count_of, IsCounted, total_or_none, total, count_ranks, tally_on}
+use Rattle.launch_plan.specs.SetFaults.{tally_end, tally_line, tally_lines, nothing_tallied, ranks_of, size_behind}
 use Rattle.launch_plan.proofs.ConfigurationLaws.{words_at_blank, no_words}
 use Rattle.launch_plan.specs.Grammar.{AreLineSets}
 use Rattle.launch_plan.proofs.GrammarLaws.{bind_ok, ok_is, set_takes, lines_take}

@@ -8,13 +8,13 @@ use Rattle.launch_plan.specs.declared.refusal.LaunchRefusal.TheVariants as refus
 use Rattle.launch_plan.specs.declared.process_set.ProcessSet.{ProcessSet}
 use Rattle.launch_keeper.specs.Words.{Word}
 use Rattle.launch_plan.specs.declared.given_options.GivenOptions.{GivenOptions}
-use Rattle.launch_plan.specs.Judging.{size_behind}
+use Rattle.launch_plan.specs.SetFaults.{size_behind}
 use Rattle.launch_plan.specs.Results.{◌>>=◌, HasNoFault, Fails, Gives}
 use Rattle.launch_plan.proofs.SetLoop.{fails_with, fails_on}
 use Rattle.launch_plan.specs.Options.{nothing_given, Opening, at_sets, at_file, opening_of}
 use Rattle.launch_plan.specs.Configuration.{lines_of, sets_of_lines, sets_of_file}
 use Rattle.launch_plan.specs.Launches.{Launch, rank_count, launch_with, IsWithinLimits, limited}
-use Rattle.launch_plan.specs.Planning.{if_ended, sets_where, sets_behind, launch_of}
+use Rattle.launch_plan.specs.Plans.{if_ended, sets_where, sets_behind, launch_of}
 use Rattle.launch_plan.specs.Grammar.{AreLineSets, AreSets, IsFile, file_option, Names, AskFor}
 use Rattle.launch_plan.proofs.GrammarLaws.{bind_ok, done, ok_is, lines_take, lines_again}
 use Rattle.launch_plan.proofs.SetsLaws.{sets_begin, sets_of_take, sets_of_again}

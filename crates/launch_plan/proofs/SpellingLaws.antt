@@ -9,7 +9,7 @@ use Rattle.launch_plan.specs.Options.{nothing_given, at_sets, at_file, opening_o
 use Rattle.launch_plan.specs.Configuration.{lines_of}
 use Rattle.launch_plan.specs.Launches.{Launch}
 use Rattle.launch_plan.specs.Grammar.{IsSet, AreSets, AreLineSets, file_option, AskFor}
-use Rattle.launch_plan.specs.Spelling.{sets_joined, spelled_by, spelled_out}
+use Rattle.launch_plan.specs.WordLists.{sets_joined, spelled_by, spelled_out}
 use Rattle.launch_plan.proofs.GrammarLaws.{done}
 use Rattle.launch_plan.proofs.SetsLaws.{sets_begin}
 use Rattle.launch_plan.proofs.OptionLaws.{options_again, file_opens, sets_open}

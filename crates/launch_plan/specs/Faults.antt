@@ -3,7 +3,7 @@ use Rattle.std.specs.Prelude.{◌≡◌, List, ◌++◌, Option, ℕ, Err}
 use Rattle.launch_plan.specs.declared.refusal.LaunchRefusal.{LaunchRefusal}
 use Rattle.launch_plan.specs.declared.refusal.LaunchRefusal.TheVariants as refusals
 use Rattle.launch_keeper.specs.Words.{Word}
-use Rattle.launch_plan.specs.Planning.{launch_of}
+use Rattle.launch_plan.specs.Plans.{launch_of}
 
 -- these faults are of a word that stands there, and not of one that is missing
 abbrev pub IsOfAWord : LaunchRefusal → Type 0

@@ -6,10 +6,10 @@ pub mod Options
 pub mod Openings
 pub mod Configuration
 pub mod Launches
-pub mod Planning
+pub mod Plans
 pub mod Cuts
-pub mod Judging
+pub mod SetFaults
 pub mod Grammar
 pub mod Faults
 pub mod Statuses
-pub mod Spelling
+pub mod WordLists

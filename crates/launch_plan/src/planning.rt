@@ -4,7 +4,7 @@ ghost use Rattle.std.specs.Prelude.{◌≡◌, IfOk, Ok};
 ghost use Rattle.std.specs.Option.{option_copied};
 ghost use Rattle.launch_plan.specs.Launches.{Launch};
 ghost use Rattle.launch_plan.specs.Grammar.{AskFor};
-ghost use Rattle.launch_plan.specs.Planning.{sets_behind, launch_of};
+ghost use Rattle.launch_plan.specs.Plans.{sets_behind, launch_of};
 ghost use Rattle.launch_plan.specs.Openings.{opening_text};
 ghost use Rattle.launch_plan.specs.Faults.{FaultsStay};
 ghost use Rattle.launch_plan.specs.Results.{Gives, HasNoFault};
@@ -21,7 +21,7 @@ use std::alloc::Global;
 
 /// The sets behind an opening, from the words or from the configuration file, where they have no
 /// fault.
-#[tactic(auto, unfolding(crate::specs::Planning::sets_behind))]
+#[tactic(auto, unfolding(crate::specs::Plans::sets_behind))]
 fn sets_behind(
     alloc: Global,
     opening: Opening<'_>,

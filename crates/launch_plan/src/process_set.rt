@@ -3,7 +3,7 @@
 ghost use Rattle.std.specs.Prelude.{◌≡◌, IfOk};
 ghost use Rattle.launch_plan.specs.Results.{Gives, GivesExactly};
 ghost use Rattle.launch_plan.specs.Sets.{set_of};
-ghost use Rattle.launch_plan.specs.Judging.{last_count, count_of, IsCounted};
+ghost use Rattle.launch_plan.specs.SetFaults.{last_count, count_of, IsCounted};
 
 use crate::copies::copy_words;
 use crate::refusal::LaunchRefusal;

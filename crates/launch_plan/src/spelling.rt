@@ -5,7 +5,7 @@ ghost use Rattle.std.specs.Option.{option_copied};
 ghost use Rattle.launch_plan.specs.Launches.{Launch};
 ghost use Rattle.launch_plan.specs.Grammar.{AskFor};
 ghost use Rattle.launch_plan.specs.Configuration.{lines_of};
-ghost use Rattle.launch_plan.specs.Spelling.{sets_behind_colons, sets_joined, spelled_out};
+ghost use Rattle.launch_plan.specs.WordLists.{sets_behind_colons, sets_joined, spelled_out};
 
 use crate::configuration::lines_of;
 use crate::copies::{copy_words, push_bytes};

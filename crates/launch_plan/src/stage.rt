@@ -2,8 +2,8 @@
 
 ghost use Rattle.std.specs.Prelude.{◌≡◌};
 ghost use Rattle.launch_plan.specs.Results.{GivesExactly};
-ghost use Rattle.launch_plan.specs.Judging.{misplaced_fault, stage_after_first, stage_after_program, stage_after};
-ghost use Rattle.launch_plan.specs.Judging.{count_at, total_or_none, total, total_with};
+ghost use Rattle.launch_plan.specs.SetFaults.{misplaced_fault, stage_after_first, stage_after_program, stage_after};
+ghost use Rattle.launch_plan.specs.SetFaults.{count_at, total_or_none, total, total_with};
 
 use crate::refusal::LaunchRefusal;
 use crate::symbol::{Symbol, is_separator, symbol_of};
@@ -65,7 +65,7 @@ fn stage_after_program(count: u16, symbol: Symbol) -> Result<Stage, LaunchRefusa
 
 impl Stage {
     /// The stage behind one more word of the set, or the word's fault.
-    #[tactic(auto, unfolding(crate::specs::Judging::stage_after))]
+    #[tactic(auto, unfolding(crate::specs::SetFaults::stage_after))]
     pub(crate) fn after(self, word: &[u8]) -> Result<Stage, LaunchRefusal>
         ensures { GivesExactly (λ stage. stage) result (stage_after self word.now) }
     {

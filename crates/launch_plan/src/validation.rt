@@ -8,10 +8,10 @@ ghost use Rattle.launch_plan.specs.Configuration.{is_line_end, words_of, sets_of
 ghost use Rattle.launch_plan.specs.Sets.{sets_of};
 ghost use Rattle.launch_plan.specs.Results.{GivesExactly};
 ghost use Rattle.launch_plan.specs.declared.stage.Stage.TheVariants.{Empty};
-ghost use Rattle.launch_plan.specs.Planning.{sets_behind};
+ghost use Rattle.launch_plan.specs.Plans.{sets_behind};
 ghost use Rattle.launch_plan.specs.Openings.{opening_text};
-ghost use Rattle.launch_plan.specs.Judging.{stage_behind, count_ranks, tally_line, tally_lines, nothing_tallied};
-ghost use Rattle.launch_plan.specs.Judging.{ranks_of, size_behind};
+ghost use Rattle.launch_plan.specs.SetFaults.{stage_behind, count_ranks, tally_line, tally_lines, nothing_tallied};
+ghost use Rattle.launch_plan.specs.SetFaults.{ranks_of, size_behind};
 
 use crate::configuration::{before_continuation, is_skipped};
 use crate::cut::{first_line, first_piece};
@@ -52,7 +52,7 @@ fn stage_behind(stage: Stage, line: &[u8]) -> Result<Stage, LaunchRefusal>
 }
 
 /// What was read once this line is read too.
-#[tactic(auto, unfolding(crate::specs::Judging::tally_line))]
+#[tactic(auto, unfolding(crate::specs::SetFaults::tally_line))]
 fn tally_line(tally: Tally, line: &[u8]) -> Result<Tally, LaunchRefusal>
     ensures { GivesExactly (λ tally. tally) result (tally_line tally line.now) }
 {

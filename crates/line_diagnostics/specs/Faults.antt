@@ -10,10 +10,10 @@ use Rattle.tokens.specs.Grammar.{Word}
 use Rattle.tokens.specs.Lines.{is_text_byte, said_in}
 use Rattle.tokens.specs.Numbers.{number_up_to}
 use Rattle.tokens.specs.Words.{basic_type_of}
-use Rattle.statements.specs.Reading.{integer_of, is_star, key_of}
+use Rattle.statements.specs.LineWords.{integer_of, is_star, key_of}
 use Rattle.statements.specs.Words as action_verbs
-use Rattle.script_files.specs.Reading as script_verbs
-use Rattle.event_files.specs.Reading as event_verbs
+use Rattle.script_files.specs.LineWords as script_verbs
+use Rattle.event_files.specs.LineWords as event_verbs
 use Rattle.line_diagnostics.specs.declared.fault.LineFault.{LineFault}
 use Rattle.line_diagnostics.specs.declared.fault.LineFault.TheVariants as faults
 

@@ -1,7 +1,7 @@
 -- What is told of a faulty line, and of one at which a rank gave up.
 use Rattle.std.specs.Prelude.{ℕ, ◌++◌, List, [], codes}
 use Rattle.std.specs.Fmt.{decimal}
-use Rattle.shown_words.specs.Shown.{shown}
+use Rattle.shown_words.specs.WordTexts.{shown}
 use Rattle.line_diagnostics.specs.declared.fault.LineFault.{LineFault}
 use Rattle.line_diagnostics.specs.declared.fault.LineFault.TheVariants as faults
 

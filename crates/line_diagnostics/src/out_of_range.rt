@@ -2,7 +2,7 @@
 
 ghost use Rattle.std.specs.Prelude.{◌≡◌, ◌||◌, is_some};
 ghost use Rattle.std.specs.List.{list_any, position};
-ghost use Rattle.statements.specs.Reading.{integer_of, is_star, key_of};
+ghost use Rattle.statements.specs.LineWords.{integer_of, is_star, key_of};
 ghost use Rattle.line_diagnostics.specs.Faults.{element_in, has_action_outside, has_element_outside, has_split_outside};
 ghost use Rattle.line_diagnostics.specs.Faults.{has_tick_outside, is_colour_outside, is_integer, is_key_outside};
 ghost use Rattle.line_diagnostics.specs.Faults.{is_out_of_range};

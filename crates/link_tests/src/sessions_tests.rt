@@ -1,5 +1,5 @@
 ghost use Rattle.std.specs.Prelude.{◌↔◌, IsTrue};
-ghost use Rattle.datagram.specs.Spelling.{frame_text, FrameFits};
+ghost use Rattle.datagram.specs.Spellings.{frame_text, FrameFits};
 
 use datagram::{ClearToSend, Clearance, Data, Eager, Frame, Outgoing, Plane, RequestToSend};
 use sessions::*;

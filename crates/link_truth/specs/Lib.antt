@@ -2,7 +2,7 @@
 pub mod Links
 pub mod Quiet
 pub mod Sessions
-pub mod Told
+pub mod DatagramTruth
 pub mod Truth
 pub mod Wire
 pub mod Witness

@@ -4,7 +4,7 @@ use Rattle.std.specs.Prelude.{◌==◌, nat_lt, slice_get, slice_index}
 use Rattle.std.specs.List.{AllByRecursion}
 use Rattle.vocabulary.specs.declared.endpoint.Endpoint.{Endpoint}
 use Rattle.reliable_link.specs.declared.out_frame.OutFrame.{OutFrame}
-use Rattle.datagram.specs.Spelling.{FrameText}
+use Rattle.datagram.specs.Spellings.{FrameText}
 use Rattle.reliable_link.specs.SenderState.{SenderState}
 use Rattle.reliable_link.specs.ReceiverState.{ReceiverState, held_at}
 use Rattle.sessions.specs.declared.peers.Peer.{Peer}

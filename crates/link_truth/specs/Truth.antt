@@ -6,7 +6,7 @@ use Rattle.vocabulary.specs.Endpoints.{last_incarnation}
 use Rattle.sessions.specs.SessionsState.{SessionsState}
 use Rattle.link_truth.specs.Links.{Links}
 use Rattle.link_truth.specs.Sessions.{SessionsTell, IsLink, is_pair}
-use Rattle.link_truth.specs.Told.{IsTold}
+use Rattle.link_truth.specs.DatagramTruth.{IsTold}
 use Rattle.link_truth.specs.Witness.{AreHeldEmitted, IsWitnessed}
 
 -- the sessions of each rank hold what the links carried, and datagrams tell of it; `current` is the incarnation of each

@@ -22,7 +22,7 @@ use Rattle.one_meaning.specs.Courses.{AreDone, AreMeant, Calls, Course, Courses,
 use Rattle.one_meaning.specs.Courses.{accounts, at_start, called, does, goes_by, goes_on, goes_unless, hears}
 use Rattle.one_meaning.specs.Courses.{with_course}
 use Rattle.one_meaning.specs.CourseLaws.{EveryWayLeadsThere, IsOnTheWay, TheEndIsOne, by_telling}
-use Rattle.one_meaning.proofs.Growing.{AllGrew, Grew, Stays, answer_stays, grew_not}
+use Rattle.one_meaning.proofs.AnswerLaws.{AllGrew, Grew, Stays, answer_stays, grew_not}
 
 -- AN ACCOUNT GROWS
 

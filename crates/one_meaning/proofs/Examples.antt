@@ -26,7 +26,7 @@ use Rattle.one_meaning.specs.Examples.{on_copies, ping_pong, printed, prints, re
 use Rattle.one_meaning.specs.Examples.{sends_on, sums, waits}
 use Rattle.one_meaning.specs.Turns.{Falls, one_meaning}
 use Rattle.one_meaning.proofs.Courses.{Leads, ends_are_one}
-use Rattle.one_meaning.proofs.Turning.{comes_to_the_end}
+use Rattle.one_meaning.proofs.TurnLaws.{comes_to_the_end}
 
 -- A WAY TO THE END IS ENOUGH
 

@@ -1,7 +1,7 @@
-pub mod Picking
+pub mod QueueLaws
 pub mod Pairs
 pub mod PairLawProofs
-pub mod Growing
+pub mod AnswerLaws
 pub mod Courses
-pub mod Turning
+pub mod TurnLaws
 pub mod Examples

@@ -13,7 +13,7 @@ use Rattle.vocabulary.specs.declared.envelope.Source.{Source}
 use Rattle.vocabulary.specs.declared.envelope.Source.TheVariants.{Any, Rank, Null}
 use Rattle.one_meaning.specs.Pairs.{Queues, pick, queue_from, resolved, with_left}
 use Rattle.one_meaning.specs.PairLaws.{IsPlain, MatchesKeepPairs, MoreKeepsPairs, NamesRank, first, queues_of}
-use Rattle.one_meaning.proofs.Picking.{FindsLater, Found, NowOne, StillNone, finds_later, still_picked}
+use Rattle.one_meaning.proofs.QueueLaws.{FindsLater, Found, NowOne, StillNone, finds_later, still_picked}
 use Rattle.one_meaning.proofs.Pairs.{Differs, behind_one, match_keeps}
 
 -- THE SENDER OF A MATCHED MESSAGE

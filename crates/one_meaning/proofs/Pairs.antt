@@ -9,7 +9,7 @@ use Rattle.perfect_queues.specs.Requests.{Request, Posted, Matched, Sending, Fin
 use Rattle.vocabulary.specs.declared.envelope.Source.{Source}
 use Rattle.vocabulary.specs.declared.envelope.Source.TheVariants.{Any, Rank, Null}
 use Rattle.one_meaning.specs.Pairs.{Queues, became, left_by, pick, queue_from, resolved, with_left, with_queue_from}
-use Rattle.one_meaning.proofs.Picking.{FindsNone, FindsOne, Found, NoneOf, Skips, apart_either_way, pick_first, skips}
+use Rattle.one_meaning.proofs.QueueLaws.{FindsNone, FindsOne, Found, NoneOf, Skips, apart_either_way, pick_first, skips}
 
 -- what becomes of a receive and of the requests behind it, by what it finds
 abbrev pub behind_one : Receive → Source → (context : ℕ) → Queues → List Request → Found → List Request

@@ -1,2 +1,2 @@
 pub mod RunSteps
-pub mod Handing
+pub mod HandedSteps

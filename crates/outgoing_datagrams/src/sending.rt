@@ -5,7 +5,7 @@ ghost use Rattle.std.specs.Prelude.{drop, false, length, max, min, slice_get};
 ghost use Rattle.delayed_acknowledgements.specs.Acknowledgements.{Covers};
 ghost use Rattle.port_transport.specs.Ports.{IsAcknowledgement, is_short};
 ghost use Rattle.port_transport.specs.Wires.{Parcel};
-ghost use Rattle.outgoing_datagrams.specs.Outgoing.{HandsOn, HandsOut, HandsOutKept, SendingState, kept_in, late_at};
+ghost use Rattle.outgoing_datagrams.specs.HandedDatagrams.{HandsOn, HandsOut, HandsOutKept, SendingState, kept_in, late_at};
 ghost use Rattle.outgoing_datagrams.specs.Runs.{IsRun, Stands};
 
 use crate::record::OutgoingRecord;
@@ -49,7 +49,7 @@ pub struct Sending {
 impl Model for Sending {
     ghost use Rattle.std.specs.Prelude.{◌≤◌, IfSome, drop, length};
     ghost use Rattle.port_transport.specs.Ports.{IsAcknowledgement};
-    ghost use Rattle.outgoing_datagrams.specs.Outgoing.{SendingState};
+    ghost use Rattle.outgoing_datagrams.specs.HandedDatagrams.{SendingState};
 
     ghost Value = { SendingState };
 
@@ -124,7 +124,7 @@ impl Sending {
     }
 
     /// Whether all was handed out that the engine emitted.
-    #[tactic(auto, using(crate::proofs::Handing::through))]
+    #[tactic(auto, using(crate::proofs::HandedSteps::through))]
     pub fn is_through(&self) -> bool
         ensures { IsTrue result ↔ (self.now.waiting ≡ []) }
     {
@@ -192,7 +192,7 @@ impl Sending {
     }
 
     /// Passes what is next.
-    #[tactic(auto, using(crate::proofs::Handing::behind_next, crate::proofs::Handing::behind_end))]
+    #[tactic(auto, using(crate::proofs::HandedSteps::behind_next, crate::proofs::HandedSteps::behind_end))]
     fn step(&mut self)
         ensures { self.new ≡ record self.old { waiting = drop 1 self.old.waiting } }
     {
@@ -220,7 +220,7 @@ impl Sending {
 
     /// Passes the acknowledgement that is next, and answers which one goes now. Where that is another one, which was
     /// kept back and goes before it, this one stays next.
-    #[tactic(auto, using(crate::proofs::Handing::passed, crate::proofs::Handing::hands_former))]
+    #[tactic(auto, using(crate::proofs::HandedSteps::passed, crate::proofs::HandedSteps::hands_former))]
     fn pass(&mut self, next: DelayedAcknowledgement) -> Option<DelayedAcknowledgement>
         requires is { IsAcknowledgement next }
         requires next { (rest : List Parcel) × (self.old.waiting ≡ (next.target, next.bytes) ∷ rest) }
@@ -235,7 +235,7 @@ impl Sending {
     }
 
     /// The acknowledgement that is next, where a short one is.
-    #[tactic(auto, using(crate::proofs::Handing::next_of))]
+    #[tactic(auto, using(crate::proofs::HandedSteps::next_of))]
     fn next_acknowledgement(&self) -> Option<DelayedAcknowledgement>
         ensures next { IfSome result (λ k. IsAcknowledgement k ×
             ((rest : List Parcel) × (self.now.waiting ≡ (k.target, k.bytes) ∷ rest))) }
@@ -273,7 +273,7 @@ impl Sending {
 
     /// Hands out what goes next, of what the engine handed out: an acknowledgement, or at most `most` other datagrams and
     /// one in any case, if one waits that fits. Answers how many bytes it put.
-    #[tactic(auto, using(crate::proofs::Handing::out_one, crate::proofs::Handing::out_run))]
+    #[tactic(auto, using(crate::proofs::HandedSteps::out_one, crate::proofs::HandedSteps::out_run))]
     pub fn hand_out(&mut self, most: u32, outgoing: &mut OutgoingRecord, into: &mut [u8]) -> usize
         requires { 40 ≤ length into.old }
         ensures { HandsOut self.old most result outgoing.new into.old into.new self.new }
@@ -287,7 +287,7 @@ impl Sending {
     }
 
     /// Hands out the acknowledgement that is kept back, if it is late, or all are to go.
-    #[tactic(auto, using(crate::proofs::Handing::kept_stays, crate::proofs::Handing::kept_none))]
+    #[tactic(auto, using(crate::proofs::HandedSteps::kept_stays, crate::proofs::HandedSteps::kept_none))]
     pub fn hand_out_kept(
         &mut self,
         kept_too: bool,

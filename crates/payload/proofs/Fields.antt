@@ -15,7 +15,7 @@ use Rattle.vocabulary.specs.declared.operation.Operation.{Operation}
 use Rattle.vocabulary.specs.BasicTypes.{code_of, type_at}
 use Rattle.payload.specs.Codes.{kind_code, kind_at, phase_code, phase_at}
 use Rattle.vocabulary.specs.Operations.{operation_at, operation_code}
-use Rattle.payload.specs.Reading.{◌>>=◌, given, number_at}
+use Rattle.payload.specs.ByteMeanings.{◌>>=◌, given, number_at}
 
 abbrev pub IsBytes : List ℕ → Type 0
 IsBytes bytes = (i : ℕ) → get_or bytes i 0 < 256

@@ -31,14 +31,23 @@ use Rattle.payload.specs.declared.payload.Payload.{Payload}
 use Rattle.payload.specs.declared.reading.Fields.{Fields}
 use Rattle.payload.specs.Codes.{kind_code, kind_at, phase_code, phase_at}
 use Rattle.vocabulary.specs.Operations.{operation_at, operation_code}
-use Rattle.payload.specs.Spelling.{PartText, Differing, NothingMore, ElementsText, ContextText, ChoiceText, NullText}
-use Rattle.payload.specs.Spelling.{GroupText, PayloadText, payload_text, kind_of, elements_of, operation_field}
-use Rattle.payload.specs.Spelling.{root_field, type_code, count_field, way_phase, phase_of, AreElements, SaysNothing}
-use Rattle.payload.specs.Spelling.{AreRanks, PartFits, ColourIsWithin, PartIsWithin, RecordIsWithin, PayloadFits}
-use Rattle.payload.specs.Spelling.{colour_spelling, part_spelling, record_spelling, spelling}
-use Rattle.payload.specs.Reading.{Gives, given, number_at, fields_of, without_fields, elements_in, rooted_in, reduce_in}
-use Rattle.payload.specs.Reading.{allreduce_in, record_in, elements_from, nothing_from, colour_from, choice_from}
-use Rattle.payload.specs.Reading.{context_from, group_from, towards_root, from_root, part_in, head_of, payload_of}
+use Rattle.payload.specs.Spellings.{PartText, Differing, NothingMore, ElementsText, ContextText, ChoiceText, NullText}
+use Rattle.payload.specs.Spellings.{GroupText, PayloadText, payload_text, kind_of, elements_of, operation_field}
+use Rattle.payload.specs.Spellings.{root_field, type_code, count_field, way_phase, phase_of, AreElements, SaysNothing}
+use Rattle.payload.specs.Spellings.{AreRanks, PartFits, ColourIsWithin, PartIsWithin, RecordIsWithin, PayloadFits}
+use Rattle.payload.specs.Spellings.{colour_spelling, part_spelling, record_spelling, spelling}
+use Rattle.payload.specs.ByteMeanings.{
+  Gives,
+  given,
+  number_at,
+  fields_of,
+  without_fields,
+  elements_in,
+  rooted_in,
+  reduce_in,
+}
+use Rattle.payload.specs.ByteMeanings.{allreduce_in, record_in, elements_from, nothing_from, colour_from, choice_from}
+use Rattle.payload.specs.ByteMeanings.{context_from, group_from, towards_root, from_root, part_in, head_of, payload_of}
 use Rattle.payload.proofs.Fields.{IsBytes, IsBytes-drop, bind_some, given_some, there, nothing, some_is, wide4, wide8}
 use Rattle.payload.proofs.Fields.{number_takes, byte_takes, number_fits, kind_back, phase_back, operation_back}
 use Rattle.payload.proofs.Fields.{basic_back}

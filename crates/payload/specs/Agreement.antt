@@ -1,7 +1,7 @@
 -- When two records agree.
 use Rattle.std.specs.Prelude.{Bool, ◌==◌, ◌&&◌}
 use Rattle.payload.specs.Codes.{kind_code}
-use Rattle.payload.specs.Spelling.{count_field, elements_of, kind_of, operation_field, root_field, type_code}
+use Rattle.payload.specs.Spellings.{count_field, elements_of, kind_of, operation_field, root_field, type_code}
 use Rattle.payload.specs.declared.record.Record.{Record}
 
 -- two records agree: kind, root, operation, type and count are the same, by their codes in the format

@@ -1,4 +1,4 @@
 pub mod Agreement
 pub mod Codes
-pub mod Spelling
-pub mod Reading
+pub mod Spellings
+pub mod ByteMeanings

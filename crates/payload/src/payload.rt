@@ -2,8 +2,8 @@
 
 ghost use Rattle.std.specs.Prelude.{◌≡◌, ◌*◌, ◌+◌, ◌/◌, ◌↔◌, length, drop, IsTrue, nat_lt, Some, None, if◌then◌else◌};
 ghost use Rattle.byteorder.specs.Endian.{big_number};
-ghost use Rattle.payload.specs.Spelling.{part_text, part_spelling, phase_of, way_phase, elements_of, SaysNothing};
-ghost use Rattle.payload.specs.Spelling.{AreElements, AreRanks, PartFits};
+ghost use Rattle.payload.specs.Spellings.{part_text, part_spelling, phase_of, way_phase, elements_of, SaysNothing};
+ghost use Rattle.payload.specs.Spellings.{AreElements, AreRanks, PartFits};
 
 use crate::kind::Phase;
 use crate::record::Record;

@@ -1,12 +1,12 @@
 //! Reading a payload.
 
 ghost use Rattle.std.specs.Prelude.{◌≡◌, ◌≤◌, length, slice_index, IfOk, OnOk, Some};
-ghost use Rattle.payload.specs.Spelling.{PartText, NothingMore, part_text, PayloadText, payload_text, PayloadFits};
-ghost use Rattle.payload.specs.Spelling.{spelling};
+ghost use Rattle.payload.specs.Spellings.{PartText, NothingMore, part_text, PayloadText, payload_text, PayloadFits};
+ghost use Rattle.payload.specs.Spellings.{spelling};
 ghost use Rattle.vocabulary.specs.Operations.{operation_at};
-ghost use Rattle.payload.specs.Reading.{Gives, without_fields, elements_in, rooted_in, reduce_in, allreduce_in};
-ghost use Rattle.payload.specs.Reading.{record_in, elements_from, nothing_from, colour_from, choice_from, context_from};
-ghost use Rattle.payload.specs.Reading.{group_from, towards_root, from_root, part_in, head_of, payload_of};
+ghost use Rattle.payload.specs.ByteMeanings.{Gives, without_fields, elements_in, rooted_in, reduce_in, allreduce_in};
+ghost use Rattle.payload.specs.ByteMeanings.{record_in, elements_from, nothing_from, colour_from, choice_from, context_from};
+ghost use Rattle.payload.specs.ByteMeanings.{group_from, towards_root, from_root, part_in, head_of, payload_of};
 
 use crate::kind::{CollectiveKind, Phase};
 use crate::payload::{Choice, Direction, NewGroup, Payload, PayloadContent};
@@ -29,7 +29,7 @@ pub struct Fields {
 }
 
 /// The record, which has no fields: all of them are 0.
-#[tactic(auto, unfolding(crate::specs::Reading::without_fields))]
+#[tactic(auto, unfolding(crate::specs::ByteMeanings::without_fields))]
 fn without_fields(entered: Record, fields: Fields) -> Result<Record, PayloadRefusal>
     ensures { Gives (λ r. r) result (without_fields entered fields) }
 {
@@ -40,7 +40,7 @@ fn without_fields(entered: Record, fields: Fields) -> Result<Record, PayloadRefu
 }
 
 /// The elements that the fields name.
-#[tactic(auto, unfolding(crate::specs::Reading::elements_in))]
+#[tactic(auto, unfolding(crate::specs::ByteMeanings::elements_in))]
 fn elements_in(fields: Fields) -> Result<Elements, PayloadRefusal>
     ensures { Gives (λ e. e) result (elements_in fields) }
 {
@@ -54,7 +54,7 @@ fn elements_in(fields: Fields) -> Result<Elements, PayloadRefusal>
 }
 
 /// The elements and their root, without an operation.
-#[tactic(auto, unfolding(crate::specs::Reading::rooted_in))]
+#[tactic(auto, unfolding(crate::specs::ByteMeanings::rooted_in))]
 fn rooted_in(fields: Fields) -> Result<Rooted, PayloadRefusal>
     ensures { Gives (λ r. r) result (rooted_in fields) }
 {
@@ -78,7 +78,7 @@ fn operation_in(code: u8) -> Result<Operation, PayloadRefusal>
 }
 
 /// A reduction to a root.
-#[tactic(auto, unfolding(crate::specs::Reading::reduce_in))]
+#[tactic(auto, unfolding(crate::specs::ByteMeanings::reduce_in))]
 fn reduce_in(fields: Fields) -> Result<Record, PayloadRefusal>
     ensures { Gives (λ r. r) result (reduce_in fields) }
 {
@@ -89,7 +89,7 @@ fn reduce_in(fields: Fields) -> Result<Record, PayloadRefusal>
 }
 
 /// A reduction to all members, which has no root.
-#[tactic(auto, unfolding(crate::specs::Reading::allreduce_in))]
+#[tactic(auto, unfolding(crate::specs::ByteMeanings::allreduce_in))]
 fn allreduce_in(fields: Fields) -> Result<Record, PayloadRefusal>
     ensures { Gives (λ r. r) result (allreduce_in fields) }
 {
@@ -102,7 +102,7 @@ fn allreduce_in(fields: Fields) -> Result<Record, PayloadRefusal>
 }
 
 /// The record of this kind that the fields say.
-#[tactic(auto, unfolding(crate::specs::Reading::record_in))]
+#[tactic(auto, unfolding(crate::specs::ByteMeanings::record_in))]
 fn record_in(kind: CollectiveKind, fields: Fields) -> Result<Record, PayloadRefusal>
     ensures { Gives (λ r. r) result (record_in kind fields) }
 {
@@ -119,7 +119,7 @@ fn record_in(kind: CollectiveKind, fields: Fields) -> Result<Record, PayloadRefu
 }
 
 /// The elements, where they are as many bytes as the record says.
-#[tactic(auto, unfolding(crate::specs::Reading::elements_from))]
+#[tactic(auto, unfolding(crate::specs::ByteMeanings::elements_from))]
 fn elements_from(
     way: Direction,
     elements: Elements,
@@ -135,7 +135,7 @@ fn elements_from(
 }
 
 /// The part that says nothing more, where nothing more is said.
-#[tactic(auto, unfolding(crate::specs::Reading::nothing_from))]
+#[tactic(auto, unfolding(crate::specs::ByteMeanings::nothing_from))]
 fn nothing_from<'a>(
     part: PayloadContent<'a>,
     body: &[u8],
@@ -149,7 +149,7 @@ fn nothing_from<'a>(
 }
 
 /// The colour, by the byte that says whether there is one.
-#[tactic(auto, unfolding(crate::specs::Reading::colour_from))]
+#[tactic(auto, unfolding(crate::specs::ByteMeanings::colour_from))]
 fn colour_from(given: u8, colour: u32) -> Result<Option<u32>, PayloadRefusal>
     ensures { Gives (λ c. c) result (colour_from given colour) }
 {
@@ -167,7 +167,7 @@ fn colour_from(given: u8, colour: u32) -> Result<Option<u32>, PayloadRefusal>
 }
 
 /// What a member asks for in a split.
-#[tactic(auto, unfolding(crate::specs::Reading::choice_from))]
+#[tactic(auto, unfolding(crate::specs::ByteMeanings::choice_from))]
 fn choice_from(body: &[u8]) -> Result<PayloadContent<'_>, PayloadRefusal>
     ensures { Gives part_text result (choice_from body.now) }
 {
@@ -180,7 +180,7 @@ fn choice_from(body: &[u8]) -> Result<PayloadContent<'_>, PayloadRefusal>
 }
 
 /// The context of a copy.
-#[tactic(auto, unfolding(crate::specs::Reading::context_from))]
+#[tactic(auto, unfolding(crate::specs::ByteMeanings::context_from))]
 fn context_from(body: &[u8]) -> Result<PayloadContent<'_>, PayloadRefusal>
     ensures { Gives part_text result (context_from body.now) }
 {
@@ -191,7 +191,7 @@ fn context_from(body: &[u8]) -> Result<PayloadContent<'_>, PayloadRefusal>
 }
 
 /// What a member gets of a split.
-#[tactic(auto, unfolding(crate::specs::Reading::group_from))]
+#[tactic(auto, unfolding(crate::specs::ByteMeanings::group_from))]
 fn group_from(body: &[u8]) -> Result<PayloadContent<'_>, PayloadRefusal>
     ensures { Gives part_text result (group_from body.now) }
 {
@@ -207,7 +207,7 @@ fn group_from(body: &[u8]) -> Result<PayloadContent<'_>, PayloadRefusal>
 }
 
 /// What goes towards the root.
-#[tactic(auto, unfolding(crate::specs::Reading::towards_root))]
+#[tactic(auto, unfolding(crate::specs::ByteMeanings::towards_root))]
 fn towards_root(entered: Record, body: &[u8]) -> Result<PayloadContent<'_>, PayloadRefusal>
     ensures { Gives part_text result (towards_root entered body.now) }
 {
@@ -225,7 +225,7 @@ fn towards_root(entered: Record, body: &[u8]) -> Result<PayloadContent<'_>, Payl
 }
 
 /// What comes from the root.
-#[tactic(auto, unfolding(crate::specs::Reading::from_root))]
+#[tactic(auto, unfolding(crate::specs::ByteMeanings::from_root))]
 fn from_root(entered: Record, body: &[u8]) -> Result<PayloadContent<'_>, PayloadRefusal>
     ensures { Gives part_text result (from_root entered body.now) }
 {
@@ -243,7 +243,7 @@ fn from_root(entered: Record, body: &[u8]) -> Result<PayloadContent<'_>, Payload
 }
 
 /// What a message of this phase and record carries.
-#[tactic(auto, unfolding(crate::specs::Reading::part_in))]
+#[tactic(auto, unfolding(crate::specs::ByteMeanings::part_in))]
 fn part_in(phase: Phase, entered: Record, body: &[u8]) -> Result<PayloadContent<'_>, PayloadRefusal>
     ensures { Gives part_text result (part_in phase entered body.now) }
 {
@@ -255,7 +255,7 @@ fn part_in(phase: Phase, entered: Record, body: &[u8]) -> Result<PayloadContent<
 }
 
 /// The record in the first bytes.
-#[tactic(auto, unfolding(crate::specs::Reading::head_of))]
+#[tactic(auto, unfolding(crate::specs::ByteMeanings::head_of))]
 fn head_of(bytes: &[u8]) -> Result<Record, PayloadRefusal>
     ensures exact { Gives (λ r. r) result (head_of bytes.now) }
     ensures long { OnOk result (16 ≤ length bytes.now) }
@@ -276,7 +276,7 @@ fn head_of(bytes: &[u8]) -> Result<Record, PayloadRefusal>
 }
 
 /// What the bytes say, field by field.
-#[tactic(auto, unfolding(crate::specs::Reading::payload_of))]
+#[tactic(auto, unfolding(crate::specs::ByteMeanings::payload_of))]
 fn payload_of(bytes: &[u8]) -> Result<Payload<'_>, PayloadRefusal>
     ensures { Gives payload_text result (payload_of bytes.now) }
 {

@@ -2,8 +2,8 @@
 
 ghost use Rattle.std.specs.Prelude.{◌≡◌, ◌<◌, ◌^◌};
 ghost use Rattle.payload.specs.Agreement.{is_same_record};
-ghost use Rattle.payload.specs.Spelling.{kind_of, elements_of, operation_field, root_field, type_code, count_field};
-ghost use Rattle.payload.specs.Spelling.{RecordIsWithin};
+ghost use Rattle.payload.specs.Spellings.{kind_of, elements_of, operation_field, root_field, type_code, count_field};
+ghost use Rattle.payload.specs.Spellings.{RecordIsWithin};
 
 use crate::kind::CollectiveKind;
 use vocabulary::{BasicType, Operation};

@@ -4,9 +4,9 @@ ghost use Rattle.std.specs.Prelude.{◌≡◌, ◌+◌, ◌≤◌, ◌++◌, [],
 ghost use Rattle.std.specs.Prelude.{vec_capacity};
 ghost use Rattle.std.specs.Int.{cast_unsigned, w32};
 ghost use Rattle.byteorder.specs.Endian.{big_bytes};
-ghost use Rattle.payload.specs.Spelling.{ChoiceText, part_text, part_spelling, phase_of, colour_spelling, payload_text};
-ghost use Rattle.payload.specs.Spelling.{RecordIsWithin, ColourIsWithin, PartIsWithin, PartFits, PayloadFits};
-ghost use Rattle.payload.specs.Spelling.{record_spelling, spelling};
+ghost use Rattle.payload.specs.Spellings.{ChoiceText, part_text, part_spelling, phase_of, colour_spelling, payload_text};
+ghost use Rattle.payload.specs.Spellings.{RecordIsWithin, ColourIsWithin, PartIsWithin, PartFits, PayloadFits};
+ghost use Rattle.payload.specs.Spellings.{record_spelling, spelling};
 
 use crate::kind::Phase;
 use crate::payload::{Choice, Payload, PayloadContent};
@@ -119,7 +119,7 @@ fn put_part(out: &mut Vec<u8>, part: PayloadContent)
 /// Appends the one spelling of the payload. The only refusal is want of memory, and then nothing was
 /// appended. A payload can be written where its part fits its record (`Payload::fits`); what
 /// `read_payload` answered does.
-#[tactic(auto, unfolding(crate::specs::Spelling::spelling))]
+#[tactic(auto, unfolding(crate::specs::Spellings::spelling))]
 pub fn write_payload(payload: &Payload, out: &mut Vec<u8>) -> Result<(), PayloadRefusal>
     requires { PartFits payload.now.entered (part_text payload.now.part) }
     ensures ok { OnOk result

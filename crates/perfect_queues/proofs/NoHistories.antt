@@ -20,9 +20,18 @@ use Rattle.perfect_queues.specs.Refusals.{world}
 use Rattle.perfect_queues.specs.Requests.{Request, Posted, Finished, Gone, used_up, changed}
 use Rattle.perfect_queues.specs.State.{Local, State, opening, put, with_message, with_request}
 use Rattle.perfect_queues.specs.Steps.{Step, AreSteps, steps_at}
-use Rattle.perfect_queues.proofs.Following.{Stands, IsKept, Next, follow, steps_stand, settle_stands}
-use Rattle.perfect_queues.proofs.Waiting.{Holds, IsNoProbe, IsStill, still_kept, Receiving, IsPosted, HasIt, HasEnded}
-use Rattle.perfect_queues.proofs.Waiting.{receiving_kept}
+use Rattle.perfect_queues.proofs.HistoryRuns.{Stands, IsKept, Next, follow, steps_stand, settle_stands}
+use Rattle.perfect_queues.proofs.WaitingReceive.{
+  Holds,
+  IsNoProbe,
+  IsStill,
+  still_kept,
+  Receiving,
+  IsPosted,
+  HasIt,
+  HasEnded,
+}
+use Rattle.perfect_queues.proofs.WaitingReceive.{receiving_kept}
 use Rattle.vocabulary.specs.declared.basic_type.BasicType.TheVariants.{Int32, Uint32}
 
 -- THE CALLS

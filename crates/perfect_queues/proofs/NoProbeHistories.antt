@@ -32,11 +32,25 @@ use Rattle.perfect_queues.specs.Steps.{Allowed, AreSteps, Finish, FinishSend, Is
 use Rattle.perfect_queues.specs.Steps.{Possible, See, Step, TakeOut, after_step, step_at, steps_at}
 use Rattle.vocabulary.specs.declared.basic_type.BasicType.TheVariants.{Int32}
 use Rattle.perfect_queues.proofs.EndpointLemmas.{same_cases, same_eq}
-use Rattle.perfect_queues.proofs.Following.{IsKept, LearnsNothing, Next, Stands, follow, learns_nothing, settle_stands}
-use Rattle.perfect_queues.proofs.Following.{settled, steps_stand, tells_call}
+use Rattle.perfect_queues.proofs.HistoryRuns.{
+  IsKept,
+  LearnsNothing,
+  Next,
+  Stands,
+  follow,
+  learns_nothing,
+  settle_stands,
+}
+use Rattle.perfect_queues.proofs.HistoryRuns.{settled, steps_stand, tells_call}
 use Rattle.perfect_queues.proofs.NoHistories.{after_post, after_send, free, kept, opens, send_of, then_waits, three}
-use Rattle.perfect_queues.proofs.Waiting.{HasEnded, HasIt, Holds, IsNoProbe, IsOfAProbe, IsPosted, Receiving}
-use Rattle.perfect_queues.proofs.Waiting.{first_matched, nothing_stands, receiving_kept, receiving_kept_by, stays}
+use Rattle.perfect_queues.proofs.WaitingReceive.{HasEnded, HasIt, Holds, IsNoProbe, IsOfAProbe, IsPosted, Receiving}
+use Rattle.perfect_queues.proofs.WaitingReceive.{
+  first_matched,
+  nothing_stands,
+  receiving_kept,
+  receiving_kept_by,
+  stays,
+}
 
 -- WHAT A PROBE FINDS OF ONE MESSAGE
 

@@ -1,7 +1,7 @@
 //! The communicators of a play and the collectives that were entered on them, as the history of its world has them.
 
 ghost use Rattle.std.specs.Prelude.{◌≡◌};
-ghost use Rattle.play_waits.specs.Entering.{entered_by};
+ghost use Rattle.play_waits.specs.AwaitedMembers.{entered_by};
 
 use crate::entered::{Entered, choice_in};
 use crate::one_communicator::{Group, first_groups};

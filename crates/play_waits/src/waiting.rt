@@ -1,7 +1,7 @@
 //! Whom a rank waits for.
 
 ghost use Rattle.std.specs.Prelude.{◌≡◌, ◌++◌, filter, OnOk};
-ghost use Rattle.play_waits.specs.Entering.{is_awaited};
+ghost use Rattle.play_waits.specs.AwaitedMembers.{is_awaited};
 
 use crate::all_communicators::Communicators;
 use crate::entered::Entered;

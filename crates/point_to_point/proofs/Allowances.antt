@@ -4,13 +4,13 @@ use Rattle.std.specs.Prelude.{slice_get}
 use Rattle.std.proofs.lemmas.Option.{slice_get_within}
 use Rattle.std.specs.Global.{Vec}
 use Rattle.vocabulary.specs.declared.endpoint.Endpoint.{Endpoint}
-use Rattle.datagram.specs.Spelling.{EagerText, RequestText}
+use Rattle.datagram.specs.Spellings.{EagerText, RequestText}
 use Rattle.match_queues.specs.declared.envelope.Message.{Message}
 use Rattle.rendezvous.specs.declared.transfers.Numbers.{Numbers}
 use Rattle.rendezvous.specs.State.{is_due_number, is_next}
 use Rattle.point_to_point_calls.specs.declared.refusal.Refusal.{Refusal}
 use Rattle.point_to_point.specs.CoreState.{CoreState, IsAnswerable}
-use Rattle.point_to_point_calls.specs.Hearing.{IsWhole, announced_of, bad_unless, first_of, message_of}
+use Rattle.point_to_point_calls.specs.FrameNews.{IsWhole, announced_of, bad_unless, first_of, message_of}
 use Rattle.point_to_point.specs.Arrivals.{KeysFit}
 use Rattle.std.specs.Prelude.{is_some}
 

@@ -11,14 +11,14 @@ use Rattle.point_to_point_calls.specs.CoreCalls as calls
 use Rattle.point_to_point_calls.specs.declared.call.RoutedReceive.{RoutedReceive}
 use Rattle.point_to_point_calls.specs.declared.refusal.Refusal.{Refusal}
 use Rattle.point_to_point_calls.specs.declared.refusal.Refusal.TheVariants.{WrongType, Count, Tag, Rank, Limit}
-use Rattle.point_to_point_calls.specs.Hearing.{first_of}
-use Rattle.point_to_point_calls.specs.Sending.{announced_to, or_worn_out, send_fault}
+use Rattle.point_to_point_calls.specs.FrameNews.{first_of}
+use Rattle.point_to_point_calls.specs.SendRules.{announced_to, or_worn_out, send_fault}
 use Rattle.point_to_point.specs.Calls.{IsCutFault, argument_fault, call_fault, fault_at, free_fault, limit_fault}
 use Rattle.point_to_point.specs.Calls.{request_fault, request_fault_at}
 use Rattle.point_to_point.specs.CoreState.{CoreState}
 use Rattle.point_to_point.specs.Messages.{message_fault, region_rule}
-use Rattle.point_to_point.specs.Receiving.{receive_fault, receive_rule}
-use Rattle.point_to_point.specs.Sending.{or_full}
+use Rattle.point_to_point.specs.Receives.{receive_fault, receive_rule}
+use Rattle.point_to_point.specs.Sends.{or_full}
 
 -- a send's rules stand before its limits
 send_so : (fault : Option Refusal) (c : CoreState) (rank : Option ℕ) (t : State) →

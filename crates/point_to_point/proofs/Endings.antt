@@ -10,7 +10,7 @@ use Rattle.std.proofs.lemmas.Option.{slice_get-get_or, slice_get_past}
 use Rattle.vocabulary.specs.declared.basic_type.BasicType.{BasicType}
 use Rattle.rendezvous.specs.declared.offer.Offer.{Offer}
 use Rattle.rendezvous.specs.declared.transfers.Numbers.{Numbers}
-use Rattle.rendezvous.specs.Collecting.{Collecting, is_from}
+use Rattle.rendezvous.specs.Collections.{Collecting, is_from}
 use Rattle.rendezvous.specs.Offers.{is_to, offer_at}
 use Rattle.rendezvous.specs.State.{State, fresh, is_next, is_due_number, is_due, is_taken, collection_at, offered}
 use Rattle.rendezvous.specs.State.{after_drop}

@@ -3,8 +3,8 @@ use Rattle.std.proofs.Common.{◌≡◌, List, Option, Some, None, refl, ap, ◌
 use Rattle.std.specs.Prelude.{IfOk}
 use Rattle.std.specs.declared.result.Result.{Result}
 use Rattle.std.specs.declared.result.Result.TheVariants.{Ok, Err}
-use Rattle.datagram.specs.Spelling.{OutgoingText}
-use Rattle.rendezvous.specs.Collecting.{Collecting}
+use Rattle.datagram.specs.Spellings.{OutgoingText}
+use Rattle.rendezvous.specs.Collections.{Collecting}
 use Rattle.point_to_point_calls.specs.declared.refusal.Refusal.{Refusal}
 use Rattle.match_queues.specs.declared.envelope.Message.{Message}
 use Rattle.match_queues.specs.declared.envelope.PostedReceive.{PostedReceive}
@@ -13,8 +13,8 @@ use Rattle.match_queues.specs.State.{receive_at, receive_for}
 use Rattle.requests.specs.declared.table.TableEntry.{TableEntry}
 use Rattle.point_to_point_calls.specs.declared.news.Match.{Match}
 use Rattle.point_to_point.specs.CoreState.{CoreState}
-use Rattle.point_to_point_calls.specs.Receiving.{answer_on_arrival, collection_on_arrival}
-use Rattle.point_to_point_calls.specs.Hearing.{answer_by_match, collection_by_match, match_by}
+use Rattle.point_to_point_calls.specs.ReceiveMatches.{answer_on_arrival, collection_on_arrival}
+use Rattle.point_to_point_calls.specs.FrameNews.{answer_by_match, collection_by_match, match_by}
 use Rattle.point_to_point.specs.Arrivals.{match_of}
 
 collection_at : (slots : List (Option TableEntry)) (r : Option PostedReceive) (m : Message) →

@@ -16,7 +16,7 @@ use Rattle.vocabulary.specs.declared.envelope.Source.{Source}
 use Rattle.vocabulary.specs.declared.envelope.Source.TheVariants as sources
 use Rattle.point_to_point_calls.specs.CoreCalls.{CoreReply, RoutedCall}
 use Rattle.point_to_point_calls.specs.CoreCalls as calls
-use Rattle.point_to_point_calls.specs.Sending.{own_message}
+use Rattle.point_to_point_calls.specs.SendRules.{own_message}
 use Rattle.point_to_point_calls.specs.declared.call.RoutedProbe.{RoutedProbe}
 use Rattle.point_to_point_calls.specs.declared.call.RoutedReceive.{RoutedReceive}
 use Rattle.point_to_point_calls.specs.declared.call.RoutedSend.{RoutedSend}
@@ -24,9 +24,9 @@ use Rattle.point_to_point_calls.specs.declared.sends.Destination.{Destination}
 use Rattle.point_to_point.specs.Calls.{Answers}
 use Rattle.point_to_point.specs.CoreState.{CoreState}
 use Rattle.point_to_point.specs.Messages.{Receives, SearchesFrom, TakesOut, found_for, received}
-use Rattle.point_to_point.specs.Receiving.{IsReceiving, ReceivesFrom}
-use Rattle.point_to_point.specs.Sending.{IsSending, after_message, arrived_at_itself, arrived_if}
-use Rattle.point_to_point.specs.Waiting.{TestsBy, Tests, Waits, WaitsBy, cancelled, cancelled_at}
+use Rattle.point_to_point.specs.Receives.{IsReceiving, ReceivesFrom}
+use Rattle.point_to_point.specs.Sends.{IsSending, after_message, arrived_at_itself, arrived_if}
+use Rattle.point_to_point.specs.Completions.{TestsBy, Tests, Waits, WaitsBy, cancelled, cancelled_at}
 
 -- where a rank stands
 abbrev place_of : CoreState → Place

@@ -14,8 +14,8 @@ use Rattle.datatypes.specs.Contents.{bytes_of}
 use Rattle.datatypes.specs.ContentLaws.{length-bytes_of}
 use Rattle.datagram.specs.declared.kinds.Clearance.{Clearance}
 use Rattle.datagram.specs.declared.kinds.Clearance.TheVariants.{Send, Drop}
-use Rattle.datagram.specs.Spelling.{EagerFrame, RequestFrame, ClearFrame, DataFrame, FrameText, RequestText}
-use Rattle.datagram.specs.Spelling.{OutgoingText}
+use Rattle.datagram.specs.Spellings.{EagerFrame, RequestFrame, ClearFrame, DataFrame, FrameText, RequestText}
+use Rattle.datagram.specs.Spellings.{OutgoingText}
 use Rattle.match_queues.specs.declared.envelope.PostedReceive.{PostedReceive}
 use Rattle.match_queues.specs.Arrivals.{arrival_at}
 use Rattle.match_queues.specs.State.{receive_at, receive_for}
@@ -28,9 +28,9 @@ use Rattle.rendezvous.proofs.PieceLaws.{pieces}
 use Rattle.requests.specs.declared.table.TableEntry.{TableEntry}
 use Rattle.point_to_point.specs.CoreState.{CoreState, IsKept, IsOfferFor}
 use Rattle.point_to_point_calls.specs.Frames.{as_list}
-use Rattle.point_to_point_calls.specs.Receiving.{answer_on_arrival}
-use Rattle.point_to_point_calls.specs.Hearing.{CanGo, NewsText, announced_of, data_frame, data_frames, frame_fault}
-use Rattle.point_to_point_calls.specs.Hearing.{heard_fault, transfers_met, wanted_frames}
+use Rattle.point_to_point_calls.specs.ReceiveMatches.{answer_on_arrival}
+use Rattle.point_to_point_calls.specs.FrameNews.{CanGo, NewsText, announced_of, data_frame, data_frames, frame_fault}
+use Rattle.point_to_point_calls.specs.FrameNews.{heard_fault, transfers_met, wanted_frames}
 use Rattle.point_to_point.specs.Arrivals.{called_for, news_fault, news_frames, after_lesson}
 use Rattle.point_to_point.proofs.Allowances.{second_of, next_is_there}
 use Rattle.point_to_point.proofs.Endings.{left_part, nothing_offered}

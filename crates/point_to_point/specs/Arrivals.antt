@@ -2,25 +2,32 @@
 use Rattle.std.specs.Prelude.{◌≡◌, ℕ, ◌<◌, ◌++◌, Bool, true, false, List, [], Option, Some, None, is_some}
 use Rattle.std.specs.Global.{Vec}
 use Rattle.vocabulary.specs.declared.endpoint.Endpoint.{Endpoint}
-use Rattle.datagram.specs.Spelling.{RequestText, FrameText, EagerFrame, RequestFrame, ClearFrame, DataFrame}
-use Rattle.datagram.specs.Spelling.{OutgoingText}
+use Rattle.datagram.specs.Spellings.{RequestText, FrameText, EagerFrame, RequestFrame, ClearFrame, DataFrame}
+use Rattle.datagram.specs.Spellings.{OutgoingText}
 use Rattle.match_queues.specs.declared.envelope.Message.{Message}
 use Rattle.match_queues.specs.Arrivals.{arrival_of}
 use Rattle.match_queues.specs.State as queues
 use Rattle.match_queues.specs.State.{keys_naming, receive_at, receive_for}
-use Rattle.rendezvous.specs.Collecting.{Collecting}
+use Rattle.rendezvous.specs.Collections.{Collecting}
 use Rattle.rendezvous.specs.State.{after_cts, after_data, after_drop, after_rts, given, keys_with, offered}
 use Rattle.requests.specs.Table.{after_replaces, keys_of_messages}
 use Rattle.point_to_point_calls.specs.Frames.{as_list}
-use Rattle.point_to_point_calls.specs.Receiving.{answer_on_arrival, collection_on_arrival}
+use Rattle.point_to_point_calls.specs.ReceiveMatches.{answer_on_arrival, collection_on_arrival}
 use Rattle.point_to_point_calls.specs.declared.news.PreparedNews.{PreparedNews}
 use Rattle.point_to_point_calls.specs.declared.news.Match.{Match}
 use Rattle.point_to_point_calls.specs.declared.refusal.Refusal.{Refusal}
 use Rattle.point_to_point.specs.CoreState.{CoreState, Held}
-use Rattle.point_to_point.specs.Sending.{after_message}
-use Rattle.point_to_point_calls.specs.Hearing.{NewsText, heard_fault, transfers_met, message_of, announced_of, sent_by}
-use Rattle.point_to_point_calls.specs.Hearing.{delivered_by, match_by, asks_for_data, wanted_frames, message_from}
-use Rattle.point_to_point_calls.specs.Hearing.{needs_message_room}
+use Rattle.point_to_point.specs.Sends.{after_message}
+use Rattle.point_to_point_calls.specs.FrameNews.{
+  NewsText,
+  heard_fault,
+  transfers_met,
+  message_of,
+  announced_of,
+  sent_by,
+}
+use Rattle.point_to_point_calls.specs.FrameNews.{delivered_by, match_by, asks_for_data, wanted_frames, message_from}
+use Rattle.point_to_point_calls.specs.FrameNews.{needs_message_room}
 
 -- THE RULE
 

@@ -1,6 +1,6 @@
 -- What a call does to the core.
 use Rattle.std.specs.Prelude.{◌≡◌, ◌<◌, ℕ, true, IfSome, List, Option, Some, None, option_map, is_some}
-use Rattle.datagram.specs.Spelling.{FrameFits, OutgoingText, frame_text}
+use Rattle.datagram.specs.Spellings.{FrameFits, OutgoingText, frame_text}
 use Rattle.datatypes.specs.Contents.{Contents}
 use Rattle.match_queues.specs.State.{place_for}
 use Rattle.match_queues.specs.declared.envelope.Message.{Message}
@@ -21,17 +21,17 @@ use Rattle.point_to_point_calls.specs.Frames.{addressed}
 use Rattle.point_to_point_calls.specs.declared.refusal.Refusal.{Refusal}
 use Rattle.point_to_point_calls.specs.declared.refusal.Refusal.TheVariants as refusals
 use Rattle.point_to_point.specs.CoreState.{CoreState, Held, CanStart}
-use Rattle.rendezvous.specs.Collecting.{Collecting}
-use Rattle.point_to_point_calls.specs.Receiving.{collection_on_post, posted_by}
-use Rattle.point_to_point.specs.Receiving.{found_by, receive_fault, receive_frame, receive_rule, IsReceiving}
+use Rattle.rendezvous.specs.Collections.{Collecting}
+use Rattle.point_to_point_calls.specs.ReceiveMatches.{collection_on_post, posted_by}
+use Rattle.point_to_point.specs.Receives.{found_by, receive_fault, receive_frame, receive_rule, IsReceiving}
 use Rattle.incarnation.specs.declared.place.Place.{Place}
-use Rattle.point_to_point_calls.specs.Hearing.{first_of}
-use Rattle.point_to_point_calls.specs.Sending.{send_fault, destination, is_to_itself, announced_to, or_worn_out}
-use Rattle.point_to_point_calls.specs.Sending.{rank_to}
-use Rattle.point_to_point.specs.Sending.{or_full, frame_of, IsSending}
+use Rattle.point_to_point_calls.specs.FrameNews.{first_of}
+use Rattle.point_to_point_calls.specs.SendRules.{send_fault, destination, is_to_itself, announced_to, or_worn_out}
+use Rattle.point_to_point_calls.specs.SendRules.{rank_to}
+use Rattle.point_to_point.specs.Sends.{or_full, frame_of, IsSending}
 use Rattle.point_to_point.specs.Messages.{Receives, Searches, collection_on_message, found_for, message_fault}
 use Rattle.point_to_point.specs.Messages.{message_frame, probe_rule, probed_by, region_rule, search_limit}
-use Rattle.point_to_point.specs.Waiting.{cancel_fault, wait_fault, Cancels, Tests, Waits}
+use Rattle.point_to_point.specs.Completions.{cancel_fault, wait_fault, Cancels, Tests, Waits}
 use Rattle.point_to_point_calls.specs.Calls.{IsPacked, Starts}
 
 -- the first rule or limit that a call meets while no earlier one is blocked

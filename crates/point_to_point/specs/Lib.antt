@@ -1,10 +1,10 @@
 pub mod CoreState
-pub mod Receiving
-pub mod Sending
-pub mod Waiting
+pub mod Receives
+pub mod Sends
+pub mod Completions
 pub mod Calls
 pub mod Arrivals
-pub use Rattle.datagram.specs.Spelling
+pub use Rattle.datagram.specs.Spellings
 pub use Rattle.match_queues.specs.State
 pub use Rattle.requests.specs.Table
 pub mod Messages

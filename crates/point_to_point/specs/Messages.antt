@@ -1,6 +1,6 @@
 -- What probes look at and take out of the core, and how a message that was taken out is received (MPI 3.1, 3.8).
 use Rattle.std.specs.Prelude.{◌≡◌, ◌+◌, ℕ, List, Option, Some, None, if◌then◌else◌, option_map}
-use Rattle.datagram.specs.Spelling.{OutgoingText}
+use Rattle.datagram.specs.Spellings.{OutgoingText}
 use Rattle.vocabulary.specs.declared.envelope.Source.{Source}
 use Rattle.vocabulary.specs.declared.envelope.Source.TheVariants as sources
 use Rattle.vocabulary.specs.declared.envelope.Status.{Status}
@@ -27,10 +27,10 @@ use Rattle.point_to_point_calls.specs.CoreCalls.{CoreReply}
 use Rattle.point_to_point_calls.specs.CoreCalls as replies
 use Rattle.point_to_point_calls.specs.declared.refusal.Refusal.{Refusal}
 use Rattle.point_to_point_calls.specs.declared.refusal.Refusal.TheVariants as refusals
-use Rattle.rendezvous.specs.Collecting.{Collecting}
-use Rattle.point_to_point_calls.specs.Receiving.{answer_on_post, collection_on_post, status_of, transfers_on_post}
+use Rattle.rendezvous.specs.Collections.{Collecting}
+use Rattle.point_to_point_calls.specs.ReceiveMatches.{answer_on_post, collection_on_post, status_of, transfers_on_post}
 use Rattle.point_to_point.specs.CoreState.{CoreState}
-use Rattle.point_to_point.specs.Waiting.{Waits}
+use Rattle.point_to_point.specs.Completions.{Waits}
 use Rattle.communicator_members.specs.Statuses.{status_in}
 
 -- ---- own sends that wait

@@ -2,12 +2,12 @@
 
 ghost use Rattle.std.specs.Prelude.{◌≡◌, ◌≤◌, IfOk, IfErr, OnErr, None, true, is_some, length, map};
 ghost use Rattle.std.specs.List.{AllByRecursion};
-ghost use Rattle.datagram.specs.Spelling.{request_text, outgoing_text};
+ghost use Rattle.datagram.specs.Spellings.{request_text, outgoing_text};
 ghost use Rattle.match_queues.specs.State.{receive_at, receive_for};
 ghost use Rattle.rendezvous.specs.State.{offered};
 ghost use Rattle.point_to_point_calls.specs.Frames.{addressed, as_list};
-ghost use Rattle.point_to_point_calls.specs.Hearing.{CanGo, asks_for_data, data_frames, frame_option, news_text};
-ghost use Rattle.point_to_point_calls.specs.Hearing.{wanted_frames};
+ghost use Rattle.point_to_point_calls.specs.FrameNews.{CanGo, asks_for_data, data_frames, frame_option, news_text};
+ghost use Rattle.point_to_point_calls.specs.FrameNews.{wanted_frames};
 ghost use Rattle.point_to_point.specs.Arrivals.{CanTake, KeysFit, answer_to_announced, any_is_answered, called_for};
 ghost use Rattle.point_to_point.specs.Arrivals.{news_are_answered, news_fault, news_frames, after_lesson};
 ghost use Rattle.point_to_point_calls.specs.declared.refusal.Refusal.TheVariants as refusals;

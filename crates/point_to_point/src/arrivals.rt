@@ -1,15 +1,15 @@
 //! How a core takes in what is heard from another rank.
 
 ghost use Rattle.std.specs.Prelude.{◌≡◌, ◌<◌, ◌≤◌, true, None, is_some};
-ghost use Rattle.datagram.specs.Spelling.{request_text};
+ghost use Rattle.datagram.specs.Spellings.{request_text};
 ghost use Rattle.match_queues.specs.Arrivals.{arrival_of};
 ghost use Rattle.rendezvous.specs.State.{is_due, is_next};
 ghost use Rattle.point_to_point.specs.CoreState.{IsAnswerable};
-ghost use Rattle.point_to_point_calls.specs.Receiving.{collection_on_arrival};
-ghost use Rattle.point_to_point.specs.Sending.{after_message};
-ghost use Rattle.point_to_point.specs.Waiting.{after_wake};
-ghost use Rattle.point_to_point_calls.specs.Hearing.{news_text, frame_option, IsWhole, needs_message_room, heard_fault};
-ghost use Rattle.point_to_point_calls.specs.Hearing.{message_from, announced_of};
+ghost use Rattle.point_to_point_calls.specs.ReceiveMatches.{collection_on_arrival};
+ghost use Rattle.point_to_point.specs.Sends.{after_message};
+ghost use Rattle.point_to_point.specs.Completions.{after_wake};
+ghost use Rattle.point_to_point_calls.specs.FrameNews.{news_text, frame_option, IsWhole, needs_message_room, heard_fault};
+ghost use Rattle.point_to_point_calls.specs.FrameNews.{message_from, announced_of};
 ghost use Rattle.point_to_point.specs.Arrivals.{news_fault, CanTake, KeysFit, after_any, collection_for, after_lesson};
 ghost use Rattle.point_to_point.specs.Arrivals.{after_announcement, after_answer, after_piece, after_news};
 
@@ -23,7 +23,7 @@ use vocabulary::{Endpoint, replace};
 impl Core {
     /// The message ends the oldest receive that accepts it, or is kept in the room that there is. One that was
     /// announced is collected where that receive wants its data.
-    #[tactic(auto, unfolding(crate::specs::Sending::after_message))]
+    #[tactic(auto, unfolding(crate::specs::Sends::after_message))]
     fn receive_or_keep(&mut self, message: Message, collection: Option<Collection>)
         requires room { 0 < self.old.messages }
         requires answerable { IsAnswerable self.old.state.place.size message message.body }
@@ -195,7 +195,7 @@ impl Core {
     /// Answers the blocked call, if its answer is ready now; else it stays blocked (MPI 3.1, 3.7.3 and 3.7.5). It is
     /// called once for each event, behind everything that the event hands up, since one that waits for any of several
     /// requests is answered by all that has ended then. It takes no memory.
-    #[tactic(auto, unfolding(crate::specs::Waiting::after_wake))]
+    #[tactic(auto, unfolding(crate::specs::Completions::after_wake))]
     pub fn wake(&mut self)
         ensures exact { self.new.state ≡ after_wake self.old.state }
         ensures placed { self.new.state.place ≡ self.old.state.place }

@@ -1,13 +1,13 @@
 //! How a message is received that was taken out of matching (MPI 3.1, 3.8.3).
 
 ghost use Rattle.std.specs.Prelude.{◌≡◌, ◌<◌, IfErr, IfOk, IfSome, None};
-ghost use Rattle.datagram.specs.Spelling.{frame_text, FrameFits};
+ghost use Rattle.datagram.specs.Spellings.{frame_text, FrameFits};
 ghost use Rattle.point_to_point_calls.specs.CoreCalls as calls;
 ghost use Rattle.point_to_point_calls.specs.Frames.{addressed};
 ghost use Rattle.point_to_point_calls.specs.declared.refusal.Refusal.TheVariants as refusals;
 ghost use Rattle.point_to_point.specs.Calls.{CanCollect, call_fault};
 ghost use Rattle.point_to_point.specs.Messages.{Receives, collection_on_message, message_fault, message_frame};
-ghost use Rattle.point_to_point.specs.Waiting.{waited};
+ghost use Rattle.point_to_point.specs.Completions.{waited};
 
 use crate::rank::Core;
 use crate::receives::own_send_of;
@@ -35,7 +35,7 @@ impl Core {
     }
 
     /// The frame that answers a message that is received, if it was announced. It takes no memory.
-    #[tactic(auto, using(crate::proofs::Posting::message_is_there))]
+    #[tactic(auto, using(crate::proofs::ReceiveLaws::message_is_there))]
     pub fn answer_of_message(
         &self,
         message: Option<Request>,
@@ -90,7 +90,7 @@ impl Core {
 
     /// Receives a message that was taken out, in what was made ready for it: its receive is over, and so answers; or it
     /// is waited for, and the call is blocked.
-    #[tactic(auto, using(crate::proofs::Allowed::message_fits, crate::proofs::Allowed::none_blocked))]
+    #[tactic(auto, using(crate::proofs::FaultlessCalls::message_fits, crate::proofs::FaultlessCalls::none_blocked))]
     pub fn receive_message(
         &mut self,
         message: Option<Request>,

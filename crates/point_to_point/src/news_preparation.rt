@@ -2,11 +2,11 @@
 
 ghost use Rattle.std.specs.Prelude.{◌≡◌, ◌<◌, ◌&&◌, ◌==◌, true, IfOk, IfErr, OnErr, OnOk, is_some};
 ghost use Rattle.std.specs.List.{list_any};
-ghost use Rattle.datagram.specs.Spelling.{frame_text, request_text};
+ghost use Rattle.datagram.specs.Spellings.{frame_text, request_text};
 ghost use Rattle.requests.specs.Table.{after_replaces, slot_at, wants_by};
-ghost use Rattle.point_to_point_calls.specs.Hearing.{HeardFits, bad_unless, first_of, frame_fault, frame_option};
-ghost use Rattle.point_to_point_calls.specs.Hearing.{match_by, needs_message_room, news_need_memory, news_text};
-ghost use Rattle.point_to_point_calls.specs.Hearing.{transfers_met};
+ghost use Rattle.point_to_point_calls.specs.FrameNews.{HeardFits, bad_unless, first_of, frame_fault, frame_option};
+ghost use Rattle.point_to_point_calls.specs.FrameNews.{match_by, needs_message_room, news_need_memory, news_text};
+ghost use Rattle.point_to_point_calls.specs.FrameNews.{transfers_met};
 ghost use Rattle.point_to_point.specs.Arrivals.{CanTake, KeysFit, collection_for, collection_for_announced};
 ghost use Rattle.point_to_point.specs.Arrivals.{keys_ending, match_of, news_fault, after_lesson};
 ghost use Rattle.rendezvous.specs.State.{is_next, is_due, offered};

@@ -2,18 +2,18 @@
 
 ghost use Rattle.std.specs.Option.{option_copied};
 ghost use Rattle.std.specs.Prelude.{◌≡◌, ◌<◌, true, IfErr, IfOk, IfSome, None, OnErr, OnOk, is_some};
-ghost use Rattle.datagram.specs.Spelling.{frame_text, FrameFits};
+ghost use Rattle.datagram.specs.Spellings.{frame_text, FrameFits};
 ghost use Rattle.requests.specs.Regions.{CanReceive};
 ghost use Rattle.point_to_point_calls.specs.CoreCalls as calls;
 ghost use Rattle.point_to_point_calls.specs.Frames.{addressed};
-ghost use Rattle.point_to_point_calls.specs.Receiving.{collection_on_post, posted_by, transfers_with};
+ghost use Rattle.point_to_point_calls.specs.ReceiveMatches.{collection_on_post, posted_by, transfers_with};
 ghost use Rattle.point_to_point_calls.specs.declared.refusal.Refusal.TheVariants as refusals;
 ghost use Rattle.point_to_point.specs.Calls.{CanPost, CanReceiveNow, IsSought, call_fault, collection_on_receive};
 ghost use Rattle.point_to_point.specs.Calls.{limit_fault, sought_at};
 ghost use Rattle.point_to_point.specs.CoreState.{CanStart};
 ghost use Rattle.point_to_point.specs.Messages.{own_key_sent, own_send_of};
-ghost use Rattle.point_to_point.specs.Receiving.{IsPosting, IsReceiving, IsReceivingNothing, found_by, receive_frame};
-ghost use Rattle.point_to_point.specs.Sending.{or_full};
+ghost use Rattle.point_to_point.specs.Receives.{IsPosting, IsReceiving, IsReceivingNothing, found_by, receive_frame};
+ghost use Rattle.point_to_point.specs.Sends.{or_full};
 ghost use Rattle.match_queues.specs.State.{place_for};
 
 use crate::rank::Core;
@@ -74,7 +74,7 @@ impl Core {
     }
 
     /// The frame that answers the message that a receive found, if it found one that was announced. It takes no memory.
-    #[tactic(auto, using(crate::proofs::Posting::answer_is_there))]
+    #[tactic(auto, using(crate::proofs::ReceiveLaws::answer_is_there))]
     fn answer_of_receive(
         &self,
         routed: &RoutedReceive,
@@ -161,7 +161,7 @@ impl Core {
     /// Makes ready what a receive takes that breaks no rule, and the place for the data that it is to collect, if it is;
     /// or finds that there is no memory (14). What the core holds stays as it is, and the message stays where it was
     /// found.
-    #[tactic(auto, using(crate::proofs::Allowed::receive_starts))]
+    #[tactic(auto, using(crate::proofs::FaultlessCalls::receive_starts))]
     pub fn prepare_receive(&mut self, sought: &SoughtReceive) -> Result<Option<Collection>, Refusal>
         requires sought { IsSought self.old sought.now }
         requires allowed { call_fault self.old.state (calls.Irecv sought.now.routed) ≡ None }
@@ -243,7 +243,7 @@ impl Core {
 
     /// Starts a receive that breaks no rule, in the room that was made for it: it takes the message that was found for
     /// it, or waits for one. By the group its status names the source (MPI 3.1, 3.2.5).
-    #[tactic(auto, using(crate::proofs::Allowed::receive_fits))]
+    #[tactic(auto, using(crate::proofs::FaultlessCalls::receive_fits))]
     pub fn receive(
         &mut self,
         sought: SoughtReceive,

@@ -4,7 +4,7 @@ ghost use Rattle.std.specs.Prelude.{◌≡◌};
 ghost use Rattle.point_to_point.specs.Calls.{IsCutFault};
 ghost use Rattle.point_to_point.specs.CoreState.{CoreState};
 ghost use Rattle.point_to_point.specs.Messages.{probe_rule, region_rule};
-ghost use Rattle.point_to_point.specs.Receiving.{receive_rule};
+ghost use Rattle.point_to_point.specs.Receives.{receive_rule};
 ghost use Rattle.point_to_point_calls.specs.CoreCalls.{RoutedCall};
 
 use point_to_point_calls::{Refusal, RoutedReceive, is_source_beyond, is_tag_above};
@@ -22,7 +22,7 @@ pub fn faults_are_cut()
 /// The first rule that a receive breaks by what it hands in, among `size` ranks of world: 2 (buffer and layout are of
 /// different basic types, or a place is named twice), 1 (the buffer is too short), 3 (the tag is above the greatest) and
 /// 5 (no such rank of world). It takes no memory (MPI 3.1, 3.2.2 and 4.1.11).
-#[tactic(auto, unfolding(crate::specs::Receiving::receive_rule))]
+#[tactic(auto, unfolding(crate::specs::Receives::receive_rule))]
 pub fn rule_of_receive(size: u16, routed: &RoutedReceive) -> Option<Refusal>
     ensures { result ≡ receive_rule size routed.now }
 {

@@ -1,7 +1,7 @@
 //! How a core starts sends: the limit that one meets, what it needs, its frame, and what it leaves.
 
 ghost use Rattle.std.specs.Prelude.{◌≡◌, ◌<◌, ◌≤◌, ◌*◌, length, true, false, IfErr, IfOk, IfSome, None, OnOk, is_some};
-ghost use Rattle.datagram.specs.Spelling.{frame_text, FrameFits};
+ghost use Rattle.datagram.specs.Spellings.{frame_text, FrameFits};
 ghost use Rattle.vocabulary.specs.BasicTypes.{size_of};
 ghost use Rattle.vocabulary.specs.Limits.{greatest_limit};
 ghost use Rattle.rendezvous.specs.State.{is_full_to};
@@ -9,11 +9,11 @@ ghost use Rattle.requests.specs.Table.{is_full};
 ghost use Rattle.point_to_point_calls.specs.Calls.{IsPacked};
 ghost use Rattle.point_to_point_calls.specs.CoreCalls as calls;
 ghost use Rattle.point_to_point_calls.specs.Frames.{addressed};
-ghost use Rattle.point_to_point_calls.specs.Sending.{IsAddressed, is_own, send_fault};
+ghost use Rattle.point_to_point_calls.specs.SendRules.{IsAddressed, is_own, send_fault};
 ghost use Rattle.point_to_point_calls.specs.declared.refusal.Refusal.TheVariants as refusals;
 ghost use Rattle.point_to_point.specs.Calls.{CanSend, call_fault, limit_fault};
 ghost use Rattle.point_to_point.specs.CoreState.{CanStart};
-ghost use Rattle.point_to_point.specs.Sending.{IsOffering, IsSending, arrived_at_itself, frame_of};
+ghost use Rattle.point_to_point.specs.Sends.{IsOffering, IsSending, arrived_at_itself, frame_of};
 
 use crate::rank::Core;
 use datagram::Outgoing;
@@ -85,7 +85,7 @@ impl Core {
 
     /// Makes ready what a send takes that breaks no rule, and packs its data where they do not stand in order; or finds
     /// that there is no memory (14). What the core holds stays as it is.
-    #[tactic(auto, using(crate::proofs::Allowed::send_types, crate::proofs::Allowed::send_room, crate::proofs::Allowed::send_starts))]
+    #[tactic(auto, using(crate::proofs::FaultlessCalls::send_types, crate::proofs::FaultlessCalls::send_room, crate::proofs::FaultlessCalls::send_starts))]
     pub fn prepare_send(&mut self, send: &AddressedSend) -> Result<Option<Buffer>, Refusal>
         requires addressed { IsAddressed self.old.state.place send.now }
         requires allowed { call_fault self.old.state (calls.Isend send.now.routed) ≡ None }
@@ -149,7 +149,7 @@ impl Core {
 
     /// Starts a send that breaks no rule, in the room that was made for it: its message comes to the own rank, or is
     /// announced, or goes in its frame.
-    #[tactic(auto, using(crate::proofs::Allowed::announces, crate::proofs::Allowed::allowed_send))]
+    #[tactic(auto, using(crate::proofs::FaultlessCalls::announces, crate::proofs::FaultlessCalls::allowed_send))]
     pub fn send(&mut self, send: AddressedSend, packed: Option<Buffer>) -> Request
         requires addressed { IsAddressed self.old.state.place send }
         requires allowed { call_fault self.old.state (calls.Isend send.routed) ≡ None }

@@ -3,8 +3,8 @@
 ghost use Rattle.std.specs.Prelude.{◌≡◌, None};
 ghost use Rattle.requests.specs.Lists.{named};
 ghost use Rattle.requests.specs.declared.awaited_requests.Awaited.TheVariants.{One};
-ghost use Rattle.point_to_point.specs.Waiting.{Tests, Waits, cancel_fault, cancelled, requests_fault, tested, wait_fault};
-ghost use Rattle.point_to_point.specs.Waiting.{waited};
+ghost use Rattle.point_to_point.specs.Completions.{Tests, Waits, cancel_fault, cancelled, requests_fault, tested, wait_fault};
+ghost use Rattle.point_to_point.specs.Completions.{waited};
 
 use crate::rank::Core;
 use point_to_point_calls::Refusal;

@@ -1,9 +1,9 @@
 -- The frames of pieces say what the pieces do.
 use Rattle.std.proofs.Common.{◌≡◌, ℕ, List, [], ◌∷◌, map, refl, ap, ◌∙◌}
-use Rattle.datagram.specs.Spelling.{OutgoingText, outgoing_text}
+use Rattle.datagram.specs.Spellings.{OutgoingText, outgoing_text}
 use Rattle.rendezvous.specs.declared.piece.Piece.{Piece}
 use Rattle.datagram.specs.declared.frame.Outgoing.{Outgoing}
-use Rattle.point_to_point_calls.specs.Hearing.{data_frame, data_frames, framed}
+use Rattle.point_to_point_calls.specs.FrameNews.{data_frame, data_frames, framed}
 
 go : (rank transfer : ℕ) (ps : List Piece) →
     map outgoing_text (map (framed rank transfer) ps)

@@ -19,7 +19,14 @@ use Rattle.point_to_point_calls.specs.declared.sends.Destination.{Destination}
 use Rattle.vocabulary.specs.declared.mode.Mode.{Mode}
 use Rattle.vocabulary.specs.declared.mode.Mode.TheVariants.{Standard, Synchronous}
 use Rattle.vocabulary.specs.Modes.{may_be_announced}
-use Rattle.point_to_point_calls.specs.Sending.{IsSendable, destination, is_announced, rank_to, rank_unless, send_fault}
+use Rattle.point_to_point_calls.specs.SendRules.{
+  IsSendable,
+  destination,
+  is_announced,
+  rank_to,
+  rank_unless,
+  send_fault,
+}
 
 -- THE RULES
 

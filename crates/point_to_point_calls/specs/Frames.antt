@@ -1,6 +1,6 @@
 -- Frames for other ranks.
 use Rattle.std.specs.Prelude.{List, [], ◌∷◌, Option, Some, None}
-use Rattle.datagram.specs.Spelling.{OutgoingText, outgoing_text}
+use Rattle.datagram.specs.Spellings.{OutgoingText, outgoing_text}
 use Rattle.datagram.specs.declared.frame.Outgoing.{Outgoing}
 
 -- what a frame says, and to which rank it goes, where there is one

@@ -1,12 +1,12 @@
 //! Lists of frames for other ranks.
 
 ghost use Rattle.std.specs.Prelude.{◌≡◌, true, IfOk, IfErr, OnErr, is_some, map};
-ghost use Rattle.datagram.specs.Spelling.{outgoing_text};
+ghost use Rattle.datagram.specs.Spellings.{outgoing_text};
 ghost use Rattle.vocabulary.specs.BasicTypes.{size_of};
 ghost use Rattle.datatypes.specs.Contents.{bytes_of};
 ghost use Rattle.rendezvous.specs.Pieces.{pieces_of};
 ghost use Rattle.point_to_point_calls.specs.Frames.{addressed, as_list};
-ghost use Rattle.point_to_point_calls.specs.Hearing.{data_frames, framed};
+ghost use Rattle.point_to_point_calls.specs.FrameNews.{data_frames, framed};
 
 use crate::refusal::Refusal;
 use datagram::{Data, Frame, Outgoing};

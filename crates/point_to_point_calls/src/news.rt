@@ -1,11 +1,11 @@
 //! What is heard from another rank, and what is ready for it.
 
 ghost use Rattle.std.specs.Prelude.{◌≡◌, true, IfOk, IfErr, OnErr, is_some};
-ghost use Rattle.datagram.specs.Spelling.{eager_text, EagerFits, request_text};
+ghost use Rattle.datagram.specs.Spellings.{eager_text, EagerFits, request_text};
 ghost use Rattle.point_to_point_calls.specs.Frames.{addressed};
-ghost use Rattle.point_to_point_calls.specs.Hearing.{HeardFits, announced_of, answer_by_match, bad_unless};
-ghost use Rattle.point_to_point_calls.specs.Hearing.{collection_by_match, first_of, frame_option, message_from};
-ghost use Rattle.point_to_point_calls.specs.Hearing.{message_of, plane_fault};
+ghost use Rattle.point_to_point_calls.specs.FrameNews.{HeardFits, announced_of, answer_by_match, bad_unless};
+ghost use Rattle.point_to_point_calls.specs.FrameNews.{collection_by_match, first_of, frame_option, message_from};
+ghost use Rattle.point_to_point_calls.specs.FrameNews.{message_of, plane_fault};
 
 use crate::receives::{answer_to, collection_on_match};
 use crate::refusal::Refusal;
@@ -48,7 +48,7 @@ pub struct Match {
 }
 
 /// The message of an eager frame.
-#[tactic(auto, unfolding(crate::specs::Hearing::message_of))]
+#[tactic(auto, unfolding(crate::specs::FrameNews::message_of))]
 fn message_of(alloc: Global, source: Endpoint, eager: &Eager) -> Result<Message, Refusal>
     requires { EagerFits (eager_text eager.now) }
     ensures ok { IfOk result (λ m. m ≡ message_of source (eager_text eager.now)) }
@@ -64,7 +64,7 @@ fn message_of(alloc: Global, source: Endpoint, eager: &Eager) -> Result<Message,
 }
 
 /// The message that a request to send announces.
-#[tactic(auto, unfolding(crate::specs::Hearing::announced_of))]
+#[tactic(auto, unfolding(crate::specs::FrameNews::announced_of))]
 pub fn announced_of(source: Endpoint, request: &RequestToSend) -> Message
     ensures { result ≡ announced_of source (request_text request.now) }
 {

@@ -2,12 +2,12 @@
 
 ghost use Rattle.std.specs.Option.{option_copied};
 ghost use Rattle.std.specs.Prelude.{◌≡◌, true, IfErr, IfOk, IfSome, OnErr, is_some};
-ghost use Rattle.datagram.specs.Spelling.{FrameFits, frame_text};
+ghost use Rattle.datagram.specs.Spellings.{FrameFits, frame_text};
 ghost use Rattle.perfect_queues.specs.Outcomes.{null_status};
 ghost use Rattle.perfect_queues.specs.Refusals.{is_tag_above, is_source_beyond};
 ghost use Rattle.point_to_point_calls.specs.Frames.{addressed};
-ghost use Rattle.point_to_point_calls.specs.Receiving.{answer_by, answer_on_post, collection_on_match};
-ghost use Rattle.point_to_point_calls.specs.Receiving.{collection_on_post, posted_by, progress_on_post, status_of};
+ghost use Rattle.point_to_point_calls.specs.ReceiveMatches.{answer_by, answer_on_post, collection_on_match};
+ghost use Rattle.point_to_point_calls.specs.ReceiveMatches.{collection_on_post, posted_by, progress_on_post, status_of};
 
 use crate::call::RoutedReceive;
 use crate::refusal::Refusal;

@@ -1,17 +1,17 @@
 //! What a send is: the first rule that it breaks, its frame, and its message to the own rank.
 
 ghost use Rattle.std.specs.Prelude.{◌≡◌, ◌<◌, Some, None, IfErr, IfOk, IfSome, false, true};
-ghost use Rattle.datagram.specs.Spelling.{frame_text, FrameFits};
+ghost use Rattle.datagram.specs.Spellings.{frame_text, FrameFits};
 ghost use Rattle.perfect_queues.specs.Buffers.{differs_in_type, is_too_short};
 ghost use Rattle.perfect_queues.specs.Refusals.{is_no_tag, is_no_target};
 ghost use Rattle.requests.specs.Regions.{handed_of, sent_from};
 ghost use Rattle.point_to_point_calls.specs.Calls.{IsPacked, IsWithin};
 ghost use Rattle.point_to_point_calls.specs.CoreCalls as calls;
 ghost use Rattle.point_to_point_calls.specs.Frames.{addressed};
-ghost use Rattle.point_to_point_calls.specs.Sending.{IsAddressed, IsSendable, announced_by, destination, eager_frame};
-ghost use Rattle.point_to_point_calls.specs.Sending.{frame_to};
-ghost use Rattle.point_to_point_calls.specs.Sending.{frame_with, is_announced, is_large, is_own, own_message, rank_to};
-ghost use Rattle.point_to_point_calls.specs.Sending.{request_frame, send_fault};
+ghost use Rattle.point_to_point_calls.specs.SendRules.{IsAddressed, IsSendable, announced_by, destination, eager_frame};
+ghost use Rattle.point_to_point_calls.specs.SendRules.{frame_to};
+ghost use Rattle.point_to_point_calls.specs.SendRules.{frame_with, is_announced, is_large, is_own, own_message, rank_to};
+ghost use Rattle.point_to_point_calls.specs.SendRules.{request_frame, send_fault};
 
 use crate::call::{RoutedSend, Send};
 use crate::receives::is_tag_above;
@@ -67,7 +67,7 @@ fn is_no_target(size: u16, target: Source) -> bool
 }
 
 /// The first rule that a send breaks.
-#[tactic(auto, unfolding(crate::specs::Sending::send_fault))]
+#[tactic(auto, unfolding(crate::specs::SendRules::send_fault))]
 pub fn fault_of(place: Place, routed: &RoutedSend) -> Option<Refusal>
     ensures { result ≡ send_fault place routed.now }
 {

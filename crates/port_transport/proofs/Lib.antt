@@ -1,3 +1,3 @@
-pub mod Thinning
-pub mod Passing
+pub mod OmittedDatagrams
+pub mod PortSteps
 pub mod Steps

@@ -12,7 +12,7 @@ use Rattle.port_transport.specs.declared.wire.WireEvent.TheVariants.{Went, Came,
 use Rattle.port_transport.specs.Wires.{Parcel, arrived, come, gone, written}
 use Rattle.port_transport.specs.Ports.{GoesOrStays, IsAcknowledgement, IsCovered, Passes, PortState, Thins, at_port}
 use Rattle.port_transport.specs.Ports.{going, is_short, kept_at, plain_in, port_of, received_in, short_in, with_end}
-use Rattle.port_transport.proofs.Thinning.{all_go}
+use Rattle.port_transport.proofs.OmittedDatagrams.{all_go}
 
 -- one datagram among the acknowledgements, or among all others
 short_one : (p : Parcel) → is_short p ≡ true → short_in (p ∷ []) ≡ p ∷ []

@@ -1,6 +1,6 @@
 -- What a datagram carries, by what it says.
-use Rattle.datagram.specs.Spelling.{AckBody, BodyText, ClearFrame, DataFrame, EagerFrame, FrameBody, FrameText}
-use Rattle.datagram.specs.Spelling.{RequestFrame, ResetBody}
+use Rattle.datagram.specs.Spellings.{AckBody, BodyText, ClearFrame, DataFrame, EagerFrame, FrameBody, FrameText}
+use Rattle.datagram.specs.Spellings.{RequestFrame, ResetBody}
 use Rattle.printed_lines.specs.declared.emissions.FrameKind.{FrameKind}
 use Rattle.printed_lines.specs.declared.emissions.FrameKind.TheVariants as kinds
 

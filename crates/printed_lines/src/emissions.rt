@@ -43,7 +43,7 @@ pub enum FrameKind {
 
 impl FrameKind {
     ghost use Rattle.std.specs.Prelude.{◌≡◌};
-    ghost use Rattle.datagram.specs.Spelling.{content_text};
+    ghost use Rattle.datagram.specs.Spellings.{content_text};
     ghost use Rattle.printed_lines.specs.Answers.{kind_text};
     ghost use Rattle.printed_lines.specs.FrameKinds.{kind_of_body};
 

@@ -5,7 +5,7 @@ use Rattle.std.specs.Prelude.{fold}
 use Rattle.std.specs.Option.{option_to_list}
 use Rattle.std.proofs.lemmas.Bool.{eq-eqb}
 use Rattle.std.proofs.lemmas.Option.{same_Some}
-use Rattle.collective_messages.specs.Entering as entering
+use Rattle.collective_messages.specs.Entries as entering
 use Rattle.collective_messages.specs.Notes as notes
 use Rattle.collective_messages.specs.Notes.{have_entered, member_at}
 use Rattle.collective_messages.specs.Roles.{RoleState, own_place, role_of}
@@ -26,14 +26,14 @@ use Rattle.perfect_groups.specs.Operations.{combined_by}
 use Rattle.perfect_groups.specs.Results.{all_parts, at_rank, has_rank, reduced, with_first}
 use Rattle.proof_collective_steps.proofs.KeptNotes.{AllTold, PartsAre, all_known}
 use Rattle.proof_collective_steps.proofs.Middle.{HasSome, reduced_is, some_feeders}
-use Rattle.proof_collective_steps.proofs.Telling.{some_said}
+use Rattle.proof_collective_steps.proofs.WordLaws.{some_said}
 use Rattle.proof_collective_steps.proofs.Verdicts.{has_role}
 use Rattle.proof_collective_steps.specs.Counterparts.{AreNoted, AreSaid, GivenStandsFor, HandsIn, part_of}
-use Rattle.proof_collective_steps.specs.Following.{here}
+use Rattle.proof_collective_steps.specs.MemberVerdicts.{here}
 use Rattle.proof_group_network.specs.Notices as network
 use Rattle.proof_group_network.specs.Notices.{HasEntered, Notice, joined, notice, part_known}
 use Rattle.proof_group_network.specs.Roles as roles
-use Rattle.proof_roles.specs.Meeting.{IsRole, named}
+use Rattle.proof_roles.specs.RoleViews.{IsRole, named}
 use Rattle.vocabulary.specs.Endpoints.{is_same}
 use Rattle.vocabulary.specs.Operations.{is_associative}
 use Rattle.vocabulary.specs.declared.endpoint.Endpoint.{Endpoint}

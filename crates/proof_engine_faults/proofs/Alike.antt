@@ -5,7 +5,7 @@ use Rattle.engine_calls.specs.EngineState.{EngineState, member_of}
 use Rattle.engine_calls.specs.Faults.{broken, free_fault, group_limit, is_replaced, look_rules, message_rules, on_route}
 use Rattle.engine_calls.specs.Faults.{probe_rules, receive_rules, routed_limit, send_rules}
 use Rattle.engine_calls.specs.Refusals.{first_fault}
-use Rattle.engine_calls.specs.Routing.{probe_by, receive_by, route_at, send_by}
+use Rattle.engine_calls.specs.Routes.{probe_by, receive_by, route_at, send_by}
 use Rattle.engine_calls.specs.declared.call.Call.{Call}
 use Rattle.engine_calls.specs.declared.call.Call.TheVariants as calls
 use Rattle.point_to_point_calls.specs.declared.call.Probe.{Probe}
@@ -15,13 +15,13 @@ use Rattle.perfect_groups.specs.Calls.{held_at}
 use Rattle.perfect_groups.specs.Faults.{is_no_target, is_source_beyond}
 use Rattle.proof_engine_faults.proofs.Calm.{message_alike, one_absent_alike, receive_alike}
 use Rattle.proof_engine_faults.proofs.Rows.{calm_core}
-use Rattle.proof_network_bridge.proofs.Routed.{routed_full}
+use Rattle.proof_network_bridge.proofs.RoutedFaults.{routed_full}
 use Rattle.point_to_point_calls.specs.CoreCalls as cores
 use Rattle.point_to_point_calls.specs.declared.refusal.Refusal.{Refusal}
 use Rattle.point_to_point_calls.specs.declared.refusal.Refusal.TheVariants as refusals
 use Rattle.point_to_point.specs.Calls.{argument_fault}
 use Rattle.point_to_point.specs.CoreState.{CoreState}
-use Rattle.point_to_point.specs.Waiting.{cancel_fault, wait_fault}
+use Rattle.point_to_point.specs.Completions.{cancel_fault, wait_fault}
 use Rattle.point_to_point.specs.Messages.{message_fault}
 use Rattle.requests.specs.Completions.{awaited_requests}
 use Rattle.requests.specs.Lists as lists

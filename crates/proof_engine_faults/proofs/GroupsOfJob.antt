@@ -34,13 +34,13 @@ use Rattle.context_agreement.specs.declared.communicator.Communicator as held
 use Rattle.datatypes.specs.Contents.{Contents, values_of}
 use Rattle.groups.specs.Groups.{is_member}
 use Rattle.layouts.specs.Buffers.{is_same_type}
-use Rattle.payload.specs.Spelling.{ChoiceText, ContextText, Differing, ElementsText, GroupText, NothingMore, NullText}
-use Rattle.payload.specs.Spelling.{PartText, PayloadText, elements_of}
+use Rattle.payload.specs.Spellings.{ChoiceText, ContextText, Differing, ElementsText, GroupText, NothingMore, NullText}
+use Rattle.payload.specs.Spellings.{PartText, PayloadText, elements_of}
 use Rattle.payload.specs.declared.payload.Direction.{Direction}
 use Rattle.payload.specs.declared.record.Elements.{Elements}
 use Rattle.payload.specs.declared.record.Record.{Record}
 use Rattle.perfect_groups.specs.Communicators.{Communicator, group_of}
-use Rattle.proof_engine_faults.specs.Staying.{NamesOfJob}
+use Rattle.proof_engine_faults.specs.OrderlyEngines.{NamesOfJob}
 use Rattle.proof_engine_steps.proofs.ListsApart.{HasIt, all_at, all_from, in_map, kept_all, of_map}
 use Rattle.proof_queue_calls.specs.Halves.{AreInWorld}
 use Rattle.vocabulary.specs.BasicTypes.{size_of}

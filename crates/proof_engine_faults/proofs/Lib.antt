@@ -1,7 +1,7 @@
 pub mod Calm
 pub mod Rows
 pub mod Alike
-pub mod Judged
+pub mod CallFaults
 pub mod Orderly
 mod Tables
 mod GroupsOfJob

@@ -9,7 +9,7 @@ use Rattle.perfect_groups.specs.Communicators.{Communicator, first_endpoint, gro
 use Rattle.perfect_groups.specs.Membership.{fresh_member}
 use Rattle.proof_collective_steps.proofs.RankSteps.{openings_are_shown}
 use Rattle.proof_engine_faults.specs.Own.{EnginesOfWorldsAreOrderly, IsOrderly, NewEnginesAreOrderly}
-use Rattle.proof_engine_steps.proofs.Knowing.{opening_known}
+use Rattle.proof_engine_steps.proofs.Knowledge.{opening_known}
 use Rattle.proof_engine_view.specs.Rows.{IsRow, Row}
 use Rattle.proof_group_network.specs.Network.{new_group_network}
 use Rattle.proof_group_network.specs.Notices.{Member}

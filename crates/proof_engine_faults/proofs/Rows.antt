@@ -12,11 +12,11 @@ use Rattle.proof_engine_faults.proofs.Calm.{calm, calm_at, calm_entry, calm_prog
 use Rattle.proof_engine_faults.specs.Own.{found, standing_of}
 use Rattle.proof_engine_view.specs.Rows.{Fits, Holds, IsRow, IsTable, Row, Stands, jobs_of, posted_job, posted_rows}
 use Rattle.observation.specs.CoreCalls.{outcome_seen}
-use Rattle.proof_engine_view.specs.Shown.{IsShown}
+use Rattle.proof_engine_view.specs.CoreViews.{IsShown}
 use Rattle.proof_engine_view.specs.Transfers.{Announcements, Transfer}
 use Rattle.proof_engine_view.specs.UnderWay.{AreTaken, AreUnderWay, IsNumbered, IsTakenAt, IsTakenBy}
 use Rattle.proof_pure_network.specs.Core.{Core}
-use Rattle.proof_pure_network.specs.Held.{blank}
+use Rattle.proof_pure_network.specs.WaitingMessages.{blank}
 use Rattle.proof_pure_network.specs.Jobs.{Closed, Collecting, Job, Offering, Over, Probed, Unmatched, Waiting}
 use Rattle.proof_pure_network.specs.Jobs.{request_of}
 use Rattle.point_to_point.specs.CoreState.{CoreState}

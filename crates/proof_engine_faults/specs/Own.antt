@@ -17,7 +17,7 @@ use Rattle.perfect_queues.specs.Refusals.{Missing, OfMessage, Receiving, Sends, 
 use Rattle.observation.specs.Reasons.{IsReason}
 use Rattle.observation.specs.CoreCalls.{outcome_seen}
 use Rattle.observation.specs.Faults.{IsFaultless}
-use Rattle.proof_network_bridge.specs.Joined.{IsFollowed}
+use Rattle.proof_network_bridge.specs.WorldViews.{IsFollowed}
 use Rattle.observation.specs.EngineCalls.{call_meant, call_seen}
 use Rattle.proof_queue_calls.specs.Halves.{AreInWorld}
 use Rattle.point_to_point_calls.specs.declared.refusal.Refusal.{Refusal}

@@ -2,8 +2,8 @@
 
 ghost use Rattle.proof_engine_faults.specs.Own.{OwnRefusals, OwnTakings, OwnJudgements, NewEnginesAreOrderly};
 ghost use Rattle.proof_engine_faults.specs.Own.{EnginesOfWorldsAreOrderly};
-ghost use Rattle.proof_engine_faults.specs.Staying.{CallsKeepOrder, DatagramsKeepOrder, NewEnginesStayOrderly};
-ghost use Rattle.proof_engine_faults.specs.Staying.{OutKeepsOrder, CompletionsKeepOrder, TicksKeepOrder, WaitsKeepOrder};
+ghost use Rattle.proof_engine_faults.specs.OrderlyEngines.{CallsKeepOrder, DatagramsKeepOrder, NewEnginesStayOrderly};
+ghost use Rattle.proof_engine_faults.specs.OrderlyEngines.{OutKeepsOrder, CompletionsKeepOrder, TicksKeepOrder, WaitsKeepOrder};
 
 /// States of an engine alone, without a world or a network, whatever it has heard, that it refuses a call exactly where
 /// the machine finds a fault with it, by what the engine itself holds: its blocked call, its table of requests, the

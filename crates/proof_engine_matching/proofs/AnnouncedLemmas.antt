@@ -24,8 +24,8 @@ use Rattle.requests.specs.declared.region.Places.TheVariants.{All, Copies}
 use Rattle.requests.specs.declared.region.Region.{Region}
 use Rattle.requests.specs.declared.table.Posted.{Posted}
 use Rattle.requests.specs.declared.table.RequestProgress.TheVariants.{Collecting, Finished}
-use Rattle.point_to_point_calls.specs.Receiving.{status_of}
-use Rattle.proof_pure_network.specs.Held.{Held, count_of, fits, full}
+use Rattle.point_to_point_calls.specs.ReceiveMatches.{status_of}
+use Rattle.proof_pure_network.specs.WaitingMessages.{Held, count_of, fits, full}
 use Rattle.proof_pure_network.specs.Jobs as jobs
 use Rattle.proof_pure_network.specs.Jobs.{Job, Over, matched_job, matched_part}
 use Rattle.proof_engine_view.specs.Rows.{Fits, IsMatched, IsPosted, body_seen, held_of}

@@ -10,12 +10,12 @@ use Rattle.match_queues.specs.State.{State, arrived_at, receive_at, receive_for}
 use Rattle.vocabulary.specs.declared.endpoint.Endpoint.{Endpoint}
 use Rattle.proof_engine_view.specs.Transfers.{Transfer}
 use Rattle.perfect_queues.specs.Receives.{Receive}
-use Rattle.proof_pure_network.specs.Held.{fits}
+use Rattle.proof_pure_network.specs.WaitingMessages.{fits}
 use Rattle.proof_pure_network.specs.Jobs.{Closed, Collecting, Job, Offering, Over, Probed, Unmatched, Waiting}
 use Rattle.proof_pure_network.specs.Jobs.{oldest_posted, or_later, takes}
 use Rattle.proof_engine_view.specs.Rows.{Row, held_of, jobs_of, posted_job, posted_rows}
 use Rattle.proof_engine_matching.specs.Matches.{ArrivalsMatch, IsKept, IsMatchedTo}
-use Rattle.proof_engine_matching.proofs.Accepting.{posted_record, same_test}
+use Rattle.proof_engine_matching.proofs.Acceptance.{posted_record, same_test}
 use Rattle.proof_engine_matching.proofs.Positions.{position_here, position_later, remove_first}
 
 -- the place of the receive that takes the message, in the queue that the rows give

@@ -9,7 +9,7 @@ use Rattle.match_queues.specs.declared.envelope.Message.{Message}
 use Rattle.match_queues.specs.declared.envelope.OwnSend.{OwnSend}
 use Rattle.match_queues.specs.declared.envelope.Body.{Body}
 use Rattle.match_queues.specs.declared.envelope.Body.TheVariants.{Own, Whole}
-use Rattle.proof_pure_network.specs.Held.{full}
+use Rattle.proof_pure_network.specs.WaitingMessages.{full}
 use Rattle.requests.specs.Outcomes.{outcome_of}
 use Rattle.communicator_members.specs.Statuses.{status_in}
 use Rattle.proof_engine_view.specs.Rows.{held_of}
@@ -18,7 +18,7 @@ use Rattle.proof_engine_view.specs.Transfers.{Transfer}
 use Rattle.vocabulary.specs.declared.envelope.Status.{Status}
 use Rattle.requests.specs.declared.outcome.Failure.TheVariants.{WrongType, Truncated}
 use Rattle.requests.specs.declared.outcome.Outcome.TheVariants as outcomes
-use Rattle.point_to_point_calls.specs.Receiving.{status_of}
+use Rattle.point_to_point_calls.specs.ReceiveMatches.{status_of}
 use Rattle.observation.specs.CoreCalls.{outcome_seen}
 use Rattle.proof_engine_matching.specs.Matches.{OutcomesAgree, OwnOutcomesAgree}
 

@@ -1,5 +1,5 @@
 pub mod Positions
-pub mod Accepting
+pub mod Acceptance
 pub mod ArrivalLemmas
 pub mod PostLemmas
 pub mod EndingLemmas

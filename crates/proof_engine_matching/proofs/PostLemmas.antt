@@ -5,17 +5,17 @@ use Rattle.match_queues.specs.Accepts.{accepts}
 use Rattle.match_queues.specs.declared.envelope.Message.{Message}
 use Rattle.match_queues.specs.State.{State, message_at, message_for, posted_at, taken_at}
 use Rattle.point_to_point_calls.specs.declared.call.RoutedReceive as engine_receive
-use Rattle.point_to_point_calls.specs.Receiving.{posted_by}
+use Rattle.point_to_point_calls.specs.ReceiveMatches.{posted_by}
 use Rattle.point_to_point.specs.Messages.{probed_by}
 use Rattle.perfect_queues.specs.Receives.{Probe, Receive, such_receive}
-use Rattle.proof_pure_network.specs.Held.{Held, fits}
-use Rattle.proof_pure_network.specs.Matching.{found}
+use Rattle.proof_pure_network.specs.WaitingMessages.{Held, fits}
+use Rattle.proof_pure_network.specs.Matches.{found}
 use Rattle.proof_engine_view.specs.Rows.{held_of}
 use Rattle.vocabulary.specs.declared.endpoint.Endpoint.{Endpoint}
 use Rattle.proof_engine_view.specs.Transfers.{Transfer}
 use Rattle.observation.specs.CoreCalls.{receive_seen}
 use Rattle.proof_engine_matching.specs.Matches.{Finds, FindsNone, PostsMatch, Takes, TakesMatch, TakesNone}
-use Rattle.proof_engine_matching.proofs.Accepting.{posted_record, same_test}
+use Rattle.proof_engine_matching.proofs.Acceptance.{posted_record, same_test}
 use Rattle.proof_engine_matching.proofs.Positions.{position_here, position_later, remove_first}
 
 -- a message with those before and after it

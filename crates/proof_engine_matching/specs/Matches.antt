@@ -14,14 +14,14 @@ use Rattle.requests.specs.Table.{has_room, matched_progress}
 use Rattle.communicator_members.specs.Statuses.{status_in}
 use Rattle.requests.specs.declared.table.Posted.{Posted}
 use Rattle.point_to_point_calls.specs.declared.call.RoutedReceive as engine_receive
-use Rattle.point_to_point_calls.specs.Receiving.{posted_by, status_of}
+use Rattle.point_to_point_calls.specs.ReceiveMatches.{posted_by, status_of}
 use Rattle.point_to_point.specs.Messages.{probed_by}
 use Rattle.perfect_queues.specs.Outcomes.{outcome}
 use Rattle.perfect_queues.specs.Receives.{Receive}
 use Rattle.perfect_queues.specs.Receives as machine
-use Rattle.proof_pure_network.specs.Held.{Held, fits, full}
+use Rattle.proof_pure_network.specs.WaitingMessages.{Held, fits, full}
 use Rattle.proof_pure_network.specs.Jobs.{Job, Waiting, matched_job, oldest_posted}
-use Rattle.proof_pure_network.specs.Matching.{found}
+use Rattle.proof_pure_network.specs.Matches.{found}
 use Rattle.proof_engine_view.specs.Rows.{Fits, IsPosted, Row, body_seen, held_of, jobs_of, posted_job, posted_rows}
 use Rattle.observation.specs.CoreCalls.{outcome_seen, receive_seen}
 use Rattle.proof_engine_view.specs.Transfers.{Transfer}

@@ -5,7 +5,7 @@ use Rattle.std.proofs.Common.{Some, None, slice_index, refl, sym, ap, ap₂, ◌
 use Rattle.std.specs.List.{AllByRecursion}
 use Rattle.std.proofs.lemmas.Bool.{eqb-false, leb-false, ltb-false}
 use Rattle.std.proofs.lemmas.List.{length-map}
-use Rattle.datagram.specs.Spelling.{OutgoingText}
+use Rattle.datagram.specs.Spellings.{OutgoingText}
 use Rattle.vocabulary.specs.BasicTypes.{size_of}
 use Rattle.vocabulary.specs.Limits.{highest_tag, greatest_limit}
 use Rattle.vocabulary.specs.MessageLimits.{limit_of}
@@ -24,10 +24,10 @@ use Rattle.point_to_point_calls.specs.CoreCalls as calls
 use Rattle.point_to_point_calls.specs.declared.call.RoutedSend.{RoutedSend}
 use Rattle.point_to_point_calls.specs.Calls.{IsWithin}
 use Rattle.point_to_point_calls.specs.Frames.{as_list}
-use Rattle.point_to_point_calls.specs.Sending.{announced_to, is_announced, send_fault}
+use Rattle.point_to_point_calls.specs.SendRules.{announced_to, is_announced, send_fault}
 use Rattle.point_to_point.specs.Calls.{free_fault}
 use Rattle.point_to_point.specs.CoreState.{CoreState}
-use Rattle.point_to_point.specs.Sending.{IsOffering, IsSending, frame_of, or_full}
+use Rattle.point_to_point.specs.Sends.{IsOffering, IsSending, frame_of, or_full}
 use Rattle.rendezvous.specs.State.{after_begin, is_full_to, next_to}
 use Rattle.proof_pure_network.specs.Core.{Core, Effect, effect}
 use Rattle.proof_pure_network.specs.Jobs as jobs
@@ -35,8 +35,8 @@ use Rattle.proof_pure_network.specs.Jobs.{Job}
 use Rattle.proof_engine_view.specs.Frames.{endpoint_of}
 use Rattle.proof_engine_view.specs.Rows.{Row, posted_rows}
 use Rattle.observation.specs.CoreCalls.{call_seen}
-use Rattle.proof_engine_view.specs.Shown.{IsShown}
-use Rattle.proof_engine_view.specs.Standing.{AreSent, CanLeave, all_gone}
+use Rattle.proof_engine_view.specs.CoreViews.{IsShown}
+use Rattle.proof_engine_view.specs.FrameViews.{AreSent, CanLeave, all_gone}
 use Rattle.proof_engine_view.specs.Transfers.{Announcements, after_out}
 use Rattle.proof_engine_steps.specs.Steps.{IsCalled}
 use Rattle.proof_engine_steps.proofs.Announces.{begun_under_way, offering_row}
@@ -44,10 +44,10 @@ use Rattle.proof_engine_steps.proofs.LargeSends.{announcement_of, announcing_fra
 use Rattle.proof_engine_steps.proofs.LargeSends.{core_announces, core_offering, is_announced_to, large_frame}
 use Rattle.proof_engine_steps.proofs.LargeSends.{large_sending, number_left}
 use Rattle.proof_engine_steps.proofs.Sends.{KeepsRules, called_send, core_sent, send_fit}
-use Rattle.proof_engine_steps.proofs.Starting.{core_free, holding_of, holding_started, serial_told, shown_free}
-use Rattle.proof_engine_steps.proofs.Starting.{started_call}
-use Rattle.proof_engine_steps.proofs.Staying.{after_grows}
-use Rattle.proof_engine_steps.proofs.Waking.{Holding}
+use Rattle.proof_engine_steps.proofs.RequestStarts.{core_free, holding_of, holding_started, serial_told, shown_free}
+use Rattle.proof_engine_steps.proofs.RequestStarts.{started_call}
+use Rattle.proof_engine_steps.proofs.UnchangedTransfers.{after_grows}
+use Rattle.proof_engine_steps.proofs.BlockedRanks.{Holding}
 
 -- What a large send to another rank rests on: the rank is one of the job, the tag is allowed, the elements are so many,
 -- of the width of their type, and a number is left

@@ -17,24 +17,24 @@ use Rattle.match_queues.specs.declared.envelope.Message.{Message}
 use Rattle.perfect_queues.specs.Receives.{Receive}
 use Rattle.rendezvous.specs.declared.offer.Offer.{Offer}
 use Rattle.rendezvous.specs.declared.transfers.Numbers.{Numbers}
-use Rattle.rendezvous.specs.Collecting as rendezvous
+use Rattle.rendezvous.specs.Collections as rendezvous
 use Rattle.rendezvous.specs.State as transfers
 use Rattle.rendezvous.specs.State.{after_begin, fresh, has_none_to, is_full_to, most_transfers, next_to, with_begun}
 use Rattle.requests.specs.Table.{slot_at}
 use Rattle.requests.specs.declared.table.TableEntry.{TableEntry}
 use Rattle.proof_pure_network.proofs.JobLemmas.{All_append, push_at}
 use Rattle.proof_pure_network.proofs.LinksGrow.{in_begun, in_end}
-use Rattle.proof_pure_network.specs.Announced.{Begins, IsIn}
+use Rattle.proof_pure_network.specs.Announcements.{Begins, IsIn}
 use Rattle.proof_pure_network.specs.Frames.{Frame, Rts}
-use Rattle.proof_pure_network.specs.Held.{Held}
+use Rattle.proof_pure_network.specs.WaitingMessages.{Held}
 use Rattle.proof_pure_network.specs.Jobs.{Collecting, Job, Offering, Unmatched}
 use Rattle.proof_engine_view.specs.Frames.{endpoint_of}
 use Rattle.proof_engine_view.specs.Rows.{Holds, IsTable, Row, Stands}
 use Rattle.proof_engine_view.specs.Transfers.{Announcements, Transfer, after_out, announced_in, frames_to}
 use Rattle.proof_engine_view.specs.UnderWay.{AreApart, AreUnderWay, IsCollectionOf, IsNumbered, IsOfferOf}
 use Rattle.proof_engine_view.specs.UnderWay.{collection_keys, offer_keys}
-use Rattle.proof_engine_view.proofs.Growing.{begun_at}
-use Rattle.proof_engine_steps.proofs.Announcing.{announced_elsewhere, announced_there, transfer_of}
+use Rattle.proof_engine_view.proofs.LastingViews.{begun_at}
+use Rattle.proof_engine_steps.proofs.Announcements.{announced_elsewhere, announced_there, transfer_of}
 use Rattle.proof_engine_steps.proofs.UnderWay.{keeps_pushed, messages_keep, row_of}
 
 -- ---- NUMBERS

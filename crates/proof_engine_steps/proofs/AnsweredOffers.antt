@@ -6,11 +6,11 @@ use Rattle.std.proofs.lemmas.Bool.{and_parts, both_ways, cases_eq, eqb-true}
 use Rattle.std.proofs.lemmas.Option.{same_Some}
 use Rattle.vocabulary.specs.declared.basic_type.BasicType.{BasicType}
 use Rattle.vocabulary.specs.declared.endpoint.Endpoint.{Endpoint}
-use Rattle.datagram.specs.Spelling.{ClearText, ClearFrame}
+use Rattle.datagram.specs.Spellings.{ClearText, ClearFrame}
 use Rattle.incarnation.specs.declared.place.Place.{Place}
 use Rattle.match_queues.specs.declared.envelope.Message.{Message}
 use Rattle.rendezvous.specs.declared.offer.Offer.{Offer}
-use Rattle.rendezvous.specs.Collecting as rendezvous
+use Rattle.rendezvous.specs.Collections as rendezvous
 use Rattle.rendezvous.specs.Offers.{is_to, offer_at, without_offer}
 use Rattle.rendezvous.specs.State as transfers
 use Rattle.rendezvous.specs.State.{after_cts, after_drop, offered}
@@ -18,8 +18,8 @@ use Rattle.rendezvous.proofs.Firsts.{first_or_none}
 use Rattle.perfect_queues.proofs.ListLemmas.{get_set_other}
 use Rattle.perfect_queues.specs.Outcomes as machine
 use Rattle.requests.specs.declared.table.TableEntry.{TableEntry}
-use Rattle.point_to_point_calls.specs.Hearing.{bad_unless, heard_fault}
-use Rattle.proof_pure_network.specs.Announced.{IsIn}
+use Rattle.point_to_point_calls.specs.FrameNews.{bad_unless, heard_fault}
+use Rattle.proof_pure_network.specs.Announcements.{IsIn}
 use Rattle.proof_pure_network.specs.Jobs.{Job, Collecting, Offering, Over, Unmatched}
 use Rattle.proof_pure_network.proofs.JobLemmas.{get_set_same}
 use Rattle.proof_engine_view.specs.Frames.{endpoint_of}

@@ -31,25 +31,25 @@ use Rattle.requests.specs.declared.table.Request.{Request}
 use Rattle.point_to_point_calls.specs.CoreCalls.{CoreReply}
 use Rattle.point_to_point_calls.specs.CoreCalls as replies
 use Rattle.point_to_point.specs.CoreState.{CoreState}
-use Rattle.point_to_point.specs.Waiting.{Cancels, cancel_fault, cancelled_at}
+use Rattle.point_to_point.specs.Completions.{Cancels, cancel_fault, cancelled_at}
 use Rattle.proof_engine_view.specs.Rows.{Fits, Holds, Row, held_of, posted_job, posted_rows}
 use Rattle.observation.specs.CoreCalls.{outcome_seen, own_serial, request_by}
-use Rattle.proof_engine_view.specs.Shown.{IsShown}
+use Rattle.proof_engine_view.specs.CoreViews.{IsShown}
 use Rattle.proof_engine_view.specs.Transfers.{Announcements}
-use Rattle.proof_engine_steps.proofs.Found.{CollectsFor, HasRow, HoldsMessage, OffersValues, WaitsForMatch}
-use Rattle.proof_engine_steps.proofs.Found.{collecting_of, finished_row, offering_of, probed_of, row_of, waiting_of}
-use Rattle.proof_engine_steps.proofs.Meant.{IsMeant}
+use Rattle.proof_engine_steps.proofs.TableRows.{CollectsFor, HasRow, HoldsMessage, OffersValues, WaitsForMatch}
+use Rattle.proof_engine_steps.proofs.TableRows.{collecting_of, finished_row, offering_of, probed_of, row_of, waiting_of}
+use Rattle.proof_engine_steps.proofs.CallMeanings.{IsMeant}
 use Rattle.proof_engine_matching.proofs.Positions.{position_here, position_later, remove_first}
 use Rattle.proof_engine_steps.proofs.RefusedWaits.{cancel_faultless, cancel_present}
 use Rattle.proof_engine_steps.proofs.Regions.{handed_buffer}
 use Rattle.proof_engine_steps.proofs.RowLemmas.{job_at, set_jobs}
-use Rattle.proof_engine_steps.proofs.Settling.{settled_free}
+use Rattle.proof_engine_steps.proofs.BlockedAnswers.{settled_free}
 use Rattle.proof_engine_steps.proofs.Standings.{IsPresent}
-use Rattle.proof_engine_steps.proofs.Staying.{under_way_still}
+use Rattle.proof_engine_steps.proofs.UnchangedTransfers.{under_way_still}
 use Rattle.proof_engine_steps.proofs.UnderWay.{keeps_set, same_set, taken_same, taken_set}
-use Rattle.proof_engine_steps.proofs.Starting.{core_free, shown_free}
+use Rattle.proof_engine_steps.proofs.RequestStarts.{core_free, shown_free}
 use Rattle.proof_engine_steps.proofs.Tables.{changed_table, held_at, says_some, set_change, set_is_set}
-use Rattle.proof_engine_steps.proofs.Waking.{Holding, holding_of}
+use Rattle.proof_engine_steps.proofs.BlockedRanks.{Holding, holding_of}
 
 -- ---- the jobs
 

@@ -15,17 +15,17 @@ use Rattle.incarnation.specs.declared.place.Place.{Place}
 use Rattle.match_queues.specs.declared.envelope.Announcement.{Announcement}
 use Rattle.match_queues.specs.declared.envelope.Message.{Message}
 use Rattle.rendezvous.specs.declared.offer.Offer.{Offer}
-use Rattle.rendezvous.specs.Collecting as rendezvous
+use Rattle.rendezvous.specs.Collections as rendezvous
 use Rattle.rendezvous.specs.State as transfers
 use Rattle.rendezvous.specs.State.{after_collect}
 use Rattle.match_queues.specs.declared.envelope.Body.TheVariants.{Announced}
-use Rattle.point_to_point_calls.specs.Receiving.{collection_on_match, transfers_with, collecting}
+use Rattle.point_to_point_calls.specs.ReceiveMatches.{collection_on_match, transfers_with, collecting}
 use Rattle.perfect_queues.proofs.ListLemmas.{get_set_other}
 use Rattle.perfect_queues.specs.Outcomes.{outcome}
 use Rattle.perfect_queues.specs.Receives.{Receive}
 use Rattle.proof_pure_network.proofs.JobLemmas.{All_append, get_set_same, push_at, push_below}
-use Rattle.proof_pure_network.specs.Announced.{IsIn}
-use Rattle.proof_pure_network.specs.Held.{Held, Part, full}
+use Rattle.proof_pure_network.specs.Announcements.{IsIn}
+use Rattle.proof_pure_network.specs.WaitingMessages.{Held, Part, full}
 use Rattle.proof_pure_network.specs.Jobs.{Job, Collecting, Offering, Over, matched_part, Unmatched}
 use Rattle.proof_engine_matching.proofs.AnnouncedLemmas.{none_alike}
 use Rattle.proof_engine_view.specs.Frames.{endpoint_of}
@@ -34,8 +34,8 @@ use Rattle.proof_engine_view.specs.Transfers.{Announcements, Transfer, serial_of
 use Rattle.proof_engine_view.specs.UnderWay.{AreApart, AreUnderWay, IsCollectionOf, IsFromLink, IsOfferOf, IsPartOf}
 use Rattle.proof_engine_view.specs.UnderWay.{collection_keys}
 use Rattle.proof_engine_steps.proofs.Announces.{apart_pushed}
-use Rattle.proof_engine_steps.proofs.Named.{all_follow}
-use Rattle.proof_engine_steps.proofs.Staying.{under_way_with}
+use Rattle.proof_engine_steps.proofs.NamedRequests.{all_follow}
+use Rattle.proof_engine_steps.proofs.UnchangedTransfers.{under_way_with}
 use Rattle.proof_engine_steps.proofs.Tables.{push_other}
 use Rattle.proof_engine_steps.proofs.UnderWay.{IsTransfer, SameTransfers, row_of}
 use Rattle.proof_engine_steps.proofs.Wholes.{announced_as}

@@ -8,7 +8,7 @@ use Rattle.std.proofs.lemmas.Option.{same_Some}
 use Rattle.vocabulary.specs.Endpoints.{is_former}
 use Rattle.vocabulary.specs.declared.endpoint.Endpoint.{Endpoint}
 use Rattle.datatypes.specs.Contents.{AreWithin}
-use Rattle.rendezvous.specs.Collecting.{Collecting, is_from, is_next_data}
+use Rattle.rendezvous.specs.Collections.{Collecting, is_from, is_next_data}
 use Rattle.rendezvous.specs.State.{collection_at, collection_for, is_due, is_taken}
 use Rattle.perfect_queues.specs.Outcomes as machine
 use Rattle.perfect_queues.specs.Receives.{names}

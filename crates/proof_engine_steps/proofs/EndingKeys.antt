@@ -3,9 +3,9 @@ use Rattle.std.specs.Prelude.{◌≡◌, ℕ, Bool, true, false, ◌||◌, ◌==
 use Rattle.vocabulary.specs.Endpoints.{is_former}
 use Rattle.perfect_queues.specs.Receives.{names}
 use Rattle.proof_pure_network.specs.Jobs.{Job, Waiting, Collecting, Offering, Over, Closed, Probed, Unmatched}
-use Rattle.proof_pure_network.specs.Held.{Held}
+use Rattle.proof_pure_network.specs.WaitingMessages.{Held}
 use Rattle.proof_engine_view.specs.Rows.{Row}
-use Rattle.proof_engine_steps.proofs.Ending.{IsAmong}
+use Rattle.proof_engine_steps.proofs.EndedRows.{IsAmong}
 
 -- whether a message that was taken out is of a former endpoint of rank r
 abbrev pub is_of_former : (r i : ℕ) → Option Held → Bool

@@ -3,11 +3,11 @@ use Rattle.std.proofs.Common.{◌≡◌, ℕ, zero, suc, Bool, true, false, List
 use Rattle.std.proofs.Common.{if◌then◌else◌, slice_get, slice_index, refl, sym, ap, ◌∙◌, subst, arith, ◌<◌}
 use Rattle.std.proofs.lemmas.Bool.{le-ltb}
 use Rattle.std.proofs.lemmas.Option.{same_Some}
-use Rattle.datagram.specs.Spelling.{FrameText}
+use Rattle.datagram.specs.Spellings.{FrameText}
 use Rattle.incarnation.specs.declared.place.Place.{Place}
 use Rattle.perfect_queues.specs.Completions.{Answer}
 use Rattle.perfect_queues.specs.Requests.{all_changed, changed}
-use Rattle.point_to_point_calls.specs.Hearing.{NewsText}
+use Rattle.point_to_point_calls.specs.FrameNews.{NewsText}
 use Rattle.point_to_point.specs.CoreState.{CoreState}
 use Rattle.vocabulary.specs.declared.endpoint.Endpoint.{Endpoint}
 use Rattle.proof_pure_network.specs.Core.{Core}
@@ -17,10 +17,10 @@ use Rattle.proof_pure_network.specs.Frames.{Frame}
 use Rattle.proof_pure_network.specs.Jobs.{Closed, Collecting, Job, Offering, Over, Waiting, closed, is_collecting}
 use Rattle.proof_pure_network.specs.Jobs.{Probed, Unmatched}
 use Rattle.proof_engine_view.specs.Frames.{known_after}
-use Rattle.proof_engine_view.specs.Shown.{IsShown}
+use Rattle.proof_engine_view.specs.CoreViews.{IsShown}
 use Rattle.proof_engine_view.specs.Transfers.{Announcements}
 use Rattle.proof_engine_steps.specs.Steps.{CollectsOnce, IsFromOther, IsHeard, heard_by_core}
-use Rattle.proof_engine_steps.proofs.SourceKnown.{source_incarnation}
+use Rattle.proof_engine_steps.proofs.SourceKnowledge.{source_incarnation}
 
 -- ---- WHO SPOKE
 

@@ -11,27 +11,27 @@ use Rattle.vocabulary.specs.declared.basic_type.BasicType.{BasicType}
 use Rattle.vocabulary.specs.declared.endpoint.Endpoint.{Endpoint}
 use Rattle.datatypes.specs.ContentLaws.{length-bytes_of, sizes}
 use Rattle.datatypes.specs.Contents.{AreWithin, bytes_of}
-use Rattle.datagram.specs.Spelling.{DataText}
+use Rattle.datagram.specs.Spellings.{DataText}
 use Rattle.incarnation.specs.declared.place.Place.{Place}
 use Rattle.match_queues.specs.declared.envelope.Message.{Message}
 use Rattle.perfect_queues.proofs.ListLemmas.{get_set_other}
 use Rattle.perfect_queues.specs.Outcomes as machine
 use Rattle.perfect_queues.specs.Receives.{Receive}
-use Rattle.rendezvous.specs.Collecting as rendezvous
-use Rattle.rendezvous.specs.Collecting.{is_whole, with_piece}
+use Rattle.rendezvous.specs.Collections as rendezvous
+use Rattle.rendezvous.specs.Collections.{is_whole, with_piece}
 use Rattle.rendezvous.specs.State as transfers
 use Rattle.rendezvous.specs.State.{blank, collection_for, is_due}
 use Rattle.rendezvous.specs.declared.offer.Offer.{Offer}
 use Rattle.requests.specs.declared.table.TableEntry.{TableEntry}
 use Rattle.proof_pure_network.proofs.JobLemmas.{get_set_same}
-use Rattle.proof_pure_network.specs.Announced.{IsIn}
+use Rattle.proof_pure_network.specs.Announcements.{IsIn}
 use Rattle.proof_pure_network.specs.Frames.{Data, Frame}
-use Rattle.proof_pure_network.specs.Held as held
-use Rattle.proof_pure_network.specs.Held.{Held, count_of}
+use Rattle.proof_pure_network.specs.WaitingMessages as held
+use Rattle.proof_pure_network.specs.WaitingMessages.{Held, count_of}
 use Rattle.proof_pure_network.specs.Jobs.{Job, Collecting, Offering, Over, Unmatched}
 use Rattle.proof_engine_view.specs.Frames.{endpoint_of}
 use Rattle.proof_engine_view.specs.Rows.{IsTable, Row}
-use Rattle.proof_engine_view.specs.Standing.{IsData}
+use Rattle.proof_engine_view.specs.FrameViews.{IsData}
 use Rattle.proof_engine_view.specs.Transfers.{Announcements, Transfer}
 use Rattle.proof_engine_view.specs.UnderWay.{AreApart, AreUnderWay, IsCollectionOf, IsOfferOf, collection_keys}
 use Rattle.proof_engine_view.specs.UnderWay.{offer_keys}

@@ -25,13 +25,13 @@ use Rattle.requests.specs.declared.table.Request.{Request}
 use Rattle.point_to_point_calls.specs.declared.refusal.Refusal.{Refusal}
 use Rattle.point_to_point_calls.specs.declared.refusal.Refusal.TheVariants as refusals
 use Rattle.point_to_point_calls.specs.declared.call.RoutedSend.{RoutedSend}
-use Rattle.datagram.specs.Spelling.{FrameText, OutgoingText}
-use Rattle.point_to_point_calls.specs.Sending.{announced_to, destination, eager_frame, frame_to, frame_unless}
-use Rattle.point_to_point_calls.specs.Sending.{is_announced, is_own, is_to_itself, offered_by, or_worn_out}
-use Rattle.point_to_point_calls.specs.Sending.{progress_of_send, rank_to, rank_unless, request_frame}
+use Rattle.datagram.specs.Spellings.{FrameText, OutgoingText}
+use Rattle.point_to_point_calls.specs.SendRules.{announced_to, destination, eager_frame, frame_to, frame_unless}
+use Rattle.point_to_point_calls.specs.SendRules.{is_announced, is_own, is_to_itself, offered_by, or_worn_out}
+use Rattle.point_to_point_calls.specs.SendRules.{progress_of_send, rank_to, rank_unless, request_frame}
 use Rattle.point_to_point.specs.CoreState.{CoreState}
-use Rattle.point_to_point.specs.Sending.{IsOffering, IsSending, arrived_at_itself, arrived_if, begun, frame_of}
-use Rattle.point_to_point.specs.Sending.{waiting_of}
+use Rattle.point_to_point.specs.Sends.{IsOffering, IsSending, arrived_at_itself, arrived_if, begun, frame_of}
+use Rattle.point_to_point.specs.Sends.{waiting_of}
 use Rattle.rendezvous.specs.State as transfers
 use Rattle.rendezvous.specs.State.{after_begin, is_full_to, most_transfers, next_to}
 use Rattle.proof_pure_network.specs.Core.{Core, effect, with_jobs}
@@ -39,9 +39,9 @@ use Rattle.proof_pure_network.specs.Engine.{sends, sends_to}
 use Rattle.proof_pure_network.specs.Frames.{Frame, Rts}
 use Rattle.proof_pure_network.specs.Jobs as jobs
 use Rattle.proof_engine_view.specs.Frames.{endpoint_of}
-use Rattle.proof_engine_view.specs.Standing.{AreSent, CanLeave, all_gone}
+use Rattle.proof_engine_view.specs.FrameViews.{AreSent, CanLeave, all_gone}
 use Rattle.proof_engine_view.specs.Transfers.{Announcements, after_out}
-use Rattle.proof_engine_steps.proofs.Announcing.{request_stands}
+use Rattle.proof_engine_steps.proofs.Announcements.{request_stands}
 
 -- ---- THE CORE'S SEND
 

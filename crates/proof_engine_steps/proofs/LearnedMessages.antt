@@ -16,10 +16,10 @@ use Rattle.proof_pure_network.specs.Jobs.{Probed}
 use Rattle.proof_engine_view.specs.Rows.{IsRow, IsTable, Row, held_of}
 use Rattle.proof_engine_view.specs.Transfers.{Transfer}
 use Rattle.proof_engine_view.specs.UnderWay.{AreTaken, IsTakenAt, IsTakenBy, IsTakenIf, IsTakenOut}
-use Rattle.proof_engine_steps.proofs.Ending.{IsAmong, cases_among, ended_row}
+use Rattle.proof_engine_steps.proofs.EndedRows.{IsAmong, cases_among, ended_row}
 use Rattle.proof_engine_steps.proofs.EndingKeys.{AreEnding}
-use Rattle.proof_engine_steps.proofs.Learning.{learned_message, row_stays}
-use Rattle.proof_engine_steps.proofs.Replacing.{ends_false, replaces_among, replaces_apart}
+use Rattle.proof_engine_steps.proofs.RestartTransfers.{learned_message, row_stays}
+use Rattle.proof_engine_steps.proofs.RestartSlots.{ends_false, replaces_among, replaces_apart}
 use Rattle.proof_engine_steps.proofs.UnderWay.{row_of}
 
 -- of a request that ended nothing is left

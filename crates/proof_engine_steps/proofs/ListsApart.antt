@@ -7,7 +7,7 @@ use Rattle.std.proofs.lemmas.Bool.{cases_eq}
 use Rattle.std.proofs.lemmas.Option.{none-some, same_Some, slice_get-map}
 use Rattle.perfect_queues.proofs.ListLemmas.{get_set_other}
 use Rattle.proof_pure_network.proofs.JobLemmas.{get_set_same}
-use Rattle.proof_pure_network.specs.Announced.{IsIn}
+use Rattle.proof_pure_network.specs.Announcements.{IsIn}
 use Rattle.proof_engine_matching.proofs.Positions.{position_cons}
 use Rattle.proof_engine_view.specs.UnderWay.{AreApart}
 

@@ -7,17 +7,17 @@ use Rattle.vocabulary.specs.declared.endpoint.Endpoint.{Endpoint}
 use Rattle.incarnation.specs.declared.place.Place.{Place}
 use Rattle.match_queues.specs.declared.envelope.Announcement.{Announcement}
 use Rattle.match_queues.specs.declared.envelope.Message.{Message}
-use Rattle.rendezvous.specs.Collecting as rendezvous
+use Rattle.rendezvous.specs.Collections as rendezvous
 use Rattle.requests.specs.Table.{after_announcement, progress_on_announcement, slot_announced, slot_at, wants_by}
 use Rattle.requests.specs.Table.{wants_so}
 use Rattle.requests.specs.declared.table.TableEntry.{TableEntry}
 use Rattle.requests.specs.declared.table.RequestProgress.{RequestProgress}
 use Rattle.requests.specs.declared.table.RequestProgress.TheVariants.{Receiving, Finished}
 use Rattle.requests.specs.declared.table.RequestProgress.TheVariants as progresses
-use Rattle.point_to_point_calls.specs.Receiving.{status_of}
+use Rattle.point_to_point_calls.specs.ReceiveMatches.{status_of}
 use Rattle.perfect_queues.specs.Outcomes.{outcome}
 use Rattle.perfect_queues.specs.Receives.{Receive, has_room}
-use Rattle.proof_pure_network.specs.Held.{Held, count_of, fits, full}
+use Rattle.proof_pure_network.specs.WaitingMessages.{Held, count_of, fits, full}
 use Rattle.proof_pure_network.specs.Jobs.{Closed, Collecting, Job, Over, Waiting, matched_part}
 use Rattle.proof_engine_view.specs.Rows.{Fits, Holds, IsTable, held_of, posted_job}
 use Rattle.proof_engine_view.specs.Rows as rows

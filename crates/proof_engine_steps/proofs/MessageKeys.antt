@@ -12,14 +12,14 @@ use Rattle.requests.specs.declared.table.RequestProgress.TheVariants.{Receiving,
 use Rattle.requests.specs.declared.table.RequestProgress.TheVariants as progresses
 use Rattle.requests.specs.Table.{is_former_message, is_of_former, keys_of, keys_of_messages, slot_at}
 use Rattle.slab.specs.Slab.{entries_from}
-use Rattle.proof_pure_network.specs.Held.{Held}
+use Rattle.proof_pure_network.specs.WaitingMessages.{Held}
 use Rattle.proof_pure_network.specs.Jobs.{Job, Probed}
 use Rattle.proof_engine_view.specs.Rows.{Holds, IsRow, IsTable, Row, held_of}
 use Rattle.proof_engine_view.specs.Transfers.{Transfer}
 use Rattle.proof_engine_view.specs.UnderWay.{AreTaken, IsTakenAt, IsTakenBy, IsTakenIf, IsTakenOut}
-use Rattle.proof_engine_steps.proofs.Ending.{IsAmong}
+use Rattle.proof_engine_steps.proofs.EndedRows.{IsAmong}
 use Rattle.proof_engine_steps.proofs.EndingKeys.{IsEnding}
-use Rattle.proof_engine_steps.proofs.Settling.{IsMessage, fits_probed}
+use Rattle.proof_engine_steps.proofs.BlockedAnswers.{IsMessage, fits_probed}
 use Rattle.proof_engine_steps.proofs.Tables.{held_at}
 use Rattle.proof_engine_steps.proofs.UnderWay.{row_of}
 

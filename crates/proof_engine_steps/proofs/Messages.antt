@@ -3,7 +3,7 @@ use Rattle.std.proofs.Common.{◌≡◌, ℕ, Bool, true, false, ◌&&◌, List,
 use Rattle.std.proofs.Common.{if◌then◌else◌, ◌==◌, slice_get, slice_set, refl, sym, ap, ap₂, ◌∙◌, subst, ◌⊎◌, inl, inr}
 use Rattle.std.proofs.lemmas.Bool.{and_from, eq-eqb, eqb-true}
 use Rattle.std.proofs.lemmas.Option.{same_Some}
-use Rattle.datagram.specs.Spelling.{OutgoingText}
+use Rattle.datagram.specs.Spellings.{OutgoingText}
 use Rattle.vocabulary.specs.declared.endpoint.Endpoint.{Endpoint}
 use Rattle.vocabulary.specs.declared.envelope.Source.TheVariants as sources
 use Rattle.incarnation.specs.declared.place.Place.{Place}
@@ -42,45 +42,45 @@ use Rattle.point_to_point_calls.specs.CoreCalls.{CoreReply}
 use Rattle.point_to_point_calls.specs.declared.refusal.Refusal.{Refusal}
 use Rattle.point_to_point_calls.specs.declared.refusal.Refusal.TheVariants as refusals
 use Rattle.point_to_point_calls.specs.Frames.{as_list}
-use Rattle.point_to_point_calls.specs.Hearing.{first_of}
-use Rattle.point_to_point_calls.specs.Receiving.{answer_on_post, collection_on_match, status_of, transfers_on_post}
-use Rattle.point_to_point_calls.specs.Receiving.{transfers_with, waiting_by}
+use Rattle.point_to_point_calls.specs.FrameNews.{first_of}
+use Rattle.point_to_point_calls.specs.ReceiveMatches.{answer_on_post, collection_on_match, status_of, transfers_on_post}
+use Rattle.point_to_point_calls.specs.ReceiveMatches.{transfers_with, waiting_by}
 use Rattle.point_to_point.specs.Calls.{free_fault}
 use Rattle.point_to_point.specs.CoreState.{CoreState}
 use Rattle.point_to_point.specs.Messages.{Receives, message_fault, message_frame, own_key_sent, own_send_of, received}
 use Rattle.point_to_point.specs.Messages.{region_rule}
-use Rattle.point_to_point.specs.Waiting.{Waits}
+use Rattle.point_to_point.specs.Completions.{Waits}
 use Rattle.proof_pure_network.specs.Claims.{ClaimsOnce}
 use Rattle.proof_pure_network.specs.Core.{Core, Effect, effect, view, with_jobs}
 use Rattle.proof_pure_network.specs.Engine.{called, core_ready, core_settled}
 use Rattle.proof_pure_network.specs.Frames.{Frame}
-use Rattle.proof_pure_network.specs.Held.{Held, blank, fits, full}
+use Rattle.proof_pure_network.specs.WaitingMessages.{Held, blank, fits, full}
 use Rattle.proof_pure_network.specs.Jobs.{Job, Over, Probed, Unmatched, matched_part}
-use Rattle.proof_pure_network.specs.Matching.{answer, awaits, matched_own, taken_at}
+use Rattle.proof_pure_network.specs.Matches.{answer, awaits, matched_own, taken_at}
 use Rattle.proof_engine_view.specs.Faults.{queue_fault}
 use Rattle.proof_engine_view.specs.Rows.{Row, held_of}
 use Rattle.observation.specs.CoreCalls.{receive_seen}
-use Rattle.proof_engine_view.specs.Shown.{IsShown}
-use Rattle.proof_engine_view.specs.Standing.{AreSent, all_gone}
+use Rattle.proof_engine_view.specs.CoreViews.{IsShown}
+use Rattle.proof_engine_view.specs.FrameViews.{AreSent, all_gone}
 use Rattle.proof_engine_view.specs.Transfers.{Announcements, Transfer, after_out}
 use Rattle.proof_engine_view.specs.UnderWay.{AreUnderWay, IsFromLink, IsTakenAt}
 use Rattle.proof_engine_matching.specs.Matches.{AnnouncedAlike, AnnouncementsAgree, OutcomesAgree, OwnOutcomesAgree}
 use Rattle.proof_engine_steps.specs.Steps.{IsCalled}
-use Rattle.proof_engine_steps.proofs.Clearing.{answer_leaves, answer_quiet, answer_sent}
-use Rattle.proof_engine_steps.proofs.Found as found
+use Rattle.proof_engine_steps.proofs.ClearToSend.{answer_leaves, answer_quiet, answer_sent}
+use Rattle.proof_engine_steps.proofs.TableRows as found
 use Rattle.proof_engine_steps.proofs.MatchedRows.{left_by}
-use Rattle.proof_engine_steps.proofs.Meant.{IsMeant, meant_called, told_by}
-use Rattle.proof_engine_steps.proofs.OwnEnded.{own_ended, received_unclaimed}
+use Rattle.proof_engine_steps.proofs.CallMeanings.{IsMeant, meant_called, told_by}
+use Rattle.proof_engine_steps.proofs.OwnSendEnds.{own_ended, received_unclaimed}
 use Rattle.proof_engine_steps.proofs.Posts.{IsGiven, given_nothing}
 use Rattle.proof_engine_steps.proofs.Regions.{handed_buffer}
 use Rattle.proof_engine_steps.proofs.RowLemmas.{job_at}
-use Rattle.proof_engine_steps.proofs.Settling.{settled_free, settled_is}
-use Rattle.proof_engine_steps.proofs.Starting.{core_free, holding_of, shown_free}
-use Rattle.proof_engine_steps.proofs.Staying.{shown_quiet}
+use Rattle.proof_engine_steps.proofs.BlockedAnswers.{settled_free, settled_is}
+use Rattle.proof_engine_steps.proofs.RequestStarts.{core_free, holding_of, shown_free}
+use Rattle.proof_engine_steps.proofs.UnchangedTransfers.{shown_quiet}
 use Rattle.proof_engine_steps.proofs.TakenRows.{IsUnmatched, forth_set}
 use Rattle.proof_engine_steps.proofs.UnderWay.{row_of}
 use Rattle.proof_engine_steps.proofs.Waits.{wait_meant}
-use Rattle.proof_engine_steps.proofs.Waking.{Holding}
+use Rattle.proof_engine_steps.proofs.BlockedRanks.{Holding}
 use Rattle.proof_engine_steps.proofs.Wholes.{announced_as, by_body, own_as, whole}
 use Rattle.proof_engine_steps.proofs.ReceivedRows.{IsReceived, over_under_way, part_under_way, received_holds}
 use Rattle.proof_engine_steps.proofs.ReceivedRows.{received_part, received_there, wait_free, with_progress}

@@ -6,38 +6,38 @@ use Rattle.vocabulary.specs.declared.endpoint.Endpoint.{Endpoint}
 use Rattle.incarnation.specs.declared.place.Place.{Place}
 use Rattle.datagram.specs.declared.kinds.Plane.{Plane}
 use Rattle.datagram.specs.declared.kinds.Plane.TheVariants.{PointToPoint, Collective}
-use Rattle.datagram.specs.Spelling.{EagerText, FrameText, EagerFrame, RequestFrame, ClearFrame, DataFrame}
+use Rattle.datagram.specs.Spellings.{EagerText, FrameText, EagerFrame, RequestFrame, ClearFrame, DataFrame}
 use Rattle.match_queues.specs.declared.envelope.Body.TheVariants as bodies
 use Rattle.match_queues.specs.declared.envelope.Message.{Message}
 use Rattle.datatypes.specs.Contents.{values_of}
 use Rattle.vocabulary.specs.BasicTypes.{size_of}
 use Rattle.requests.specs.declared.awaited_requests.Awaited.{Awaited}
 use Rattle.point_to_point.specs.CoreState.{CoreState}
-use Rattle.point_to_point_calls.specs.Hearing.{NewsText, heard_fault, message_of, transfers_met}
+use Rattle.point_to_point_calls.specs.FrameNews.{NewsText, heard_fault, message_of, transfers_met}
 use Rattle.point_to_point.specs.Arrivals.{after_any, after_news, called_for, news_frames, after_lesson}
-use Rattle.point_to_point.specs.Sending as rank
+use Rattle.point_to_point.specs.Sends as rank
 use Rattle.rendezvous.specs.State as transfers
 use Rattle.proof_pure_network.specs.Core.{Core, Effect}
 use Rattle.proof_pure_network.specs.Engine as network
 use Rattle.proof_pure_network.specs.Engine.{came}
 use Rattle.proof_pure_network.specs.Frames.{Eager, Frame}
-use Rattle.proof_pure_network.specs.Matching.{arrived}
+use Rattle.proof_pure_network.specs.Matches.{arrived}
 use Rattle.proof_engine_view.specs.Frames.{endpoint_of, known_after, message_seen}
 use Rattle.proof_engine_view.specs.Rows.{held_of}
-use Rattle.proof_engine_view.specs.Shown.{IsBlocked, IsShown}
-use Rattle.proof_engine_view.specs.Standing.{AreSent, CanLeave, IsMeant, all_gone}
+use Rattle.proof_engine_view.specs.CoreViews.{IsBlocked, IsShown}
+use Rattle.proof_engine_view.specs.FrameViews.{AreSent, CanLeave, IsMeant, all_gone}
 use Rattle.proof_engine_view.specs.Transfers.{Announcements, Transfer}
 use Rattle.proof_engine_matching.specs.Matches.{ArrivalsMatch, OutcomesAgree}
 use Rattle.proof_engine_steps.specs.Steps.{CollectsOnce, IsWithinFields, MayCome, NewsAreShown, heard_by_core}
-use Rattle.proof_engine_steps.proofs.Arriving.{IsHeldAfter, Keeps, arrived_keeps, message_holds}
+use Rattle.proof_engine_steps.proofs.MessageArrivals.{IsHeldAfter, Keeps, arrived_keeps, message_holds}
 use Rattle.proof_engine_steps.proofs.DueData.{once_met}
-use Rattle.proof_engine_steps.proofs.Meeting.{met_holds}
-use Rattle.proof_engine_steps.proofs.Named.{blocked_stays}
-use Rattle.proof_engine_steps.proofs.SourceKnown.{source_known}
-use Rattle.proof_engine_steps.proofs.Staying.{AreQuiet, sent_then, shown_quiet}
-use Rattle.proof_engine_steps.proofs.Taking.{AnnouncementsAreTaken, AnswersAreTaken, HoldBoth, IsTaken, Meets}
-use Rattle.proof_engine_steps.proofs.Taking.{MessagesAreTaken, PiecesAreTaken}
-use Rattle.proof_engine_steps.proofs.Waking.{shown_with}
+use Rattle.proof_engine_steps.proofs.WordLessons.{met_holds}
+use Rattle.proof_engine_steps.proofs.NamedRequests.{blocked_stays}
+use Rattle.proof_engine_steps.proofs.SourceKnowledge.{source_known}
+use Rattle.proof_engine_steps.proofs.UnchangedTransfers.{AreQuiet, sent_then, shown_quiet}
+use Rattle.proof_engine_steps.proofs.FrameArrivals.{AnnouncementsAreTaken, AnswersAreTaken, HoldBoth, IsTaken, Meets}
+use Rattle.proof_engine_steps.proofs.FrameArrivals.{MessagesAreTaken, PiecesAreTaken}
+use Rattle.proof_engine_steps.proofs.BlockedRanks.{shown_with}
 
 -- ---- A WHOLE MESSAGE
 

@@ -27,35 +27,42 @@ use Rattle.requests.specs.declared.table.Request.{Request}
 use Rattle.point_to_point_calls.specs.CoreCalls as calls
 use Rattle.point_to_point_calls.specs.declared.call.RoutedSend.{RoutedSend}
 use Rattle.point_to_point.specs.CoreState.{CoreState}
-use Rattle.point_to_point.specs.Sending as rank
+use Rattle.point_to_point.specs.Sends as rank
 use Rattle.point_to_point_calls.specs.Calls.{IsWithin}
 use Rattle.point_to_point_calls.specs.Frames.{as_list}
-use Rattle.point_to_point_calls.specs.Sending.{announced_to, destination, frame_to, frame_unless, is_announced, is_own}
-use Rattle.point_to_point_calls.specs.Sending.{is_to_itself, offered_by, own_message, rank_to, rank_unless}
+use Rattle.point_to_point_calls.specs.SendRules.{
+  announced_to,
+  destination,
+  frame_to,
+  frame_unless,
+  is_announced,
+  is_own,
+}
+use Rattle.point_to_point_calls.specs.SendRules.{is_to_itself, offered_by, own_message, rank_to, rank_unless}
 use Rattle.point_to_point.specs.Calls.{free_fault}
-use Rattle.point_to_point.specs.Sending.{IsSending, arrived_at_itself, arrived_if, begun, frame_of, waiting_of}
+use Rattle.point_to_point.specs.Sends.{IsSending, arrived_at_itself, arrived_if, begun, frame_of, waiting_of}
 use Rattle.proof_pure_network.specs.Core.{Core, Effect}
 use Rattle.proof_pure_network.specs.Frames.{Frame}
 use Rattle.proof_pure_network.specs.Engine as cores
 use Rattle.proof_pure_network.specs.Engine.{pushed_over, pushed_own, sends, sends_to}
 use Rattle.proof_pure_network.proofs.JobLemmas.{push_at}
 use Rattle.proof_pure_network.specs.Jobs.{Job, Over}
-use Rattle.proof_pure_network.specs.Matching.{arrived}
+use Rattle.proof_pure_network.specs.Matches.{arrived}
 use Rattle.proof_engine_view.specs.Rows.{Row, held_of}
-use Rattle.proof_engine_view.specs.Shown.{IsShown}
-use Rattle.proof_engine_view.specs.Standing.{AreSent, all_gone}
+use Rattle.proof_engine_view.specs.CoreViews.{IsShown}
+use Rattle.proof_engine_view.specs.FrameViews.{AreSent, all_gone}
 use Rattle.proof_engine_view.specs.Transfers.{Announcements, after_out}
 use Rattle.proof_engine_matching.specs.Matches.{ArrivalsMatch, OutcomesAgree}
 use Rattle.proof_engine_steps.specs.Steps.{IsCalled}
 use Rattle.proof_engine_steps.proofs.AnnouncedSends.{large_send_shown}
-use Rattle.proof_engine_steps.proofs.Arriving.{IsHeldAfter, Keeps, arrived_keeps, message_holds}
+use Rattle.proof_engine_steps.proofs.MessageArrivals.{IsHeldAfter, Keeps, arrived_keeps, message_holds}
 use Rattle.proof_engine_steps.proofs.OwnSynchronous.{own_begun, own_message_holds, own_row, own_unclaimed, started_rank}
 use Rattle.proof_engine_steps.proofs.RefusedSends.{no_send_fault}
 use Rattle.proof_engine_steps.proofs.Sends.{IsSmallSending, KeepsRules, announced_nowhere, core_sent, null_send_shown}
 use Rattle.proof_engine_steps.proofs.Sends.{other_send_shown, send_holds, send_rules, send_started, small_sending}
-use Rattle.proof_engine_steps.proofs.Starting.{none_leave, none_sent}
-use Rattle.proof_engine_steps.proofs.Staying.{AreQuiet}
-use Rattle.proof_engine_steps.proofs.Waking.{Holding}
+use Rattle.proof_engine_steps.proofs.RequestStarts.{none_leave, none_sent}
+use Rattle.proof_engine_steps.proofs.UnchangedTransfers.{AreQuiet}
+use Rattle.proof_engine_steps.proofs.BlockedRanks.{Holding}
 
 -- whom a send to the own rank is meant for
 itself : (core : Core) (own : Endpoint) → core.known own.rank ≡ own.incarnation →

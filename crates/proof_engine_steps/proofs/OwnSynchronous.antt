@@ -22,37 +22,37 @@ use Rattle.requests.specs.Table.{IsSet, after_finish, slot_at}
 use Rattle.requests.specs.declared.table.TableEntry.{TableEntry}
 use Rattle.requests.specs.declared.table.RequestProgress.{RequestProgress}
 use Rattle.requests.specs.declared.table.RequestProgress.TheVariants as progresses
-use Rattle.point_to_point_calls.specs.Receiving.{status_of}
+use Rattle.point_to_point_calls.specs.ReceiveMatches.{status_of}
 use Rattle.point_to_point.specs.CoreState.{CoreState}
-use Rattle.point_to_point.specs.Sending as rank
+use Rattle.point_to_point.specs.Sends as rank
 use Rattle.perfect_queues.specs.Outcomes as ends
 use Rattle.perfect_queues.specs.Receives.{Receive}
 use Rattle.proof_pure_network.proofs.Counts.{count_append, count_set}
 use Rattle.proof_pure_network.specs.Claims.{claims, count, is_own, is_own_body, one, taken_is}
 use Rattle.proof_pure_network.specs.Core.{Core, Effect}
 use Rattle.proof_pure_network.specs.Engine.{pushed_own}
-use Rattle.proof_pure_network.specs.Held.{Held, full}
+use Rattle.proof_pure_network.specs.WaitingMessages.{Held, full}
 use Rattle.proof_pure_network.specs.Jobs.{Closed, Collecting, Job, Offering, Over, Probed, Unmatched, Waiting}
 use Rattle.proof_pure_network.specs.Jobs.{oldest_posted}
-use Rattle.proof_pure_network.specs.Matching.{arrived, arrived_at}
+use Rattle.proof_pure_network.specs.Matches.{arrived, arrived_at}
 use Rattle.proof_engine_view.specs.Rows.{Holds, IsTable, Row, body_seen, held_of, jobs_of, posted_rows}
-use Rattle.proof_engine_view.specs.Shown.{IsShown}
+use Rattle.proof_engine_view.specs.CoreViews.{IsShown}
 use Rattle.proof_engine_view.specs.Transfers.{Announcements, Transfer}
 use Rattle.proof_engine_view.specs.UnderWay.{AreTaken, IsFromLink, IsTakenAt, IsTakenBy, IsTakenIf}
 use Rattle.proof_engine_matching.specs.Matches.{ArrivalsMatch, IsKept, IsMatchedTo, OutcomesAgree}
-use Rattle.proof_engine_steps.proofs.AnnouncementsTaken.{arrived_so}
-use Rattle.proof_engine_steps.proofs.Arriving.{Arrives, IsHeldAfter, arrives_matched}
-use Rattle.proof_engine_steps.proofs.Named.{named_same, named_set}
-use Rattle.proof_engine_steps.proofs.OwnEnded.{own_ended}
+use Rattle.proof_engine_steps.proofs.AnnouncementArrivals.{arrived_so}
+use Rattle.proof_engine_steps.proofs.MessageArrivals.{Arrives, IsHeldAfter, arrives_matched}
+use Rattle.proof_engine_steps.proofs.NamedRequests.{named_same, named_set}
+use Rattle.proof_engine_steps.proofs.OwnSendEnds.{own_ended}
 use Rattle.proof_engine_steps.proofs.RowLemmas.{job_at}
-use Rattle.proof_engine_steps.proofs.Settling.{IsMessage, fits_probed}
-use Rattle.proof_engine_steps.proofs.Starting.{holding_of, holding_started}
-use Rattle.proof_engine_steps.proofs.Staying.{same_rows, under_way_with}
+use Rattle.proof_engine_steps.proofs.BlockedAnswers.{IsMessage, fits_probed}
+use Rattle.proof_engine_steps.proofs.RequestStarts.{holding_of, holding_started}
+use Rattle.proof_engine_steps.proofs.UnchangedTransfers.{same_rows, under_way_with}
 use Rattle.proof_engine_steps.proofs.Tables.{held_at}
 use Rattle.proof_engine_steps.proofs.TakenRows.{IsLarge, IsUnmatched, back_pushed, forth_pushed, last_at}
 use Rattle.proof_engine_steps.proofs.TakenRows.{messages_forth, under_way_rows}
 use Rattle.proof_engine_steps.proofs.UnderWay.{after_grows_not, keeps_same, messages_keep, row_of}
-use Rattle.proof_engine_steps.proofs.Waking.{Holding, known_still}
+use Rattle.proof_engine_steps.proofs.BlockedRanks.{Holding, known_still}
 use Rattle.proof_engine_steps.proofs.Wholes.{own_as, pushed, whole}
 
 -- ---- A REQUEST THAT ISN'T THERE YET IS NAMED BY NO MESSAGE

@@ -2,7 +2,7 @@
 use Rattle.std.proofs.Common.{◌≡◌, ℕ, ◌+◌, Bool, false, List, [], ◌∷◌, ◌++◌, map, length, Option, Some, None}
 use Rattle.std.proofs.Common.{if◌then◌else◌, slice_set, refl, sym, ap, ◌∙◌, subst, append-nil, ◌⊎◌, inl, inr}
 use Rattle.std.specs.List.{AllByRecursion}
-use Rattle.datagram.specs.Spelling.{OutgoingText}
+use Rattle.datagram.specs.Spellings.{OutgoingText}
 use Rattle.vocabulary.specs.declared.endpoint.Endpoint.{Endpoint}
 use Rattle.vocabulary.specs.declared.envelope.Source.{Source}
 use Rattle.vocabulary.specs.declared.envelope.Source.TheVariants as sources
@@ -33,43 +33,56 @@ use Rattle.point_to_point_calls.specs.declared.refusal.Refusal.{Refusal}
 use Rattle.point_to_point_calls.specs.declared.refusal.Refusal.TheVariants as refusals
 use Rattle.point_to_point_calls.specs.Frames.{as_list}
 use Rattle.match_queues.specs.declared.envelope.Body.TheVariants.{Announced}
-use Rattle.point_to_point_calls.specs.Receiving.{answer_on_post, collection_on_match, transfers_with, posted_by}
-use Rattle.point_to_point_calls.specs.Receiving.{progress_on_post, status_of, transfers_on_post, waiting_by}
+use Rattle.point_to_point_calls.specs.ReceiveMatches.{answer_on_post, collection_on_match, transfers_with, posted_by}
+use Rattle.point_to_point_calls.specs.ReceiveMatches.{progress_on_post, status_of, transfers_on_post, waiting_by}
 use Rattle.communicator_members.specs.Statuses.{status_in}
 use Rattle.point_to_point.specs.CoreState.{CoreState}
 use Rattle.point_to_point.specs.Messages.{own_key_sent, own_send_of}
-use Rattle.point_to_point.specs.Receiving.{IsPosting, IsReceiving, IsReceivingNothing, ReceivesFrom, found_by}
-use Rattle.point_to_point.specs.Receiving.{receive_fault, receive_frame}
+use Rattle.point_to_point.specs.Receives.{IsPosting, IsReceiving, IsReceivingNothing, ReceivesFrom, found_by}
+use Rattle.point_to_point.specs.Receives.{receive_fault, receive_frame}
 use Rattle.proof_pure_network.specs.Core.{Core, Effect, view}
 use Rattle.proof_pure_network.specs.Frames.{Frame}
 use Rattle.proof_pure_network.specs.Claims.{ClaimsOnce}
-use Rattle.proof_pure_network.specs.Held.{Held, blank, full}
+use Rattle.proof_pure_network.specs.WaitingMessages.{Held, blank, full}
 use Rattle.proof_pure_network.specs.Jobs.{Over, Unmatched, Waiting}
-use Rattle.proof_pure_network.specs.Matching.{found, posted, posted_at}
-use Rattle.proof_pure_network.specs.Matching as matching
+use Rattle.proof_pure_network.specs.Matches.{found, posted, posted_at}
+use Rattle.proof_pure_network.specs.Matches as matching
 use Rattle.proof_engine_view.specs.Faults.{queue_fault}
 use Rattle.proof_engine_view.specs.Rows.{Row, held_of, posted_job, posted_rows}
 use Rattle.observation.specs.CoreCalls.{outcome_seen, receive_seen}
-use Rattle.proof_engine_view.specs.Shown.{IsShown}
-use Rattle.proof_engine_view.specs.Standing.{AreSent, CanLeave, all_gone}
+use Rattle.proof_engine_view.specs.CoreViews.{IsShown}
+use Rattle.proof_engine_view.specs.FrameViews.{AreSent, CanLeave, all_gone}
 use Rattle.proof_engine_view.specs.Transfers.{Announcements, after_out}
 use Rattle.proof_engine_view.specs.UnderWay.{AreUnderWay, IsFromLink, IsOwnOf, IsPartOf}
 use Rattle.proof_engine_matching.specs.Matches.{AnnouncedAlike, AnnouncementsAgree, Finds, FindsNone, OutcomesAgree}
 use Rattle.proof_engine_matching.specs.Matches.{OwnOutcomesAgree, PostsMatch}
 use Rattle.proof_engine_steps.specs.Steps.{IsCalled}
 use Rattle.proof_engine_steps.proofs.Announces.{collections_elsewhere}
-use Rattle.proof_engine_steps.proofs.Clearing.{answer_leaves, answer_quiet, answer_sent}
+use Rattle.proof_engine_steps.proofs.ClearToSend.{answer_leaves, answer_quiet, answer_sent}
 use Rattle.proof_engine_steps.proofs.Collects.{matched_under_way, written_pushed}
 use Rattle.proof_engine_steps.proofs.MatchedRows.{left_by, left_untaken, left_waits}
-use Rattle.proof_engine_steps.proofs.OwnEnded.{found_unclaimed, own_ended}
+use Rattle.proof_engine_steps.proofs.OwnSendEnds.{found_unclaimed, own_ended}
 use Rattle.proof_engine_steps.proofs.Regions.{handed_buffer}
 use Rattle.proof_engine_steps.proofs.Sends.{Stays}
-use Rattle.proof_engine_steps.proofs.Starting.{core_free, fault_free, holding_of, holding_started, no_fault, none_leave}
-use Rattle.proof_engine_steps.proofs.Starting.{none_sent, serial_told, shown_free, started_call, two_tests}
-use Rattle.proof_engine_steps.proofs.Staying.{AreQuiet, same_rows, shown_quiet, under_way_still, under_way_with}
+use Rattle.proof_engine_steps.proofs.RequestStarts.{
+  core_free,
+  fault_free,
+  holding_of,
+  holding_started,
+  no_fault,
+  none_leave,
+}
+use Rattle.proof_engine_steps.proofs.RequestStarts.{none_sent, serial_told, shown_free, started_call, two_tests}
+use Rattle.proof_engine_steps.proofs.UnchangedTransfers.{
+  AreQuiet,
+  same_rows,
+  shown_quiet,
+  under_way_still,
+  under_way_with,
+}
 use Rattle.proof_engine_steps.proofs.UnderWay.{after_grows_not, keeps_pushed, messages_keep, row_of, same_pushed}
 use Rattle.proof_engine_steps.proofs.UnderWay.{untaken}
-use Rattle.proof_engine_steps.proofs.Waking.{Holding}
+use Rattle.proof_engine_steps.proofs.BlockedRanks.{Holding}
 use Rattle.proof_engine_steps.proofs.Wholes.{announced_as, by_body, found_at, own_as, post_leaves, whole}
 
 -- WHAT A RECEIVE THAT WAS TAKEN MET

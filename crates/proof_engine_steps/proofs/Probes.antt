@@ -31,8 +31,8 @@ use Rattle.point_to_point_calls.specs.declared.call.RoutedProbe.{RoutedProbe}
 use Rattle.point_to_point_calls.specs.CoreCalls.{CoreReply}
 use Rattle.point_to_point_calls.specs.declared.refusal.Refusal.{Refusal}
 use Rattle.point_to_point_calls.specs.declared.refusal.Refusal.TheVariants as refusals
-use Rattle.point_to_point_calls.specs.Receiving.{status_of}
-use Rattle.point_to_point_calls.specs.Hearing.{first_of}
+use Rattle.point_to_point_calls.specs.ReceiveMatches.{status_of}
+use Rattle.point_to_point_calls.specs.FrameNews.{first_of}
 use Rattle.point_to_point_calls.specs.Refusals.{number_of_refusal}
 use Rattle.point_to_point.specs.Calls.{free_fault}
 use Rattle.point_to_point.specs.CoreState.{CoreState}
@@ -40,28 +40,28 @@ use Rattle.point_to_point.specs.Messages.{IsTakingOut, Searches, SearchesFrom, T
 use Rattle.point_to_point.specs.Messages.{probed_by, search_limit}
 use Rattle.proof_pure_network.specs.Core.{Core, view}
 use Rattle.proof_pure_network.specs.Engine.{core_ready, core_settled, core_settled_by}
-use Rattle.proof_pure_network.specs.Held as held
-use Rattle.proof_pure_network.specs.Held.{Held, blank}
+use Rattle.proof_pure_network.specs.WaitingMessages as held
+use Rattle.proof_pure_network.specs.WaitingMessages.{Held, blank}
 use Rattle.proof_pure_network.specs.Jobs.{Job, Probed, Unmatched, over_at, request_of}
-use Rattle.proof_pure_network.specs.Matching.{found, found_status, looked_at, looks, searched_at, searches}
+use Rattle.proof_pure_network.specs.Matches.{found, found_status, looked_at, looks, searched_at, searches}
 use Rattle.proof_pure_network.proofs.JobLemmas.{push_at}
 use Rattle.std.proofs.lemmas.List.{length-map}
 use Rattle.proof_engine_view.specs.Faults.{queue_fault, queue_fault_by}
 use Rattle.proof_engine_view.specs.Rows.{Row, body_seen, held_of, posted_rows}
 use Rattle.observation.specs.CoreCalls.{match_seen, probe_seen}
-use Rattle.proof_engine_view.specs.Shown.{IsBlocked, IsShown}
+use Rattle.proof_engine_view.specs.CoreViews.{IsBlocked, IsShown}
 use Rattle.proof_engine_view.specs.Transfers.{Announcements, AnnouncementsGrow, Transfer}
 use Rattle.proof_engine_view.specs.UnderWay.{AreUnderWay, IsFromLink}
 use Rattle.proof_engine_matching.specs.Matches.{Takes, TakesMatch, TakesNone}
 use Rattle.proof_engine_steps.specs.Probes.{HoldsNone, IsLookedAt, LooksAreJudged, LooksAreShown, SearchesFindAll}
 use Rattle.proof_engine_steps.specs.Probes.{look_fault_at, told_of}
 use Rattle.proof_engine_steps.specs.Steps.{IsCalled}
-use Rattle.proof_engine_steps.proofs.Meant.{IsMeant, meant_called}
-use Rattle.proof_engine_steps.proofs.Starting.{core_free, fault_free, holding_of, holding_started, shown_free}
+use Rattle.proof_engine_steps.proofs.CallMeanings.{IsMeant, meant_called}
+use Rattle.proof_engine_steps.proofs.RequestStarts.{core_free, fault_free, holding_of, holding_started, shown_free}
 use Rattle.proof_engine_steps.proofs.TakenRows.{IsLarge, IsUnmatched, back_pushed, forth_pushed, from_forth}
 use Rattle.proof_engine_steps.proofs.TakenRows.{messages_forth, under_way_rows}
 use Rattle.proof_engine_steps.proofs.UnderWay.{row_of}
-use Rattle.proof_engine_steps.proofs.Waking.{Holding}
+use Rattle.proof_engine_steps.proofs.BlockedRanks.{Holding}
 use Rattle.proof_engine_steps.proofs.Wholes.{found_at, removed}
 
 -- ---- WHAT IS FOUND

@@ -6,7 +6,7 @@ use Rattle.point_to_point_calls.specs.CoreCalls.{RoutedCall}
 use Rattle.point_to_point_calls.specs.declared.refusal.Refusal.{Refusal}
 use Rattle.point_to_point_calls.specs.declared.refusal.Refusal.TheVariants as refusals
 use Rattle.point_to_point.specs.CoreState.{CoreState}
-use Rattle.proof_engine_steps.specs.Refused.{HasReason}
+use Rattle.proof_engine_steps.specs.Refusals.{HasReason}
 use Rattle.observation.specs.Reasons.{IsOutOfRoom}
 
 -- THE MACHINE'S RULES

@@ -14,7 +14,7 @@ use Rattle.perfect_queues.specs.Receives as receives
 use Rattle.match_queues.specs.declared.envelope.Announcement.{Announcement}
 use Rattle.match_queues.specs.declared.envelope.Body.TheVariants as bodies
 use Rattle.match_queues.specs.declared.envelope.Message.{Message}
-use Rattle.rendezvous.specs.Collecting as rendezvous
+use Rattle.rendezvous.specs.Collections as rendezvous
 use Rattle.rendezvous.specs.State as transfers
 use Rattle.requests.specs.Table.{IsSet, as_request, progress_at, request_at, slot_at}
 use Rattle.requests.specs.declared.awaited_requests.Awaited.TheVariants as awaiteds
@@ -26,11 +26,11 @@ use Rattle.requests.specs.declared.table.RequestProgress.TheVariants.{Finished, 
 use Rattle.requests.specs.declared.table.RequestProgress.TheVariants as progresses
 use Rattle.requests.specs.declared.table.Request.{Request}
 use Rattle.point_to_point_calls.specs.declared.refusal.Refusal.TheVariants as refusals
-use Rattle.point_to_point_calls.specs.Receiving.{collection_on_match, transfers_with}
+use Rattle.point_to_point_calls.specs.ReceiveMatches.{collection_on_match, transfers_with}
 use Rattle.point_to_point.specs.CoreState.{CoreState}
-use Rattle.point_to_point.specs.Waiting.{wait_fault}
+use Rattle.point_to_point.specs.Completions.{wait_fault}
 use Rattle.proof_pure_network.specs.Core.{Core, with_jobs}
-use Rattle.proof_pure_network.specs.Held.{Held, count_of, fits, full}
+use Rattle.proof_pure_network.specs.WaitingMessages.{Held, count_of, fits, full}
 use Rattle.proof_pure_network.specs.Jobs.{Closed, Collecting, Job, Offering, Over, Probed, Unmatched, Waiting}
 use Rattle.proof_pure_network.specs.Jobs.{matched_part}
 use Rattle.proof_engine_view.specs.Rows.{Fits, Holds, IsMatched, IsTable, Row, held_of, posted_job}
@@ -40,12 +40,12 @@ use Rattle.proof_engine_view.specs.UnderWay.{AreTaken, AreUnderWay, IsCollection
 use Rattle.proof_engine_view.specs.UnderWay.{IsTakenIf, collection_keys}
 use Rattle.proof_engine_steps.proofs.Collects.{matched_under_way, written_set}
 use Rattle.proof_engine_steps.proofs.RowLemmas.{set_jobs}
-use Rattle.proof_engine_steps.proofs.Settling.{progress_collecting, progress_over}
+use Rattle.proof_engine_steps.proofs.BlockedAnswers.{progress_collecting, progress_over}
 use Rattle.proof_engine_steps.proofs.Tables.{changed_table, held_at, says_some, set_change, set_is_set}
 use Rattle.proof_engine_steps.proofs.TakenRows.{IsLarge, IsUnmatched, back_set, forth_set, from_forth, messages_forth}
 use Rattle.proof_engine_steps.proofs.TakenRows.{posted_still, under_way_rows}
 use Rattle.proof_engine_steps.proofs.UnderWay.{IsUntaken, row_of, untaken}
-use Rattle.proof_engine_steps.proofs.Waking.{Holding}
+use Rattle.proof_engine_steps.proofs.BlockedRanks.{Holding}
 use Rattle.proof_engine_steps.proofs.Wholes.{announced_as}
 
 -- ---- WHAT BECOMES OF IT

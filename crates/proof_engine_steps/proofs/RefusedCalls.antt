@@ -5,7 +5,7 @@ use Rattle.perfect_queues.specs.Calls as machine
 use Rattle.perfect_queues.specs.Completions.{Unanswered}
 use Rattle.perfect_queues.specs.Refusals as rules
 use Rattle.proof_pure_network.specs.Core.{Core, view}
-use Rattle.proof_pure_network.specs.Held.{blank}
+use Rattle.proof_pure_network.specs.WaitingMessages.{blank}
 use Rattle.proof_pure_network.specs.Jobs.{request_of}
 use Rattle.requests.specs.declared.awaited_requests.Awaited as rank
 use Rattle.requests.specs.declared.awaited_requests.Awaited.TheVariants as awaiteds
@@ -17,10 +17,10 @@ use Rattle.point_to_point.specs.Calls.{fault_at, free_fault}
 use Rattle.point_to_point.specs.CoreState.{CoreState}
 use Rattle.proof_engine_view.specs.Faults.{queue_fault, queue_fault_by}
 use Rattle.observation.specs.CoreCalls.{call_meant, call_seen}
-use Rattle.proof_engine_view.specs.Shown.{IsBlocked, IsShown}
+use Rattle.proof_engine_view.specs.CoreViews.{IsBlocked, IsShown}
 use Rattle.proof_engine_view.specs.Transfers.{Announcements}
-use Rattle.proof_engine_steps.specs.Refused.{AllowedCallsAreFaultless, FaultsHaveReasons, HasReason, IsFaultless}
-use Rattle.proof_engine_steps.specs.Refused.{RoomIsAReason, fault_seen}
+use Rattle.proof_engine_steps.specs.Refusals.{AllowedCallsAreFaultless, FaultsHaveReasons, HasReason, IsFaultless}
+use Rattle.proof_engine_steps.specs.Refusals.{RoomIsAReason, fault_seen}
 use Rattle.observation.specs.Reasons.{MachinesFault, NoRoom}
 use Rattle.proof_engine_steps.proofs.Reasons.{reason_is}
 use Rattle.proof_engine_steps.proofs.RefusedProbes.{message_reason, message_without_fault, search_reason}

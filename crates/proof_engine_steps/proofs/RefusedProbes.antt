@@ -9,7 +9,7 @@ use Rattle.perfect_queues.specs.Buffers.{is_too_short}
 use Rattle.perfect_queues.specs.Calls as machine
 use Rattle.perfect_queues.specs.Refusals as rules
 use Rattle.proof_pure_network.specs.Core.{Core, view}
-use Rattle.proof_pure_network.specs.Held.{blank}
+use Rattle.proof_pure_network.specs.WaitingMessages.{blank}
 use Rattle.requests.specs.Regions.{handed_of, is_unfit_to_receive}
 use Rattle.requests.specs.Table as table
 use Rattle.requests.specs.Table.{is_full, progress_at}
@@ -20,21 +20,21 @@ use Rattle.point_to_point_calls.specs.CoreCalls as calls
 use Rattle.point_to_point_calls.specs.declared.call.RoutedProbe.{RoutedProbe}
 use Rattle.point_to_point_calls.specs.declared.refusal.Refusal.{Refusal}
 use Rattle.point_to_point_calls.specs.declared.refusal.Refusal.TheVariants as refusals
-use Rattle.point_to_point_calls.specs.Hearing.{first_of}
+use Rattle.point_to_point_calls.specs.FrameNews.{first_of}
 use Rattle.point_to_point_calls.specs.Refusals.{number_of_refusal}
 use Rattle.point_to_point.specs.Calls.{free_fault}
 use Rattle.point_to_point.specs.CoreState.{CoreState}
 use Rattle.point_to_point.specs.Messages.{found_for, full_if, message_fault, probe_rule, region_rule, search_limit}
 use Rattle.proof_engine_view.specs.Faults.{queue_fault}
 use Rattle.observation.specs.CoreCalls.{call_seen, own_serial, request_by, serial_meant}
-use Rattle.proof_engine_view.specs.Shown.{IsShown}
+use Rattle.proof_engine_view.specs.CoreViews.{IsShown}
 use Rattle.proof_engine_view.specs.Transfers.{Announcements}
-use Rattle.proof_engine_steps.specs.Refused.{HasReason, IsFaultless}
+use Rattle.proof_engine_steps.specs.Refusals.{HasReason, IsFaultless}
 use Rattle.observation.specs.Reasons.{IsOutOfRoom, MachinesFault, NoRoom}
 use Rattle.proof_engine_steps.proofs.Probes.{search_fit, searches_judged}
 use Rattle.proof_engine_steps.proofs.Reasons.{count_fault, limit_met, reason_is, type_fault}
 use Rattle.proof_engine_steps.proofs.Standings.{IsPresent, meant_present, message_seen}
-use Rattle.proof_engine_steps.proofs.Starting.{core_free, fault_free, no_fault}
+use Rattle.proof_engine_steps.proofs.RequestStarts.{core_free, fault_free, no_fault}
 
 -- ---- MATCHING PROBES
 

@@ -3,7 +3,7 @@ use Rattle.std.proofs.Common.{◌≡◌, ℕ, Bool, true, false, List, Option, S
 use Rattle.perfect_queues.specs.Buffers.{is_too_short}
 use Rattle.perfect_queues.specs.Refusals as rules
 use Rattle.proof_pure_network.specs.Core.{Core, view}
-use Rattle.proof_pure_network.specs.Held.{blank}
+use Rattle.proof_pure_network.specs.WaitingMessages.{blank}
 use Rattle.requests.specs.Regions.{handed_of, is_unfit_to_receive}
 use Rattle.requests.specs.Table.{is_full}
 use Rattle.point_to_point_calls.specs.CoreCalls as calls
@@ -11,16 +11,16 @@ use Rattle.point_to_point_calls.specs.declared.call.RoutedReceive.{RoutedReceive
 use Rattle.point_to_point_calls.specs.declared.refusal.Refusal.{Refusal}
 use Rattle.point_to_point_calls.specs.declared.refusal.Refusal.TheVariants as refusals
 use Rattle.point_to_point.specs.CoreState.{CoreState}
-use Rattle.point_to_point.specs.Receiving.{receive_fault}
+use Rattle.point_to_point.specs.Receives.{receive_fault}
 use Rattle.proof_engine_view.specs.Faults.{queue_fault}
 use Rattle.observation.specs.CoreCalls.{call_seen}
-use Rattle.proof_engine_view.specs.Shown.{IsShown}
+use Rattle.proof_engine_view.specs.CoreViews.{IsShown}
 use Rattle.proof_engine_view.specs.Transfers.{Announcements}
-use Rattle.proof_engine_steps.specs.Refused.{HasReason}
+use Rattle.proof_engine_steps.specs.Refusals.{HasReason}
 use Rattle.observation.specs.Reasons.{MachinesFault, NoRoom}
 use Rattle.proof_engine_steps.proofs.Posts.{post_fit, receive_rules}
 use Rattle.proof_engine_steps.proofs.Reasons.{count_fault, limit_met, rank_fault, reason_is, tag_fault, type_fault}
-use Rattle.proof_engine_steps.proofs.Starting.{core_free, fault_free}
+use Rattle.proof_engine_steps.proofs.RequestStarts.{core_free, fault_free}
 
 -- the machine finds no fault with a receive that meets no rule of the rank's
 pub receive_faultless : (links : Announcements) (old : CoreState) (known : List ℕ) (core : Core) (v : RoutedReceive) →

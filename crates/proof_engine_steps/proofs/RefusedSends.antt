@@ -7,7 +7,7 @@ use Rattle.perfect_queues.specs.Buffers.{data_of, differs_in_type, is_too_short}
 use Rattle.vocabulary.specs.MessageLimits.{limit_of}
 use Rattle.perfect_queues.specs.Refusals as rules
 use Rattle.proof_pure_network.specs.Core.{Core, view}
-use Rattle.proof_pure_network.specs.Held.{blank}
+use Rattle.proof_pure_network.specs.WaitingMessages.{blank}
 use Rattle.requests.specs.Regions.{byte_count, handed_of}
 use Rattle.requests.specs.Table.{is_full}
 use Rattle.point_to_point_calls.specs.CoreCalls as calls
@@ -15,18 +15,18 @@ use Rattle.point_to_point_calls.specs.declared.call.RoutedSend.{RoutedSend}
 use Rattle.point_to_point_calls.specs.declared.refusal.Refusal.{Refusal}
 use Rattle.point_to_point_calls.specs.declared.refusal.Refusal.TheVariants as refusals
 use Rattle.point_to_point.specs.CoreState.{CoreState}
-use Rattle.point_to_point_calls.specs.Sending.{announced_to, or_worn_out, send_fault}
-use Rattle.point_to_point.specs.Sending.{or_full}
+use Rattle.point_to_point_calls.specs.SendRules.{announced_to, or_worn_out, send_fault}
+use Rattle.point_to_point.specs.Sends.{or_full}
 use Rattle.rendezvous.specs.State.{is_full_to}
 use Rattle.proof_engine_view.specs.Faults.{queue_fault}
 use Rattle.observation.specs.CoreCalls.{call_seen}
-use Rattle.proof_engine_view.specs.Shown.{IsShown}
+use Rattle.proof_engine_view.specs.CoreViews.{IsShown}
 use Rattle.proof_engine_view.specs.Transfers.{Announcements}
-use Rattle.proof_engine_steps.specs.Refused.{HasReason}
+use Rattle.proof_engine_steps.specs.Refusals.{HasReason}
 use Rattle.observation.specs.Reasons.{IsOutOfRoom, MachinesFault, NoRoom}
 use Rattle.proof_engine_steps.proofs.Reasons.{count_fault, limit_met, rank_fault, reason_is, tag_fault, type_fault}
 use Rattle.proof_engine_steps.proofs.Sends.{send_count, send_fit, send_over, send_rules}
-use Rattle.proof_engine_steps.proofs.Starting.{core_free, fault_free}
+use Rattle.proof_engine_steps.proofs.RequestStarts.{core_free, fault_free}
 
 -- a send that breaks a rule of the engine
 send_fault_reason : (old : CoreState) (core : Core) (s : RoutedSend) (x : Refusal) → core.blocked ≡ None →

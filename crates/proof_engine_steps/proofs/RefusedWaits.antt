@@ -8,7 +8,7 @@ use Rattle.perfect_queues.specs.Calls as machine
 use Rattle.perfect_queues.specs.Completions as completions
 use Rattle.perfect_queues.specs.Refusals as rules
 use Rattle.proof_pure_network.specs.Core.{Core, view}
-use Rattle.proof_pure_network.specs.Held.{blank}
+use Rattle.proof_pure_network.specs.WaitingMessages.{blank}
 use Rattle.requests.specs.Completions.{awaited_requests}
 use Rattle.requests.specs.Lists as lists
 use Rattle.requests.specs.Table as table
@@ -21,16 +21,16 @@ use Rattle.point_to_point_calls.specs.CoreCalls as calls
 use Rattle.point_to_point_calls.specs.declared.refusal.Refusal.{Refusal}
 use Rattle.point_to_point_calls.specs.declared.refusal.Refusal.TheVariants as refusals
 use Rattle.point_to_point.specs.CoreState.{CoreState}
-use Rattle.point_to_point.specs.Waiting.{cancel_fault, wait_fault}
+use Rattle.point_to_point.specs.Completions.{cancel_fault, wait_fault}
 use Rattle.proof_engine_view.specs.Faults.{queue_fault, queue_fault_by}
 use Rattle.observation.specs.CoreCalls.{awaited_by, awaited_seen, call_seen, own_serial, request_by, serial_meant}
-use Rattle.proof_engine_view.specs.Shown.{IsShown}
+use Rattle.proof_engine_view.specs.CoreViews.{IsShown}
 use Rattle.proof_engine_view.specs.Transfers.{Announcements}
-use Rattle.proof_engine_steps.specs.Refused.{HasReason, IsFaultless}
+use Rattle.proof_engine_steps.specs.Refusals.{HasReason, IsFaultless}
 use Rattle.observation.specs.Reasons.{IsReason, MachinesFault}
 use Rattle.proof_engine_steps.proofs.Standings.{IsPresent, all_present, awaited_meant, awaited_own, meant_present}
 use Rattle.proof_engine_steps.proofs.Standings.{neither, receive_seen, request_own, standing_at, wrong_same}
-use Rattle.proof_engine_steps.proofs.Starting.{core_free, fault_free}
+use Rattle.proof_engine_steps.proofs.RequestStarts.{core_free, fault_free}
 
 -- ---- one rule
 

@@ -1,5 +1,5 @@
 -- A send of a rank to another one, or to the null process, is that of its core in the network.
-use Rattle.datagram.specs.Spelling.{OutgoingText}
+use Rattle.datagram.specs.Spellings.{OutgoingText}
 use Rattle.vocabulary.specs.MessageLimits.{limit_of}
 use Rattle.vocabulary.specs.Limits.{eager_limit, highest_tag}
 use Rattle.std.proofs.Common.{◌^◌, ◌≡◌, ℕ, ◌+◌, ◌*◌, ◌<◌, ◌≤◌, Bool, true, false, List, [], ◌∷◌, ◌++◌, length, Option}
@@ -21,7 +21,7 @@ use Rattle.vocabulary.specs.declared.mode.Mode.TheVariants.{Standard, Synchronou
 use Rattle.proof_pure_network.specs.Core.{Core, Effect, effect, view}
 use Rattle.proof_pure_network.specs.Engine.{pushed_over, sends, sends_to}
 use Rattle.proof_pure_network.specs.Frames.{Eager, Frame}
-use Rattle.proof_pure_network.specs.Held.{blank}
+use Rattle.proof_pure_network.specs.WaitingMessages.{blank}
 use Rattle.proof_pure_network.specs.Jobs.{Over}
 use Rattle.requests.specs.Regions.{byte_count, handed_of, sent_from}
 use Rattle.requests.specs.declared.outcome.Outcome.TheVariants.{Sent}
@@ -37,10 +37,10 @@ use Rattle.datatypes.specs.Contents.{AreWithin, Contents, bytes_of, values_of}
 use Rattle.point_to_point_calls.specs.Calls.{IsWithin}
 use Rattle.point_to_point.specs.CoreState.{CoreState}
 use Rattle.point_to_point_calls.specs.Frames.{as_list}
-use Rattle.point_to_point_calls.specs.Sending.{announced_to, destination, eager_frame, frame_to, frame_unless}
-use Rattle.point_to_point_calls.specs.Sending.{is_announced, is_own, is_to_itself, offered_by, progress_of_send}
-use Rattle.point_to_point_calls.specs.Sending.{rank_to, request_frame, send_fault}
-use Rattle.point_to_point.specs.Sending.{IsSending, arrived_at_itself, arrived_if, begun, frame_of, waiting_of}
+use Rattle.point_to_point_calls.specs.SendRules.{announced_to, destination, eager_frame, frame_to, frame_unless}
+use Rattle.point_to_point_calls.specs.SendRules.{is_announced, is_own, is_to_itself, offered_by, progress_of_send}
+use Rattle.point_to_point_calls.specs.SendRules.{rank_to, request_frame, send_fault}
+use Rattle.point_to_point.specs.Sends.{IsSending, arrived_at_itself, arrived_if, begun, frame_of, waiting_of}
 use Rattle.rendezvous.specs.State.{next_to}
 use Rattle.requests.specs.Table.{IsSet, slot_at}
 use Rattle.requests.specs.declared.table.TableEntry.{TableEntry}
@@ -48,17 +48,24 @@ use Rattle.proof_engine_view.specs.Faults.{queue_fault}
 use Rattle.proof_engine_view.specs.Frames.{endpoint_of}
 use Rattle.proof_engine_view.specs.Rows.{Row, posted_rows}
 use Rattle.observation.specs.CoreCalls.{call_seen}
-use Rattle.proof_engine_view.specs.Shown.{IsShown}
-use Rattle.proof_engine_view.specs.Standing.{AreSent, CanLeave, all_gone}
+use Rattle.proof_engine_view.specs.CoreViews.{IsShown}
+use Rattle.proof_engine_view.specs.FrameViews.{AreSent, CanLeave, all_gone}
 use Rattle.proof_engine_view.specs.Transfers.{Announcements, after_out}
 use Rattle.proof_engine_steps.specs.Steps.{IsCalled}
 use Rattle.proof_engine_steps.proofs.LargeSends.{none_waits, not_to_itself}
 use Rattle.proof_engine_steps.proofs.Regions.{handed_buffer}
-use Rattle.proof_engine_steps.proofs.Starting.{core_free, fault_free, holding_of, holding_started, no_fault, none_leave}
-use Rattle.proof_engine_steps.proofs.Starting.{none_sent, serial_told, shown_free, started_call, two_tests}
-use Rattle.proof_engine_steps.proofs.Staying.{AreQuiet, shown_quiet, under_way_still}
+use Rattle.proof_engine_steps.proofs.RequestStarts.{
+  core_free,
+  fault_free,
+  holding_of,
+  holding_started,
+  no_fault,
+  none_leave,
+}
+use Rattle.proof_engine_steps.proofs.RequestStarts.{none_sent, serial_told, shown_free, started_call, two_tests}
+use Rattle.proof_engine_steps.proofs.UnchangedTransfers.{AreQuiet, shown_quiet, under_way_still}
 use Rattle.proof_engine_steps.proofs.UnderWay.{after_grows_not, same_pushed}
-use Rattle.proof_engine_steps.proofs.Waking.{Holding}
+use Rattle.proof_engine_steps.proofs.BlockedRanks.{Holding}
 
 -- WHAT A SEND THAT WAS TAKEN MET
 

@@ -9,7 +9,7 @@ use Rattle.perfect_queues.specs.Outcomes as ends
 use Rattle.perfect_queues.specs.Receives as receives
 use Rattle.perfect_queues.specs.Refusals as rules
 use Rattle.proof_pure_network.specs.Core.{Core}
-use Rattle.proof_pure_network.specs.Held.{blank}
+use Rattle.proof_pure_network.specs.WaitingMessages.{blank}
 use Rattle.proof_pure_network.specs.Jobs.{Job, Waiting, Collecting, Offering, Over, Closed, request_of, Probed}
 use Rattle.proof_pure_network.specs.Jobs.{Unmatched}
 use Rattle.requests.specs.Completions.{awaited_requests}
@@ -28,11 +28,11 @@ use Rattle.point_to_point.specs.CoreState.{CoreState}
 use Rattle.proof_engine_view.specs.Rows.{Row, Stands}
 use Rattle.observation.specs.CoreCalls.{awaited_by, is_foreign, outcome_seen, own_serial, request_by, requests_by}
 use Rattle.observation.specs.CoreCalls.{serial_meant}
-use Rattle.proof_engine_view.specs.Shown.{IsShown}
+use Rattle.proof_engine_view.specs.CoreViews.{IsShown}
 use Rattle.proof_engine_view.specs.Transfers.{Announcements}
 use Rattle.proof_engine_steps.proofs.Foreign.{foreign_of, held_own, meant_foreign, meant_own}
-use Rattle.proof_engine_steps.proofs.Found.{CollectsFor, HasRow, HoldsMessage, OffersValues, WaitsForMatch}
-use Rattle.proof_engine_steps.proofs.Found.{collecting_of, probed_of, finished_row, offering_of, row_of, waiting_of}
+use Rattle.proof_engine_steps.proofs.TableRows.{CollectsFor, HasRow, HoldsMessage, OffersValues, WaitsForMatch}
+use Rattle.proof_engine_steps.proofs.TableRows.{collecting_of, probed_of, finished_row, offering_of, row_of, waiting_of}
 
 -- ---- one request
 

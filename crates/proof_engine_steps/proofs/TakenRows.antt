@@ -12,7 +12,7 @@ use Rattle.match_queues.specs.declared.envelope.Body.TheVariants as bodies
 use Rattle.match_queues.specs.declared.envelope.Message.{Message}
 use Rattle.match_queues.specs.declared.envelope.PostedReceive as posted
 use Rattle.rendezvous.specs.declared.offer.Offer.{Offer}
-use Rattle.rendezvous.specs.Collecting as rendezvous
+use Rattle.rendezvous.specs.Collections as rendezvous
 use Rattle.rendezvous.specs.State as transfers
 use Rattle.perfect_queues.proofs.ListLemmas.{get_set_other}
 use Rattle.proof_pure_network.proofs.JobLemmas.{get_set_same}
@@ -21,7 +21,7 @@ use Rattle.proof_engine_view.specs.Frames.{endpoint_of}
 use Rattle.proof_engine_view.specs.Rows.{Row, posted_job, posted_rows}
 use Rattle.proof_engine_view.specs.Transfers.{Announcements, Transfer}
 use Rattle.proof_engine_view.specs.UnderWay.{AreUnderWay, IsCollectionOf, IsFromLink, IsOfferOf}
-use Rattle.proof_engine_steps.proofs.Named.{all_follow}
+use Rattle.proof_engine_steps.proofs.NamedRequests.{all_follow}
 
 -- a row by its parts
 abbrev pub row_of : ℕ → Job → Row

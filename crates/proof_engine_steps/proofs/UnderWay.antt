@@ -18,21 +18,21 @@ use Rattle.requests.specs.Completions.{without}
 use Rattle.requests.specs.Table.{IsSet, slot_at}
 use Rattle.rendezvous.specs.declared.offer.Offer.{Offer}
 use Rattle.rendezvous.specs.declared.transfers.Numbers.{Numbers}
-use Rattle.rendezvous.specs.Collecting as rendezvous
+use Rattle.rendezvous.specs.Collections as rendezvous
 use Rattle.rendezvous.specs.State as transfers
 use Rattle.proof_pure_network.specs.Core.{Core}
-use Rattle.proof_pure_network.specs.Held as held
-use Rattle.proof_pure_network.specs.Held.{Held, Part}
+use Rattle.proof_pure_network.specs.WaitingMessages as held
+use Rattle.proof_pure_network.specs.WaitingMessages.{Held, Part}
 use Rattle.proof_pure_network.specs.Jobs.{Job, Waiting, Collecting, Offering, Over, Closed, Probed, Unmatched}
 use Rattle.proof_engine_view.specs.Frames.{endpoint_of}
 use Rattle.proof_engine_view.specs.Rows.{Fits, Row, body_seen, held_of}
 use Rattle.proof_engine_view.specs.Transfers.{Announcements, AnnouncementsGrow, Transfer}
-use Rattle.proof_engine_view.specs.Shown.{IsShown}
+use Rattle.proof_engine_view.specs.CoreViews.{IsShown}
 use Rattle.proof_engine_view.specs.UnderWay.{AreTaken, AreUnderWay, IsCollectionOf, IsFromLink, IsNumbered, IsOfferOf}
 use Rattle.proof_engine_view.specs.UnderWay.{IsTakenAt, IsTakenBy, IsTakenIf}
-use Rattle.proof_engine_view.proofs.Growing.{begun_at, number_more, serial_more}
+use Rattle.proof_engine_view.proofs.LastingViews.{begun_at, number_more, serial_more}
 use Rattle.proof_engine_steps.specs.Steps.{OthersMayAnnounce}
-use Rattle.proof_engine_steps.proofs.Named.{all_follow}
+use Rattle.proof_engine_steps.proofs.NamedRequests.{all_follow}
 use Rattle.proof_engine_steps.proofs.TakenRows.{IsLarge, back_pushed, back_set, forth_pushed, forth_set, under_way_rows}
 pub use Rattle.proof_engine_steps.proofs.TakenRows.{row_of}
 

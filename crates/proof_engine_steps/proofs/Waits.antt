@@ -8,7 +8,7 @@ use Rattle.perfect_queues.specs.Outcomes as ends
 use Rattle.proof_pure_network.proofs.JobLemmas.{finished_same}
 use Rattle.proof_pure_network.specs.Core.{Core}
 use Rattle.proof_pure_network.specs.Engine.{core_ready, core_settled, core_settled_by, core_tested}
-use Rattle.proof_pure_network.specs.Held.{blank}
+use Rattle.proof_pure_network.specs.WaitingMessages.{blank}
 use Rattle.proof_pure_network.specs.Jobs.{over_at}
 use Rattle.requests.specs.Completions.{awaited_requests, completion, without}
 use Rattle.requests.specs.declared.answer.Answer.{Answer}
@@ -18,21 +18,21 @@ use Rattle.requests.specs.declared.table.Request.{Request}
 use Rattle.point_to_point_calls.specs.CoreCalls.{CoreReply}
 use Rattle.point_to_point_calls.specs.CoreCalls as replies
 use Rattle.point_to_point.specs.CoreState.{CoreState}
-use Rattle.point_to_point.specs.Waiting.{Tests, TestsBy, Waits, WaitsBy, wait_fault}
+use Rattle.point_to_point.specs.Completions.{Tests, TestsBy, Waits, WaitsBy, wait_fault}
 use Rattle.observation.specs.CoreCalls.{answer_seen, awaited_seen, own_serial, request_by}
-use Rattle.proof_engine_view.specs.Shown.{IsNamed, IsShown}
+use Rattle.proof_engine_view.specs.CoreViews.{IsNamed, IsShown}
 use Rattle.proof_engine_view.specs.Transfers.{Announcements}
-use Rattle.proof_engine_steps.proofs.Agreeing.{completion_seen, serials_of}
-use Rattle.proof_engine_steps.proofs.Found.{named_of}
-use Rattle.proof_engine_steps.proofs.Meant.{IsMeant, told_by}
-use Rattle.proof_engine_steps.proofs.Named.{all_follow}
+use Rattle.proof_engine_steps.proofs.WaitAnswers.{completion_seen, serials_of}
+use Rattle.proof_engine_steps.proofs.TableRows.{named_of}
+use Rattle.proof_engine_steps.proofs.CallMeanings.{IsMeant, told_by}
+use Rattle.proof_engine_steps.proofs.NamedRequests.{all_follow}
 use Rattle.proof_engine_steps.proofs.RefusedWaits.{test_faultless, wait_faultless, wait_present}
-use Rattle.proof_engine_steps.proofs.Settling.{settled_free}
+use Rattle.proof_engine_steps.proofs.BlockedAnswers.{settled_free}
 use Rattle.proof_engine_steps.proofs.Standings.{IsPresent}
-use Rattle.proof_engine_steps.proofs.Starting.{core_free, shown_free}
-use Rattle.proof_engine_steps.proofs.Using.{rows_without}
-use Rattle.proof_engine_steps.proofs.Waking.{Holding, core_answered, core_completion, holding_of, holding_used}
-use Rattle.proof_engine_steps.proofs.Waking.{shown_with}
+use Rattle.proof_engine_steps.proofs.RequestStarts.{core_free, shown_free}
+use Rattle.proof_engine_steps.proofs.ClosedRows.{rows_without}
+use Rattle.proof_engine_steps.proofs.BlockedRanks.{Holding, core_answered, core_completion, holding_of, holding_used}
+use Rattle.proof_engine_steps.proofs.BlockedRanks.{shown_with}
 
 -- ---- what both answer
 

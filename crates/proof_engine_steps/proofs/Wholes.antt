@@ -15,7 +15,7 @@ use Rattle.match_queues.specs.State.{receive_for}
 use Rattle.match_queues.specs.Arrivals.{arrival_at}
 use Rattle.rendezvous.specs.State as transfers
 use Rattle.requests.specs.declared.table.TableEntry.{TableEntry}
-use Rattle.point_to_point_calls.specs.Receiving.{transfers_on_arrival}
+use Rattle.point_to_point_calls.specs.ReceiveMatches.{transfers_on_arrival}
 
 -- ---- one message
 

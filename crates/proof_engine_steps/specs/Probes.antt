@@ -17,11 +17,11 @@ use Rattle.perfect_queues.specs.Events.{Called, call_and_reply, told}
 use Rattle.perfect_queues.specs.Receives.{such_receive}
 use Rattle.proof_pure_network.specs.Core.{Core, view}
 use Rattle.proof_pure_network.specs.Engine.{called, core_ready, core_settled}
-use Rattle.proof_pure_network.specs.Held.{blank}
-use Rattle.proof_pure_network.specs.Matching.{found}
+use Rattle.proof_pure_network.specs.WaitingMessages.{blank}
+use Rattle.proof_pure_network.specs.Matches.{found}
 use Rattle.proof_engine_view.specs.Faults.{queue_fault}
 use Rattle.observation.specs.CoreCalls.{probe_seen}
-use Rattle.proof_engine_view.specs.Shown.{IsShown}
+use Rattle.proof_engine_view.specs.CoreViews.{IsShown}
 use Rattle.proof_engine_view.specs.Transfers.{Announcements}
 
 -- what the rank tells of a probe, whose source is a rank of the probe's group

@@ -1,31 +1,31 @@
 -- What an event of a rank's core is to its core in the pure network.
 use Rattle.std.specs.Prelude.{◌≡◌, ◌<◌, ◌≤◌, true, nat_lt, List, [], ℕ, Option, Some, None, slice_get, slice_index}
 use Rattle.std.specs.List.{AllByRecursion}
-use Rattle.datagram.specs.Spelling.{FrameIsWithinFields, FrameText}
+use Rattle.datagram.specs.Spellings.{FrameIsWithinFields, FrameText}
 use Rattle.incarnation.specs.declared.place.Place.{Place}
-use Rattle.incarnation.specs.Knowing as knowing
+use Rattle.incarnation.specs.Knowledge as knowing
 use Rattle.point_to_point_calls.specs.CoreCalls.{RoutedCall}
 use Rattle.point_to_point_calls.specs.CoreCalls.{CoreReply}
 use Rattle.point_to_point_calls.specs.Calls.{IsWithin}
 use Rattle.point_to_point.specs.Calls.{Answers, call_fault, call_frame}
 use Rattle.point_to_point.specs.CoreState.{CoreState, opening}
 use Rattle.point_to_point_calls.specs.Frames.{as_list}
-use Rattle.point_to_point_calls.specs.Hearing.{NewsText}
+use Rattle.point_to_point_calls.specs.FrameNews.{NewsText}
 use Rattle.point_to_point.specs.Arrivals.{after_news, news_fault, news_frames}
-use Rattle.point_to_point.specs.Waiting.{after_wake}
+use Rattle.point_to_point.specs.Completions.{after_wake}
 use Rattle.vocabulary.specs.declared.endpoint.Endpoint.{Endpoint}
 use Rattle.perfect_queues.specs.Events.{call_and_reply, told}
 use Rattle.proof_pure_network.specs.Claims.{ClaimsOnce}
 use Rattle.proof_pure_network.specs.Core.{Core, Effect, effect, new_core, view}
 use Rattle.proof_pure_network.specs.Engine.{called, came, core_ready, core_settled, met}
 use Rattle.proof_pure_network.specs.Frames.{Frame}
-use Rattle.proof_pure_network.specs.Held.{blank}
+use Rattle.proof_pure_network.specs.WaitingMessages.{blank}
 use Rattle.proof_pure_network.specs.Jobs.{Job, is_collecting}
 use Rattle.proof_engine_view.specs.Frames.{known_after}
 use Rattle.proof_engine_view.specs.Faults.{queue_fault}
 use Rattle.observation.specs.CoreCalls.{call_seen, told_call, told_completion}
-use Rattle.proof_engine_view.specs.Shown.{IsSettled, IsShown}
-use Rattle.proof_engine_view.specs.Standing.{AreSent, CanLeave, IsMeant, all_gone}
+use Rattle.proof_engine_view.specs.CoreViews.{IsSettled, IsShown}
+use Rattle.proof_engine_view.specs.FrameViews.{AreSent, CanLeave, IsMeant, all_gone}
 use Rattle.proof_engine_view.specs.Transfers.{Announcements, AnnouncementsGrow, after_out}
 
 -- A core that starts, at whatever incarnation, holds what a new core of the network holds: nothing was announced on its

@@ -3,7 +3,7 @@
 ghost use Rattle.proof_engine_steps.specs.Steps.{OpeningIsShown, OpeningIsSettled, CallsAreShown, NewsAreShown};
 ghost use Rattle.proof_engine_steps.specs.Steps.{WakesAreShown, OthersMayAnnounce};
 ghost use Rattle.proof_engine_steps.specs.Probes.{LooksAreShown, LooksAreJudged, SearchesFindAll};
-ghost use Rattle.proof_engine_steps.specs.Refused.{FaultsHaveReasons, AllowedCallsAreFaultless, RoomIsAReason};
+ghost use Rattle.proof_engine_steps.specs.Refusals.{FaultsHaveReasons, AllowedCallsAreFaultless, RoomIsAReason};
 
 /// States that a rank's core holds what a core of the pure network holds, at whatever incarnation it starts, and that
 /// each call that is taken, if its elements have the width of their type, and all that may come from another rank, be

@@ -1,6 +1,6 @@
 //! That transfers which are no sends are counted in a rank's sessions.
 
-ghost use Rattle.proof_engine_steps.specs.Counting.{NumbersAreCounts, TransfersToAreCounted, TransfersFromAreCounted};
+ghost use Rattle.proof_engine_steps.specs.TransferCounts.{NumbersAreCounts, TransfersToAreCounted, TransfersFromAreCounted};
 
 /// States that a rank's core goes on to hold what a core of the pure network holds where a transfer is counted that is
 /// none of its sends and receives, to another rank or from one: the numbers of the session go on, under which later

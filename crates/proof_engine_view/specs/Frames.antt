@@ -5,7 +5,7 @@ use Rattle.vocabulary.specs.declared.endpoint.Endpoint.{Endpoint}
 use Rattle.datatypes.specs.Contents.{values_of}
 use Rattle.datagram.specs.declared.kinds.Plane.{Plane}
 use Rattle.datagram.specs.declared.kinds.Plane.TheVariants.{PointToPoint, Collective}
-use Rattle.datagram.specs.Spelling.{EagerText}
+use Rattle.datagram.specs.Spellings.{EagerText}
 use Rattle.proof_pure_network.specs.Frames.{Eager, Frame}
 
 -- an eager message by its plane; one of a collective operation is no frame of the network

@@ -1,7 +1,7 @@
 pub mod Faults
 pub mod Frames
 pub mod Transfers
-pub mod Standing
+pub mod FrameViews
 pub mod Rows
 pub mod UnderWay
-pub mod Shown
+pub mod CoreViews

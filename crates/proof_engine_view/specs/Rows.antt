@@ -17,8 +17,8 @@ use Rattle.requests.specs.Regions.{handed_of}
 use Rattle.requests.specs.Table.{slot_at}
 use Rattle.perfect_queues.specs.Outcomes.{status_by}
 use Rattle.perfect_queues.specs.Receives.{Receive}
-use Rattle.proof_pure_network.specs.Held.{Held, Own, Part, Whole, count_of, fits}
-use Rattle.proof_pure_network.specs.Held as held
+use Rattle.proof_pure_network.specs.WaitingMessages.{Held, Own, Part, Whole, count_of, fits}
+use Rattle.proof_pure_network.specs.WaitingMessages as held
 use Rattle.proof_pure_network.specs.Jobs.{Job, Waiting, Collecting, Offering, Over, Closed, Unmatched, Probed}
 use Rattle.observation.specs.CoreCalls.{outcome_seen}
 use Rattle.proof_engine_view.specs.Transfers.{Transfer, serial_at}

@@ -19,12 +19,12 @@ use Rattle.requests.specs.declared.table.RequestProgress.TheVariants as progress
 use Rattle.requests.specs.Table.{slot_at}
 use Rattle.rendezvous.specs.declared.offer.Offer.{Offer}
 use Rattle.rendezvous.specs.declared.transfers.Numbers.{Numbers}
-use Rattle.rendezvous.specs.Collecting as rendezvous
+use Rattle.rendezvous.specs.Collections as rendezvous
 use Rattle.rendezvous.specs.State as transfers
 use Rattle.rendezvous.specs.State.{most_transfers, next_to}
 use Rattle.perfect_queues.specs.Receives.{Receive}
-use Rattle.proof_pure_network.specs.Announced.{IsIn}
-use Rattle.proof_pure_network.specs.Held.{Held, Part}
+use Rattle.proof_pure_network.specs.Announcements.{IsIn}
+use Rattle.proof_pure_network.specs.WaitingMessages.{Held, Part}
 use Rattle.proof_pure_network.specs.Jobs.{Collecting, Offering, Probed, Unmatched}
 use Rattle.proof_engine_view.specs.Frames.{endpoint_of}
 use Rattle.proof_engine_view.specs.Rows.{Row, held_of}

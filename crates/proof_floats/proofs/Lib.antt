@@ -1,5 +1,5 @@
 pub mod Orders
 pub mod Unique
 pub mod Worth
-pub mod Shown
+pub mod DigitTexts
 pub mod ReadBack

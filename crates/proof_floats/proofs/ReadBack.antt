@@ -22,7 +22,7 @@ use lib.Ieee.Fits.{round-fits}
 use Rattle.float_texts.specs.Digits.{before_point, behind_point, low_digits}
 use Rattle.float_texts.specs.Values.{significand_of, value_by}
 use Rattle.float_texts.specs.Texts.{float_text, float_value_text}
-use Rattle.proof_floats.proofs.Shown.{nearest_is, numeral, some_shown, text_parts, well_formed}
+use Rattle.proof_floats.proofs.DigitTexts.{nearest_is, numeral, some_shown, text_parts, well_formed}
 use Rattle.proof_floats.proofs.Unique.{unique}
 use Rattle.proof_floats.proofs.Worth.{AreSmall, count_kept, digits_small, digits_worth, kept, small_left, small_right}
 use Rattle.proof_floats.proofs.Worth.{split_kept, split_zeros, worth, worth_shown, zeros}

@@ -17,7 +17,7 @@ use Rattle.proof_group_network.proofs.GroupSteps.{clash, got_count, got_out}
 use Rattle.proof_group_network.proofs.Verdicts.{Entered, Made, SaysAt, making_first}
 use Rattle.proof_group_network.proofs.GroupSteps.{none_some, told_is_result}
 use Rattle.proof_group_network.proofs.Verdicts.{says_at}
-use Rattle.proof_group_network.proofs.GroupsKept.{Honest, IsInside, put_same}
+use Rattle.proof_group_network.proofs.GroupInvariant.{Honest, IsInside, put_same}
 use Rattle.proof_group_network.proofs.Lively.{HasCome, IsOutside, IsToldUp}
 use Rattle.proof_group_network.proofs.Lively.{LeftFrom, Lively, Longer, More, Settled, come_left}
 use Rattle.proof_group_network.proofs.Lively.{get_push_back, joined_more}

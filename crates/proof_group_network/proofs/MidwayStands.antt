@@ -7,9 +7,9 @@ use Rattle.perfect_queues.proofs.EndpointLemmas.{same_eq}
 use Rattle.proof_group_network.proofs.HappeningSteps.{words}
 use Rattle.proof_group_network.proofs.LinksOfMessages.{note_some_net, run_keeps_net}
 use Rattle.proof_group_network.proofs.MidwaySteps.{known_midway}
-use Rattle.proof_group_network.proofs.NetworkKept.{new_kept_with_groups, real_of}
+use Rattle.proof_group_network.proofs.NetworkInvariant.{new_kept_with_groups, real_of}
 use Rattle.proof_group_network.proofs.UnderWay.{NetworkDoing, NetworkKept}
-use Rattle.proof_group_network.proofs.NetworkKept.{run_kept_with_groups, word_current, word_doing}
+use Rattle.proof_group_network.proofs.NetworkInvariant.{run_kept_with_groups, word_current, word_doing}
 use Rattle.proof_group_network.proofs.NetworkLive.{Both, Live, new_live, run_live, word_both}
 use Rattle.proof_group_network.proofs.NoticesStand.{notices_stand, stands_by}
 use Rattle.proof_group_network.specs.Midway.{MidwayStands, WordsGoOn, unsettled}
@@ -17,14 +17,14 @@ use Rattle.proof_group_network.specs.Network.{GroupNetwork, Happening, Word, hap
 use Rattle.proof_group_network.specs.Network.{new_group_network, note_at, note_some, put_member, run, settle_event}
 use Rattle.proof_group_network.specs.Notices.{Notice}
 use Rattle.proof_group_network.specs.NoticesStand.{IsOfWorld, NoticesStand}
-use Rattle.proof_pure_network.proofs.AgreeKept.{Agrees, agreeing_is_stable, new_agrees}
-use Rattle.proof_pure_network.proofs.AnnouncedKept.{Standing, new_stands, standing_is_stable}
-use Rattle.proof_pure_network.proofs.Known.{met_live}
+use Rattle.proof_pure_network.proofs.AgreementInvariant.{Agrees, agreeing_is_stable, new_agrees}
+use Rattle.proof_pure_network.proofs.AnnouncementInvariant.{Standing, new_stands, standing_is_stable}
+use Rattle.proof_pure_network.proofs.Knowledge.{met_live}
 use Rattle.proof_pure_network.proofs.MeetingLaws.{meetings_stand_in}
-use Rattle.proof_pure_network.proofs.RunKept.{apart_of}
+use Rattle.proof_pure_network.proofs.RunInvariant.{apart_of}
 use Rattle.proof_pure_network.proofs.Simulation.{is_stale}
 use Rattle.proof_pure_network.proofs.Stable.{IsStable, hand_some_keeps}
-use Rattle.proof_pure_network.proofs.Told.{met_knows}
+use Rattle.proof_pure_network.proofs.Tellings.{met_knows}
 use Rattle.proof_pure_network.proofs.TransferLaws.{transfers_stand_in}
 use Rattle.proof_pure_network.specs.Engine.{met}
 use Rattle.proof_pure_network.specs.Frames.{Values}

@@ -5,19 +5,19 @@ use mathlib.Core.Path.{fun_ext}
 use Rattle.std.proofs.lemmas.Bool.{le-ltb}
 use Rattle.std.proofs.lemmas.List.{append-nil}
 use Rattle.perfect_queues.proofs.EndpointLemmas.{same_eq}
-use Rattle.proof_group_network.proofs.GroupsKept.{put_same}
+use Rattle.proof_group_network.proofs.GroupInvariant.{put_same}
 use Rattle.proof_group_network.proofs.HappeningSteps.{IsMid, attempted, core_here, framed_mid, heard_mid, noted_at}
 use Rattle.proof_group_network.proofs.HappeningSteps.{noted_mid, same_mid, settled_after, words}
 use Rattle.proof_group_network.proofs.LinksOfMessages.{note_some_net}
-use Rattle.proof_group_network.specs.Happened.{IsAfter, met_core, noted_effect}
+use Rattle.proof_group_network.specs.Happenings.{IsAfter, met_core, noted_effect}
 use Rattle.proof_group_network.specs.Midway.{EventsSettle, MessagesCome, NoticesCome, PartsAddUp, WordsCome}
 use Rattle.proof_group_network.specs.Midway.{WordsSettle, unsettled}
 use Rattle.proof_group_network.specs.Network.{GroupNetwork, NoticeLink, attempt_at, hear_word, note_at, note_some}
 use Rattle.proof_group_network.specs.Network.{noticed_on, notify_all, put_member}
 use Rattle.proof_group_network.specs.Notices.{Member, Notice, member_learned, noted}
 use Rattle.proof_group_network.specs.NoticesStand.{heard_member}
-use Rattle.proof_pure_network.proofs.Known.{came_known}
-use Rattle.proof_pure_network.proofs.Told.{IsKnown, met_knows}
+use Rattle.proof_pure_network.proofs.Knowledge.{came_known}
+use Rattle.proof_pure_network.proofs.Tellings.{IsKnown, met_knows}
 use Rattle.proof_pure_network.specs.Core.{Core}
 use Rattle.proof_pure_network.specs.Engine.{came, learned, met}
 use Rattle.proof_pure_network.specs.Frames.{Frame}

@@ -23,7 +23,7 @@ use Rattle.proof_group_network.proofs.GroupEvents.{enter_groups, enter_honest, l
 use Rattle.proof_group_network.proofs.GroupEvents.{noted_groups, noted_honest, settled_groups, settled_honest}
 use Rattle.proof_group_network.proofs.GroupSteps.{attempt_tried}
 use Rattle.proof_group_network.proofs.Verdicts.{Tried}
-use Rattle.proof_group_network.proofs.GroupsKept.{Honest, put_same}
+use Rattle.proof_group_network.proofs.GroupInvariant.{Honest, put_same}
 use Rattle.proof_group_network.proofs.NetworkMoves.{NetworkFollows, NetworkMidway, NetworkSeen, asked_learns}
 use Rattle.proof_group_network.proofs.NetworkMoves.{came_learns, group_seen_more}
 use Rattle.proof_group_network.proofs.NetworkMoves.{group_settle_follows, mid_call, mid_group, mid_queue}
@@ -41,26 +41,26 @@ use Rattle.proof_pure_network.specs.Contract.{Asked, Came, Work, taken_in}
 use Rattle.proof_pure_network.specs.Core.{Core, view}
 use Rattle.proof_pure_network.specs.Engine.{called, came, core_ready, core_settled, learned, met}
 use Rattle.proof_pure_network.specs.Frames.{Frame, Values}
-use Rattle.proof_pure_network.specs.Held.{blank}
+use Rattle.proof_pure_network.specs.WaitingMessages.{blank}
 use Rattle.proof_pure_network.specs.Links.{accept_all, handed_on}
 use Rattle.proof_pure_network.specs.Network.{Network, call_at, hand_at, hand_some, with_core}
-use Rattle.proof_pure_network.proofs.CallKept.{call_logged, call_sane, call_spelled, heard_at}
-use Rattle.proof_pure_network.proofs.DueKept.{call_due, hand_due, hear_due, settle_due}
+use Rattle.proof_pure_network.proofs.CallInvariant.{call_logged, call_sane, call_spelled, heard_at}
+use Rattle.proof_pure_network.proofs.DueSends.{call_due, hand_due, hear_due, settle_due}
 use Rattle.proof_pure_network.proofs.EngineWork.{call_work, came_work, learn_local, view_settled}
-use Rattle.proof_pure_network.proofs.EventKept.{answers_hold, asked_blank, hand_sane}
-use Rattle.proof_pure_network.proofs.EventKept.{hear_sane, settle_sane}
-use Rattle.proof_pure_network.proofs.FlowKept.{call_flows, hand_flows, hear_flows, settle_flows}
+use Rattle.proof_pure_network.proofs.EventInvariant.{answers_hold, asked_blank, hand_sane}
+use Rattle.proof_pure_network.proofs.EventInvariant.{hear_sane, settle_sane}
+use Rattle.proof_pure_network.proofs.FlowInvariant.{call_flows, hand_flows, hear_flows, settle_flows}
 use Rattle.proof_pure_network.proofs.Honest.{IsLogged, called_honest, came_honest, met_honest}
 use Rattle.proof_pure_network.proofs.Honest.{settled_honest as core_settled_honest}
 use Rattle.proof_pure_network.proofs.HonestValues.{IsHonest}
 use Rattle.proof_pure_network.proofs.Invariants.{Due, Extends, Flows, Sane, Spoken, all_at, views, views_with}
 use Rattle.proof_pure_network.proofs.JobLemmas.{ready_core}
-use Rattle.proof_pure_network.proofs.Joined.{Joined, Worked, ask_worked, hand_worked, hear_worked}
-use Rattle.proof_pure_network.proofs.Known.{came_known}
+use Rattle.proof_pure_network.proofs.Joins.{Joined, Worked, ask_worked, hand_worked, hear_worked}
+use Rattle.proof_pure_network.proofs.Knowledge.{came_known}
 use Rattle.proof_pure_network.proofs.Pairs.{core_here}
 use Rattle.proof_pure_network.proofs.Simulation.{is_stale}
-use Rattle.proof_pure_network.proofs.SpokenKept.{call_spoken, hand_spoken, hear_spoken, settle_spoken}
-use Rattle.proof_pure_network.proofs.Told.{IsKnown}
+use Rattle.proof_pure_network.proofs.SpeakerInvariant.{call_spoken, hand_spoken, hear_spoken, settle_spoken}
+use Rattle.proof_pure_network.proofs.Tellings.{IsKnown}
 
 pub record NetworkKept (n : ℕ) (V : Values) (w : GroupNetwork) : Type 0 where
   pub sane : Sane V w.net

@@ -8,11 +8,11 @@ use mathlib.Core.Path.{fun_ext}
 use Rattle.binomial_trees.specs.TreeLaws as tree
 use Rattle.perfect_groups.proofs.Distinct.{MadeApart, there_apart}
 use Rattle.perfect_groups.specs.Quiet.{IsOneOf}
-use Rattle.proof_group_network.proofs.Deciding.{Gathered, some_fed}
+use Rattle.proof_group_network.proofs.Decisions.{Gathered, some_fed}
 use Rattle.proof_group_network.proofs.RoleLaws.{IsStar, chunks, up_law}
-use Rattle.proof_group_network.proofs.Summing.{Associates, Collected, collect, collect_star, folds_or_star}
-use Rattle.proof_group_network.proofs.Summing.{joined_pieces}
-use Rattle.proof_group_network.proofs.Summing.{star_chunks}
+use Rattle.proof_group_network.proofs.FoldLaws.{Associates, Collected, collect, collect_star, folds_or_star}
+use Rattle.proof_group_network.proofs.FoldLaws.{joined_pieces}
+use Rattle.proof_group_network.proofs.FoldLaws.{star_chunks}
 use Rattle.perfect_groups.proofs.GroupProofs.{sound_held, sound_same}
 use Rattle.perfect_groups.specs.Collectives.{Kind, Part, Record, allreduce, barrier, bcast, dup, gather, reduce}
 use Rattle.perfect_groups.specs.Collectives.{scatter, split}
@@ -24,9 +24,9 @@ use Rattle.perfect_groups.specs.Results.{Row, all_agree, all_parts, among_colour
 use Rattle.perfect_groups.specs.Results.{is_making, members_of_colour, new_groups, row_of, rows_of}
 use Rattle.perfect_groups.specs.Soundness.{Grows, IsReal, IsThere, Sound}
 use Rattle.perfect_queues.proofs.EndpointLemmas.{same_eq}
-use Rattle.proof_group_network.proofs.GroupsKept.{GroupMove, Honest, changed_honest}
-use Rattle.proof_group_network.proofs.GroupsKept.{each_kept, of_put, others_all_of, put_else, put_here}
-use Rattle.proof_group_network.proofs.GroupsKept.{put_same, serial_put}
+use Rattle.proof_group_network.proofs.GroupInvariant.{GroupMove, Honest, changed_honest}
+use Rattle.proof_group_network.proofs.GroupInvariant.{each_kept, of_put, others_all_of, put_else, put_here}
+use Rattle.proof_group_network.proofs.GroupInvariant.{put_same, serial_put}
 use Rattle.proof_group_network.proofs.NoticeTruth.{Entries, IsTrue, IsTrueNote}
 use Rattle.proof_group_network.proofs.NoticeTruth.{true_more}
 use Rattle.proof_group_network.specs.Network.{NoticeLink, groups_by, notify_all}

@@ -3,12 +3,12 @@
 -- A word may be taken in one part after the other, and is settled once all have come.
 use Rattle.std.specs.Prelude.{◌≡◌, ℕ, ◌+◌, ◌≤◌, List, [], ◌∷◌, ◌++◌, Some, None, slice_get}
 use Rattle.perfect_groups.specs.Events.{ended_with, ready_by, told_of}
-use Rattle.proof_group_network.specs.Happened.{IsAfter, IsWord, met_core, noted_effect}
+use Rattle.proof_group_network.specs.Happenings.{IsAfter, IsWord, met_core, noted_effect}
 use Rattle.proof_group_network.specs.Network.{GroupNetwork, Happening, Word, happens, hear_word, member_settled}
 use Rattle.proof_group_network.specs.Network.{new_group_network, note_some, noticed_on, notify_all, run, settle_event}
 use Rattle.proof_group_network.specs.Notices.{Notice}
 use Rattle.proof_group_network.specs.NoticesStand.{NoticesStand, heard_member}
-use Rattle.proof_pure_network.specs.Announced.{MeetingsStand, TransfersStand}
+use Rattle.proof_pure_network.specs.Announcements.{MeetingsStand, TransfersStand}
 use Rattle.proof_pure_network.specs.Engine.{came, core_ready, core_settled}
 use Rattle.proof_pure_network.specs.Frames.{Frame}
 use Rattle.proof_pure_network.specs.Links.{accept_all, handed_on}

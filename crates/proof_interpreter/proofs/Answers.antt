@@ -14,7 +14,7 @@ use Rattle.requests.specs.declared.answer.Answer.TheVariants as answers
 use Rattle.requests.specs.declared.outcome.Outcome.{Outcome}
 use Rattle.requests.specs.declared.outcome.Outcome.TheVariants as outcomes
 use Rattle.requests.specs.declared.table.Request.{Request}
-use Rattle.script_calls.specs.Awaited.{null}
+use Rattle.script_calls.specs.NamedThings.{null}
 use Rattle.script_calls.specs.Tables.{value_at}
 use Rattle.script_calls.specs.declared.pending.NamedMessage.TheVariants as messages
 use Rattle.script_calls.specs.declared.pending.Pending.{Pending}
@@ -22,17 +22,17 @@ use Rattle.script_calls.specs.declared.pending.Pending.TheVariants as pendings
 use Rattle.statements.specs.declared.action.RequestName.{RequestName}
 use Rattle.statements.specs.declared.action.RequestName.TheVariants as requested
 use Rattle.vocabulary.specs.declared.envelope.Status.{Status}
-use Rattle.interpreter.specs.Hearing.{ends_named_one, hears, returned}
+use Rattle.interpreter.specs.Answers.{ends_named_one, hears, returned}
 use Rattle.interpreter.specs.NamesState.{NamesState, with_message, with_request}
 use Rattle.interpreter.specs.declared.steps.NextStep.TheVariants as nexts
 use Rattle.interpreter.specs.declared.steps.Told.TheVariants as tolds
-use Rattle.script_calls.specs.Told.{status_after}
-use Rattle.proof_interpreter.specs.Keeping.{AnswersAreKept, AnyIsKept}
-use Rattle.proof_interpreter.specs.Keeping.{LandingsAreKept, OneHasEnded, UnnamedWaitsAreKept, WaitsAreKept, IsGiven}
-use Rattle.proof_interpreter.specs.Keeping.{NullWaitsAreKept, SilentRepliesChangeNothing, IsNobodys}
+use Rattle.script_calls.specs.OutcomeTexts.{status_after}
+use Rattle.proof_interpreter.specs.Answers.{AnswersAreKept, AnyIsKept}
+use Rattle.proof_interpreter.specs.Answers.{LandingsAreKept, OneHasEnded, UnnamedWaitsAreKept, WaitsAreKept, IsGiven}
+use Rattle.proof_interpreter.specs.Answers.{NullWaitsAreKept, SilentRepliesChangeNothing, IsNobodys}
 use Rattle.proof_interpreter.specs.Names.{OthersStay, started_with}
 use Rattle.proof_interpreter.proofs.Frames.{buffer_set, communicator_set, last_set, message_set, request_set, untouched}
-use Rattle.proof_interpreter.proofs.Coming.{come, come_last, is_null, keeps_last, keeps_messages, last_so, told_so}
+use Rattle.proof_interpreter.proofs.OutcomeLaws.{come, come_last, is_null, keeps_last, keeps_messages, last_so, told_so}
 use Rattle.proof_interpreter.proofs.Several.{all_end, told_each}
 use Rattle.proof_interpreter.proofs.Tables.{value_set}
 

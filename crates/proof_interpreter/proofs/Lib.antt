@@ -1,7 +1,7 @@
 pub mod Tables
 pub mod Frames
-pub mod Coming
+pub mod OutcomeLaws
 pub mod Several
 pub mod Answers
-pub mod Asking
-pub mod Refusing
+pub mod StatementCalls
+pub mod Refusals

@@ -6,19 +6,19 @@ use Rattle.datatypes.specs.Contents.{Contents}
 use Rattle.observation.specs.CoreCalls.{outcome_seen}
 use Rattle.requests.specs.declared.outcome.Outcome.{Outcome}
 use Rattle.requests.specs.declared.outcome.Outcome.TheVariants as outcomes
-use Rattle.script_calls.specs.Awaited.{null}
+use Rattle.script_calls.specs.NamedThings.{null}
 use Rattle.script_calls.specs.Tables.{value_at}
-use Rattle.script_calls.specs.Told.{error_of}
+use Rattle.script_calls.specs.OutcomeTexts.{error_of}
 use Rattle.script_calls.specs.declared.pending.NamedRequest.{NamedRequest}
 use Rattle.statements.specs.declared.action.RequestName.{RequestName}
 use Rattle.statements.specs.declared.action.RequestName.TheVariants as requested
-use Rattle.interpreter.specs.Hearing.{ended_each, ended_named, errors_told, returned, with_error}
+use Rattle.interpreter.specs.Answers.{ended_each, ended_named, errors_told, returned, with_error}
 use Rattle.interpreter.specs.NamesState.{NamesState, with_request}
-use Rattle.proof_interpreter.specs.Keeping.{AllHaveEnded, AreApart, EachHasEnded, HoldsNone, IsApartFrom, IsNoneOf}
-use Rattle.proof_interpreter.specs.Keeping.{all_told_of, errors_in, with_error_in}
+use Rattle.proof_interpreter.specs.Answers.{AllHaveEnded, AreApart, EachHasEnded, HoldsNone, IsApartFrom, IsNoneOf}
+use Rattle.proof_interpreter.specs.Answers.{all_told_of, errors_in, with_error_in}
 use Rattle.proof_interpreter.specs.Names.{HasCome, HoldsBack, IsOther, error_in, handed_back, set_by, started_with}
 use Rattle.proof_interpreter.proofs.Frames.{request_set}
-use Rattle.proof_interpreter.proofs.Coming.{come, is_null, keeps_last}
+use Rattle.proof_interpreter.proofs.OutcomeLaws.{come, is_null, keeps_last}
 
 -- ---- errors
 

@@ -1,4 +1,4 @@
 pub mod Names
-pub mod Asking
-pub mod Keeping
-pub mod Refusing
+pub mod StatementCalls
+pub mod Answers
+pub mod Refusals

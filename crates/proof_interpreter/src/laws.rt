@@ -1,8 +1,8 @@
 //! Laws of the interpreter of statements.
 
-ghost use Rattle.proof_interpreter.specs.Asking.{StatementsAsk};
-ghost use Rattle.proof_interpreter.specs.Keeping.{AnswersAreKept};
-ghost use Rattle.proof_interpreter.specs.Refusing.{RefusedStatementsChangeNothing};
+ghost use Rattle.proof_interpreter.specs.StatementCalls.{StatementsAsk};
+ghost use Rattle.proof_interpreter.specs.Answers.{AnswersAreKept};
+ghost use Rattle.proof_interpreter.specs.Refusals.{RefusedStatementsChangeNothing};
 
 /// States what statements ask of the machine: a send hands it the elements of its buffer, or those at the places of its
 /// layout, and a receive the buffer itself, which is lent from then on; waits, tests and cancels name the requests that

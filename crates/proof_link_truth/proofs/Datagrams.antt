@@ -6,17 +6,17 @@ use Rattle.std.proofs.lemmas.Bool.{cases_lt, eqb-false, eqb-true, leb-false, ltb
 use Rattle.vocabulary.specs.declared.endpoint.Endpoint.{Endpoint}
 use Rattle.datagram.specs.declared.datagram.Header.{Header}
 use Rattle.datagram.specs.declared.refusal.DatagramRefusal as lower
-use Rattle.datagram.specs.Reading.{bounded, datagram_of, datagram_within, guard}
+use Rattle.datagram.specs.ByteMeanings.{bounded, datagram_of, datagram_within, guard}
 use Rattle.datagram.specs.declared.refusal.DatagramRefusal.TheVariants as readings
-use Rattle.datagram.specs.Spelling.{body_is_within}
+use Rattle.datagram.specs.Spellings.{body_is_within}
 use Rattle.vocabulary.specs.MessageLimits.{limit_of}
-use Rattle.datagram.specs.Spelling.{AckBody, BodyText, DatagramText, FrameBody, FrameText, ResetBody}
+use Rattle.datagram.specs.Spellings.{AckBody, BodyText, DatagramText, FrameBody, FrameText, ResetBody}
 use Rattle.incarnation.specs.declared.judgement.Judgement.{Judgement}
 use Rattle.incarnation.specs.declared.judgement.Judgement.TheVariants.{Current, Learn}
 use Rattle.incarnation.specs.declared.place.Place.{Place}
 use Rattle.incarnation.specs.declared.refusal.IncarnationRefusal as judging
 use Rattle.incarnation.specs.declared.refusal.IncarnationRefusal.TheVariants as judgings
-use Rattle.incarnation.specs.Judging.{judgement}
+use Rattle.incarnation.specs.Judgements.{judgement}
 use Rattle.reliable_link.specs.ReceiverState.{held_at}
 use Rattle.reliable_link.specs.SenderState.{out_end}
 use Rattle.sessions.specs.declared.heard.Unheard.{Unheard}
@@ -24,8 +24,18 @@ use Rattle.sessions.specs.declared.peers.Peer.{Peer}
 use Rattle.sessions.specs.declared.refusal.SessionRefusal.{SessionRefusal}
 use Rattle.sessions.specs.declared.refusal.SessionRefusal.TheVariants as refusals
 use Rattle.sessions.specs.Events.{after_heard, answer_in, linked, taught}
-use Rattle.sessions.specs.Heard.{Acknowledges, EarlyText, Follows, Hands, HeardText, Holds, Nothing, Repeats, WordText}
-use Rattle.sessions.specs.Heard.{heard_by, heard_in, heard_of, said, session_met, unmeant, word_behind, word_of}
+use Rattle.sessions.specs.HeardBytes.{
+  Acknowledges,
+  EarlyText,
+  Follows,
+  Hands,
+  HeardText,
+  Holds,
+  Nothing,
+  Repeats,
+  WordText,
+}
+use Rattle.sessions.specs.HeardBytes.{heard_by, heard_in, heard_of, said, session_met, unmeant, word_behind, word_of}
 use Rattle.sessions.specs.Peers.{peer_at}
 use Rattle.sessions.specs.SessionsState.{SessionsState, knowledge}
 use Rattle.sessions.specs.Spellings.{header_to}
@@ -33,15 +43,15 @@ use Rattle.proof_link_truth.specs.Events.{HearingIsTrue, HearsTruth, IsAt, IsFro
 use Rattle.proof_link_truth.specs.Events.{IsTrueWord, LeavesTrue, links_heard, links_heeded}
 use Rattle.link_truth.specs.Links.{Links}
 use Rattle.link_truth.specs.Sessions.{PeerTells, SessionsTell}
-use Rattle.link_truth.specs.Told.{IsTold}
+use Rattle.link_truth.specs.DatagramTruth.{IsTold}
 use Rattle.link_truth.specs.Truth.{AreTrue}
 use Rattle.link_truth.specs.Wire.{at, place_of, wire}
 use Rattle.link_truth.specs.Witness.{IsAmong}
-use Rattle.proof_link_truth.proofs.Hearing.{Bears, Hears, heeded, hears, peer_of}
-use Rattle.proof_link_truth.proofs.Judging.{IsCurrent, IsLater, is_current, is_later, same_endpoint}
-use Rattle.proof_link_truth.proofs.Learning.{taught_peer}
+use Rattle.proof_link_truth.proofs.WordLaws.{Bears, Hears, heeded, hears, peer_of}
+use Rattle.proof_link_truth.proofs.HeaderLaws.{IsCurrent, IsLater, is_current, is_later, same_endpoint}
+use Rattle.proof_link_truth.proofs.RestartLaws.{taught_peer}
 use Rattle.proof_link_truth.proofs.Lists.{All_get}
-use Rattle.proof_link_truth.proofs.Reading.{HaveWidths}
+use Rattle.proof_link_truth.proofs.ByteLaws.{HaveWidths}
 use Rattle.proof_link_truth.proofs.Senders.{AreBegun}
 use Rattle.proof_link_truth.proofs.Words.{IsWord, Says, SaysFrame, told_is_word, word}
 

@@ -7,16 +7,16 @@ use Rattle.std.proofs.lemmas.List.{length-set, set-append_right, set-set}
 use Rattle.std.proofs.lemmas.Option.{same_Some, slice_get_within}
 use Rattle.vocabulary.specs.declared.endpoint.Endpoint.{Endpoint}
 use Rattle.perfect_queues.proofs.ListLemmas.{get_last, get_set}
-use Rattle.datagram.specs.Reading.{datagram_of}
-use Rattle.datagram.specs.Spelling.{DatagramText, FrameText, OutgoingText}
+use Rattle.datagram.specs.ByteMeanings.{datagram_of}
+use Rattle.datagram.specs.Spellings.{DatagramText, FrameText, OutgoingText}
 use Rattle.incarnation.specs.declared.place.Place.{Place}
 use Rattle.reliable_link.specs.ReceiverState.{ReceiverState, advanced, discarded, held_bits}
 use Rattle.sessions.specs.declared.peers.Peer.{Peer}
 use Rattle.sessions.specs.declared.refusal.SessionRefusal.TheVariants as refusals
 use Rattle.sessions.specs.Events.{after_event, after_heard, after_send, after_sends, answer_in, heeded_by}
 use Rattle.sessions.specs.Events.{is_worn_out, next_bytes, out_on_accept, sends_limit, taught_peers}
-use Rattle.sessions.specs.Following.{acknowledged_at, ready_from, turn_of, turn_of_body, turn_read, without_ready}
-use Rattle.sessions.specs.Heard.{Follows, Hands, HeardText, WordText, session_met}
+use Rattle.sessions.specs.HeldFrames.{acknowledged_at, ready_from, turn_of, turn_of_body, turn_read, without_ready}
+use Rattle.sessions.specs.HeardBytes.{Follows, Hands, HeardText, WordText, session_met}
 use Rattle.sessions.specs.Peers.{peer_at}
 use Rattle.sessions.specs.SessionsState.{SessionsState}
 use Rattle.sessions.specs.Spellings.{ack_bytes, ack_of}
@@ -28,19 +28,19 @@ use Rattle.link_truth.specs.Sessions.{IsHeldOf, IsLink, PeerTells, SessionsTell}
 use Rattle.link_truth.specs.Truth.{AreTrue}
 use Rattle.link_truth.specs.Wire.{CanBeSent, at, place_of, text_of, wire}
 use Rattle.link_truth.specs.Witness.{AreHeldEmitted, IsAmong}
-use Rattle.proof_link_truth.proofs.Changing.{peer_set, sessions_with, world_leaves}
+use Rattle.proof_link_truth.proofs.LinkChanges.{peer_set, sessions_with, world_leaves}
 use Rattle.proof_link_truth.proofs.Datagrams.{hearing_is_true}
-use Rattle.proof_link_truth.proofs.Exchanging.{IsReadAck, exchanged}
-use Rattle.proof_link_truth.proofs.Growing.{grows_none, link_here, links_fit}
-use Rattle.proof_link_truth.proofs.Hearing.{Hears, IsNextEmitted, taken}
-use Rattle.proof_link_truth.proofs.Holding.{held_with}
-use Rattle.proof_link_truth.proofs.Learning.{taught_is, taught_peer}
+use Rattle.proof_link_truth.proofs.Acknowledgements.{IsReadAck, exchanged}
+use Rattle.proof_link_truth.proofs.LinkGrowth.{grows_none, link_here, links_fit}
+use Rattle.proof_link_truth.proofs.WordLaws.{Hears, IsNextEmitted, taken}
+use Rattle.proof_link_truth.proofs.HeldFrames.{held_with}
+use Rattle.proof_link_truth.proofs.RestartLaws.{taught_is, taught_peer}
 use Rattle.proof_link_truth.proofs.Lists.{All_get}
-use Rattle.proof_link_truth.proofs.Reading.{HaveWidths, frame_is_read}
+use Rattle.proof_link_truth.proofs.ByteLaws.{HaveWidths, frame_is_read}
 use Rattle.proof_link_truth.proofs.Receivers.{bits_apart, bits_even, bits_small, held_apart, receiver_discarded}
 use Rattle.proof_link_truth.proofs.Sendings.{events_are_true, sends_leave}
-use Rattle.proof_link_truth.proofs.Sent.{acknowledged_beside, emitting, sends_keep_known, sends_keep_out}
-use Rattle.proof_link_truth.proofs.Sent.{sends_keep_place, sends_keep_receiver}
+use Rattle.proof_link_truth.proofs.SentFrames.{acknowledged_beside, emitting, sends_keep_known, sends_keep_out}
+use Rattle.proof_link_truth.proofs.SentFrames.{sends_keep_place, sends_keep_receiver}
 use Rattle.proof_link_truth.proofs.Witnesses.{all_witnessed}
 use Rattle.proof_link_truth.proofs.InJob.{ack_is}
 

@@ -5,7 +5,7 @@ use Rattle.std.proofs.lemmas.Bool.{and_parts, ltb-true, not-true}
 use Rattle.std.proofs.lemmas.List.{drop_all, length-drop}
 use Rattle.std.proofs.lemmas.Option.{same_Some, slice_get_within}
 use Rattle.vocabulary.specs.declared.endpoint.Endpoint.{Endpoint}
-use Rattle.datagram.specs.Spelling.{FrameText}
+use Rattle.datagram.specs.Spellings.{FrameText}
 use Rattle.reliable_link.specs.declared.out_frame.OutFrame.{OutFrame}
 use Rattle.reliable_link.specs.ReceiverState.{held_at}
 use Rattle.sessions.specs.declared.peers.Peer.{Peer}

@@ -1,6 +1,6 @@
 -- How many bytes a message of the job may have has no influence on the bytes of a datagram.
 use Rattle.std.proofs.Common.{◌≡◌, ℕ, refl, ap, ◌∙◌}
-use Rattle.datagram.specs.Spelling.{FrameText}
+use Rattle.datagram.specs.Spellings.{FrameText}
 use Rattle.incarnation.specs.declared.place.Place.{Place}
 use Rattle.link_truth.specs.Wire.{in_job}
 use Rattle.reliable_link.specs.ReceiverState.{ReceiverState}

@@ -7,11 +7,11 @@ use Rattle.std.proofs.lemmas.List.{get_or-drop, get_or-set_other, length-append,
 use Rattle.std.proofs.lemmas.List.{length-set}
 use Rattle.std.proofs.lemmas.Option.{same_Some}
 use Rattle.vocabulary.specs.declared.endpoint.Endpoint.{Endpoint}
-use Rattle.datagram.specs.Spelling.{FrameText}
+use Rattle.datagram.specs.Spellings.{FrameText}
 use Rattle.reliable_link.specs.ReceiverState.{ReceiverState, advanced, after_frame, bits_of, discarded, held_at}
 use Rattle.reliable_link.specs.ReceiverState.{held_bits, with_held}
 use Rattle.reliable_link.proofs.Bits.{bits_few}
-use Rattle.reliable_link.proofs.Holding.{first_gone, held_other, held_there}
+use Rattle.reliable_link.proofs.HeldFrames.{first_gone, held_other, held_there}
 use Rattle.sessions.specs.Peers.{new_receiver}
 use Rattle.link_truth.specs.Links.{Link}
 use Rattle.link_truth.specs.Sessions.{IsHeldOf, ReceiverTells}

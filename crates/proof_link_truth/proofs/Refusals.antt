@@ -3,31 +3,31 @@ use Rattle.std.proofs.Common.{◌≡◌, ℕ, ◌<◌, Bool, true, false, List, 
 use Rattle.std.proofs.Common.{◌==◌, refl, sym, ap, ◌∙◌, subst, arith, inl, inr}
 use Rattle.std.specs.List.{AllByRecursion}
 use Rattle.vocabulary.specs.declared.endpoint.Endpoint.{Endpoint}
-use Rattle.datagram.specs.Spelling.{AckBody, BodyText, DatagramText, FrameBody, ResetBody}
+use Rattle.datagram.specs.Spellings.{AckBody, BodyText, DatagramText, FrameBody, ResetBody}
 use Rattle.incarnation.specs.declared.judgement.Judgement.{Judgement}
 use Rattle.incarnation.specs.declared.judgement.Judgement.TheVariants.{Current, Learn}
 use Rattle.incarnation.specs.declared.place.Place.{Place}
 use Rattle.incarnation.specs.declared.refusal.IncarnationRefusal as judging
 use Rattle.incarnation.specs.declared.refusal.IncarnationRefusal.TheVariants as judgings
-use Rattle.incarnation.specs.Judging.{judgement}
+use Rattle.incarnation.specs.Judgements.{judgement}
 use Rattle.sessions.specs.declared.heard.Unheard.{Unheard}
 use Rattle.sessions.specs.declared.refusal.SessionRefusal.{SessionRefusal}
 use Rattle.sessions.specs.Events.{TurnedAway}
-use Rattle.sessions.specs.Heard.{HeardText, WordText, heard_by, said, session_met, unmeant, word_of}
+use Rattle.sessions.specs.HeardBytes.{HeardText, WordText, heard_by, said, session_met, unmeant, word_of}
 use Rattle.sessions.specs.Peers.{peer_at}
 use Rattle.sessions.specs.SessionsState.{SessionsState, knowledge}
 use Rattle.sessions.specs.Spellings.{reset_bytes}
 use Rattle.proof_link_truth.specs.Events.{IsAt, LeavesTrue, RefusalsAreTrue}
 use Rattle.link_truth.specs.Links.{Links}
 use Rattle.link_truth.specs.Sessions.{SessionsTell}
-use Rattle.link_truth.specs.Told.{IsTold, TellsReset}
+use Rattle.link_truth.specs.DatagramTruth.{IsTold, TellsReset}
 use Rattle.link_truth.specs.Truth.{AreTrue}
 use Rattle.link_truth.specs.Wire.{at}
-use Rattle.datagram.specs.Spelling.{body_is_within}
-use Rattle.sessions.specs.Heard.{heard_in}
+use Rattle.datagram.specs.Spellings.{body_is_within}
+use Rattle.sessions.specs.HeardBytes.{heard_in}
 use Rattle.vocabulary.specs.MessageLimits.{limit_of}
 use Rattle.proof_link_truth.proofs.Datagrams.{IsComing, heard_read, is_coming, within_or_not}
-use Rattle.proof_link_truth.proofs.Hearing.{stays}
+use Rattle.proof_link_truth.proofs.WordLaws.{stays}
 use Rattle.proof_link_truth.proofs.Lists.{false_sym}
 use Rattle.proof_link_truth.proofs.Senders.{AreBegun, is_told}
 use Rattle.proof_link_truth.proofs.Sendings.{rest_is_true}

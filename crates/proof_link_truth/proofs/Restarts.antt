@@ -8,13 +8,13 @@ use Rattle.sessions.specs.SessionsState.{SessionsState, opening}
 use Rattle.proof_link_truth.specs.Events.{RestartsAreTrue}
 use Rattle.link_truth.specs.Links.{Links}
 use Rattle.link_truth.specs.Sessions.{SessionsTell}
-use Rattle.link_truth.specs.Told.{IsTold}
+use Rattle.link_truth.specs.DatagramTruth.{IsTold}
 use Rattle.link_truth.specs.Truth.{AreTrue}
 use Rattle.link_truth.specs.Wire.{at, in_job, place_of}
 use Rattle.vocabulary.specs.declared.message_limit.MessageLimit.{MessageLimit}
 use Rattle.link_truth.specs.Witness.{AreHeldEmitted}
-use Rattle.proof_link_truth.proofs.Changing.{sessions_later}
-use Rattle.proof_link_truth.proofs.Growing.{told_later}
+use Rattle.proof_link_truth.proofs.LinkChanges.{sessions_later}
+use Rattle.proof_link_truth.proofs.LinkGrowth.{told_later}
 use Rattle.proof_link_truth.proofs.Lists.{All_more, set_each}
 use Rattle.proof_link_truth.proofs.Openings.{IsUnheard, new_held, new_sessions_tell}
 

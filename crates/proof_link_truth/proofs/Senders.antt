@@ -8,7 +8,7 @@ use Rattle.std.proofs.lemmas.Bool.{cases_lt, leb-true}
 use Rattle.std.proofs.lemmas.List.{drop-append-le, drop-drop, length-drop, length-map}
 use Rattle.std.proofs.lemmas.Option.{slice_get-map}
 use Rattle.vocabulary.specs.declared.endpoint.Endpoint.{Endpoint}
-use Rattle.datagram.specs.Spelling.{FrameText}
+use Rattle.datagram.specs.Spellings.{FrameText}
 use Rattle.reliable_link.specs.declared.out_frame.OutFrame.{OutFrame}
 use Rattle.reliable_link.specs.SenderState.{SenderState, after_accept, after_ack, after_due, frame_at, next_number}
 use Rattle.reliable_link.proofs.KeptBytes.{bytes_after_accept, bytes_after_ack, bytes_after_due, lowest_after_due}
@@ -17,7 +17,7 @@ use Rattle.reliable_link.proofs.Senders.{is_passed, lowest_after_ack, lowest_pas
 use Rattle.sessions.specs.Peers.{frame_out, frames_out}
 use Rattle.link_truth.specs.Links.{Link, Links}
 use Rattle.link_truth.specs.Sessions.{SenderTells}
-use Rattle.link_truth.specs.Told.{IsTold, Tells, TellsFrame}
+use Rattle.link_truth.specs.DatagramTruth.{IsTold, Tells, TellsFrame}
 use Rattle.link_truth.specs.Wire.{wire, wires}
 use Rattle.proof_link_truth.proofs.Lists.{All_flat}
 use Rattle.proof_link_truth.proofs.Wires.{IsWire, wires_get, wires_length, wires_push}

@@ -8,7 +8,7 @@ use Rattle.std.proofs.lemmas.List.{append_assoc, set-set}
 use Rattle.std.proofs.lemmas.Option.{slice_get_within}
 use Rattle.vocabulary.specs.declared.endpoint.Endpoint.{Endpoint}
 use Rattle.perfect_queues.proofs.ListLemmas.{get_last, get_set}
-use Rattle.datagram.specs.Spelling.{FrameText, OutgoingText}
+use Rattle.datagram.specs.Spellings.{FrameText, OutgoingText}
 use Rattle.incarnation.specs.declared.place.Place.{Place}
 use Rattle.reliable_link.specs.SenderState.{SenderState, after_accept, next_number}
 use Rattle.sessions.specs.declared.peers.Peer.{Peer}
@@ -16,7 +16,7 @@ use Rattle.sessions.specs.declared.refusal.SessionRefusal.{SessionRefusal}
 use Rattle.sessions.specs.declared.refusal.SessionRefusal.TheVariants as refusals
 use Rattle.sessions.specs.Events.{after_heard, after_send, after_sends, is_worn_out, next_bytes, out_on_accept}
 use Rattle.sessions.specs.Events.{sends_limit}
-use Rattle.sessions.specs.Heard.{HeardText}
+use Rattle.sessions.specs.HeardBytes.{HeardText}
 use Rattle.sessions.specs.Peers.{peer_at}
 use Rattle.sessions.specs.SessionsState.{SessionsState, known_endpoint}
 use Rattle.sessions.specs.Spellings.{frame_bytes}
@@ -24,16 +24,16 @@ use Rattle.proof_link_truth.specs.Events.{Comes, EventsAreTrue, IsAt, LeavesTrue
 use Rattle.proof_link_truth.specs.Events.{addressed, all_addressed, emptied, links_heard}
 use Rattle.link_truth.specs.Links.{Link, Links, accept, accept_all}
 use Rattle.link_truth.specs.Sessions.{PeerTells, SenderTells, SessionsTell, is_pair}
-use Rattle.link_truth.specs.Told.{IsTold, TellsFrame}
+use Rattle.link_truth.specs.DatagramTruth.{IsTold, TellsFrame}
 use Rattle.link_truth.specs.Truth.{AreTrue}
 use Rattle.link_truth.specs.Wire.{at, place_of, wire}
 use Rattle.link_truth.specs.Witness.{AreHeldEmitted}
-use Rattle.proof_link_truth.proofs.Changing.{sessions_with, world_leaves}
+use Rattle.proof_link_truth.proofs.LinkChanges.{sessions_with, world_leaves}
 use Rattle.proof_link_truth.proofs.Datagrams.{heard_leaves}
-use Rattle.proof_link_truth.proofs.Growing.{Grows, accept_fits, accept_grows, accepted_handed, link_cases, link_here}
-use Rattle.proof_link_truth.proofs.Growing.{links_fit}
-use Rattle.proof_link_truth.proofs.Hearing.{stays}
-use Rattle.proof_link_truth.proofs.Holding.{held_with}
+use Rattle.proof_link_truth.proofs.LinkGrowth.{Grows, accept_fits, accept_grows, accepted_handed, link_cases, link_here}
+use Rattle.proof_link_truth.proofs.LinkGrowth.{links_fit}
+use Rattle.proof_link_truth.proofs.WordLaws.{stays}
+use Rattle.proof_link_truth.proofs.HeldFrames.{held_with}
 use Rattle.proof_link_truth.proofs.Lists.{false_sym}
 use Rattle.proof_link_truth.proofs.Receivers.{receiver_more}
 use Rattle.proof_link_truth.proofs.Senders.{accept_tells, is_told, next_is}

@@ -16,11 +16,11 @@ use Rattle.sessions.specs.Ticks.{after_tick}
 use Rattle.proof_link_truth.specs.Events.{TicksAreTrue}
 use Rattle.link_truth.specs.Links.{Links}
 use Rattle.link_truth.specs.Sessions.{SessionsTell, PeerTells}
-use Rattle.link_truth.specs.Told.{IsTold}
+use Rattle.link_truth.specs.DatagramTruth.{IsTold}
 use Rattle.link_truth.specs.Wire.{at}
 use Rattle.link_truth.specs.Witness.{AreHeldEmitted}
-use Rattle.proof_link_truth.proofs.Changing.{world_leaves}
-use Rattle.proof_link_truth.proofs.Growing.{grows_none, links_fit}
+use Rattle.proof_link_truth.proofs.LinkChanges.{world_leaves}
+use Rattle.proof_link_truth.proofs.LinkGrowth.{grows_none, links_fit}
 use Rattle.proof_link_truth.proofs.Lists.{All_append, false_sym}
 use Rattle.proof_link_truth.proofs.Witnesses.{all_witnessed}
 use Rattle.proof_link_truth.proofs.Senders.{due_tells, frames_are_told, none_out}

@@ -3,7 +3,7 @@ use Rattle.std.proofs.Common.{◌≡◌, ℕ, zero, suc, ◌+◌, List, [], ◌�
 use Rattle.std.proofs.Common.{arith}
 use Rattle.std.proofs.lemmas.Option.{same_Some}
 use Rattle.vocabulary.specs.declared.endpoint.Endpoint.{Endpoint}
-use Rattle.datagram.specs.Spelling.{FrameText}
+use Rattle.datagram.specs.Spellings.{FrameText}
 use Rattle.link_truth.specs.Wire.{wire, wires}
 
 -- as many as frames

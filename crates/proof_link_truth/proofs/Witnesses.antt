@@ -4,7 +4,7 @@ use Rattle.std.proofs.Common.{slice_get, refl, sym, ap, ◌∙◌, subst, arith,
 use Rattle.std.proofs.lemmas.Bool.{ltb-false, ltb-true}
 use Rattle.vocabulary.specs.declared.endpoint.Endpoint.{Endpoint}
 use Rattle.perfect_queues.proofs.ListLemmas.{get_last}
-use Rattle.datagram.specs.Spelling.{FrameText}
+use Rattle.datagram.specs.Spellings.{FrameText}
 use Rattle.sessions.specs.Spellings.{ack_bytes}
 use Rattle.sessions.specs.SessionsState.{SessionsState}
 use Rattle.reliable_link.proofs.Places.{place_stays}
@@ -12,7 +12,7 @@ use Rattle.link_truth.specs.Links.{Link, Links}
 use Rattle.link_truth.specs.Truth.{AreTrue}
 use Rattle.link_truth.specs.Wire.{place_of, wire}
 use Rattle.link_truth.specs.Witness.{AreHeldEmitted, IsAcknowledged, IsAmong, IsEmitted, IsWitnessed}
-use Rattle.proof_link_truth.proofs.Growing.{Grows}
+use Rattle.proof_link_truth.proofs.LinkGrowth.{Grows}
 
 -- what was emitted stays among the datagrams
 pub among_more : (ds out : List (ℕ × List ℕ)) (t : ℕ × List ℕ) → IsAmong ds t → IsAmong (ds ++ out) t

@@ -2,16 +2,16 @@
 use Rattle.std.proofs.Common.{◌≡◌, ℕ, ◌<◌, ◌≤◌, ◌^◌, List, length, Some, Ok, slice_get, refl, ap, ◌∙◌, arith}
 use Rattle.std.proofs.lemmas.Option.{slice_get_within}
 use Rattle.vocabulary.specs.declared.endpoint.Endpoint.{Endpoint}
-use Rattle.datagram.specs.Reading.{datagram_of}
-use Rattle.datagram.specs.Spelling.{AckBody, BodyText, DatagramText, FrameBody, FrameText, ResetBody}
+use Rattle.datagram.specs.ByteMeanings.{datagram_of}
+use Rattle.datagram.specs.Spellings.{AckBody, BodyText, DatagramText, FrameBody, FrameText, ResetBody}
 use Rattle.sessions.specs.Spellings.{header_to}
 use Rattle.link_truth.specs.Links.{Links}
 use Rattle.link_truth.specs.Sessions.{IsLink}
-use Rattle.link_truth.specs.Told.{Tells, TellsAck, TellsFrame, TellsReset}
+use Rattle.link_truth.specs.DatagramTruth.{Tells, TellsAck, TellsFrame, TellsReset}
 use Rattle.link_truth.specs.Wire.{CanBeSent, place_of, wire}
 use Rattle.link_truth.specs.Witness.{IsAmong}
 use Rattle.proof_link_truth.proofs.Lists.{All_get}
-use Rattle.proof_link_truth.proofs.Reading.{HaveWidths, ack_is_read, frame_is_read, reset_is_read}
+use Rattle.proof_link_truth.proofs.ByteLaws.{HaveWidths, ack_is_read, frame_is_read, reset_is_read}
 
 -- this frame was accepted under this number, can be spelled, and was emitted
 pub record SaysFrame (n : ℕ) (datagrams : List (ℕ × List ℕ)) (s d : Endpoint) (links : Links) (q : ℕ)

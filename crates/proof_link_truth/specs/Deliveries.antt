@@ -3,11 +3,11 @@
 use Rattle.std.specs.Prelude.{◌≡◌, ℕ, ◌<◌, false, List, Option, Some, None, length, slice_get, slice_index, ◌==◌}
 use Rattle.std.specs.Option.{option_map}
 use Rattle.vocabulary.specs.declared.endpoint.Endpoint.{Endpoint}
-use Rattle.datagram.specs.Spelling.{FrameText, OutgoingText}
-use Rattle.sessions.specs.Arranging.{IsArranged}
+use Rattle.datagram.specs.Spellings.{FrameText, OutgoingText}
+use Rattle.sessions.specs.OutgoingOrder.{IsArranged}
 use Rattle.sessions.specs.Events.{after_event, after_heard, sends_limit}
-use Rattle.sessions.specs.Following.{acknowledged_at, ready_from, turn_of, without_ready}
-use Rattle.sessions.specs.Heard.{Follows, Hands, HeardText}
+use Rattle.sessions.specs.HeldFrames.{acknowledged_at, ready_from, turn_of, without_ready}
+use Rattle.sessions.specs.HeardBytes.{Follows, Hands, HeardText}
 use Rattle.sessions.specs.Peers.{peer_at}
 use Rattle.sessions.specs.SessionsState.{SessionsState}
 use Rattle.sessions.specs.Spellings.{ack_of}

@@ -5,14 +5,24 @@ use Rattle.std.specs.List.{AllByRecursion}
 use Rattle.vocabulary.specs.declared.endpoint.Endpoint.{Endpoint}
 use Rattle.vocabulary.specs.Endpoints.{last_incarnation}
 use Rattle.perfect_queues.specs.State.{with_number}
-use Rattle.datagram.specs.Spelling.{FrameText, OutgoingText}
+use Rattle.datagram.specs.Spellings.{FrameText, OutgoingText}
 use Rattle.sessions.specs.declared.refusal.SessionRefusal.{SessionRefusal}
 use Rattle.sessions.specs.declared.heard.Unheard.{Unheard}
 use Rattle.sessions.specs.Events.{TurnedAway, after_event, after_heard, sends_limit}
 use Rattle.reliable_link.specs.ReceiverState.{held_at}
 use Rattle.sessions.specs.Peers.{peer_at}
-use Rattle.sessions.specs.Heard.{Acknowledges, EarlyText, Follows, Hands, HeardText, Holds, Nothing, Repeats, WordText}
-use Rattle.sessions.specs.Heard.{heard_of}
+use Rattle.sessions.specs.HeardBytes.{
+  Acknowledges,
+  EarlyText,
+  Follows,
+  Hands,
+  HeardText,
+  Holds,
+  Nothing,
+  Repeats,
+  WordText,
+}
+use Rattle.sessions.specs.HeardBytes.{heard_of}
 use Rattle.sessions.specs.SessionsState.{SessionsState, known_endpoint, opening}
 use Rattle.sessions.specs.Ticks.{after_tick}
 use Rattle.link_truth.specs.Links.{Links, accept_all, handed_on, in_flight}

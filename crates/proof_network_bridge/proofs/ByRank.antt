@@ -5,7 +5,7 @@ use Rattle.std.specs.Prelude.{filter}
 use Rattle.std.specs.List.{AllByRecursion}
 use Rattle.std.proofs.lemmas.Bool.{cases_lt, eqb-false, eqb-true}
 use mathlib.Core.Path.{fun_ext}
-use Rattle.datagram.specs.Spelling.{FrameText, OutgoingText}
+use Rattle.datagram.specs.Spellings.{FrameText, OutgoingText}
 use Rattle.engine_calls.specs.Frames.{by_rank}
 use Rattle.perfect_queues.proofs.EndpointLemmas.{same_eq}
 use Rattle.proof_link_truth.proofs.Lists.{All_append}

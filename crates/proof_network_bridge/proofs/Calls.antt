@@ -15,10 +15,10 @@ use Rattle.engine_calls.specs.declared.reply.Reply.{Reply}
 use Rattle.engine_calls.specs.declared.reply.Reply.TheVariants as replies
 use Rattle.perfect_groups.specs.Events.{Entry}
 use Rattle.proof_group_network.specs.Network.{Happening}
-use Rattle.proof_network_bridge.proofs.Followed.{followed}
+use Rattle.proof_network_bridge.proofs.RankEvents.{followed}
 use Rattle.proof_network_bridge.proofs.Reasons.{IsAnsweredWith, IsLookedWith, answered, asked, entered, looked}
 use Rattle.proof_network_bridge.specs.GoingOn.{CallsFollowOn, LeavesFollowedOn}
-use Rattle.proof_network_bridge.specs.Joined.{IsFollowed}
+use Rattle.proof_network_bridge.specs.WorldViews.{IsFollowed}
 use Rattle.observation.specs.EngineCalls.{told_call, told_completion}
 use Rattle.vocabulary.specs.declared.envelope.Status.{Status}
 

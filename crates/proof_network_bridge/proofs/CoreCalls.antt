@@ -6,13 +6,13 @@ use Rattle.std.proofs.lemmas.Option.{same_Some}
 use Rattle.collective_steps.specs.declared.step.Ending.{Ending}
 use Rattle.collective_transfers.specs.State as payloads
 use Rattle.communicators.specs.Routes.{RouteText, route_on}
-use Rattle.datagram.specs.Spelling.{FrameText, OutgoingText}
+use Rattle.datagram.specs.Spellings.{FrameText, OutgoingText}
 use Rattle.engine_calls.specs.EngineState.{EngineState, GroupsState, completion_by, completion_of, member_of}
 use Rattle.engine_calls.specs.Faults.{broken, fault_of, free_fault, group_limit, is_busy, is_replaced, look_rules}
 use Rattle.engine_calls.specs.Faults.{message_rules, on_route, probe_rules, receive_rules, routed_limit, send_rules}
 use Rattle.engine_calls.specs.Frames.{after_frame, frame_limit}
 use Rattle.engine_calls.specs.Refusals.{first_fault}
-use Rattle.engine_calls.specs.Routing.{core_call, core_reply, probe_by, receive_by, route_at, send_by}
+use Rattle.engine_calls.specs.Routes.{core_call, core_reply, probe_by, receive_by, route_at, send_by}
 use Rattle.engine_calls.specs.declared.call.Call.{Call}
 use Rattle.engine_calls.specs.declared.call.Call.TheVariants as calls
 use Rattle.point_to_point_calls.specs.declared.call.Probe.{Probe}
@@ -34,16 +34,16 @@ use Rattle.perfect_queues.specs.Completions as completions
 use Rattle.perfect_queues.specs.Events as queue_events
 use Rattle.perfect_queues.specs.Events.{call_and_reply, told}
 use Rattle.perfect_queues.specs.State.{Local}
-use Rattle.proof_collective_steps.specs.Shown as collectives
+use Rattle.proof_collective_steps.specs.MemberViews as collectives
 use Rattle.proof_engine_steps.specs.Steps.{CallsAreShown, IsCalled}
-use Rattle.proof_engine_view.proofs.Growing.{sent_more}
+use Rattle.proof_engine_view.proofs.LastingViews.{sent_more}
 use Rattle.observation.specs.CoreCalls as in_queues
-use Rattle.proof_engine_view.specs.Shown.{IsShown}
-use Rattle.proof_engine_view.specs.Standing.{AreSent, CanLeave, all_gone}
+use Rattle.proof_engine_view.specs.CoreViews.{IsShown}
+use Rattle.proof_engine_view.specs.FrameViews.{AreSent, CanLeave, all_gone}
 use Rattle.proof_engine_view.specs.Transfers.{Announcements, after_out}
 use Rattle.proof_group_network.proofs.LinksOfMessages.{group_meetings_stand}
-use Rattle.proof_group_network.specs.Carried.{Sessions, frames_carried}
-use Rattle.proof_group_network.specs.Happened.{IsAfter, QueueCallsHappen, reply_of}
+use Rattle.proof_group_network.specs.SessionContents.{Sessions, frames_carried}
+use Rattle.proof_group_network.specs.Happenings.{IsAfter, QueueCallsHappen, reply_of}
 use Rattle.proof_group_network.specs.Network.{Ask, GroupNetwork, happens}
 use Rattle.proof_link_truth.specs.Events.{EventsAreTrue, LeavesTrue, MaySendAll, all_addressed}
 use Rattle.endpoint_links.specs.Links.{LinksOf}
@@ -53,14 +53,14 @@ use Rattle.proof_pure_network.specs.Claims.{ClaimsOnce}
 use Rattle.proof_pure_network.specs.Core.{Core, view}
 use Rattle.proof_pure_network.specs.Engine.{called, core_ready, core_settled}
 use Rattle.proof_pure_network.specs.Frames.{Frame}
-use Rattle.proof_pure_network.specs.Held.{blank}
+use Rattle.proof_pure_network.specs.WaitingMessages.{blank}
 use Rattle.proof_pure_network.specs.Links.{accept_all}
 use Rattle.proof_pure_network.specs.Network.{here}
 use Rattle.proof_session_carrying.specs.EventLaws.{AreJoined}
-use Rattle.proof_session_carrying.specs.Announced.{announcements_in}
+use Rattle.proof_session_carrying.specs.Announcements.{announcements_in}
 use Rattle.proof_session_carrying.specs.MessageLaws.{FramesAreSent, QueueCallsAreCarried}
 use Rattle.point_to_point_calls.specs.Frames.{as_list}
-use Rattle.point_to_point_calls.specs.Hearing.{first_of}
+use Rattle.point_to_point_calls.specs.FrameNews.{first_of}
 use Rattle.point_to_point_calls.specs.CoreCalls as core_calls
 use Rattle.point_to_point_calls.specs.declared.refusal.Refusal.{Refusal}
 use Rattle.point_to_point_calls.specs.declared.refusal.Refusal.TheVariants as refusals
@@ -70,20 +70,20 @@ use Rattle.requests.specs.Regions.{handed_of}
 use Rattle.sessions.specs.Events.{after_event, sends_limit}
 use Rattle.sessions.specs.SessionsState.{SessionsState}
 use Rattle.vocabulary.specs.declared.endpoint.Endpoint.{Endpoint}
-use Rattle.proof_network_bridge.specs.Joined.{IsClean, IsHeldBy, network_after}
+use Rattle.proof_network_bridge.specs.WorldViews.{IsClean, IsHeldBy, network_after}
 use Rattle.observation.specs.Sessions.{sessions_in}
 use Rattle.proof_network_bridge.specs.GoingOn.{LeavesFollowedOn}
 use Rattle.proof_network_bridge.specs.Payloads.{ArePayloads}
 use Rattle.observation.specs.EngineCalls.{call_seen, told_call, told_completion}
 use Rattle.proof_network_bridge.proofs.Calls.{CoreCallsFollow}
-use Rattle.proof_network_bridge.proofs.Carrying.{all_same, may_send}
-use Rattle.proof_network_bridge.proofs.Finding.{idle_by}
-use Rattle.proof_network_bridge.proofs.Followed.{IsHeldUnder, followed_after}
+use Rattle.proof_network_bridge.proofs.SessionOutput.{all_same, may_send}
+use Rattle.proof_network_bridge.proofs.Probes.{idle_by}
+use Rattle.proof_network_bridge.proofs.RankEvents.{IsHeldUnder, followed_after}
 use Rattle.proof_network_bridge.proofs.Halves.{Keeps, neither_fault, no_limit}
 use Rattle.proof_network_bridge.proofs.Machine.{TakenIsFaultless}
 use Rattle.proof_network_bridge.proofs.Members.{held_same, named_same}
 use Rattle.proof_network_bridge.proofs.Payloads.{payloads_grow, said_same}
-use Rattle.proof_network_bridge.proofs.Routed.{core_fault}
+use Rattle.proof_network_bridge.proofs.RoutedFaults.{core_fault}
 use Rattle.proof_network_bridge.proofs.Worlds.{after_grows, is_at, only_out, place_is, shown_out}
 
 -- ---- THE FRAME OF A CALL

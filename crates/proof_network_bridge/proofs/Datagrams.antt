@@ -2,7 +2,7 @@
 use Rattle.std.proofs.Common.{◌≡◌, ℕ, Bool, true, false, List, Option, Some, None, Ok, if◌then◌else◌, refl, sym, subst}
 use Rattle.std.proofs.lemmas.Option.{same_Some}
 use Rattle.collective_transfers.specs.State as payloads
-use Rattle.datagram.specs.Spelling.{ClearFrame, DataFrame, EagerFrame, FrameText, RequestFrame}
+use Rattle.datagram.specs.Spellings.{ClearFrame, DataFrame, EagerFrame, FrameText, RequestFrame}
 use Rattle.datagram.specs.declared.kinds.Plane.{Plane}
 use Rattle.datagram.specs.declared.kinds.Plane.TheVariants as planes
 use Rattle.engine.specs.Datagrams.{HeardGives, HeardGivesBy, NoticeText, OfAnnouncement, OfAnswer, OfMessage, OfPiece}
@@ -12,13 +12,13 @@ use Rattle.engine_calls.specs.EngineState.{EngineState}
 use Rattle.proof_engine_steps.specs.Steps.{NewsAreShown}
 use Rattle.proof_group_network.specs.Network.{GroupNetwork}
 use Rattle.endpoint_links.specs.Links.{LinksOf}
-use Rattle.sessions.specs.Heard.{Acknowledges, Follows, Hands, HeardText, Holds, Nothing, Repeats, WordText}
+use Rattle.sessions.specs.HeardBytes.{Acknowledges, Follows, Hands, HeardText, Holds, Nothing, Repeats, WordText}
 use Rattle.sessions.specs.SessionsState.{SessionsState}
-use Rattle.proof_network_bridge.proofs.Announcing.{announcement_step}
-use Rattle.proof_network_bridge.proofs.Answering.{answer_step}
+use Rattle.proof_network_bridge.proofs.PayloadAnnouncements.{announcement_step}
+use Rattle.proof_network_bridge.proofs.PayloadAnswers.{answer_step}
 use Rattle.proof_network_bridge.proofs.Midway.{IsHearing, IsStepped}
-use Rattle.proof_network_bridge.proofs.Noticed.{notice_step}
-use Rattle.proof_network_bridge.proofs.PieceHeard.{piece_step}
+use Rattle.proof_network_bridge.proofs.Notices.{notice_step}
+use Rattle.proof_network_bridge.proofs.PieceArrivals.{piece_step}
 use Rattle.proof_network_bridge.proofs.Words.{news_step}
 
 -- ---- what of a word concerns a collective

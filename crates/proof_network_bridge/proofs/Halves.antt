@@ -4,7 +4,7 @@ use Rattle.std.proofs.Common.{arith, inl, inr}
 use Rattle.std.specs.Prelude.{option_map, slice_get, slice_set}
 use Rattle.std.proofs.lemmas.List.{map-set}
 use Rattle.std.proofs.lemmas.Option.{same_Some, slice_get-map}
-use Rattle.datagram.specs.Spelling.{OutgoingText}
+use Rattle.datagram.specs.Spellings.{OutgoingText}
 use Rattle.point_to_point_calls.specs.declared.refusal.Refusal.{Refusal}
 use Rattle.sessions.specs.declared.refusal.SessionRefusal as lower
 use Rattle.sessions.specs.Events.{TurnedAway, after_send, after_sends}

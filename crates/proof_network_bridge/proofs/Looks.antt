@@ -21,27 +21,27 @@ use Rattle.perfect_queues.specs.Events.{call_and_reply, told}
 use Rattle.perfect_queues.specs.Receives as receives
 use Rattle.proof_engine_steps.specs.Probes.{IsLookedAt, LooksAreShown}
 use Rattle.observation.specs.CoreCalls.{probe_seen}
-use Rattle.proof_group_network.specs.Happened.{IsAfter, QueueCallsHappen, reply_of}
+use Rattle.proof_group_network.specs.Happenings.{IsAfter, QueueCallsHappen, reply_of}
 use Rattle.proof_group_network.specs.Network.{Ask, GroupNetwork, happens}
 use Rattle.proof_link_truth.specs.Events.{RestIsTrue}
 use Rattle.link_truth.specs.Wire.{in_job, place_of}
 use Rattle.proof_pure_network.specs.Core.{Core, view}
 use Rattle.proof_pure_network.specs.Engine.{called, core_ready, core_settled}
-use Rattle.proof_pure_network.specs.Held.{blank}
+use Rattle.proof_pure_network.specs.WaitingMessages.{blank}
 use Rattle.proof_pure_network.specs.Network.{here}
-use Rattle.proof_session_carrying.specs.Announced.{announcements_in}
+use Rattle.proof_session_carrying.specs.Announcements.{announcements_in}
 use Rattle.proof_session_carrying.specs.MessageLaws.{OthersAreCarried}
 use Rattle.vocabulary.specs.declared.endpoint.Endpoint.{Endpoint}
 use Rattle.vocabulary.specs.declared.envelope.Status.{Status}
 use Rattle.proof_network_bridge.specs.GoingOn.{LeavesFollowedOn}
-use Rattle.proof_network_bridge.specs.Joined.{IsClean, IsHeldBy, network_after}
+use Rattle.proof_network_bridge.specs.WorldViews.{IsClean, IsHeldBy, network_after}
 use Rattle.observation.specs.Sessions.{sessions_in}
 use Rattle.observation.specs.EngineCalls.{call_seen, told_call, told_completion}
 use Rattle.proof_network_bridge.proofs.Calls.{LeavesCalled, LooksFollow}
 use Rattle.proof_network_bridge.proofs.CoreCalls.{answered_at_once}
-use Rattle.proof_network_bridge.proofs.Finding.{IsLookedFor, looked_for}
-use Rattle.proof_network_bridge.proofs.Followed as followed
-use Rattle.proof_network_bridge.proofs.Followed.{followed_after}
+use Rattle.proof_network_bridge.proofs.Probes.{IsLookedFor, looked_for}
+use Rattle.proof_network_bridge.proofs.RankEvents as followed
+use Rattle.proof_network_bridge.proofs.RankEvents.{followed_after}
 use Rattle.proof_network_bridge.proofs.Machine.{TakenIsFaultless}
 use Rattle.proof_network_bridge.proofs.Members.{held_same, named_same}
 use Rattle.proof_network_bridge.proofs.Payloads.{said_same}

@@ -23,8 +23,8 @@ use Rattle.perfect_groups.specs.Soundness.{IsAmong, IsReal}
 use Rattle.proof_collective_steps.specs.Counterparts.{communicator_of}
 use Rattle.proof_engine_steps.specs.Probes.{LooksAreShown, SearchesFindAll}
 use Rattle.observation.specs.Reasons.{IsReason}
-use Rattle.proof_engine_view.specs.Shown.{IsShown}
-use Rattle.proof_session_carrying.specs.Announced.{announcements_in}
+use Rattle.proof_engine_view.specs.CoreViews.{IsShown}
+use Rattle.proof_session_carrying.specs.Announcements.{announcements_in}
 use Rattle.proof_group_network.proofs.NetworkRest.{is_run_of_groups}
 use Rattle.proof_group_network.specs.Network.{GroupNetwork, IsRunOfGroups, NoticesAreHanded}
 use Rattle.proof_link_truth.specs.Events.{IdleIsStill, Knows}
@@ -32,8 +32,8 @@ use Rattle.proof_network_runs.specs.Runs.{IsShownBy, OneGroupAlongRuns, RunsShow
 use Rattle.link_truth.specs.Quiet.{AreQuiet}
 use Rattle.link_truth.specs.Wire.{at}
 use Rattle.proof_pure_network.specs.Core.{view}
-use Rattle.proof_pure_network.specs.Held.{blank}
-use Rattle.proof_pure_network.specs.Matching.{found}
+use Rattle.proof_pure_network.specs.WaitingMessages.{blank}
+use Rattle.proof_pure_network.specs.Matches.{found}
 use Rattle.proof_pure_network.specs.Network.{IsQuiet, here}
 use Rattle.proof_session_carrying.specs.MessageLaws.{StillTextsAreQuiet}
 use Rattle.point_to_point_calls.specs.declared.refusal.Refusal.{Refusal}
@@ -41,15 +41,15 @@ use Rattle.sessions.specs.SessionsState.{SessionsState}
 use Rattle.vocabulary.specs.declared.endpoint.Endpoint.{Endpoint}
 use Rattle.perfect_queues.specs.Receives as receives
 use Rattle.perfect_queues.specs.Receives.{such_receive}
-use Rattle.proof_network_bridge.specs.Following.{FollowingIsRun, IsSeenOfMachine}
+use Rattle.proof_network_bridge.specs.EventLaws.{FollowingIsRun, IsSeenOfMachine}
 use Rattle.observation.specs.Faults.{AnswersNone, IsFaultless, LooksInVain, SearchesInVain, fault_in}
 use Rattle.proof_network_bridge.specs.GoingOn.{EnginesShareGroups, FollowingIsEachRun, IsSeenBy}
-use Rattle.proof_network_bridge.specs.Joined.{IsFollowed, IsJoined, network_after}
+use Rattle.proof_network_bridge.specs.WorldViews.{IsFollowed, IsJoined, network_after}
 use Rattle.observation.specs.Sessions.{sessions_in}
 use Rattle.observation.specs.EngineCalls.{call_meant, call_seen}
-use Rattle.proof_network_bridge.proofs.Followed.{followed}
+use Rattle.proof_network_bridge.proofs.RankEvents.{followed}
 use Rattle.proof_network_bridge.proofs.Halves.{IsOf, engine_there}
-use Rattle.proof_network_bridge.proofs.Finding.{looks_in_vain, searches_in_vain}
+use Rattle.proof_network_bridge.proofs.Probes.{looks_in_vain, searches_in_vain}
 use Rattle.proof_network_bridge.proofs.Worlds.{place_is}
 
 -- ---- what is said of calls

@@ -14,16 +14,16 @@ use Rattle.perfect_groups.specs.Membership.{Membership, Present}
 use Rattle.perfect_queues.specs.Completions.{Unanswered}
 use Rattle.perfect_queues.specs.Refusals.{is_held}
 use Rattle.proof_collective_steps.specs.Counterparts.{communicator_of}
-use Rattle.proof_collective_steps.specs.Shown as collectives
-use Rattle.proof_collective_steps.specs.Shown.{IsPresent}
+use Rattle.proof_collective_steps.specs.MemberViews as collectives
+use Rattle.proof_collective_steps.specs.MemberViews.{IsPresent}
 use Rattle.proof_engine_steps.proofs.ListsApart.{all_at}
-use Rattle.proof_engine_view.specs.Shown.{IsBlocked, IsShown}
+use Rattle.proof_engine_view.specs.CoreViews.{IsBlocked, IsShown}
 use Rattle.proof_engine_view.specs.Rows.{Row}
 use Rattle.proof_engine_view.specs.Transfers.{Announcements}
 use Rattle.proof_group_network.specs.Notices.{Member}
 use Rattle.proof_group_network.specs.NoticesStand.{IsOfWorld}
 use Rattle.proof_pure_network.specs.Core.{Core, view}
-use Rattle.proof_pure_network.specs.Held.{blank}
+use Rattle.proof_pure_network.specs.WaitingMessages.{blank}
 use Rattle.proof_queue_calls.specs.Halves.{AreInWorld}
 use Rattle.requests.specs.declared.awaited_requests.Awaited as rank
 use Rattle.vocabulary.specs.declared.endpoint.Endpoint.{Endpoint}

@@ -3,14 +3,14 @@
 use Rattle.std.proofs.Common.{◌≡◌, ℕ, zero, suc, ◌<◌, ◌≤◌, false, List, [], ◌∷◌, Some, None, refl, sym, ap, subst}
 use Rattle.std.proofs.Common.{◌∙◌}
 use Rattle.std.specs.Prelude.{◌==◌, slice_get, slice_index, slice_set}
-use Rattle.datagram.specs.Spelling.{FrameText, OutgoingText}
+use Rattle.datagram.specs.Spellings.{FrameText, OutgoingText}
 use Rattle.engine.specs.Datagrams.{ended_by, groups_met, lesson_in, payloads_met}
 use Rattle.engine_calls.specs.EngineState.{EngineState, or_before}
 use Rattle.perfect_groups.specs.Events.{Entry}
-use Rattle.proof_collective_steps.specs.Shown as collectives
-use Rattle.proof_engine_view.specs.Shown.{IsShown}
-use Rattle.proof_group_network.specs.Carried.{Sessions}
-use Rattle.proof_group_network.specs.Happened.{IsAfter}
+use Rattle.proof_collective_steps.specs.MemberViews as collectives
+use Rattle.proof_engine_view.specs.CoreViews.{IsShown}
+use Rattle.proof_group_network.specs.SessionContents.{Sessions}
+use Rattle.proof_group_network.specs.Happenings.{IsAfter}
 use Rattle.proof_group_network.specs.Midway.{Stands, unsettled}
 use Rattle.proof_group_network.specs.Network.{GroupNetwork, NoticeLink}
 use Rattle.proof_group_network.specs.Notices.{Member}
@@ -20,19 +20,19 @@ use Rattle.endpoint_links.specs.Links.{LinksOf, accept_all}
 use Rattle.proof_pure_network.specs.Core.{Core, new_core}
 use Rattle.proof_pure_network.specs.Links.{Link}
 use Rattle.proof_pure_network.specs.Network.{here}
-use Rattle.proof_session_carrying.specs.Announced.{announcements_in}
-use Rattle.proof_session_carrying.specs.Carrying.{Saying}
+use Rattle.proof_session_carrying.specs.Announcements.{announcements_in}
+use Rattle.proof_session_carrying.specs.SessionViews.{Saying}
 use Rattle.proof_session_carrying.specs.EventLaws.{AreJoined}
 use Rattle.point_to_point.specs.Arrivals.{after_lesson}
 use Rattle.sessions.specs.Events.{after_event, after_heard, sends_limit, taught_known}
-use Rattle.sessions.specs.Heard.{HeardText}
+use Rattle.sessions.specs.HeardBytes.{HeardText}
 use Rattle.sessions.specs.SessionsState.{SessionsState}
 use Rattle.vocabulary.specs.MessageLimits.{limit_of}
 use Rattle.incarnation.specs.declared.place.Place.{Place}
 use Rattle.vocabulary.specs.declared.endpoint.Endpoint.{Endpoint}
-use Rattle.proof_network_bridge.specs.Joined.{IsClean, IsJoined}
+use Rattle.proof_network_bridge.specs.WorldViews.{IsClean, IsJoined}
 use Rattle.proof_network_bridge.specs.Payloads.{ArePayloads, SaidGrows}
-use Rattle.proof_network_bridge.proofs.Followed.{IsHeldUnder, held_at, held_more}
+use Rattle.proof_network_bridge.proofs.RankEvents.{IsHeldUnder, held_at, held_more}
 use Rattle.proof_network_bridge.proofs.KnownMembers.{MembersAreKnown}
 use Rattle.proof_network_bridge.proofs.Payloads.{payloads_grow}
 use Rattle.proof_network_bridge.proofs.Worlds.{OnlyFrom, places_apart, to_come_apart}

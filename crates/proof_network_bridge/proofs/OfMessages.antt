@@ -5,7 +5,7 @@ use Rattle.std.specs.Prelude.{slice_get, slice_index, take}
 use Rattle.std.specs.List.{AllByRecursion}
 use Rattle.std.proofs.lemmas.Bool.{and_from, eq-eqb}
 use Rattle.std.proofs.lemmas.Option.{same_Some, slice_get_within}
-use Rattle.datagram.specs.Spelling.{ClearFrame, DataFrame, EagerFrame, FrameText, RequestFrame}
+use Rattle.datagram.specs.Spellings.{ClearFrame, DataFrame, EagerFrame, FrameText, RequestFrame}
 use Rattle.datagram.specs.declared.kinds.Plane.{Plane}
 use Rattle.datagram.specs.declared.kinds.Plane.TheVariants.{Collective}
 use Rattle.engine_calls.specs.EngineState.{EngineState}
@@ -14,33 +14,47 @@ use Rattle.proof_engine_steps.proofs.AnsweredOffers.{IsAnswered, offer_there}
 use Rattle.proof_engine_steps.proofs.DueData.{IsDueFor, collection_there}
 use Rattle.proof_engine_view.specs.Frames.{endpoint_of}
 use Rattle.proof_engine_view.specs.Rows.{Row, jobs_of}
-use Rattle.proof_engine_view.specs.Shown.{IsShown}
-use Rattle.proof_engine_view.specs.Standing as standing
+use Rattle.proof_engine_view.specs.CoreViews.{IsShown}
+use Rattle.proof_engine_view.specs.FrameViews as standing
 use Rattle.proof_engine_view.specs.Transfers.{Transfer}
 use Rattle.proof_engine_view.specs.UnderWay.{IsCollectionOf, IsOfferOf}
-use Rattle.proof_group_network.specs.Carried.{Announces, Answers, BringsPart, Carried, OfMessages, OfNotices, Sessions}
+use Rattle.proof_group_network.specs.SessionContents.{
+  Announces,
+  Answers,
+  BringsPart,
+  Carried,
+  OfMessages,
+  OfNotices,
+  Sessions,
+}
 use Rattle.proof_group_network.specs.Network.{GroupNetwork}
 use Rattle.proof_group_network.specs.SessionLaws.{IsNext}
 use Rattle.endpoint_links.specs.Links.{LinksOf}
-use Rattle.proof_pure_network.specs.Announced.{IsIn, TransfersStand, transfers_of}
+use Rattle.proof_pure_network.specs.Announcements.{IsIn, TransfersStand, transfers_of}
 use Rattle.proof_pure_network.specs.Core.{Core}
 use Rattle.proof_pure_network.specs.Frames.{Cts, Data, Eager, Frame, Rts}
-use Rattle.proof_pure_network.specs.Held.{is_part}
+use Rattle.proof_pure_network.specs.WaitingMessages.{is_part}
 use Rattle.proof_pure_network.specs.Jobs.{Collecting, Job, is_collecting}
-use Rattle.proof_session_carrying.proofs.Carrying.{next_stands}
-use Rattle.proof_session_carrying.specs.Announced.{Announced, LargeNotice, all_announced, announcements_in, transfer_as}
-use Rattle.proof_session_carrying.specs.Announced.{transfers_as}
-use Rattle.proof_session_carrying.specs.Carrying.{Saying, StandsForCarried}
+use Rattle.proof_session_carrying.proofs.SessionViews.{next_stands}
+use Rattle.proof_session_carrying.specs.Announcements.{
+  Announced,
+  LargeNotice,
+  all_announced,
+  announcements_in,
+  transfer_as,
+}
+use Rattle.proof_session_carrying.specs.Announcements.{transfers_as}
+use Rattle.proof_session_carrying.specs.SessionViews.{Saying, StandsForCarried}
 use Rattle.proof_session_carrying.specs.CarryLaws as carrying
 use Rattle.proof_session_carrying.specs.EventLaws.{AreJoined}
-use Rattle.point_to_point_calls.specs.Hearing.{bad_unless, first_of, plane_fault}
+use Rattle.point_to_point_calls.specs.FrameNews.{bad_unless, first_of, plane_fault}
 use Rattle.point_to_point_calls.specs.declared.refusal.Refusal.{Refusal}
 use Rattle.point_to_point.specs.Arrivals.{news_fault}
 use Rattle.rendezvous.specs.State.{is_due, offered}
 use Rattle.rendezvous.specs.declared.offer.Offer.{Offer}
 use Rattle.vocabulary.specs.Endpoints.{is_same}
 use Rattle.vocabulary.specs.declared.endpoint.Endpoint.{Endpoint}
-use Rattle.proof_network_bridge.proofs.Heard.{news}
+use Rattle.proof_network_bridge.proofs.HeardWords.{news}
 
 -- ---- lists
 

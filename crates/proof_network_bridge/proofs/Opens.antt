@@ -3,35 +3,35 @@ use Rattle.std.proofs.Common.{◌≡◌, ℕ, zero, suc, ◌≤◌, Bool, true, 
 use Rattle.std.proofs.Common.{sym, ap, subst, ◌∙◌, arith}
 use Rattle.std.specs.Prelude.{slice_index, slice_set}
 use Rattle.std.proofs.lemmas.Bool.{eqb-false, le-ltb}
-use Rattle.datagram.specs.Spelling.{FrameText}
+use Rattle.datagram.specs.Spellings.{FrameText}
 use Rattle.engine_calls.specs.EngineState.{EngineState}
 use Rattle.incarnation.specs.declared.place.Place.{Place}
-use Rattle.proof_collective_steps.specs.Shown as collectives
+use Rattle.proof_collective_steps.specs.MemberViews as collectives
 use Rattle.proof_engine_steps.proofs.Further.{met_known}
-use Rattle.proof_engine_steps.proofs.SourceKnown.{source_incarnation}
+use Rattle.proof_engine_steps.proofs.SourceKnowledge.{source_incarnation}
 use Rattle.proof_engine_steps.specs.Steps.{IsFromOther, IsHeard, NewsAreShown}
-use Rattle.proof_engine_view.specs.Shown.{IsShown}
-use Rattle.proof_group_network.specs.Carried.{Sessions}
-use Rattle.proof_group_network.specs.Happened.{IsAfter, met_core}
+use Rattle.proof_engine_view.specs.CoreViews.{IsShown}
+use Rattle.proof_group_network.specs.SessionContents.{Sessions}
+use Rattle.proof_group_network.specs.Happenings.{IsAfter, met_core}
 use Rattle.proof_group_network.specs.Network.{GroupNetwork, hear_member}
 use Rattle.proof_group_network.specs.Notices.{Member}
 use Rattle.proof_group_network.specs.NoticesStand.{heard_member}
 use Rattle.proof_link_truth.specs.Events as below
 use Rattle.link_truth.specs.Wire.{at, in_job, place_of}
 use Rattle.endpoint_links.specs.Links.{LinksOf}
-use Rattle.proof_pure_network.specs.Announced.{MeetingsStand}
+use Rattle.proof_pure_network.specs.Announcements.{MeetingsStand}
 use Rattle.proof_pure_network.specs.Core.{Core}
 use Rattle.proof_pure_network.specs.Engine.{met}
 use Rattle.proof_pure_network.specs.Network.{here}
 use Rattle.proof_session_carrying.proofs.MessageSteps.{others_are_carried}
-use Rattle.proof_session_carrying.specs.Announced.{announcements_in}
-use Rattle.point_to_point_calls.specs.Hearing.{NewsText}
+use Rattle.proof_session_carrying.specs.Announcements.{announcements_in}
+use Rattle.point_to_point_calls.specs.FrameNews.{NewsText}
 use Rattle.point_to_point.specs.Arrivals.{after_lesson}
 use Rattle.sessions.specs.Events.{taught_known}
-use Rattle.sessions.specs.Heard.{HeardText}
+use Rattle.sessions.specs.HeardBytes.{HeardText}
 use Rattle.vocabulary.specs.declared.endpoint.Endpoint.{Endpoint}
 use Rattle.proof_network_bridge.specs.Payloads.{ArePayloads}
-use Rattle.proof_network_bridge.proofs.Heard.{known_alike, is_from_other, news}
+use Rattle.proof_network_bridge.proofs.HeardWords.{known_alike, is_from_other, news}
 use Rattle.proof_network_bridge.proofs.Midway.{AreTold, IsHolding, IsMidway, IsOpen, opened, others_after}
 use Rattle.proof_network_bridge.proofs.Payloads.{payloads_taught, said_same}
 use Rattle.proof_network_bridge.proofs.Worlds.{announced_none, only_same, shown_out}

@@ -10,15 +10,15 @@ use Rattle.collective_transfers.specs.Payloads.{Announced, Coming}
 use Rattle.collective_transfers.specs.State as payloads
 use Rattle.engine.specs.Datagrams.{payloads_met}
 use Rattle.proof_engine_view.specs.Frames.{endpoint_of, known_after}
-use Rattle.proof_group_network.specs.Carried.{Sessions}
-use Rattle.proof_pure_network.specs.Announced.{Begins}
-use Rattle.proof_session_carrying.proofs.Growing.{announced_grow, begins_at}
-use Rattle.proof_session_carrying.specs.Announced.{LargeNotice, all_announced}
-use Rattle.proof_session_carrying.specs.Carrying.{Saying}
+use Rattle.proof_group_network.specs.SessionContents.{Sessions}
+use Rattle.proof_pure_network.specs.Announcements.{Begins}
+use Rattle.proof_session_carrying.proofs.AnnouncementLaws.{announced_grow, begins_at}
+use Rattle.proof_session_carrying.specs.Announcements.{LargeNotice, all_announced}
+use Rattle.proof_session_carrying.specs.SessionViews.{Saying}
 use Rattle.vocabulary.specs.declared.endpoint.Endpoint.{Endpoint}
 use Rattle.proof_network_bridge.specs.Payloads.{ArePayloads, IsAnnouncedPayload, IsComingPayload, IsLargeNotice}
 use Rattle.proof_network_bridge.specs.Payloads.{SaidGrows}
-use Rattle.proof_network_bridge.proofs.Heard.{taught}
+use Rattle.proof_network_bridge.proofs.HeardWords.{taught}
 
 -- sessions that took in more
 abbrev pub SessionsGrow : Sessions → Sessions → Type 0

@@ -14,7 +14,7 @@ use Rattle.perfect_groups.specs.Calls.{Inquire, OfFact, fact_of, held_at}
 use Rattle.perfect_groups.specs.Communicators.{Communicator}
 use Rattle.perfect_groups.specs.Events.{Entry, told_of}
 use Rattle.perfect_groups.specs.Membership.{Membership}
-use Rattle.proof_group_network.specs.Happened.{IsAfter, QuestionsHappen, reply_of}
+use Rattle.proof_group_network.specs.Happenings.{IsAfter, QuestionsHappen, reply_of}
 use Rattle.proof_group_network.specs.Network.{Ask, GroupNetwork, happens}
 use Rattle.proof_link_truth.specs.Events.{RestIsTrue}
 use Rattle.link_truth.specs.Wire.{in_job, place_of}
@@ -22,12 +22,12 @@ use Rattle.proof_pure_network.specs.Network.{here}
 use Rattle.proof_session_carrying.specs.MessageLaws.{OthersAreCarried}
 use Rattle.vocabulary.specs.declared.endpoint.Endpoint.{Endpoint}
 use Rattle.proof_network_bridge.specs.GoingOn.{LeavesFollowedOn}
-use Rattle.proof_network_bridge.specs.Joined.{IsClean, IsHeldBy, network_after}
+use Rattle.proof_network_bridge.specs.WorldViews.{IsClean, IsHeldBy, network_after}
 use Rattle.observation.specs.Sessions.{sessions_in}
 use Rattle.observation.specs.EngineCalls.{told_call, told_completion}
 use Rattle.proof_network_bridge.proofs.Calls.{LeavesCalled, QuestionsFollow}
-use Rattle.proof_network_bridge.proofs.Followed as followed
-use Rattle.proof_network_bridge.proofs.Followed.{followed_after}
+use Rattle.proof_network_bridge.proofs.RankEvents as followed
+use Rattle.proof_network_bridge.proofs.RankEvents.{followed_after}
 use Rattle.proof_network_bridge.proofs.Machine.{TakenIsFaultless}
 use Rattle.proof_network_bridge.proofs.Members.{held_same, named_same}
 use Rattle.proof_network_bridge.proofs.Payloads.{said_same}

@@ -20,29 +20,29 @@ use Rattle.perfect_groups.specs.Calls as machine
 use Rattle.perfect_groups.specs.Events.{Entry}
 use Rattle.perfect_groups.specs.Faults.{fault, fault_by, is_within}
 use Rattle.perfect_queues.specs.Refusals.{standing}
-use Rattle.proof_collective_steps.specs.Shown as collectives
+use Rattle.proof_collective_steps.specs.MemberViews as collectives
 use Rattle.observation.specs.Reasons.{IsReason}
 use Rattle.proof_engine_view.specs.Transfers.{Announcements}
-use Rattle.proof_session_carrying.specs.Announced.{announcements_in}
-use Rattle.proof_group_network.proofs.NetworkKept.{run_limit_with_groups}
+use Rattle.proof_session_carrying.specs.Announcements.{announcements_in}
+use Rattle.proof_group_network.proofs.NetworkInvariant.{run_limit_with_groups}
 use Rattle.proof_group_network.proofs.NetworkRest.{is_run_of_groups}
 use Rattle.proof_group_network.proofs.NoticesStand.{notices_stand}
 use Rattle.proof_group_network.specs.Network.{new_group_network}
 use Rattle.proof_group_network.specs.Network.{GroupNetwork}
 use Rattle.proof_group_network.specs.Notices.{Member}
-use Rattle.proof_network_bridge.proofs.Followed.{IsHeldAs, held_at}
+use Rattle.proof_network_bridge.proofs.RankEvents.{IsHeldAs, held_at}
 use Rattle.proof_network_bridge.proofs.Members.{are_in_world, busy_same, held_same, within_same}
 use Rattle.proof_network_bridge.proofs.Refusals.{by_rule, free_faultless, free_reason}
-use Rattle.proof_network_bridge.proofs.Routed.{IsFree}
+use Rattle.proof_network_bridge.proofs.RoutedFaults.{IsFree}
 use Rattle.proof_network_bridge.proofs.Worlds.{place_is}
 use Rattle.vocabulary.specs.MessageLimits.{limit_of}
 use Rattle.proof_network_bridge.specs.Alone.{EnginesAreRanks, EnginesJudgeAsTheMachine, EnginesRefuseAsTheMachine}
 use Rattle.proof_network_bridge.specs.Alone.{EnginesTakeNoFault, IsRank}
 use Rattle.observation.specs.Faults.{IsFaultless}
-use Rattle.proof_network_bridge.specs.Joined.{IsFollowed, network_after}
+use Rattle.proof_network_bridge.specs.WorldViews.{IsFollowed, network_after}
 use Rattle.observation.specs.EngineCalls.{call_meant, call_seen}
 use Rattle.proof_pure_network.specs.Core.{Core, view}
-use Rattle.proof_pure_network.specs.Held.{blank}
+use Rattle.proof_pure_network.specs.WaitingMessages.{blank}
 use Rattle.proof_pure_network.specs.Network.{here}
 use Rattle.proof_queue_calls.specs.Halves.{AreInWorld}
 use Rattle.point_to_point_calls.specs.declared.refusal.Refusal.{Refusal}

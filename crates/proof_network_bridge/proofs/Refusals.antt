@@ -7,7 +7,7 @@ use Rattle.collective_progress.specs.Rules.{number_of_rule}
 use Rattle.collective_progress.specs.declared.rules.Rule.{Rule}
 use Rattle.collective_progress.specs.declared.rules.Rule.TheVariants as entry_faults
 use Rattle.collective_messages.specs.declared.entry.Entry.{Entry}
-use Rattle.communicators.proofs.Judging.{entry_judged, question_judged}
+use Rattle.communicators.proofs.RuleLaws.{entry_judged, question_judged}
 use Rattle.communicators.specs.Members.{call_of, held_in}
 use Rattle.communicators.specs.Questions.{question_of}
 use Rattle.communicators.specs.Routes.{RouteText, route_on}
@@ -19,7 +19,7 @@ use Rattle.engine_calls.specs.EngineState.{EngineState, member_of}
 use Rattle.engine_calls.specs.Faults.{broken, free_fault, group_limit, is_replaced, on_route, probe_rules}
 use Rattle.engine_calls.specs.Faults.{receive_rules, routed_limit, send_rules}
 use Rattle.engine_calls.specs.Refusals.{first_fault, of_entry_rule}
-use Rattle.engine_calls.specs.Routing.{probe_by, receive_by, send_by}
+use Rattle.engine_calls.specs.Routes.{probe_by, receive_by, send_by}
 use Rattle.engine_calls.specs.declared.call.Call as engine
 use Rattle.engine_calls.specs.declared.call.Call.TheVariants as calls
 use Rattle.point_to_point_calls.specs.declared.call.Probe.{Probe}
@@ -42,25 +42,32 @@ use Rattle.perfect_queues.specs.Refusals as rules
 use Rattle.perfect_queues.specs.Refusals.{Standing, is_held, standing}
 use Rattle.perfect_queues.specs.State.{Local}
 use Rattle.proof_engine_steps.proofs.RefusedCalls.{allowed_calls_are_faultless, faults_have_reasons, room_is_a_reason}
-use Rattle.proof_engine_steps.proofs.Starting.{core_free}
-use Rattle.proof_engine_steps.specs.Refused.{HasReason}
+use Rattle.proof_engine_steps.proofs.RequestStarts.{core_free}
+use Rattle.proof_engine_steps.specs.Refusals.{HasReason}
 use Rattle.observation.specs.Reasons.{IsOutOfRoom, IsReason, MachinesFault, NoRoom}
 use Rattle.proof_engine_view.specs.Faults.{queue_fault}
 use Rattle.observation.specs.CoreCalls as in_queues
 use Rattle.proof_engine_view.specs.Transfers.{Announcements}
 use Rattle.proof_network_bridge.proofs.Halves.{neither_fault}
 use Rattle.proof_network_bridge.proofs.Members.{named_same}
-use Rattle.proof_network_bridge.proofs.Routed.{IsFree, fault_cut, group_full, group_routed_full, or_fault, routed_full}
-use Rattle.proof_network_bridge.proofs.Routed.{rule_broken, rule_kept}
+use Rattle.proof_network_bridge.proofs.RoutedFaults.{
+  IsFree,
+  fault_cut,
+  group_full,
+  group_routed_full,
+  or_fault,
+  routed_full,
+}
+use Rattle.proof_network_bridge.proofs.RoutedFaults.{rule_broken, rule_kept}
 use Rattle.observation.specs.Faults.{IsFaultless}
 use Rattle.observation.specs.EngineCalls.{call_by, call_meant, call_seen}
 use Rattle.proof_pure_network.specs.Core.{Core, view}
-use Rattle.proof_pure_network.specs.Held.{blank}
+use Rattle.proof_pure_network.specs.WaitingMessages.{blank}
 use Rattle.point_to_point_calls.specs.Refusals.{number_of_refusal}
 use Rattle.point_to_point_calls.specs.CoreCalls as core_calls
 use Rattle.point_to_point_calls.specs.declared.refusal.Refusal.{Refusal}
 use Rattle.point_to_point_calls.specs.declared.refusal.Refusal.TheVariants as refusals
-use Rattle.point_to_point_calls.specs.Hearing.{first_of}
+use Rattle.point_to_point_calls.specs.FrameNews.{first_of}
 use Rattle.point_to_point.specs.Calls.{argument_fault, call_fault, fault_at, free_request_fault}
 use Rattle.requests.specs.Regions.{handed_of}
 use Rattle.requests.specs.declared.region.Region.{Region}

@@ -5,7 +5,7 @@ use Rattle.std.specs.Prelude.{slice_get}
 use Rattle.std.specs.Option.{option_to_list}
 use Rattle.std.specs.List.{AllByRecursion}
 use Rattle.collective_progress.specs.Blocks.{is_like}
-use Rattle.collective_messages.specs.Entering.{record_of}
+use Rattle.collective_messages.specs.Entries.{record_of}
 use Rattle.collective_messages.specs.Notes.{found_in, member_at}
 use Rattle.collective_messages.specs.Verdicts.{is_at, verdict}
 use Rattle.collective_messages.specs.Roles as roles

@@ -2,13 +2,13 @@
 use Rattle.std.proofs.Common.{◌≡◌, ℕ, Bool, true, false, List, [], map, Option, Some, None, refl, sym, ap, subst, ◌∙◌}
 use Rattle.std.specs.List.{AllByRecursion}
 use Rattle.std.proofs.lemmas.Option.{same_Some}
-use Rattle.datagram.specs.Spelling.{FrameText, OutgoingText}
+use Rattle.datagram.specs.Spellings.{FrameText, OutgoingText}
 use Rattle.engine.specs.Datagrams.{after_heard, frame_in, heard_fault, hold_fault, news_of, replies}
 use Rattle.engine_calls.specs.EngineState.{EngineState}
 use Rattle.engine_calls.specs.Refusals.{fault_of_sessions, first_fault}
 use Rattle.incarnation.specs.declared.place.Place.{Place}
-use Rattle.point_to_point_calls.specs.Hearing as core_hearing
-use Rattle.point_to_point_calls.specs.Hearing.{transfers_met}
+use Rattle.point_to_point_calls.specs.FrameNews as core_hearing
+use Rattle.point_to_point_calls.specs.FrameNews.{transfers_met}
 use Rattle.point_to_point.specs.CoreState.{CoreState}
 use Rattle.point_to_point.specs.Arrivals as core
 use Rattle.point_to_point.specs.Arrivals.{after_any, after_news, called_for, news_fault, news_frames}
@@ -16,21 +16,21 @@ use Rattle.rendezvous.specs.State as rendezvous
 use Rattle.sessions.specs.declared.refusal.SessionRefusal as below_refused
 use Rattle.sessions.specs.Events as below_events
 use Rattle.sessions.specs.Events.{after_event, event_limit, first_limit, heard_limit, sends_limit}
-use Rattle.sessions.specs.Heard.{Acknowledges, Follows, Hands, HeardText, Holds, Nothing, Repeats, WordText}
+use Rattle.sessions.specs.HeardBytes.{Acknowledges, Follows, Hands, HeardText, Holds, Nothing, Repeats, WordText}
 use Rattle.sessions.specs.SessionsState.{SessionsState}
 use Rattle.vocabulary.specs.declared.endpoint.Endpoint.{Endpoint}
-use Rattle.proof_collective_steps.specs.Shown as collectives
+use Rattle.proof_collective_steps.specs.MemberViews as collectives
 use Rattle.proof_engine_steps.proofs.UnderWay.{others_may_announce}
 use Rattle.proof_engine_steps.specs.Steps.{IsHeard, IsWithinFields, NewsAreShown}
-use Rattle.proof_engine_view.proofs.Growing.{sent_more}
-use Rattle.proof_engine_view.specs.Shown.{IsShown}
-use Rattle.proof_engine_view.specs.Standing as standing
-use Rattle.proof_engine_view.specs.Standing.{CanLeave, all_gone}
+use Rattle.proof_engine_view.proofs.LastingViews.{sent_more}
+use Rattle.proof_engine_view.specs.CoreViews.{IsShown}
+use Rattle.proof_engine_view.specs.FrameViews as standing
+use Rattle.proof_engine_view.specs.FrameViews.{CanLeave, all_gone}
 use Rattle.proof_engine_view.specs.Transfers.{Announcements, AnnouncementsGrow, after_out}
 use Rattle.proof_group_network.proofs.MidwaySteps.{messages_come, words_come}
 use Rattle.proof_group_network.proofs.SessionParts.{message_handed}
-use Rattle.proof_group_network.specs.Carried.{Sessions, frames_carried}
-use Rattle.proof_group_network.specs.Happened.{IsAfter, met_core}
+use Rattle.proof_group_network.specs.SessionContents.{Sessions, frames_carried}
+use Rattle.proof_group_network.specs.Happenings.{IsAfter, met_core}
 use Rattle.proof_group_network.specs.Midway.{unsettled}
 use Rattle.proof_group_network.specs.Network.{GroupNetwork}
 use Rattle.proof_group_network.specs.Notices.{Member}
@@ -40,19 +40,19 @@ use Rattle.proof_link_truth.specs.Events.{IsTrueWord, MaySendAll, all_addressed,
 use Rattle.link_truth.specs.Links as lower
 use Rattle.link_truth.specs.Wire.{at}
 use Rattle.endpoint_links.specs.Links.{LinksOf}
-use Rattle.proof_pure_network.specs.Announced.{MeetingsStand}
+use Rattle.proof_pure_network.specs.Announcements.{MeetingsStand}
 use Rattle.proof_pure_network.specs.Core.{Effect}
 use Rattle.proof_pure_network.specs.Engine.{came, met}
 use Rattle.proof_pure_network.specs.Frames.{Frame}
 use Rattle.proof_pure_network.specs.Links.{accept_all, handed_on}
 use Rattle.proof_pure_network.specs.Network.{here}
 use Rattle.proof_session_carrying.proofs.MessageSteps.{messages_are_carried, others_are_carried}
-use Rattle.proof_session_carrying.specs.Announced.{announcements_in}
+use Rattle.proof_session_carrying.specs.Announcements.{announcements_in}
 use Rattle.proof_session_carrying.specs.MessageLaws.{FramesAreSent}
 use Rattle.proof_network_bridge.specs.Payloads.{ArePayloads}
-use Rattle.proof_network_bridge.proofs.Carrying.{all_same, may_send}
+use Rattle.proof_network_bridge.proofs.SessionOutput.{all_same, may_send}
 use Rattle.proof_network_bridge.proofs.Halves.{Keeps, neither_fault, no_limit, sends_keep}
-use Rattle.proof_network_bridge.proofs.Heard.{news}
+use Rattle.proof_network_bridge.proofs.HeardWords.{news}
 use Rattle.proof_network_bridge.proofs.Midway.{IsHearing, IsOpen, IsStepped, opened, stepped}
 use Rattle.proof_network_bridge.proofs.OfMessages.{IsOfMessages, is_of_messages}
 use Rattle.proof_network_bridge.proofs.Opens.{from_known, learns_none, taught_nothing}

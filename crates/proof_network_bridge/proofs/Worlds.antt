@@ -13,32 +13,32 @@ use Rattle.point_to_point.specs.CoreState.{CoreState}
 use Rattle.engine_calls.specs.EngineState.{EngineState}
 use Rattle.incarnation.specs.declared.place.Place.{Place}
 use Rattle.proof_pure_network.specs.Core.{Core}
-use Rattle.proof_pure_network.specs.Announced.{Begins}
+use Rattle.proof_pure_network.specs.Announcements.{Begins}
 use Rattle.proof_pure_network.specs.Frames.{Cts, Data, Eager, Frame, Rts}
 use Rattle.proof_engine_view.specs.Transfers.{AnnouncementsGrow, Transfer, after_out, frames_to}
 use Rattle.proof_engine_view.specs.Transfers.{announced_in as frames_announced}
-use Rattle.proof_engine_view.proofs.Growing.{announced_append as frames_append}
+use Rattle.proof_engine_view.proofs.LastingViews.{announced_append as frames_append}
 use Rattle.proof_group_network.proofs.SessionParts.{same_accepted}
-use Rattle.proof_group_network.specs.Carried.{Carried, OfMessages, Session, Sessions, frames_carried}
+use Rattle.proof_group_network.specs.SessionContents.{Carried, OfMessages, Session, Sessions, frames_carried}
 use Rattle.endpoint_links.specs.Links.{LinksOf, accept, accept_all, handed_on}
-use Rattle.proof_session_carrying.proofs.Carrying.{accepted_begins}
-use Rattle.proof_session_carrying.proofs.Growing.{announced_append, announced_grow, at_here, same_begins}
-use Rattle.proof_session_carrying.proofs.Growing.{transfers_grow}
+use Rattle.proof_session_carrying.proofs.SessionViews.{accepted_begins}
+use Rattle.proof_session_carrying.proofs.AnnouncementLaws.{announced_append, announced_grow, at_here, same_begins}
+use Rattle.proof_session_carrying.proofs.AnnouncementLaws.{transfers_grow}
 use Rattle.collective_messages.specs.declared.message.CollectiveMessage.{CollectiveMessage}
-use Rattle.datagram.specs.Spelling.{FrameText}
+use Rattle.datagram.specs.Spellings.{FrameText}
 use Rattle.link_truth.specs.Sessions.{SessionsTell, is_pair}
-use Rattle.proof_session_carrying.specs.Announced.{Announced, all_announced, announced_in, announcements_in}
-use Rattle.proof_session_carrying.specs.Announced.{transfer_as, transfers_as}
+use Rattle.proof_session_carrying.specs.Announcements.{Announced, all_announced, announced_in, announcements_in}
+use Rattle.proof_session_carrying.specs.Announcements.{transfer_as, transfers_as}
 use Rattle.proof_engine_steps.proofs.UnderWay.{others_may_announce}
 use Rattle.proof_pure_network.specs.Network.{Network, here}
-use Rattle.proof_engine_view.specs.Shown.{IsShown}
+use Rattle.proof_engine_view.specs.CoreViews.{IsShown}
 use Rattle.proof_group_network.specs.Network.{GroupNetwork, Happening, happens, run}
 use Rattle.proof_link_truth.specs.Events.{IsAt}
 use Rattle.link_truth.specs.Truth.{AreTrue}
 use Rattle.link_truth.specs.Wire.{at, in_job, place_of}
-use Rattle.proof_session_carrying.specs.Carrying.{Saying, StandFor}
+use Rattle.proof_session_carrying.specs.SessionViews.{Saying, StandFor}
 use Rattle.proof_session_carrying.specs.EventLaws.{AreJoined}
-use Rattle.proof_network_bridge.specs.Joined.{IsJoined}
+use Rattle.proof_network_bridge.specs.WorldViews.{IsJoined}
 use Rattle.observation.specs.Sessions.{sessions_in}
 use Rattle.proof_network_bridge.proofs.Halves.{sessions_there}
 

@@ -10,17 +10,17 @@ use Rattle.engine_calls.specs.declared.reply.Reply.TheVariants as replies
 use Rattle.perfect_groups.specs.Calls as machine
 use Rattle.perfect_groups.specs.Events.{Entry}
 use Rattle.perfect_groups.specs.Faults.{fault}
-use Rattle.proof_collective_steps.specs.Shown as collectives
+use Rattle.proof_collective_steps.specs.MemberViews as collectives
 use Rattle.observation.specs.Reasons.{IsReason}
-use Rattle.proof_engine_view.specs.Shown.{IsShown}
+use Rattle.proof_engine_view.specs.CoreViews.{IsShown}
 use Rattle.proof_engine_view.specs.Transfers.{Announcements}
 use Rattle.proof_group_network.specs.Notices.{Member}
 use Rattle.proof_pure_network.specs.Core.{Core, view}
-use Rattle.proof_pure_network.specs.Held.{blank}
+use Rattle.proof_pure_network.specs.WaitingMessages.{blank}
 use Rattle.proof_queue_calls.specs.Halves.{AreInWorld}
 use Rattle.point_to_point_calls.specs.declared.refusal.Refusal.{Refusal}
 use Rattle.observation.specs.Faults.{IsFaultless}
-use Rattle.proof_network_bridge.specs.Joined.{IsFollowed}
+use Rattle.proof_network_bridge.specs.WorldViews.{IsFollowed}
 use Rattle.observation.specs.EngineCalls.{call_meant, call_seen}
 use Rattle.vocabulary.specs.MessageLimits.{limit_of}
 

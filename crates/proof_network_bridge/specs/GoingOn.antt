@@ -14,8 +14,8 @@ use Rattle.point_to_point_calls.specs.declared.refusal.Refusal.{Refusal}
 use Rattle.vocabulary.specs.Endpoints.{last_incarnation}
 use Rattle.vocabulary.specs.MessageLimits.{limit_of}
 use Rattle.vocabulary.specs.declared.message_limit.MessageLimit.{MessageLimit}
-use Rattle.proof_network_bridge.specs.Following.{IsSeenOfMachine, RefusesDatagram, TakesDatagram, TakesTick, next_place}
-use Rattle.proof_network_bridge.specs.Joined.{IsJoined, network_after, opening_engines}
+use Rattle.proof_network_bridge.specs.EventLaws.{IsSeenOfMachine, RefusesDatagram, TakesDatagram, TakesTick, next_place}
+use Rattle.proof_network_bridge.specs.WorldViews.{IsJoined, network_after, opening_engines}
 use Rattle.observation.specs.EngineCalls.{told_call, told_completion}
 
 -- these happenings lead to a network of at most 1,024 ranks that is joined to the world, and of which the same is seen

@@ -1,6 +1,6 @@
 pub mod OnWorld
 pub mod Payloads
-pub mod Joined
-pub mod Following
+pub mod WorldViews
+pub mod EventLaws
 pub mod GoingOn
 pub mod Alone

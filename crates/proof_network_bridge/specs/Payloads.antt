@@ -5,10 +5,10 @@ use Rattle.collective_messages.specs.declared.message.CollectiveMessage.{Collect
 use Rattle.collective_transfers.specs.Payloads.{Announced, Coming}
 use Rattle.collective_transfers.specs.State as payloads
 use Rattle.proof_engine_view.specs.Frames.{endpoint_of}
-use Rattle.proof_group_network.specs.Carried.{Sessions}
-use Rattle.proof_pure_network.specs.Announced.{Begins}
-use Rattle.proof_session_carrying.specs.Announced.{LargeNotice, all_announced}
-use Rattle.proof_session_carrying.specs.Carrying.{Saying, bytes_of_message}
+use Rattle.proof_group_network.specs.SessionContents.{Sessions}
+use Rattle.proof_pure_network.specs.Announcements.{Begins}
+use Rattle.proof_session_carrying.specs.Announcements.{LargeNotice, all_announced}
+use Rattle.proof_session_carrying.specs.SessionViews.{Saying, bytes_of_message}
 use Rattle.rendezvous.specs.Pieces.{piece_bytes}
 use Rattle.vocabulary.specs.Limits.{eager_limit, greatest_limit}
 use Rattle.vocabulary.specs.declared.endpoint.Endpoint.{Endpoint}

@@ -1,8 +1,8 @@
 //! The law that joins a world of engines to the machine of queues and groups.
 
 ghost use Rattle.proof_network_bridge.specs.OnWorld.{RunsOnWorldAreOfQueues};
-ghost use Rattle.proof_network_bridge.specs.Following.{OpeningFollows, CallsFollow, DatagramsFollow, RefusalsFollow};
-ghost use Rattle.proof_network_bridge.specs.Following.{TicksFollow, RestartsFollow, FollowingIsRun};
+ghost use Rattle.proof_network_bridge.specs.EventLaws.{OpeningFollows, CallsFollow, DatagramsFollow, RefusalsFollow};
+ghost use Rattle.proof_network_bridge.specs.EventLaws.{TicksFollow, RestartsFollow, FollowingIsRun};
 ghost use Rattle.proof_network_bridge.specs.Alone.{EnginesAreRanks, EnginesRefuseAsTheMachine, EnginesTakeNoFault};
 ghost use Rattle.proof_network_bridge.specs.Alone.{EnginesJudgeAsTheMachine};
 ghost use Rattle.proof_network_bridge.specs.GoingOn.{OpeningFollowsNone, CallsFollowOn, DatagramsFollowOn};

@@ -8,7 +8,7 @@ use Rattle.perfect_queues.specs.State.{State}
 use Rattle.proof_group_network.proofs.NetworkMoves.{NetworkSeen}
 use Rattle.proof_group_network.specs.Network.{GroupNetwork, groups_in}
 use Rattle.proof_pure_network.proofs.Invariants.{views}
-use Rattle.proof_pure_network.proofs.Joined.{Joined}
+use Rattle.proof_pure_network.proofs.Joins.{Joined}
 use Rattle.proof_pure_network.proofs.Links.{coming}
 use Rattle.proof_pure_network.proofs.Simulation.{Sim}
 use Rattle.proof_pure_network.specs.Frames.{Values}

@@ -13,17 +13,17 @@ use Rattle.perfect_queues.specs.State.{Local, with_local}
 use Rattle.proof_group_network.proofs.GroupEvents.{settled_groups}
 use Rattle.proof_group_network.proofs.NetworkMoves.{NetworkMidway, group_fault_same, replies_same}
 use Rattle.proof_group_network.specs.Network.{GroupNetwork, groups_in, settle_event}
-use Rattle.proof_pure_network.proofs.EventKept.{asked_blank}
+use Rattle.proof_pure_network.proofs.EventInvariant.{asked_blank}
 use Rattle.proof_pure_network.proofs.EngineWork.{view_settled}
 use Rattle.proof_pure_network.proofs.Invariants.{views, views_with}
 use Rattle.proof_pure_network.proofs.JobLemmas.{ready_core}
-use Rattle.proof_pure_network.proofs.Joined.{Joined}
+use Rattle.proof_pure_network.proofs.Joins.{Joined}
 use Rattle.proof_pure_network.proofs.Links.{coming, put_more}
 use Rattle.proof_pure_network.proofs.Simulation.{at_once_same, ready_same, settled_more}
 use Rattle.proof_pure_network.specs.Core.{view}
 use Rattle.proof_pure_network.specs.Engine.{core_ready, core_settled}
 use Rattle.proof_pure_network.specs.Frames.{Values}
-use Rattle.proof_pure_network.specs.Held.{blank}
+use Rattle.proof_pure_network.specs.WaitingMessages.{blank}
 use Rattle.proof_pure_network.specs.Links.{Link}
 use Rattle.vocabulary.specs.declared.endpoint.Endpoint.{Endpoint}
 

@@ -19,8 +19,8 @@ use Rattle.perfect_queues.specs.Calls as queues
 use Rattle.perfect_queues.specs.Messages.{Message}
 use Rattle.perfect_queues.specs.State.{with_number}
 use Rattle.proof_group_network.proofs.UnderWay.{NetworkDoing, NetworkKept, call_doing_with_groups}
-use Rattle.proof_group_network.proofs.NetworkKept.{happens_extends_with_groups, new_kept_with_groups, real_of}
-use Rattle.proof_group_network.proofs.NetworkKept.{run_kept_with_groups, word_current, word_doing}
+use Rattle.proof_group_network.proofs.NetworkInvariant.{happens_extends_with_groups, new_kept_with_groups, real_of}
+use Rattle.proof_group_network.proofs.NetworkInvariant.{run_kept_with_groups, word_current, word_doing}
 use Rattle.proof_group_network.proofs.NetworkLive.{Live, new_live, run_live}
 use Rattle.proof_group_network.proofs.NetworkMoves.{NetworkMidway, group_fault_blank, group_fault_same}
 use Rattle.proof_group_network.proofs.NetworkRest.{quiet_left}
@@ -29,16 +29,16 @@ use Rattle.proof_group_network.specs.Network.{call_queues, enter_at, groups_in, 
 use Rattle.proof_group_network.specs.Network.{is_heard_at, is_taken, new_group_network, note_at, note_some, run}
 use Rattle.proof_group_network.specs.Network.{settle_event, take_call, word}
 use Rattle.proof_group_network.specs.Notices.{Notice}
-use Rattle.proof_pure_network.proofs.EventKept.{none_of}
+use Rattle.proof_pure_network.proofs.EventInvariant.{none_of}
 use Rattle.proof_pure_network.proofs.Invariants.{Extends, views}
-use Rattle.proof_pure_network.proofs.Joined.{Joined}
-use Rattle.proof_pure_network.proofs.QuietKept.{quiet_finds, quiet_rest}
-use Rattle.proof_pure_network.proofs.RunKept.{apart_of, not_true}
+use Rattle.proof_pure_network.proofs.Joins.{Joined}
+use Rattle.proof_pure_network.proofs.Rest.{quiet_finds, quiet_rest}
+use Rattle.proof_pure_network.proofs.RunInvariant.{apart_of, not_true}
 use Rattle.proof_pure_network.proofs.Simulation.{is_stale}
 use Rattle.proof_pure_network.specs.Core.{new_core, view}
 use Rattle.proof_pure_network.specs.Engine.{core_ready}
 use Rattle.proof_pure_network.specs.Frames.{Values}
-use Rattle.proof_pure_network.specs.Held.{blank}
+use Rattle.proof_pure_network.specs.WaitingMessages.{blank}
 use Rattle.proof_pure_network.specs.Network.{Network, hand_some, here}
 use Rattle.vocabulary.specs.Endpoints.{is_same}
 use Rattle.vocabulary.specs.declared.endpoint.Endpoint.{Endpoint}

@@ -15,7 +15,17 @@ use Rattle.proof_pure_network.proofs.HonestValues.{IsHonest, IsHonestHeld, IsHon
 use Rattle.proof_pure_network.proofs.Invariants.{Extends, Sane}
 use Rattle.proof_pure_network.specs.Core.{is_of}
 use Rattle.proof_pure_network.specs.Frames.{Cts, Data, Eager, Frame, Rts, Values, message}
-use Rattle.proof_pure_network.specs.Held.{Body, Held, Own, Part, Whole, body_request, body_values, count_of, fill}
+use Rattle.proof_pure_network.specs.WaitingMessages.{
+  Body,
+  Held,
+  Own,
+  Part,
+  Whole,
+  body_request,
+  body_values,
+  count_of,
+  fill,
+}
 use Rattle.proof_pure_network.specs.Jobs.{Closed, Collecting, Job, Offering, Over, Probed, Unmatched, Waiting}
 use Rattle.proof_pure_network.specs.Jobs.{request_of}
 use Rattle.proof_pure_network.specs.Links.{in_flight}

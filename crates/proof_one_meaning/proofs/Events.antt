@@ -30,18 +30,18 @@ use Rattle.one_meaning.specs.Accounts.{after_call, after_entry, after_group_part
 use Rattle.one_meaning.specs.Accounts.{answer_to, answered_wait, at_once, awaited_of, judged, membership_of, part_by}
 use Rattle.one_meaning.specs.Accounts.{present_of, requests_of, sent_to, wait_answer}
 use Rattle.one_meaning.specs.Courses.{RecordsAgree}
-use Rattle.proof_one_meaning.specs.Following.{HasQueues, HaveGroups, HaveQueues, IsCovered, IsFilled, IsInsideBy}
-use Rattle.proof_one_meaning.specs.Following.{IsMadeOrPresent, IsNotAny, IsOfAll, ahead, given_at, member_with}
-use Rattle.proof_one_meaning.specs.Following.{with_account}
+use Rattle.proof_one_meaning.specs.AccountViews.{HasQueues, HaveGroups, HaveQueues, IsCovered, IsFilled, IsInsideBy}
+use Rattle.proof_one_meaning.specs.AccountViews.{IsMadeOrPresent, IsNotAny, IsOfAll, ahead, given_at, member_with}
+use Rattle.proof_one_meaning.specs.AccountViews.{with_account}
 use Rattle.proof_one_meaning.specs.Histories.{has_called}
 use Rattle.one_meaning.proofs.Courses.{grew_queue}
-use Rattle.proof_one_meaning.proofs.Entering.{at_account, enter_has, inside_on, one_grew, still_made}
-use Rattle.one_meaning.proofs.Growing.{AllGrew, Grew}
-use Rattle.proof_one_meaning.proofs.Leaving.{HasLeft, IsLeaver, leave_plain, leaver, table_same}
-use Rattle.proof_one_meaning.proofs.Making.{leave_making}
+use Rattle.proof_one_meaning.proofs.CollectiveEntries.{at_account, enter_has, inside_on, one_grew, still_made}
+use Rattle.one_meaning.proofs.AnswerLaws.{AllGrew, Grew}
+use Rattle.proof_one_meaning.proofs.CollectiveEnds.{HasLeft, IsLeaver, leave_plain, leaver, table_same}
+use Rattle.proof_one_meaning.proofs.CommunicatorLaws.{leave_making}
 use Rattle.proof_one_meaning.proofs.Queues.{queues_alike, step_keeps}
-use Rattle.proof_one_meaning.proofs.Sending.{put_has, sent_alike}
-use Rattle.proof_one_meaning.proofs.Starting.{IsCoveredThere, start_has}
+use Rattle.proof_one_meaning.proofs.QueueAccounts.{put_has, sent_alike}
+use Rattle.proof_one_meaning.proofs.QueueCalls.{IsCoveredThere, start_has}
 
 -- THE MACHINE IS WHAT ACCOUNTS SAY
 
@@ -147,15 +147,15 @@ quiet_groups n all g r a h grew held entered serial before after =
       where
         go : (w : Option Waiting) → IsOfNoCollective w → IsMadeOrPresent g.made c k w →
             IsMadeOrPresent g.made c k a.waiting
-        go w f (Rattle.proof_one_meaning.specs.Following.WasMade cs u) =
-            Rattle.proof_one_meaning.specs.Following.WasMade cs u
-        go w f (Rattle.proof_one_meaning.specs.Following.IsPresent d p u v) = absurd (subst IsOfNoCollective u f)
+        go w f (Rattle.proof_one_meaning.specs.AccountViews.WasMade cs u) =
+            Rattle.proof_one_meaning.specs.AccountViews.WasMade cs u
+        go w f (Rattle.proof_one_meaning.specs.AccountViews.IsPresent d p u v) = absurd (subst IsOfNoCollective u f)
 
 -- ACCOUNTS THAT CHANGE BUT FOR REQUESTS
 
 pub quiet_queues : (all : Accounts) (s : State) (r : ℕ) (a : Account) → HaveQueues all s → a.sent ≡ (all r).sent →
     a.started ≡ (all r).started → a.used ≡ (all r).used →
-    awaited_of a.waiting ≡ awaited_of (all r).waiting → Rattle.proof_one_meaning.specs.Following.WaitsOfAll a.waiting →
+    awaited_of a.waiting ≡ awaited_of (all r).waiting → Rattle.proof_one_meaning.specs.AccountViews.WaitsOfAll a.waiting →
     HaveQueues (with_account all r a) s
 quiet_queues all s r a h sent started used waiting waits = record { current = h.current; each = each }
   where
@@ -398,7 +398,7 @@ left_to n all s r g' c k p xs q l a =
     (moves_after n (with_account all r l.answered.1) (record { queues = s.queues; groups = g' }) r l.ending xs
     (record {
       queues = quiet_queues all s.queues r l.answered.1 q l.sent l.started l.used (ap awaited_of l.free ∙
-          ap awaited_of (sym l.waiting)) (subst Rattle.proof_one_meaning.specs.Following.WaitsOfAll (sym l.free) tt);
+          ap awaited_of (sym l.waiting)) (subst Rattle.proof_one_meaning.specs.AccountViews.WaitsOfAll (sym l.free) tt);
       groups = l.groups;
     }) a)
 

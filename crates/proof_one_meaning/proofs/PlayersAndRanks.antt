@@ -22,14 +22,14 @@ use Rattle.one_meaning.specs.Accounts.{at_once, awaited_of, gone, judged, local_
 use Rattle.one_meaning.specs.Courses.{Calls, Course, Courses, Lead, Process, RecordsAgree}
 use Rattle.one_meaning.specs.Courses.{Replied, Step, Told, accounts, at_start, does, goes_by, goes_on}
 use Rattle.one_meaning.specs.Courses.{goes_unless, hears, with_course}
-use Rattle.proof_one_meaning.specs.Following.{IsCovered, with_account}
+use Rattle.proof_one_meaning.specs.AccountViews.{IsCovered, with_account}
 use Rattle.proof_one_meaning.specs.Histories.{AgreeAlong, AreCovered, AreJustified, IsFit}
 use Rattle.proof_one_meaning.specs.Histories.{Justifies, after_all, after_seen}
 use Rattle.proof_one_meaning.specs.Histories.{once_called}
 use Rattle.proof_one_meaning.specs.Plays.{Player, Players}
 use Rattle.proof_one_meaning.specs.Plays.{is_blocking, told_by, with_player}
 use Rattle.one_meaning.proofs.Courses.{Leads, all_grew, grew_both, went_on}
-use Rattle.one_meaning.proofs.Growing.{AllGrew, Grew, grew_not, part_stays}
+use Rattle.one_meaning.proofs.AnswerLaws.{AllGrew, Grew, grew_not, part_stays}
 
 -- ONE MORE
 

@@ -12,10 +12,10 @@ use Rattle.perfect_queues.specs.Requests.{changed, used_up}
 use Rattle.perfect_queues.specs.State.{Local, with_queue}
 use Rattle.perfect_queues.specs.Steps.{Allowed, Finish, FinishSend, Learn, Match, See, Step, TakeOut, after_step}
 use Rattle.one_meaning.specs.Accounts.{Account, ForRequests, InCollective, Waiting, awaited_of, gone}
-use Rattle.proof_one_meaning.specs.Following.{HasQueues}
+use Rattle.proof_one_meaning.specs.AccountViews.{HasQueues}
 use Rattle.one_meaning.specs.PairLaws.{NamesRank, queues_of}
 use Rattle.one_meaning.specs.Pairs.{Queues, became, left_by, pick, queue_from, resolved}
-use Rattle.one_meaning.proofs.Growing.{Later}
+use Rattle.one_meaning.proofs.AnswerLaws.{Later}
 use Rattle.one_meaning.proofs.PairLawProofs.{matches_keep}
 use Rattle.one_meaning.proofs.Pairs.{Alike, resolved_alike}
 

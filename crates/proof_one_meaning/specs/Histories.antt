@@ -11,7 +11,7 @@ use Rattle.vocabulary.specs.Limits.{send_limit}
 use Rattle.vocabulary.specs.declared.endpoint.Endpoint.{Endpoint}
 use Rattle.one_meaning.specs.Accounts.{Accounts, Answered, Waiting, after_call, answer_to, at_once, judged, opened}
 use Rattle.one_meaning.specs.Courses.{RecordsAgree}
-use Rattle.proof_one_meaning.specs.Following.{IsCovered, with_account}
+use Rattle.proof_one_meaning.specs.AccountViews.{IsCovered, with_account}
 
 -- the answer to what rank r waits for, where it waits and that is ready
 abbrev pub answer_by : Accounts → (rank : ℕ) → Option Waiting → Option Answered

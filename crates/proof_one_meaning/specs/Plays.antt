@@ -13,7 +13,7 @@ use Rattle.perfect_queues.specs.Calls.{Accepted, Blocked, Done, Pending, Started
 use Rattle.one_meaning.specs.CourseLaws.{Telling, by_telling}
 use Rattle.one_meaning.specs.Courses.{AreMeant, Calls, Course, Courses, Ends, Prints, Process, RecordsAgree, Refused}
 use Rattle.one_meaning.specs.Courses.{Replied, Step, Told, accounts}
-use Rattle.proof_one_meaning.specs.Following.{IsCovered}
+use Rattle.proof_one_meaning.specs.AccountViews.{IsCovered}
 
 -- A rank that plays: its process, what that is to be told, whether its call is blocked, the lines so far, and whether
 -- it has ended

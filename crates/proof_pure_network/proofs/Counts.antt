@@ -12,11 +12,11 @@ use Rattle.vocabulary.specs.declared.envelope.Source.{Source}
 use Rattle.vocabulary.specs.declared.envelope.Source.TheVariants.{Any, Null, Rank}
 use Rattle.proof_pure_network.specs.Core.{Core}
 pub use Rattle.proof_pure_network.specs.Claims.{all_of, claims, count, is_own, is_own_body, one, taken_is}
-use Rattle.proof_pure_network.specs.Held.{Body, Held, Own, Part, Whole, count_of, full, is_part}
+use Rattle.proof_pure_network.specs.WaitingMessages.{Body, Held, Own, Part, Whole, count_of, full, is_part}
 use Rattle.proof_pure_network.specs.Jobs.{Closed, Collecting, Job, Offering, Over, Probed, Unmatched, Waiting, closed}
 use Rattle.proof_pure_network.specs.Jobs.{dropped, matched_job, matched_part, oldest_posted, with_more}
-use Rattle.proof_pure_network.specs.Matching.{arrived_at, found, looked_at, looks, matched_own, own_over, posted_at}
-use Rattle.proof_pure_network.specs.Matching.{receive_for, searched_at, searches, taken_at}
+use Rattle.proof_pure_network.specs.Matches.{arrived_at, found, looked_at, looks, matched_own, own_over, posted_at}
+use Rattle.proof_pure_network.specs.Matches.{receive_for, searched_at, searches, taken_at}
 use Rattle.proof_pure_network.proofs.Oldest.{First, Oldest, some_found, some_posted}
 
 pub count_append : {A : Type 0} (t : A → Bool) (xs ys : List A) → count t (xs ++ ys) ≡ count t xs + count t ys

@@ -32,11 +32,11 @@ use Rattle.proof_pure_network.specs.Engine.{called, came, core_cancels, core_rea
 use Rattle.proof_pure_network.specs.Engine.{core_tested, core_used, learned, met, own_message, own_waiting, pushed_own}
 use Rattle.proof_pure_network.specs.Engine.{pushed_over, sends}
 use Rattle.proof_pure_network.specs.Frames.{Cts, Data, Eager, Frame, IsNoMessage, Rts, Values, frame_of}
-use Rattle.proof_pure_network.specs.Held.{Body, Held, Own, Part, Whole, fill}
+use Rattle.proof_pure_network.specs.WaitingMessages.{Body, Held, Own, Part, Whole, fill}
 use Rattle.proof_pure_network.specs.Jobs.{Closed, Collecting, Job, Offering, Over, Probed, Unmatched, Waiting, closed}
 use Rattle.proof_pure_network.specs.Jobs.{collecting, dropped, ended, oldest_posted, over_at, request_of}
-use Rattle.proof_pure_network.specs.Matching.{answer, arrived, arrived_at, found, posted, posted_at, receive_for}
-use Rattle.proof_pure_network.specs.Matching.{receives, taken_at}
+use Rattle.proof_pure_network.specs.Matches.{answer, arrived, arrived_at, found, posted, posted_at, receive_for}
+use Rattle.proof_pure_network.specs.Matches.{receives, taken_at}
 use Rattle.proof_pure_network.specs.Transfers.{answered, collected, data_frames, wanted_data, cut}
 use Rattle.proof_pure_network.proofs.Counts.{OwnCore, count_append, is_own, is_part_from, one, taken_is}
 use Rattle.proof_pure_network.proofs.EngineSteps.{AreOwn, IsLast, Steps, arrive_steps}

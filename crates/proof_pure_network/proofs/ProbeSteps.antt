@@ -24,14 +24,25 @@ use Rattle.vocabulary.specs.declared.envelope.Status.{Status}
 use Rattle.perfect_queues.proofs.EndpointLemmas.{same_eq}
 use Rattle.proof_pure_network.specs.Core.{Core, NoneFits, is_of, view, with_jobs}
 use Rattle.proof_pure_network.specs.Frames.{Values}
-use Rattle.proof_pure_network.specs.Held.{Body, Held, Own, Part, Whole, body_request, body_values, count_of, fill, fits}
-use Rattle.proof_pure_network.specs.Held.{full, is_part}
+use Rattle.proof_pure_network.specs.WaitingMessages.{
+  Body,
+  Held,
+  Own,
+  Part,
+  Whole,
+  body_request,
+  body_values,
+  count_of,
+  fill,
+  fits,
+}
+use Rattle.proof_pure_network.specs.WaitingMessages.{full, is_part}
 use Rattle.proof_pure_network.specs.Jobs.{Closed, Collecting, Job, Offering, Over, Probed, Unmatched, Waiting}
 use Rattle.proof_pure_network.specs.Jobs.{collecting, is_collecting, matched_job}
 use Rattle.proof_pure_network.specs.Jobs.{request_of, with_more}
-use Rattle.proof_pure_network.specs.Matching.{awaits, found, found_status, looked_at, looks}
-use Rattle.proof_pure_network.specs.Matching.{receive_for, searched_at}
-use Rattle.proof_pure_network.specs.Matching.{searches, taken_at}
+use Rattle.proof_pure_network.specs.Matches.{awaits, found, found_status, looked_at, looks}
+use Rattle.proof_pure_network.specs.Matches.{receive_for, searched_at}
+use Rattle.proof_pure_network.specs.Matches.{searches, taken_at}
 use Rattle.proof_pure_network.specs.Transfers.{collected}
 use Rattle.proof_pure_network.proofs.Counts.{OwnCore}
 use Rattle.proof_pure_network.proofs.Counts.{taken_some}

@@ -2,7 +2,7 @@
 -- aren't received.
 use Rattle.std.specs.Prelude.{◌≤◌, ℕ, ◌+◌, Bool, true, false, List, [], ◌∷◌, Some, None, ◌==◌}
 use Rattle.proof_pure_network.specs.Core.{Core}
-use Rattle.proof_pure_network.specs.Held.{Body, Held, Own, Part, Whole}
+use Rattle.proof_pure_network.specs.WaitingMessages.{Body, Held, Own, Part, Whole}
 use Rattle.proof_pure_network.specs.Jobs.{Closed, Collecting, Job, Offering, Over, Probed, Unmatched, Waiting}
 
 -- 1 where a test holds

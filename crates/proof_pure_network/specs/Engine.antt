@@ -16,9 +16,9 @@ use Rattle.vocabulary.specs.declared.envelope.Source.TheVariants.{Rank}
 use Rattle.vocabulary.specs.declared.endpoint.Endpoint.{Endpoint}
 use Rattle.proof_pure_network.specs.Core.{Core, Effect, effect, with_jobs}
 use Rattle.proof_pure_network.specs.Frames.{Cts, Data, Eager, Frame, Rts}
-use Rattle.proof_pure_network.specs.Held.{Held, Own, Part, Whole}
+use Rattle.proof_pure_network.specs.WaitingMessages.{Held, Own, Part, Whole}
 use Rattle.proof_pure_network.specs.Jobs.{Offering, Over, Unmatched, closed, collecting, dropped, ended, over_at}
-use Rattle.proof_pure_network.specs.Matching.{arrived, looks, receives, searches, taken_at}
+use Rattle.proof_pure_network.specs.Matches.{arrived, looks, receives, searches, taken_at}
 use Rattle.proof_pure_network.specs.Transfers.{answered, collected}
 
 -- one more request: a send that is finished

@@ -6,7 +6,7 @@ use Rattle.std.proofs.lemmas.Option.{same_Some}
 use Rattle.datatypes.specs.Contents.{Contents}
 use Rattle.match_queues.specs.Arrivals.{arrival_of}
 use Rattle.match_queues.specs.declared.envelope.Message.{Message}
-use Rattle.datagram.specs.Spelling.{ClearFrame, DataFrame, EagerFrame, FrameText, RequestFrame}
+use Rattle.datagram.specs.Spellings.{ClearFrame, DataFrame, EagerFrame, FrameText, RequestFrame}
 use Rattle.requests.specs.Completions.{completion}
 use Rattle.requests.specs.Table.{message_in, progress_at}
 use Rattle.requests.specs.declared.answer.Answer.{Answer}
@@ -18,7 +18,7 @@ use Rattle.requests.specs.declared.table.RequestProgress.TheVariants.{Receiving,
 use Rattle.requests.specs.declared.table.RequestProgress.TheVariants.{Finished}
 use Rattle.requests.specs.declared.table.Request.{Request}
 use Rattle.point_to_point_calls.specs.Calls.{Starts}
-use Rattle.point_to_point_calls.specs.Hearing.{NewsText, announced_of, message_of}
+use Rattle.point_to_point_calls.specs.FrameNews.{NewsText, announced_of, message_of}
 use Rattle.point_to_point_calls.specs.CoreCalls.{RoutedCall}
 use Rattle.point_to_point_calls.specs.CoreCalls as calls
 use Rattle.point_to_point_calls.specs.declared.call.RoutedProbe.{RoutedProbe}
@@ -26,16 +26,25 @@ use Rattle.point_to_point_calls.specs.declared.call.RoutedReceive.{RoutedReceive
 use Rattle.point_to_point_calls.specs.CoreCalls.{CoreReply}
 use Rattle.point_to_point_calls.specs.declared.call.RoutedSend.{RoutedSend}
 use Rattle.point_to_point_calls.specs.declared.sends.Destination.{Destination}
-use Rattle.point_to_point_calls.specs.Sending.{announced_to, destination, is_to_itself, offered_by}
+use Rattle.point_to_point_calls.specs.SendRules.{announced_to, destination, is_to_itself, offered_by}
 use Rattle.requests.specs.Regions.{sent_from}
 use Rattle.point_to_point.specs.Calls.{Answers}
 use Rattle.point_to_point.specs.CoreState.{CoreState}
 use Rattle.point_to_point.specs.Arrivals.{after_any, after_frame, after_news, keys_ending, after_lesson}
 use Rattle.point_to_point.specs.Messages.{Receives, Searches, SearchesFrom, TakesOut, found_for, own_send_of, received}
-use Rattle.point_to_point.specs.Receiving.{IsPosting, IsReceiving, IsReceivingNothing, ReceivesFrom}
-use Rattle.point_to_point.specs.Sending.{IsSending, after_message, arrived_at_itself, arrived_if, waiting_of}
-use Rattle.point_to_point.specs.Waiting.{Cancels, Tests, TestsBy, Waits, WaitsBy, answered_by, cancelled, cancelled_at}
-use Rattle.point_to_point.specs.Waiting.{after_wake, woken_by}
+use Rattle.point_to_point.specs.Receives.{IsPosting, IsReceiving, IsReceivingNothing, ReceivesFrom}
+use Rattle.point_to_point.specs.Sends.{IsSending, after_message, arrived_at_itself, arrived_if, waiting_of}
+use Rattle.point_to_point.specs.Completions.{
+  Cancels,
+  Tests,
+  TestsBy,
+  Waits,
+  WaitsBy,
+  answered_by,
+  cancelled,
+  cancelled_at,
+}
+use Rattle.point_to_point.specs.Completions.{after_wake, woken_by}
 use Rattle.vocabulary.specs.declared.endpoint.Endpoint.{Endpoint}
 use Rattle.vocabulary.specs.declared.envelope.Source.{Source}
 use Rattle.vocabulary.specs.declared.envelope.Source.TheVariants as sources

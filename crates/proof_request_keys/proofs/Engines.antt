@@ -10,7 +10,7 @@ use Rattle.collective_transfers.specs.Payloads.{Whole}
 use Rattle.collective_transfers.specs.State.{is_due, whole_with}
 use Rattle.collective_transfers.specs.State as payloads
 use Rattle.communicators.specs.declared.question.Question.{Question}
-use Rattle.datagram.specs.Spelling.{DataText}
+use Rattle.datagram.specs.Spellings.{DataText}
 use Rattle.engine.specs.Datagrams.{FollowGives, FollowedBy, HasFollowed, HeardGives, HeardGivesBy, HearingGives}
 use Rattle.engine.specs.Datagrams.{IsNoticed, IsPieceTaken, IsTakenInUnless, NoticeText, OfAnnouncement, OfAnswer}
 use Rattle.engine.specs.Datagrams.{OfMessage, OfPiece, PieceGivesBy, TurnGives, acknowledged, lesson_alone, news_of}
@@ -19,7 +19,7 @@ use Rattle.collective_steps.specs.declared.step.Ending.{Ending}
 use Rattle.engine_calls.specs.Calls.{AskingGives, CoreGives, EnteringGives, IsAnswered, IsEntered, LookingGives}
 use Rattle.engine_calls.specs.Calls.{reply_on_entry}
 use Rattle.engine_calls.specs.EngineState.{EngineState}
-use Rattle.engine_calls.specs.Routing.{core_reply}
+use Rattle.engine_calls.specs.Routes.{core_reply}
 use Rattle.engine_calls.specs.declared.call.Call.{Call}
 use Rattle.engine_calls.specs.declared.call.Call.TheVariants as calls
 use Rattle.point_to_point_calls.specs.declared.call.Probe.{Probe}
@@ -31,7 +31,17 @@ use Rattle.point_to_point.specs.CoreState.{CoreState}
 use Rattle.requests.specs.Table.{slot_at}
 use Rattle.requests.specs.declared.table.TableEntry.{TableEntry}
 use Rattle.requests.specs.declared.table.Request.{Request}
-use Rattle.sessions.specs.Heard.{Acknowledges, Follows, Hands, HeardText, Holds, Nothing, Repeats, WordText, heard_of}
+use Rattle.sessions.specs.HeardBytes.{
+  Acknowledges,
+  Follows,
+  Hands,
+  HeardText,
+  Holds,
+  Nothing,
+  Repeats,
+  WordText,
+  heard_of,
+}
 use Rattle.sessions.specs.declared.heard.Unheard.{Unheard}
 use Rattle.vocabulary.specs.declared.endpoint.Endpoint.{Endpoint}
 use Rattle.proof_request_keys.specs.Keys.{AreGiven, CallsKeepKeys, DatagramsKeepKeys, GivenAreNamed, IsApart, IsBelow}

@@ -21,8 +21,8 @@ use Rattle.requests.specs.declared.table.RequestProgress.{RequestProgress}
 use Rattle.requests.specs.declared.table.RequestProgress.TheVariants.{Receiving, Collecting, Offering, TakenOut}
 use Rattle.requests.specs.declared.table.RequestProgress.TheVariants.{Finished}
 use Rattle.requests.specs.declared.table.Request.{Request}
-use Rattle.point_to_point_calls.specs.Hearing.{delivered_by, sent_by}
-use Rattle.point_to_point_calls.specs.Receiving.{slots_on_arrival, slots_on_match}
+use Rattle.point_to_point_calls.specs.FrameNews.{delivered_by, sent_by}
+use Rattle.point_to_point_calls.specs.ReceiveMatches.{slots_on_arrival, slots_on_match}
 use Rattle.point_to_point.specs.Messages.{own_key_sent}
 use Rattle.rendezvous.specs.declared.collection.Collected.{Collected}
 use Rattle.rendezvous.specs.declared.offer.Offer.{Offer}

@@ -11,33 +11,33 @@ use Rattle.engine_calls.specs.declared.reply.Fact.{Fact}
 use Rattle.engine_calls.specs.declared.reply.Fact.TheVariants as facts
 use Rattle.engine_calls.specs.declared.reply.Reply.{Reply}
 use Rattle.engine_calls.specs.declared.reply.Reply.TheVariants as replies
-use Rattle.interpreter.specs.Hearing.{Hears, counts, elements_taken, ended_each, ended_named, ends_all, ends_at}
-use Rattle.interpreter.specs.Hearing.{ends_by, ends_message, ends_named_one, ends_one, ends_requested, ends_with}
-use Rattle.interpreter.specs.Hearing.{error_told, errors_told, finds, goes_on, hears, hears_match, hears_probe}
-use Rattle.interpreter.specs.Hearing.{communicator_taken, held_buffer, learns, leaves, lent_by, returned, starts}
-use Rattle.interpreter.specs.Hearing.{taken_back, takes_communicator, takes_elements, tells, unawaited, with_error}
+use Rattle.interpreter.specs.Answers.{Hears, counts, elements_taken, ended_each, ended_named, ends_all, ends_at}
+use Rattle.interpreter.specs.Answers.{ends_by, ends_message, ends_named_one, ends_one, ends_requested, ends_with}
+use Rattle.interpreter.specs.Answers.{error_told, errors_told, finds, goes_on, hears, hears_match, hears_probe}
+use Rattle.interpreter.specs.Answers.{communicator_taken, held_buffer, learns, leaves, lent_by, returned, starts}
+use Rattle.interpreter.specs.Answers.{taken_back, takes_communicator, takes_elements, tells, unawaited, with_error}
 use Rattle.interpreter.specs.NamesState.{NamesState, given_back, with_message, with_request}
 use Rattle.interpreter.specs.declared.steps.NextStep.{NextStep}
 use Rattle.interpreter.specs.declared.steps.NextStep.TheVariants as nexts
 use Rattle.interpreter.specs.declared.steps.Told.TheVariants as tolds
 use Rattle.observation.specs.EngineCalls.{call_seen}
-use Rattle.proof_one_meaning.specs.Following.{IsCovered}
+use Rattle.proof_one_meaning.specs.AccountViews.{IsCovered}
 use Rattle.point_to_point_calls.specs.Refusals.{number_of_refusal}
 use Rattle.requests.specs.declared.answer.Answer.{Answer}
 use Rattle.requests.specs.declared.answer.Answer.TheVariants as answers
 use Rattle.requests.specs.declared.outcome.Outcome.{Outcome}
 use Rattle.requests.specs.declared.outcome.Outcome.TheVariants as outcomes
 use Rattle.requests.specs.declared.table.Request.{Request}
-use Rattle.script_calls.specs.Awaited.{null}
-use Rattle.script_calls.specs.Told.{error_of, status_after}
+use Rattle.script_calls.specs.NamedThings.{null}
+use Rattle.script_calls.specs.OutcomeTexts.{error_of, status_after}
 use Rattle.script_calls.specs.declared.pending.NamedMessage.TheVariants as messages
 use Rattle.script_calls.specs.declared.pending.Pending.{Pending}
 use Rattle.script_calls.specs.declared.pending.Pending.TheVariants as pendings
 use Rattle.statements.specs.declared.action.RequestName.{RequestName}
 use Rattle.statements.specs.declared.action.RequestName.TheVariants as requested
 use Rattle.vocabulary.specs.declared.envelope.Status.{Status}
-use Rattle.proof_script_processes.specs.Changing.{changed_call, changed_found, changed_names, changed_next}
-use Rattle.proof_script_processes.specs.Changing.{changed_reply}
+use Rattle.proof_script_processes.specs.RequestChanges.{changed_call, changed_found, changed_names, changed_next}
+use Rattle.proof_script_processes.specs.RequestChanges.{changed_reply}
 use Rattle.proof_script_processes.specs.Processes.{steps_for}
 use Rattle.proof_script_processes.proofs.Tables.{buffer_same, with_message_same, with_request_same}
 

@@ -1,8 +1,8 @@
 pub mod Tables
-pub mod Acting
+pub mod StatementCalls
 pub mod Answers
-pub mod Running
-pub mod Covering
-pub mod Falling
-pub mod Hearing
-pub mod Following
+pub mod NextSteps
+pub mod CoveredCalls
+pub mod StepBounds
+pub mod ReplyViews
+pub mod ProcessViews

@@ -4,13 +4,13 @@ use Rattle.std.proofs.Common.{None, slice_get, slice_set, option_and_then, optio
 use Rattle.std.specs.List.{position_or_len}
 use Rattle.std.specs.Str.{bytes_eq}
 use Rattle.std.proofs.lemmas.Option.{slice_get-map}
-use Rattle.interpreter.specs.Hearing.{held_buffer}
+use Rattle.interpreter.specs.Answers.{held_buffer}
 use Rattle.interpreter.specs.NamesState.{NamesState, message_at, request_at, with_message, with_request}
 use Rattle.script_calls.specs.Tables.{Entry, place_of, value_at, value_there, with_value, with_value_there}
 use Rattle.requests.specs.declared.table.Request.{Request}
 use Rattle.script_calls.specs.declared.pending.NamedRequest.{NamedRequest}
 use Rattle.script_calls.specs.declared.pending.NamedMessage.{NamedMessage}
-use Rattle.proof_script_processes.specs.Changing.{changed_entry, changed_held, changed_message, changed_names}
+use Rattle.proof_script_processes.specs.RequestChanges.{changed_entry, changed_held, changed_message, changed_names}
 
 length_same : {V : Type 0} → (f : V → V) → (t : List (Entry V)) → length (map (changed_entry f) t) ≡ length t
 length_same f [] = refl

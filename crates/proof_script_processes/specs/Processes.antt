@@ -20,7 +20,7 @@ use Rattle.perfect_queues.specs.Calls as queues
 use Rattle.perfect_queues.specs.Completions as completions
 use Rattle.perfect_queues.specs.Outcomes as outcomes_of
 use Rattle.observation.specs.EngineCalls.{call_seen}
-use Rattle.proof_one_meaning.specs.Following.{IsNotAny}
+use Rattle.proof_one_meaning.specs.AccountViews.{IsNotAny}
 use Rattle.point_to_point_calls.specs.declared.refusal.Refusal as lower
 use Rattle.point_to_point_calls.specs.declared.refusal.Refusal.TheVariants as lowers
 use Rattle.event_loop.specs.declared.runner.RunnerStep as runner
@@ -35,13 +35,13 @@ use Rattle.script_files.specs.declared.script.ScriptLine.{ScriptLine}
 use Rattle.script_files.specs.declared.script.RankLine.{RankLine}
 use Rattle.script_files.specs.declared.script.ScriptStatement.{ScriptStatement}
 use Rattle.script_files.specs.declared.script.ScriptStatement.TheVariants as statements
-use Rattle.script_runner.specs.Running.{Does, ScriptState, does_after, next_of, opening}
+use Rattle.script_runner.specs.ScriptSteps.{Does, ScriptState, does_after, next_of, opening}
 use Rattle.script_calls.specs.declared.pending.Pending.{Pending}
 use Rattle.script_calls.specs.declared.pending.Pending.TheVariants as pendings
 use Rattle.statements.specs.declared.action.Action.{Action}
 use Rattle.statements.specs.declared.action.Action.TheVariants as actions
 use Rattle.vocabulary.specs.declared.envelope.Status.{Status}
-use Rattle.proof_script_processes.specs.Forgetting.{plain_state}
+use Rattle.proof_script_processes.specs.PlainRequests.{plain_state}
 
 -- ---- what a runner is told, by what the machine tells
 

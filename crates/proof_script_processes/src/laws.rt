@@ -1,8 +1,8 @@
 //! Laws of scripts.
 
-ghost use Rattle.proof_script_processes.specs.Following.{RunnersFollow, StartsFollow};
-ghost use Rattle.proof_script_processes.specs.ForgettingLaws.{KeysAreNoMatter, RequestsAreHandedOn};
-ghost use Rattle.proof_script_processes.specs.Hearing.{RepliesAreHeard};
+ghost use Rattle.proof_script_processes.specs.ProcessViews.{RunnersFollow, StartsFollow};
+ghost use Rattle.proof_script_processes.specs.PlainRequestLaws.{KeysAreNoMatter, RequestsAreHandedOn};
+ghost use Rattle.proof_script_processes.specs.ReplyViews.{RepliesAreHeard};
 ghost use Rattle.proof_script_processes.specs.ScriptLaws.{ScriptsComeToTheirMeaning, ScriptsPlayTheirMeaning};
 
 /// States that a script's runner hands its requests and messages on and looks into none: with others in their place it

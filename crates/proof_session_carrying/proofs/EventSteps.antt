@@ -4,26 +4,34 @@ use Rattle.std.proofs.Common.{map, Some, if◌then◌else◌, slice_get, refl, s
 use Rattle.std.specs.List.{AllByRecursion, range_with_len}
 use Rattle.std.proofs.lemmas.Bool.{and_parts}
 use Rattle.collective_messages.specs.declared.message.CollectiveMessage.{CollectiveMessage}
-use Rattle.datagram.specs.Spelling.{ClearFrame, DataFrame, EagerFrame, FrameText, RequestFrame}
+use Rattle.datagram.specs.Spellings.{ClearFrame, DataFrame, EagerFrame, FrameText, RequestFrame}
 use Rattle.datagram.specs.declared.kinds.Clearance.TheVariants.{Send}
 use Rattle.perfect_queues.proofs.EndpointLemmas.{same_eq}
 use Rattle.proof_collective_steps.specs.Counterparts.{AreSaid, IsSaid}
-use Rattle.proof_collective_steps.specs.Sending.{IsSendable}
+use Rattle.proof_collective_steps.specs.MessageNotes.{IsSendable}
 use Rattle.proof_group_network.proofs.SessionParts.{announcement_answered, answer_followed, notice_handed}
 use Rattle.proof_group_network.proofs.SessionParts.{notices_accepted, part_handed}
-use Rattle.proof_group_network.specs.Carried.{Announces, Answers, AreAllParts, Carried, GoesOut, Sessions, in_parts}
-use Rattle.proof_group_network.specs.Carried.{parts_from}
+use Rattle.proof_group_network.specs.SessionContents.{
+  Announces,
+  Answers,
+  AreAllParts,
+  Carried,
+  GoesOut,
+  Sessions,
+  in_parts,
+}
+use Rattle.proof_group_network.specs.SessionContents.{parts_from}
 use Rattle.proof_group_network.specs.Network.{GroupNetwork, NoticeLink, also, noticed_on, notify, notify_all}
 use Rattle.proof_group_network.specs.Notices.{Notice}
 use Rattle.endpoint_links.specs.Links.{LinkOf, LinksOf, accept, accept_all, handed_on}
-use Rattle.proof_pure_network.specs.Announced.{Begins}
+use Rattle.proof_pure_network.specs.Announcements.{Begins}
 use Rattle.proof_pure_network.specs.Links.{Link}
-use Rattle.proof_session_carrying.proofs.Carrying.{announced_begins, announced_handed, as_it_is, handed_is_carried}
-use Rattle.proof_session_carrying.proofs.Carrying.{out_is_carried}
-use Rattle.proof_session_carrying.proofs.Growing.{announced_append, at_here, begins_at, last_at, same_begins}
-use Rattle.proof_session_carrying.specs.Announced.{Announced, LargeNotice, all_announced, announced_in}
-use Rattle.proof_session_carrying.specs.Carrying.{AreAllBrought, AreBrought, AreCarried, AreSent, IsBrought, Saying}
-use Rattle.proof_session_carrying.specs.Carrying.{StandsForCarried, bytes_of_message, say, say_all}
+use Rattle.proof_session_carrying.proofs.SessionViews.{announced_begins, announced_handed, as_it_is, handed_is_carried}
+use Rattle.proof_session_carrying.proofs.SessionViews.{out_is_carried}
+use Rattle.proof_session_carrying.proofs.AnnouncementLaws.{announced_append, at_here, begins_at, last_at, same_begins}
+use Rattle.proof_session_carrying.specs.Announcements.{Announced, LargeNotice, all_announced, announced_in}
+use Rattle.proof_session_carrying.specs.SessionViews.{AreAllBrought, AreBrought, AreCarried, AreSent, IsBrought, Saying}
+use Rattle.proof_session_carrying.specs.SessionViews.{StandsForCarried, bytes_of_message, say, say_all}
 use Rattle.proof_session_carrying.specs.CarryLaws.{GoesOn}
 use Rattle.proof_session_carrying.specs.EventLaws.{AnnouncementsAreCarried, AnswersAreCarried, AreJoined, AreNumbered}
 use Rattle.proof_session_carrying.specs.EventLaws.{Bring, Brings, EntriesAreCarried, HasNumber, NoticesAreCarried}

@@ -1,5 +1,5 @@
-pub mod Growing
-pub mod Carrying
-pub mod Arriving
+pub mod AnnouncementLaws
+pub mod SessionViews
+pub mod NoticeMessages
 pub mod EventSteps
 pub mod MessageSteps

@@ -1,17 +1,17 @@
 -- What sessions carry once an event of point to point happened.
 use Rattle.std.proofs.Common.{◌≡◌, ℕ, List, [], ◌∷◌, sym, subst}
-use Rattle.datagram.specs.Spelling.{FrameText}
-use Rattle.proof_engine_view.specs.Standing as standing
+use Rattle.datagram.specs.Spellings.{FrameText}
+use Rattle.proof_engine_view.specs.FrameViews as standing
 use Rattle.proof_engine_view.specs.Transfers.{Announcements}
 use Rattle.proof_group_network.proofs.SessionParts.{message_handed, messages_accepted, still_is_quiet}
-use Rattle.proof_group_network.specs.Carried.{AreAllParts, Sessions, frames_carried}
+use Rattle.proof_group_network.specs.SessionContents.{AreAllParts, Sessions, frames_carried}
 use Rattle.proof_group_network.specs.Network.{GroupNetwork, NoticeLink}
 use Rattle.endpoint_links.specs.Links.{LinksOf, accept_all, handed_on}
 use Rattle.proof_pure_network.specs.Frames.{Frame}
 use Rattle.proof_pure_network.specs.Links.{Link}
-use Rattle.proof_session_carrying.proofs.Carrying.{as_it_is, handed_is_carried, out_is_carried, still_is_still}
-use Rattle.proof_session_carrying.specs.Announced.{Announced, all_announced, transfers_as}
-use Rattle.proof_session_carrying.specs.Carrying.{AreAllBrought, AreCarried, AreSent, Saying}
+use Rattle.proof_session_carrying.proofs.SessionViews.{as_it_is, handed_is_carried, out_is_carried, still_is_still}
+use Rattle.proof_session_carrying.specs.Announcements.{Announced, all_announced, transfers_as}
+use Rattle.proof_session_carrying.specs.SessionViews.{AreAllBrought, AreCarried, AreSent, Saying}
 use Rattle.proof_session_carrying.specs.EventLaws.{AreJoined}
 use Rattle.proof_session_carrying.specs.MessageLaws.{MessagesAreCarried, OthersAreCarried, QueueCallsAreCarried}
 use Rattle.proof_session_carrying.specs.MessageLaws.{StillTextsAreQuiet}

@@ -6,18 +6,18 @@ use Rattle.collective_messages.specs.declared.message.CollectiveMessage.{Collect
 use Rattle.collective_messages.specs.declared.note.Note.{Note}
 use Rattle.collective_messages.specs.declared.refusal.CollectiveRefusal.{CollectiveRefusal}
 use Rattle.collective_messages.specs.declared.refusal.CollectiveRefusal.TheVariants as refusals
-use Rattle.datagram.specs.Spelling.{EagerText, FrameText}
+use Rattle.datagram.specs.Spellings.{EagerText, FrameText}
 use Rattle.datagram.specs.declared.kinds.Plane.TheVariants.{Collective}
-use Rattle.payload.specs.Reading.{payload_of}
-use Rattle.payload.specs.Spelling.{PayloadText}
+use Rattle.payload.specs.ByteMeanings.{payload_of}
+use Rattle.payload.specs.Spellings.{PayloadText}
 use Rattle.proof_collective_steps.specs.Counterparts.{IsNoted}
-use Rattle.proof_group_network.specs.Carried.{Carried, Session, Sessions}
+use Rattle.proof_group_network.specs.SessionContents.{Carried, Session, Sessions}
 use Rattle.proof_group_network.specs.Notices.{Notice}
 use Rattle.endpoint_links.specs.Links.{LinkOf, LinksOf, accept_all, handed_on, in_flight}
-use Rattle.proof_pure_network.specs.Announced.{Begins}
-use Rattle.proof_session_carrying.specs.Announced.{Announced, all_announced}
-use Rattle.proof_session_carrying.specs.Carrying.{AreCarried, AreSent, IsBrought, IsCarried, IsEager, Saying}
-use Rattle.proof_session_carrying.specs.Carrying.{StandsForCarried, bytes_of_message}
+use Rattle.proof_pure_network.specs.Announcements.{Begins}
+use Rattle.proof_session_carrying.specs.Announcements.{Announced, all_announced}
+use Rattle.proof_session_carrying.specs.SessionViews.{AreCarried, AreSent, IsBrought, IsCarried, IsEager, Saying}
+use Rattle.proof_session_carrying.specs.SessionViews.{StandsForCarried, bytes_of_message}
 use Rattle.vocabulary.specs.declared.endpoint.Endpoint.{Endpoint}
 
 -- the messages of collectives go on: what was sent stays so, under its number

@@ -6,22 +6,30 @@ use Rattle.collective_messages.specs.Messages.{says}
 use Rattle.collectives.specs.State.{State}
 use Rattle.collective_steps.specs.declared.step.Ending.{Ending}
 use Rattle.context_agreement.specs.Communicators.{ContextsState}
-use Rattle.datagram.specs.Spelling.{ClearFrame, DataFrame, EagerFrame, FrameText, RequestFrame}
+use Rattle.datagram.specs.Spellings.{ClearFrame, DataFrame, EagerFrame, FrameText, RequestFrame}
 use Rattle.datagram.specs.declared.kinds.Clearance.TheVariants.{Send}
-use Rattle.payload.specs.Reading.{payload_of}
+use Rattle.payload.specs.ByteMeanings.{payload_of}
 use Rattle.perfect_groups.specs.Events.{Entry}
 use Rattle.proof_collective_steps.specs.RankLaws.{Follows}
-use Rattle.proof_group_network.specs.Carried.{Announces, Answers, AreAllParts, BringsPart, Carried, OfNotices, Sessions}
-use Rattle.proof_group_network.specs.Carried.{in_parts}
-use Rattle.proof_group_network.specs.Happened.{IsAfter}
+use Rattle.proof_group_network.specs.SessionContents.{
+  Announces,
+  Answers,
+  AreAllParts,
+  BringsPart,
+  Carried,
+  OfNotices,
+  Sessions,
+}
+use Rattle.proof_group_network.specs.SessionContents.{in_parts}
+use Rattle.proof_group_network.specs.Happenings.{IsAfter}
 use Rattle.proof_group_network.specs.Network.{GroupNetwork, NoticeLink, noticed_on, notify}
 use Rattle.proof_group_network.specs.Notices.{Member, Notice}
 use Rattle.proof_group_network.specs.SessionLaws.{IsNext}
 use Rattle.endpoint_links.specs.Links.{LinksOf, accept, accept_all, handed_on}
 use Rattle.proof_pure_network.specs.Core.{Core}
-use Rattle.proof_session_carrying.specs.Announced.{LargeNotice, all_announced, announced_in}
-use Rattle.proof_session_carrying.specs.Carrying.{AreAllBrought, AreCarried, IsEager, IsRequest, Saying}
-use Rattle.proof_session_carrying.specs.Carrying.{bytes_of_message, say_all}
+use Rattle.proof_session_carrying.specs.Announcements.{LargeNotice, all_announced, announced_in}
+use Rattle.proof_session_carrying.specs.SessionViews.{AreAllBrought, AreCarried, IsEager, IsRequest, Saying}
+use Rattle.proof_session_carrying.specs.SessionViews.{bytes_of_message, say_all}
 use Rattle.rendezvous.specs.Pieces.{piece_bytes, piece_count, pieces_of}
 use Rattle.vocabulary.specs.declared.endpoint.Endpoint.{Endpoint}
 

@@ -1,5 +1,5 @@
-pub mod Announced
-pub mod Carrying
+pub mod Announcements
+pub mod SessionViews
 pub mod CarryLaws
 pub mod EventLaws
 pub mod MessageLaws

@@ -1,10 +1,10 @@
 -- What sessions carry once an event of point to point happened, and where they are quiet.
 use Rattle.std.specs.Prelude.{◌≡◌, ℕ, List, []}
-use Rattle.datagram.specs.Spelling.{FrameText}
+use Rattle.datagram.specs.Spellings.{FrameText}
 use Rattle.perfect_groups.specs.Events.{Entry}
-use Rattle.proof_engine_view.specs.Standing as standing
-use Rattle.proof_group_network.specs.Carried.{OfMessages, Sessions, frames_carried}
-use Rattle.proof_group_network.specs.Happened.{IsAfter}
+use Rattle.proof_engine_view.specs.FrameViews as standing
+use Rattle.proof_group_network.specs.SessionContents.{OfMessages, Sessions, frames_carried}
+use Rattle.proof_group_network.specs.Happenings.{IsAfter}
 use Rattle.proof_group_network.specs.Network.{GroupNetwork, NoticesAreHanded}
 use Rattle.proof_group_network.specs.Notices.{Member}
 use Rattle.proof_group_network.specs.SessionLaws.{IsNext}
@@ -12,8 +12,8 @@ use Rattle.endpoint_links.specs.Links.{LinksOf, accept_all, handed_on, in_flight
 use Rattle.proof_pure_network.specs.Core.{Core}
 use Rattle.proof_pure_network.specs.Frames.{Frame}
 use Rattle.proof_pure_network.specs.Network.{IsQuiet}
-use Rattle.proof_session_carrying.specs.Announced.{announcements_in}
-use Rattle.proof_session_carrying.specs.Carrying.{Saying}
+use Rattle.proof_session_carrying.specs.Announcements.{announcements_in}
+use Rattle.proof_session_carrying.specs.SessionViews.{Saying}
 use Rattle.proof_session_carrying.specs.EventLaws.{AreJoined}
 use Rattle.vocabulary.specs.declared.endpoint.Endpoint.{Endpoint}
 

@@ -1,2 +1,2 @@
 pub mod Variables
-pub mod Reading
+pub mod VariableMeanings

@@ -1,7 +1,7 @@
 //! What a rank reads of its environment.
 
 ghost use Rattle.std.specs.Prelude.{◌≡◌, ◌≤◌, ◌↔◌, IfSome, IsTrue};
-ghost use Rattle.rank_environment.specs.Reading.{number_in, patience_in, are_given, Fit, Finds, IsFound};
+ghost use Rattle.rank_environment.specs.VariableMeanings.{number_in, patience_in, are_given, Fit, Finds, IsFound};
 
 use crate::place::RankPlace;
 use numerals::number_between;

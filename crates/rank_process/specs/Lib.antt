@@ -2,6 +2,6 @@ pub mod Kinds
 pub mod Places
 pub mod Endings
 pub mod Times
-pub mod Carrying
-pub mod Carried
+pub mod PortViews
+pub mod PortSteps
 pub mod Waits

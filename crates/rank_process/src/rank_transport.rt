@@ -135,8 +135,8 @@ impl<W: Wire> RankTransport<W> {
 }
 
 impl<W: Wire> Transport for RankTransport<W> {
-    ghost use Rattle.rank_process.specs.Carrying.{CarriesAll};
-    ghost use Rattle.rank_process.specs.Carried.{carries_more, carries_none};
+    ghost use Rattle.rank_process.specs.PortViews.{CarriesAll};
+    ghost use Rattle.rank_process.specs.PortSteps.{carries_more, carries_none};
     ghost use Rattle.rank_process.specs.Waits.{waits_in};
 
     ghost passed = { λ old exchanges new. CarriesAll W.did old.ports exchanges new.ports };
@@ -145,7 +145,7 @@ impl<W: Wire> Transport for RankTransport<W> {
 
     ghost waits = { λ t. waits_in t.trips };
 
-    #[tactic(auto, using(crate::specs::Carried::came, crate::specs::Carried::call_failed))]
+    #[tactic(auto, using(crate::specs::PortSteps::came, crate::specs::PortSteps::call_failed))]
     fn receive(&mut self, buffer: &mut [u8]) -> Result<Option<usize>, TransportFault> {
         match self.ports.receive(buffer) {
             Ok(found) => {
@@ -159,7 +159,7 @@ impl<W: Wire> Transport for RankTransport<W> {
         }
     }
 
-    #[tactic(auto, using(crate::specs::Carried::went, crate::specs::Carried::call_failed))]
+    #[tactic(auto, using(crate::specs::PortSteps::went, crate::specs::PortSteps::call_failed))]
     fn send(&mut self, target: u16, bytes: &[u8]) -> Result<(), TransportFault> {
         let now = self.micros();
         note_sent(&mut self.trips, bytes, now);
@@ -169,7 +169,7 @@ impl<W: Wire> Transport for RankTransport<W> {
         }
     }
 
-    #[tactic(auto, using(crate::specs::Carried::was_printed, crate::specs::Carried::call_failed))]
+    #[tactic(auto, using(crate::specs::PortSteps::was_printed, crate::specs::PortSteps::call_failed))]
     fn print(&mut self, line: &[u8]) -> Result<(), TransportFault> {
         match self.ports.print(line) {
             Ok(()) => Ok(()),
@@ -180,7 +180,7 @@ impl<W: Wire> Transport for RankTransport<W> {
         }
     }
 
-    #[tactic(auto, using(crate::specs::Carried::waited, crate::specs::Carried::call_failed))]
+    #[tactic(auto, using(crate::specs::PortSteps::waited, crate::specs::PortSteps::call_failed))]
     fn wait(&mut self, most: u64) -> Result<(), TransportFault> {
         match self.ports.wait(most) {
             Ok(()) => Ok(()),

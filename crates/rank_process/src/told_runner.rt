@@ -1,7 +1,7 @@
 //! A runner of a script whose errors are told on the standard error.
 
 ghost use Rattle.std.specs.Prelude.{◌≡◌, IfOk};
-ghost use Rattle.script_runner.specs.Running.{opening};
+ghost use Rattle.script_runner.specs.ScriptSteps.{opening};
 
 use engine_calls::Reply;
 use error_lines::{MetError, Operations, error_line, uncalled_error};
@@ -164,7 +164,7 @@ impl<'a, R: Eprint + AllocGlobal> ToldRunner<'a, R> {
 }
 
 impl<'a, R: Eprint + AllocGlobal> Runner for ToldRunner<'a, R> {
-    ghost use Rattle.script_runner.specs.Running.{NextGives};
+    ghost use Rattle.script_runner.specs.ScriptSteps.{NextGives};
 
     ghost does = { λ old reply step new. NextGives old.runner reply step new.runner };
 

@@ -7,7 +7,7 @@ ghost use Rattle.reliable_link.specs.SenderState.{SenderState, next_number, out_
 ghost use Rattle.reliable_link.specs.SenderState.{entered_on_accept, passed_to, with_marks, after_ack, IsOfSent};
 ghost use Rattle.reliable_link.specs.SenderState.{IsSomeDue, due_at, after_due, frame_at, after_take_back, StandsAt};
 ghost use Rattle.reliable_link.specs.SenderState.{after_wait};
-ghost use Rattle.reliable_link.specs.Accepting.{AcceptGives};
+ghost use Rattle.reliable_link.specs.Acceptance.{AcceptGives};
 ghost use Rattle.std.proofs.Common.{min};
 
 use crate::out_frame::OutFrame;

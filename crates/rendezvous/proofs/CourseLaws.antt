@@ -8,8 +8,8 @@ use Rattle.std.specs.Option.{option_map}
 use Rattle.std.proofs.lemmas.Option.{slice_get-map}
 use Rattle.std.proofs.lemmas.Grind.{flat_map-append}
 use Rattle.rendezvous.specs.declared.collection.Collected.{Collected}
-use Rattle.rendezvous.specs.Collecting.{Collecting, beginning, is_from, with_piece, is_whole}
-use Rattle.rendezvous.specs.Collected.{collected_of}
+use Rattle.rendezvous.specs.Collections.{Collecting, beginning, is_from, with_piece, is_whole}
+use Rattle.rendezvous.specs.WholeMessages.{collected_of}
 use Rattle.rendezvous.specs.State.{State, collection_for, with_data_at, given_at, put_back, handed_out, is_due}
 use Rattle.rendezvous.specs.State.{is_full_to, is_full_from, given, after_begin, after_rts, after_data, blank}
 use Rattle.rendezvous.specs.Events.{Event, Begins, Announces, Collects, Answers, Brings, Drops, after, handed_out_by}

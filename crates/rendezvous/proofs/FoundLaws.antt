@@ -10,8 +10,8 @@ use Rattle.rendezvous.specs.Offers.{is_to, offer_for, offer_at, without_offer}
 use Rattle.rendezvous.specs.State.{State, is_full_to, is_full_from, is_due, next_to, after_begin, after_rts, after_data}
 use Rattle.rendezvous.specs.State.{offered, after_cts}
 use Rattle.rendezvous.specs.Events.{Event, Begins, Announces, Collects, Answers, Brings, Drops, after, opening}
-use Rattle.rendezvous.specs.Answered.{after_all}
-use Rattle.rendezvous.specs.Counted.{is_end_of, StaysOpen, AreFound}
+use Rattle.rendezvous.specs.OfferLaws.{after_all}
+use Rattle.rendezvous.specs.TransferCounts.{is_end_of, StaysOpen, AreFound}
 use Rattle.rendezvous.proofs.Firsts.{NonePass, first_or_none}
 use Rattle.rendezvous.proofs.OfferLaws.{AreBegun, Holds, holds_always}
 

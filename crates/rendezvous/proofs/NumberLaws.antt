@@ -10,9 +10,9 @@ use Rattle.rendezvous.specs.declared.transfers.Numbers.{Numbers}
 use Rattle.rendezvous.specs.State.{State, fresh, most_transfers, has_none_to, has_none_from, is_due_number, is_full_to}
 use Rattle.rendezvous.specs.State.{is_full_from, is_due, after_begin, after_rts, after_data}
 use Rattle.rendezvous.specs.Events.{Event, Begins, Announces, Collects, Answers, Brings, Drops, after, opening}
-use Rattle.rendezvous.specs.Answered.{after_all, is_drop_of}
-use Rattle.rendezvous.specs.Counted.{is_begin_to, is_announcement_by, count_after, begun_with, announced_with}
-use Rattle.rendezvous.specs.Counted.{transfers_to, announcements_by, IsCounted, AreAlike}
+use Rattle.rendezvous.specs.OfferLaws.{after_all, is_drop_of}
+use Rattle.rendezvous.specs.TransferCounts.{is_begin_to, is_announcement_by, count_after, begun_with, announced_with}
+use Rattle.rendezvous.specs.TransferCounts.{transfers_to, announcements_by, IsCounted, AreAlike}
 
 -- THE NUMBERS OF ONE SESSION
 

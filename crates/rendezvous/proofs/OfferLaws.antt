@@ -13,7 +13,7 @@ use Rattle.rendezvous.specs.Offers.{is_to, offer_for, offer_at, without_offer}
 use Rattle.rendezvous.specs.State.{State, fresh, has_none_to, has_none_from, is_full_to, is_full_from, is_due, next_to}
 use Rattle.rendezvous.specs.State.{with_begun, with_announced, after_begin, after_rts, after_data, offered, after_cts}
 use Rattle.rendezvous.specs.Events.{Event, Begins, Announces, Collects, Answers, Brings, Drops, after, opening}
-use Rattle.rendezvous.specs.Answered.{AreAnsweredOnce, after_all, is_drop_of, GoesOn}
+use Rattle.rendezvous.specs.OfferLaws.{AreAnsweredOnce, after_all, is_drop_of, GoesOn}
 use Rattle.rendezvous.proofs.Firsts.{NonePass, first_or_none}
 
 -- ELEMENTS THAT PASS NO TEST

@@ -12,7 +12,7 @@ use Rattle.vocabulary.specs.BasicTypes.{size_of}
 use Rattle.datatypes.specs.Contents.{bytes_of, AreWithin}
 use Rattle.datatypes.specs.ContentLaws.{sizes, length-bytes_of, values_of-bytes_of}
 use Rattle.rendezvous.specs.Pieces.{first_piece, piece_at, piece_count, pieces_of, piece_bytes}
-use Rattle.rendezvous.specs.Collecting.{Collecting, beginning, is_next_data, with_piece, due_bytes}
+use Rattle.rendezvous.specs.Collections.{Collecting, beginning, is_next_data, with_piece, due_bytes}
 use Rattle.rendezvous.specs.WholePieces.{joined, IsFullBefore, AreCut, ArePieces, AreTaken, ArriveWhole}
 
 -- so many pieces have so many bytes, and no piece is empty

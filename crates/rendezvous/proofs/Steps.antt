@@ -3,7 +3,7 @@ use Rattle.std.proofs.Common.{◌≡◌, ◌≤◌, ℕ, zero, suc, true, List, 
 use Rattle.std.proofs.lemmas.Grind.{common_steps}
 use Rattle.std.proofs.lemmas.List.{length-append}
 use Rattle.std.specs.List.{remove}
-use Rattle.rendezvous.specs.Collecting.{Collecting, is_next_data}
+use Rattle.rendezvous.specs.Collections.{Collecting, is_next_data}
 
 -- what was written at a place before it was removed doesn't matter
 pub remove_set : {A : Type 0} (xs : List A) (i : ℕ) (y : A) → remove (set xs i y) i ≡ remove xs i

@@ -6,7 +6,7 @@ use Rattle.vocabulary.specs.declared.basic_type.BasicType.{BasicType}
 use Rattle.vocabulary.specs.BasicTypes.{size_of}
 use Rattle.datatypes.specs.Contents.{values_of}
 use Rattle.rendezvous.specs.declared.collection.Collected.{Collected}
-use Rattle.rendezvous.specs.Collecting.{Collecting}
+use Rattle.rendezvous.specs.Collections.{Collecting}
 use Rattle.rendezvous.specs.State.{State, is_due}
 use Rattle.rendezvous.specs.Events.{Event, Begins, Announces, Collects, Answers, Brings, Drops, after, handed_out_by}
 use Rattle.rendezvous.specs.Events.{opening}

@@ -3,7 +3,7 @@ use Rattle.std.specs.Prelude.{ℕ, List, [], Option, None, replicate, if◌then�
 use Rattle.vocabulary.specs.declared.basic_type.BasicType.{BasicType}
 use Rattle.datatypes.specs.Contents.{Contents}
 use Rattle.rendezvous.specs.declared.collection.Collected.{Collected}
-use Rattle.rendezvous.specs.Collecting.{beginning}
+use Rattle.rendezvous.specs.Collections.{beginning}
 use Rattle.rendezvous.specs.State.{State, fresh, is_full_to, is_full_from, is_due, after_begin, after_rts}
 use Rattle.rendezvous.specs.State.{after_collect, after_cts, after_data, given, after_drop}
 

@@ -1,10 +1,10 @@
 pub mod Pieces
 pub mod Offers
-pub mod Collecting
-pub mod Collected
+pub mod Collections
+pub mod WholeMessages
 pub mod State
 pub mod WholePieces
 pub mod Events
 pub mod Courses
-pub mod Answered
-pub mod Counted
+pub mod OfferLaws
+pub mod TransferCounts

@@ -7,8 +7,8 @@ use Rattle.rendezvous.specs.declared.transfers.Numbers.{Numbers}
 use Rattle.rendezvous.specs.declared.offer.Offer.{Offer}
 use Rattle.rendezvous.specs.declared.collection.Collected.{Collected}
 use Rattle.rendezvous.specs.Offers.{offer_for, offer_at, without_offer}
-use Rattle.rendezvous.specs.Collecting.{Collecting, is_from, is_next_data, with_piece, is_whole}
-use Rattle.rendezvous.specs.Collected.{collected_of}
+use Rattle.rendezvous.specs.Collections.{Collecting, is_from, is_next_data, with_piece, is_whole}
+use Rattle.rendezvous.specs.WholeMessages.{collected_of}
 
 -- by rank the numbers of its sessions; the messages that were announced to others, and those that come from others, the
 -- oldest first

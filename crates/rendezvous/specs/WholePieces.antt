@@ -5,8 +5,8 @@ use Rattle.vocabulary.specs.declared.basic_type.BasicType.{BasicType}
 use Rattle.vocabulary.specs.BasicTypes.{size_of}
 use Rattle.datatypes.specs.Contents.{bytes_of}
 use Rattle.rendezvous.specs.Pieces.{piece_bytes, pieces_of}
-use Rattle.rendezvous.specs.Collecting.{Collecting, beginning, is_next_data, with_piece, is_whole}
-use Rattle.rendezvous.specs.Collected.{collected_of}
+use Rattle.rendezvous.specs.Collections.{Collecting, beginning, is_next_data, with_piece, is_whole}
+use Rattle.rendezvous.specs.WholeMessages.{collected_of}
 
 -- the bytes of pieces, one after the other
 abbrev pub joined : List (ℕ × List ℕ) → List ℕ

@@ -2,8 +2,8 @@
 
 ghost use Rattle.std.specs.Prelude.{◌≡◌, ◌+◌, ◌*◌, ◌≤◌, ◌++◌, [], length, IfOk};
 ghost use Rattle.vocabulary.specs.BasicTypes.{size_of};
-ghost use Rattle.rendezvous.specs.Collecting.{Collecting, beginning, is_from, is_next_data, is_whole, with_piece};
-ghost use Rattle.rendezvous.specs.Collected.{collected_of};
+ghost use Rattle.rendezvous.specs.Collections.{Collecting, beginning, is_from, is_next_data, is_whole, with_piece};
+ghost use Rattle.rendezvous.specs.WholeMessages.{collected_of};
 
 use crate::piece::is_next_piece;
 use datatypes::Buffer;
@@ -25,7 +25,7 @@ pub struct Collection {
 impl Model for Collection {
     ghost use Rattle.std.specs.Prelude.{◌≡◌, ◌≤◌, ◌%◌, length, vec_capacity};
     ghost use Rattle.vocabulary.specs.BasicTypes.{size_of};
-    ghost use Rattle.rendezvous.specs.Collecting.{Collecting, IsBounded};
+    ghost use Rattle.rendezvous.specs.Collections.{Collecting, IsBounded};
 
     ghost Value = { Collecting };
 

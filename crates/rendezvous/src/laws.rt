@@ -8,8 +8,8 @@ ghost use Rattle.rendezvous.specs.Pieces.{pieces_of};
 ghost use Rattle.rendezvous.specs.WholePieces.{ArePieces, ArriveWhole};
 ghost use Rattle.rendezvous.specs.Events.{Event, opening};
 ghost use Rattle.rendezvous.specs.Courses.{IsWholeOrNothing, story};
-ghost use Rattle.rendezvous.specs.Answered.{AreAnsweredOnce, after_all};
-ghost use Rattle.rendezvous.specs.Counted.{transfers_to, announcements_by, IsCounted, AreAlike, AreFound};
+ghost use Rattle.rendezvous.specs.OfferLaws.{AreAnsweredOnce, after_all};
+ghost use Rattle.rendezvous.specs.TransferCounts.{transfers_to, announcements_by, IsCounted, AreAlike, AreFound};
 
 /// A law of `pieces`, `is_next_data` and `on_data`: pieces put together in order are the data, and a new collection of
 /// that size takes them in order and gives just the elements, with the last one and not before.

@@ -5,7 +5,7 @@ ghost use Rattle.std.specs.Prelude.{OnOk, OnErr, position, replicate, slice_get,
 ghost use Rattle.std.specs.Prelude.{vec_capacity};
 ghost use Rattle.std.specs.Option.{option_copied};
 ghost use Rattle.rendezvous.specs.Offers.{offer_for, offer_at, without_offer};
-ghost use Rattle.rendezvous.specs.Collecting.{Collecting, is_from, is_next_data, with_piece, is_whole};
+ghost use Rattle.rendezvous.specs.Collections.{Collecting, is_from, is_next_data, with_piece, is_whole};
 ghost use Rattle.rendezvous.specs.State.{State, fresh, is_full_to, is_next, next_to, with_begun, with_announced};
 ghost use Rattle.rendezvous.specs.State.{collection_for, collection_at, is_due, grown_at, with_data_at, given_at};
 ghost use Rattle.rendezvous.specs.State.{after_begin, after_rts, after_collect, offered, after_cts, after_data, given};

@@ -4,7 +4,7 @@ use Rattle.std.specs.Prelude.{true, false, if◌then◌else◌, List, slice_get,
 use Rattle.std.specs.Prelude.{is_none, Result, Ok, Err}
 use Rattle.datagram.specs.declared.datagram.Header.{Header}
 use Rattle.datagram.specs.declared.refusal.DatagramRefusal.{DatagramRefusal}
-use Rattle.datagram.specs.Spelling.{DatagramText, BodyText, FrameBody, AckBody, ResetBody}
+use Rattle.datagram.specs.Spellings.{DatagramText, BodyText, FrameBody, AckBody, ResetBody}
 use Rattle.round_trips.specs.Estimates.{backed_off, estimate_behind, millis, wait_by}
 use Rattle.round_trips.specs.declared.estimate.Estimate.{Estimate}
 use Rattle.round_trips.specs.declared.round_trip.TimedFrame.{TimedFrame}

@@ -105,7 +105,7 @@ pub fn wait_by(estimate: Option<Estimate>) -> u64
 }
 
 /// So long a frame waits where the time to send again was doubled so often (5.5), up to a second.
-#[tactic(auto, using(crate::proofs::Doubling::beyond, crate::proofs::Doubling::below))]
+#[tactic(auto, using(crate::proofs::WaitBounds::beyond, crate::proofs::WaitBounds::below))]
 pub(crate) fn backed_off(wait: u64, repeats: u32) -> u64
     requires least { 20 ≤ wait }
     requires most { wait ≤ 1000 }

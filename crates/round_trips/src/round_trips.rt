@@ -2,7 +2,7 @@
 
 ghost use Rattle.std.specs.Prelude.{◌≡◌, ◌≤◌, length, slice_get, IfOk, IfSome, IfNone, Some};
 ghost use Rattle.std.specs.Option.{option_map};
-ghost use Rattle.datagram.specs.Reading.{datagram_of};
+ghost use Rattle.datagram.specs.ByteMeanings.{datagram_of};
 ghost use Rattle.round_trips.specs.Trips.{after_acknowledgement, after_came, after_frame, after_sent, changed, unknown};
 ghost use Rattle.round_trips.specs.Trips.{measured_wait, wait_now};
 

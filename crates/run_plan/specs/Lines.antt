@@ -1,6 +1,6 @@
 -- What a rank writes, line by line.
 use Rattle.std.specs.Prelude.{◌≡◌, ◌⊎◌, ℕ, ◌≤◌, List, [], ◌∷◌, ◌++◌, length, take, drop}
-use Rattle.launch_keeper.specs.Joined.{IsLine, ended}
+use Rattle.launch_keeper.specs.JoinedOutput.{IsLine, ended}
 
 -- nothing, or something that ends with the end of a line
 abbrev pub AreEnded : List ℕ → Type 0

@@ -15,7 +15,7 @@ pub struct LineBuffer {
 
 impl Model for LineBuffer {
     ghost use Rattle.std.specs.Prelude.{List, ℕ};
-    ghost use Rattle.launch_keeper.specs.Joined.{IsLine};
+    ghost use Rattle.launch_keeper.specs.JoinedOutput.{IsLine};
 
     ghost Value = { List ℕ };
 

@@ -1,4 +1,4 @@
 pub mod Tables
-pub mod Awaited
+pub mod NamedThings
 pub mod Entries
-pub mod Told
+pub mod OutcomeTexts

@@ -1,7 +1,7 @@
 //! What is told of an outcome.
 
 ghost use Rattle.std.specs.Prelude.{◌≡◌};
-ghost use Rattle.script_calls.specs.Told.{as_text, empty_status, error_of, status_after};
+ghost use Rattle.script_calls.specs.OutcomeTexts.{as_text, empty_status, error_of, status_after};
 
 use communicators::CommunicatorComparison;
 use printed_lines::ComparisonText;

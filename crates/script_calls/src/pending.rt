@@ -1,7 +1,7 @@
 //! What the answer to a call is awaited for, and what names stand for once it is here.
 
 ghost use Rattle.std.specs.Prelude.{◌≡◌};
-ghost use Rattle.script_calls.specs.Awaited.{null};
+ghost use Rattle.script_calls.specs.NamedThings.{null};
 
 use requests::Request;
 use statements::{Name, RequestName, RequestNames};

@@ -5,7 +5,7 @@ use Rattle.statements.specs.declared.action.Action.{Action}
 use Rattle.statements.specs.Grammar.{Spells}
 use Rattle.tokens.specs.Grammar.{Word}
 use Rattle.tokens.specs.Results.{◌>>=◌}
-use Rattle.statements.specs.Reading.{action_of, sending_of, receiving_of}
+use Rattle.statements.specs.LineWords.{action_of, sending_of, receiving_of}
 use Rattle.tokens.specs.Fields.{first, end_of_line, name_of}
 use Rattle.tokens.proofs.WordLaws.{bind_ok, made}
 use Rattle.tokens.proofs.FieldLaws.{named_takes, named_again}
@@ -18,7 +18,7 @@ use Rattle.script_files.specs.declared.script.ScriptStatement.TheVariants as sta
 use Rattle.script_files.specs.declared.script.Item.{Item}
 use Rattle.script_files.specs.declared.script.Item.TheVariants as items
 use Rattle.script_files.specs.Grammar.{SpellsStatement, SpellsItem}
-use Rattle.script_files.specs.Reading.{verb_of, audience_of, name_alone, said_words, item_by, item_of}
+use Rattle.script_files.specs.LineWords.{verb_of, audience_of, name_alone, said_words, item_by, item_of}
 use Rattle.script_files.proofs.VerbLaws.{verb_word, verb_takes, verb_again, no_verb}
 use Rattle.script_files.proofs.MemberLaws.{audience_takes, audience_again}
 

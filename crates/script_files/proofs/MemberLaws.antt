@@ -18,7 +18,7 @@ use Rattle.script_files.specs.declared.audience.AudienceMember.{AudienceMember}
 use Rattle.script_files.specs.declared.audience.Audience.{Audience}
 use Rattle.script_files.specs.declared.audience.Audience.TheVariants as audiences
 use Rattle.script_files.specs.Grammar.{IsNamed, IsMember, IsAudience}
-use Rattle.script_files.specs.Reading.{is_point, member_at, member_of, one_member, audience_of}
+use Rattle.script_files.specs.LineWords.{is_point, member_at, member_of, one_member, audience_of}
 
 both : (a b : Bool) → (a && b) ≡ true → (a ≡ true) × (b ≡ true)
 both true b e = (refl, e)

@@ -11,7 +11,7 @@ use Rattle.tokens.proofs.LineLaws.{Agree, lines_take, lines_again, lines_fault}
 use Rattle.script_files.specs.declared.script.Item.{Item}
 use Rattle.script_files.specs.declared.script.ScriptLine.{ScriptLine}
 use Rattle.script_files.specs.declared.script.Script.{Script}
-use Rattle.script_files.specs.Reading.{item_of, line_read}
+use Rattle.script_files.specs.LineWords.{item_of, line_read}
 use Rattle.script_files.specs.Scripts.{Says, Answers, IsAnsweredBy}
 use Rattle.script_files.proofs.ItemLaws.{item_takes, item_again}
 

@@ -11,7 +11,7 @@ use Rattle.script_files.specs.declared.script.Item.{Item}
 use Rattle.script_files.specs.declared.script.Item.TheVariants as items
 use Rattle.script_files.specs.declared.script.ScriptLine.{ScriptLine}
 use Rattle.script_files.specs.declared.script.RankLine.{RankLine}
-use Rattle.script_files.specs.Reading.{item_of, line_read}
+use Rattle.script_files.specs.LineWords.{item_of, line_read}
 use Rattle.script_files.specs.declared.script.ScriptStatement.{ScriptStatement}
 use Rattle.script_files.specs.declared.audience.Audience.{Audience}
 use Rattle.script_files.specs.Audiences.{includes}

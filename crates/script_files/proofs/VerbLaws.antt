@@ -9,7 +9,7 @@ use Rattle.tokens.proofs.WordLaws.{Yields, step, yielded, same_word}
 use Rattle.statements.proofs.ActionLaws.{begins}
 use Rattle.script_files.specs.declared.verb.ScriptVerb.{ScriptVerb}
 use Rattle.script_files.specs.declared.verb.ScriptVerb.TheVariants as verbs
-use Rattle.script_files.specs.Reading.{verb_of}
+use Rattle.script_files.specs.LineWords.{verb_of}
 
 abbrev pub verb_word : ScriptVerb → Word
 verb_word verbs.On = codes "on"

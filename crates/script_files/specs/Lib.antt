@@ -1,5 +1,5 @@
 pub mod Audiences
 pub mod Selections
 pub mod Grammar
-pub mod Reading
+pub mod LineWords
 pub mod Scripts

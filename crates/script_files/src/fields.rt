@@ -4,7 +4,7 @@ ghost use Rattle.std.specs.Prelude.{◌≡◌};
 ghost use Rattle.std.specs.List.{position};
 ghost use Rattle.tokens.specs.Results.{Gives};
 ghost use Rattle.tokens.specs.Fields.{each};
-ghost use Rattle.script_files.specs.Reading.{is_point, member_of, one_member, audience_of};
+ghost use Rattle.script_files.specs.LineWords.{is_point, member_of, one_member, audience_of};
 
 use crate::audience::{Audience, AudienceMember, AudienceMembers};
 use std::alloc::Global;
@@ -17,7 +17,7 @@ fn point_place(word: &[u8]) -> Option<usize>
 }
 
 /// `R`, or `R.I`.
-#[tactic(auto, unfolding(crate::specs::Reading::member_of))]
+#[tactic(auto, unfolding(crate::specs::LineWords::member_of))]
 fn member_of(word: &[u8]) -> Result<AudienceMember, LineError>
     ensures { Gives (λ x. x) result (member_of word.now) }
 {
@@ -52,7 +52,7 @@ fn members_of(alloc: Global, words: &[Token]) -> Result<AudienceMembers, LineErr
 }
 
 /// `all`, or at least one rank.
-#[tactic(auto, unfolding(crate::specs::Reading::audience_of))]
+#[tactic(auto, unfolding(crate::specs::LineWords::audience_of))]
 pub(crate) fn audience_of(alloc: Global, words: &[Token]) -> Result<Audience, LineError>
     ensures { Gives (λ x. x) result (audience_of words.now) }
 {

@@ -3,7 +3,7 @@
 ghost use Rattle.std.specs.Prelude.{◌≡◌, ◌+◌, ◌∷◌, List, ℕ, OnOk, IfErr};
 ghost use Rattle.tokens.specs.Lines.{line_of, lines_from, with_front, lines_of};
 ghost use Rattle.tokens.specs.Results.{Gives, GivesLines, LineFails};
-ghost use Rattle.script_files.specs.Reading.{item_of, line_read};
+ghost use Rattle.script_files.specs.LineWords.{item_of, line_read};
 ghost use Rattle.script_files.specs.Scripts.{Says, Answers, IsAnsweredBy};
 ghost use Rattle.tokens.specs.Texts.{LinesSay};
 ghost use Rattle.script_files.specs.declared.script.ScriptLine.{ScriptLine};

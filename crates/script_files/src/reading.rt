@@ -2,7 +2,7 @@
 
 ghost use Rattle.std.specs.Prelude.{◌≡◌, Some};
 ghost use Rattle.tokens.specs.Results.{Gives};
-ghost use Rattle.script_files.specs.Reading.{name_alone, said_words, item_of};
+ghost use Rattle.script_files.specs.LineWords.{name_alone, said_words, item_of};
 
 use crate::fields::audience_of;
 use crate::script::{Item, ScriptStatement};
@@ -12,7 +12,7 @@ use std::alloc::Global;
 use tokens::{LineError, Name, Token, Tokens, end_of_line, first, name_of};
 
 /// One name, and nothing behind it.
-#[tactic(auto, unfolding(crate::specs::Reading::name_alone))]
+#[tactic(auto, unfolding(crate::specs::LineWords::name_alone))]
 fn name_alone(alloc: Global, words: &[Token]) -> Result<Name, LineError>
     ensures { Gives (λ x. x) result (name_alone words.now) }
 {
@@ -32,7 +32,7 @@ fn copies(alloc: Global, words: &[Token]) -> Result<Tokens, LineError>
 }
 
 /// The words that are said, of which there is at least one.
-#[tactic(auto, unfolding(crate::specs::Reading::said_words))]
+#[tactic(auto, unfolding(crate::specs::LineWords::said_words))]
 fn said_words(alloc: Global, words: &[Token]) -> Result<Tokens, LineError>
     ensures { Gives (λ x. x) result (said_words words.now) }
 {
@@ -41,7 +41,7 @@ fn said_words(alloc: Global, words: &[Token]) -> Result<Tokens, LineError>
 }
 
 /// What a line says, by its words.
-#[tactic(auto, unfolding(crate::specs::Reading::item_of))]
+#[tactic(auto, unfolding(crate::specs::LineWords::item_of))]
 pub(crate) fn item_of(alloc: Global, words: &[Token]) -> Result<Item, LineError>
     ensures { Gives (λ x. x) result (item_of words.now) }
 {

@@ -1,7 +1,7 @@
 //! The first word of a line that only scripts have.
 
 ghost use Rattle.std.specs.Prelude.{◌≡◌};
-ghost use Rattle.script_files.specs.Reading.{verb_of};
+ghost use Rattle.script_files.specs.LineWords.{verb_of};
 
 use tokens::is;
 
@@ -27,7 +27,7 @@ pub(crate) enum ScriptVerb {
 }
 
 /// What the first word says, if only scripts have it.
-#[tactic(auto, unfolding(crate::specs::Reading::verb_of))]
+#[tactic(auto, unfolding(crate::specs::LineWords::verb_of))]
 pub(crate) fn verb_of(word: &[u8]) -> Option<ScriptVerb>
     ensures { result ≡ verb_of word.now }
 {

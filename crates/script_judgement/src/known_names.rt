@@ -1,7 +1,7 @@
 //! The names that lines may have set.
 
 ghost use Rattle.std.specs.Prelude.{◌≡◌, OnOk};
-ghost use Rattle.script_judgement.specs.Known.{after_action, after_statement, holdings_of, nothing_known};
+ghost use Rattle.script_judgement.specs.KnownNames.{after_action, after_statement, holdings_of, nothing_known};
 
 use line_diagnostics::{Holder, Slot};
 use script_calls::Table;
@@ -22,7 +22,7 @@ pub struct KnownNames {
 }
 
 impl Model for KnownNames {
-    ghost use Rattle.script_judgement.specs.Known.{KnownState};
+    ghost use Rattle.script_judgement.specs.KnownNames.{KnownState};
 
     ghost Value = { KnownState };
 

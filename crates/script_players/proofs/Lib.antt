@@ -1,1 +1,1 @@
-pub mod Called
+pub mod CallLaws

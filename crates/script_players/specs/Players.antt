@@ -12,7 +12,7 @@ use Rattle.event_loop.specs.declared.loop_state.RunnerState.TheVariants.{Blocked
 use Rattle.event_loop.specs.declared.runner.RunnerStep.{RunnerStep}
 use Rattle.event_loop.specs.declared.runner.RunnerStep.TheVariants as steps
 use Rattle.replies.specs.Copies.{IsCopyOf, reply_of}
-use Rattle.script_runner.specs.Running.{NextGives, ScriptState}
+use Rattle.script_runner.specs.ScriptSteps.{NextGives, ScriptState}
 use Rattle.world.specs.Steps.{IsRefusedBy, Went}
 use Rattle.world.specs.WorldState.{WorldState}
 use Rattle.world.specs.declared.event.Event.TheVariants as events

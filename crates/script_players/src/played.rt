@@ -3,7 +3,7 @@
 ghost use Rattle.std.specs.Prelude.{◌≡◌, ◌<◌, ℕ, [], List, length, IfOk, OnOk, Result, Some, None};
 ghost use Rattle.script_players.specs.Players.{AreAlike, CallGoes, IsHandedBack, PlayerGoes, StepGoes, TakesTold};
 ghost use Rattle.script_players.specs.Players.{is_over, state_by, told_at, told_completion};
-ghost use Rattle.script_runner.specs.Running.{ScriptState, opening};
+ghost use Rattle.script_runner.specs.ScriptSteps.{ScriptState, opening};
 ghost use Rattle.world.specs.declared.event.Stepped.{Stepped};
 
 use datagram::Bytes;

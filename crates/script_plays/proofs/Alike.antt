@@ -7,12 +7,12 @@ use Rattle.engine_calls.specs.declared.reply.Reply.TheVariants as replies
 use Rattle.proof_one_meaning.specs.Plays.{Player}
 use Rattle.event_loop.specs.declared.runner.RunnerStep.{RunnerStep}
 use Rattle.event_loop.specs.declared.runner.RunnerStep.TheVariants as steps
-use Rattle.script_runner.specs.Running.{NextGives, ScriptState}
+use Rattle.script_runner.specs.ScriptSteps.{NextGives, ScriptState}
 use Rattle.script_plays.specs.Alike.{AnswersAreAlike, CallsAreAlike, EndsAreAlike, IsReadyAlike, LinesAreAlike}
 use Rattle.script_players.specs.Players.{PlayerState}
-use Rattle.proof_script_processes.specs.Following.{GoesAlong}
+use Rattle.proof_script_processes.specs.ProcessViews.{GoesAlong}
 use Rattle.proof_script_processes.specs.Processes.{Running}
-use Rattle.proof_script_processes.proofs.Following.{runners_follow}
+use Rattle.proof_script_processes.proofs.ProcessViews.{runners_follow}
 
 -- what a step is by: no call and no line is an end
 abbrev is_end : RunnerStep → ℕ

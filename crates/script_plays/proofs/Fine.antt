@@ -7,11 +7,11 @@ use Rattle.std.proofs.lemmas.Option.{same_Some}
 use Rattle.engine_calls.specs.declared.reply.Completion.{Completion}
 use Rattle.event_loop.specs.declared.runner.RunnerStep.{RunnerStep}
 use Rattle.event_loop.specs.declared.runner.RunnerStep.TheVariants as steps
-use Rattle.script_runner.specs.Running.{ScriptState}
-use Rattle.script_plays.specs.Joined.{AreFine, HasNotSix, IsFine}
+use Rattle.script_runner.specs.ScriptSteps.{ScriptState}
+use Rattle.script_plays.specs.MeaningViews.{AreFine, HasNotSix, IsFine}
 use Rattle.script_players.specs.Players.{PlayerState, number_in, told_completion, told_if}
-use Rattle.script_plays.specs.Playing.{CallMoves, EventGives, GoGives, GoesBy, MoveGives, PlayState, ScheduleGives}
-use Rattle.script_plays.specs.Playing.{StepMoves, with_told}
+use Rattle.script_plays.specs.Plays.{CallMoves, EventGives, GoGives, GoesBy, MoveGives, PlayState, ScheduleGives}
+use Rattle.script_plays.specs.Plays.{StepMoves, with_told}
 use Rattle.engine_calls.specs.declared.call.Call.{Call}
 use Rattle.event_loop.specs.declared.loop_state.RunnerState.{RunnerState}
 use Rattle.event_loop.specs.declared.loop_state.RunnerState.TheVariants.{Blocked, Over, Ready}
@@ -21,7 +21,7 @@ use Rattle.world.specs.declared.event.Event.{Event}
 use Rattle.world.specs.declared.event.Event.TheVariants as events
 use Rattle.world.specs.declared.event.Failed.{Failed}
 use Rattle.world.specs.declared.event.Stepped.{Stepped}
-use Rattle.script_plays.proofs.Joining.{not_at, set_other, set_there}
+use Rattle.script_plays.proofs.PlayerLaws.{not_at, set_other, set_there}
 
 -- no limit among more numbers is none among fewer
 pub fewer : (a b : List ℕ) → AllByRecursion (λ x. (x ≢ 13) × (x ≢ 14)) (a ++ b) →

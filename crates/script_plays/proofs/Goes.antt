@@ -6,10 +6,10 @@ use Rattle.engine_calls.specs.declared.call.Call.{Call}
 use Rattle.event_loop.specs.declared.runner.RunnerStep.{RunnerStep}
 use Rattle.event_loop.specs.declared.runner.RunnerStep.TheVariants as steps
 use Rattle.script_players.specs.Players.{CallGoes, GoesFrom, PlayerGoes, PlayerState, StepGoes}
-use Rattle.script_plays.specs.Playing.{CallMoves, GoGives, GoesBy, PlayState, StepMoves}
+use Rattle.script_plays.specs.Plays.{CallMoves, GoGives, GoesBy, PlayState, StepMoves}
 use Rattle.event_loop.specs.declared.loop_state.RunnerState.{RunnerState}
 use Rattle.event_loop.specs.declared.loop_state.RunnerState.TheVariants.{Blocked, Over, Ready}
-use Rattle.script_runner.specs.Running.{ScriptState}
+use Rattle.script_runner.specs.ScriptSteps.{ScriptState}
 use Rattle.world.specs.WorldState.{WorldState}
 use Rattle.world.specs.declared.event.Failed.{Failed}
 use Rattle.world.specs.declared.event.Stepped.{Stepped}

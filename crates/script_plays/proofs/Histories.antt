@@ -4,11 +4,11 @@ use Rattle.std.proofs.Common.{refl, sym, ap, ◌∙◌, subst, append-nil, appen
 use Rattle.engine_calls.specs.declared.call.Call.{Call}
 use Rattle.event_loop.specs.declared.runner.RunnerStep.{RunnerStep}
 use Rattle.event_loop.specs.declared.runner.RunnerStep.TheVariants as steps
-use Rattle.script_runner.specs.Running.{ScriptState}
+use Rattle.script_runner.specs.ScriptSteps.{ScriptState}
 use Rattle.script_plays.specs.Events.{AreEventsOf, HistoriesAreOfSchedules, IsEventOf, WorldsHaveHistories}
 use Rattle.script_players.specs.Players.{PlayerState}
-use Rattle.script_plays.specs.Playing.{CallMoves, EventGives, GoGives, GoesBy, MoveGives, PlayState, ScheduleGives}
-use Rattle.script_plays.specs.Playing.{StepMoves}
+use Rattle.script_plays.specs.Plays.{CallMoves, EventGives, GoGives, GoesBy, MoveGives, PlayState, ScheduleGives}
+use Rattle.script_plays.specs.Plays.{StepMoves}
 use Rattle.event_loop.specs.declared.loop_state.RunnerState.{RunnerState}
 use Rattle.event_loop.specs.declared.loop_state.RunnerState.TheVariants.{Blocked, Over, Ready}
 use Rattle.script_plays.specs.declared.moves.Move.{Move}
@@ -91,5 +91,5 @@ added (m ∷ ms) old new g = joins (adds m old g.1.0 g.1.1) (added ms g.1.0 new 
 
 pub histories_are_of_schedules : HistoriesAreOfSchedules
 histories_are_of_schedules scripts schedule new g =
-    let a = added schedule (Rattle.script_plays.specs.Playing.play_opening scripts) new g in subst
+    let a = added schedule (Rattle.script_plays.specs.Plays.play_opening scripts) new g in subst
     (AreEventsOf schedule) (sym a.1) a.2

@@ -22,16 +22,16 @@ use Rattle.proof_one_meaning.specs.Plays.{players_at_start, told_by, with_player
 use Rattle.point_to_point_calls.specs.Refusals.{number_of_refusal}
 use Rattle.event_loop.specs.declared.runner.RunnerStep.{RunnerStep}
 use Rattle.event_loop.specs.declared.runner.RunnerStep.TheVariants as steps
-use Rattle.script_runner.specs.Running.{NextGives, ScriptState}
+use Rattle.script_runner.specs.ScriptSteps.{NextGives, ScriptState}
 use Rattle.script_files.specs.declared.script.ScriptLine.{ScriptLine}
 use Rattle.script_plays.specs.Alike.{IsAlike, IsAlikeAt, IsReadyAlike}
-use Rattle.script_plays.specs.Joined.{AreFine, IsFine}
+use Rattle.script_plays.specs.MeaningViews.{AreFine, IsFine}
 use Rattle.script_players.specs.Players.{PlayerState, number_in, refused_so, state_by, state_by_reply}
-use Rattle.script_plays.specs.Playing.{CallMoves, HasHeadline, PlayGives, PlayState, StepMoves}
+use Rattle.script_plays.specs.Plays.{CallMoves, HasHeadline, PlayGives, PlayState, StepMoves}
 use Rattle.script_plays.specs.declared.moves.Move.{Move}
 use Rattle.event_loop.specs.declared.loop_state.RunnerState.{RunnerState}
 use Rattle.event_loop.specs.declared.loop_state.RunnerState.TheVariants.{Blocked, Over, Ready}
-use Rattle.proof_script_processes.specs.Hearing.{told_of}
+use Rattle.proof_script_processes.specs.ReplyViews.{told_of}
 use Rattle.proof_script_processes.specs.Processes.{Running, next_in_script, running_at_start}
 use Rattle.world.specs.Headline.{history_seen}
 use Rattle.world.specs.Steps.{entry_of}
@@ -43,9 +43,9 @@ use Rattle.world.specs.declared.refusal.WorldRefusal as world_refusal
 use Rattle.world.specs.declared.refusal.WorldRefusal.TheVariants as refusals
 use Rattle.script_plays.proofs.Alike.{calls_are_alike, ends_are_alike, lines_are_alike}
 use Rattle.script_plays.proofs.Fine.{later}
-use Rattle.script_plays.proofs.Fitting.{Replies, replies_to}
+use Rattle.script_plays.proofs.ReplyCopies.{Replies, replies_to}
 use Rattle.script_plays.proofs.Rules.{refused_by_rule}
-use Rattle.script_plays.proofs.Joining.{alike_set, play_fresh, seen_more, set_there, through_more}
+use Rattle.script_plays.proofs.PlayerLaws.{alike_set, play_fresh, seen_more, set_there, through_more}
 
 -- a play in a world that is one over the machine so far
 pub record Joined (scripts : List (List ScriptLine)) (st : PlayState) : Type 0 where
@@ -197,15 +197,15 @@ replied scripts old j r p reply call s told w is e n taken more there = go told 
         × IsAlike (record { runner = s; state = Blocked call; lines = p.lines; refused = p.refused })
         (gone_on next_in_script (j.now r) None true [] false)
         × ((told : Reply) →
-        Rattle.proof_script_processes.specs.Hearing.IsReplyTo
-        (Rattle.proof_script_processes.specs.Forgetting.plain_call call) told →
+        Rattle.proof_script_processes.specs.ReplyViews.IsReplyTo
+        (Rattle.proof_script_processes.specs.PlainRequests.plain_call call) told →
         IsAlike (record { runner = s; state = Ready (Some told); lines = p.lines; refused = p.refused })
         (gone_on next_in_script (j.now r) (Some (told_of told)) false [] false))
     t = calls_are_alike p reply (j.now r) call s p.refused (ready_alike p reply (j.now r) e (j.alike r p is)) n
 
     answered : (told : Reply) (m : machine.Reply) → told_by m ≡ Some (told_of told) → is_blocking m ≡ false →
-        Rattle.proof_script_processes.specs.Hearing.IsReplyTo
-        (Rattle.proof_script_processes.specs.Forgetting.plain_call call) told →
+        Rattle.proof_script_processes.specs.ReplyViews.IsReplyTo
+        (Rattle.proof_script_processes.specs.PlainRequests.plain_call call) told →
         history_seen w.history ≡ history_seen old.world.history ++ Called (first_endpoint r) (call_seen call) m ∷ [] →
         Joined scripts
         (record {

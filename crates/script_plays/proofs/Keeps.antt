@@ -16,14 +16,14 @@ use Rattle.script_files.specs.declared.script.ScriptLine.{ScriptLine}
 use Rattle.script_players.specs.Players.{AreAlike, PlayerState, number_in, refused_so, state_by}
 use Rattle.event_loop.specs.declared.loop_state.RunnerState.{RunnerState}
 use Rattle.event_loop.specs.declared.loop_state.RunnerState.TheVariants.{Blocked, Over, Ready}
-use Rattle.script_plays.specs.Playing.{CallMoves, EventGives, GoGives, GoesBy, HasHeadline, MoveGives, PlayGives}
-use Rattle.script_plays.specs.Playing.{PlayState, ScheduleGives, StepMoves, play_opening, players_of, with_told}
+use Rattle.script_plays.specs.Plays.{CallMoves, EventGives, GoGives, GoesBy, HasHeadline, MoveGives, PlayGives}
+use Rattle.script_plays.specs.Plays.{PlayState, ScheduleGives, StepMoves, play_opening, players_of, with_told}
 use Rattle.script_plays.specs.declared.moves.Move.{Move}
 use Rattle.script_plays.specs.declared.moves.Move.TheVariants as moves
 use Rattle.proof_script_processes.specs.Processes.{script_at}
-use Rattle.proof_script_processes.specs.Changing.{changed_call, changed_reply, changed_state, changed_step}
-use Rattle.script_runner.specs.Running.{NextGives, ScriptState, opening}
-use Rattle.world.specs.Given.{NamesOwn, WasGiven}
+use Rattle.proof_script_processes.specs.RequestChanges.{changed_call, changed_reply, changed_state, changed_step}
+use Rattle.script_runner.specs.ScriptSteps.{NextGives, ScriptState, opening}
+use Rattle.world.specs.GivenRequests.{NamesOwn, WasGiven}
 use Rattle.world.specs.Headline.{history_seen}
 use Rattle.world.specs.Steps.{CallRuns, TakesCall, Went, entry_of}
 use Rattle.world.specs.WorldState.{WorldState}
@@ -35,7 +35,7 @@ use Rattle.world.specs.declared.event.Stepped.{Stepped}
 use Rattle.world.specs.declared.refusal.WorldRefusal as world_refusal
 use Rattle.world.specs.declared.refusal.WorldRefusal.TheVariants as refusals
 use Rattle.script_plays.proofs.Alike.{no_call, no_line}
-use Rattle.script_plays.proofs.Fitting.{Replies, replies_to}
+use Rattle.script_plays.proofs.ReplyCopies.{Replies, replies_to}
 use Rattle.script_plays.proofs.Histories.{added, histories_are_of_schedules}
 use Rattle.script_plays.proofs.Own.{AreKept, IsKept, IsKeptAt, call_keeps, given_are_kept, given_last, given_later}
 use Rattle.script_plays.proofs.Own.{keeping, kept_set, names_own, steps_keep, taken_keeps, told_keeps}

@@ -1,12 +1,12 @@
 pub mod Goes
 pub mod Sizes
 pub mod Histories
-pub mod Moving
+pub mod MoveLaws
 pub mod Ways
-pub mod Joining
+pub mod PlayerLaws
 pub mod Alike
 pub mod Fine
-pub mod Fitting
+pub mod ReplyCopies
 pub mod Places
 pub mod Own
 pub mod Keeps

@@ -21,15 +21,15 @@ use Rattle.replies.specs.Copies.{reply_of}
 use Rattle.script_players.specs.Players.{PlayerState, state_by, state_by_reply, told_completion, told_if}
 use Rattle.event_loop.specs.declared.loop_state.RunnerState.{RunnerState}
 use Rattle.event_loop.specs.declared.loop_state.RunnerState.TheVariants.{Blocked, Over, Ready}
-use Rattle.script_plays.proofs.Joining.{not_at, set_get, set_other}
-use Rattle.proof_script_processes.proofs.Running.{requests_are_handed_on}
-use Rattle.proof_script_processes.specs.Changing.{changed_call, changed_does, changed_found, changed_reply}
-use Rattle.proof_script_processes.specs.Changing.{changed_requests, changed_state, changed_step}
+use Rattle.script_plays.proofs.PlayerLaws.{not_at, set_get, set_other}
+use Rattle.proof_script_processes.proofs.NextSteps.{requests_are_handed_on}
+use Rattle.proof_script_processes.specs.RequestChanges.{changed_call, changed_does, changed_found, changed_reply}
+use Rattle.proof_script_processes.specs.RequestChanges.{changed_requests, changed_state, changed_step}
 use Rattle.proof_script_processes.specs.Processes.{call_in}
-use Rattle.script_runner.specs.Running.{Does, NextGives, ScriptState, next_of}
+use Rattle.script_runner.specs.ScriptSteps.{Does, NextGives, ScriptState, next_of}
 use Rattle.vocabulary.specs.declared.endpoint.Endpoint.{Endpoint}
 use Rattle.vocabulary.specs.declared.envelope.Status.{Status}
-use Rattle.world.specs.Given.{GivesRequest, NamesOwn, WasGiven, WasGivenIf, requests_named}
+use Rattle.world.specs.GivenRequests.{GivesRequest, NamesOwn, WasGiven, WasGivenIf, requests_named}
 use Rattle.world.specs.declared.event.HistoryEntry.{HistoryEntry}
 
 -- WHETHER A REQUEST WAS GIVEN

@@ -22,10 +22,10 @@ use Rattle.proof_network_bridge.proofs.Halves.{sessions_there}
 use Rattle.observation.specs.EngineCalls.{told_call, told_completion}
 use Rattle.proof_one_meaning.specs.Plays.{HasNoRestart}
 use Rattle.script_plays.specs.Events.{AreEventsOf, IsEventOf}
-use Rattle.script_plays.specs.Playing.{HasHeadline}
+use Rattle.script_plays.specs.Plays.{HasHeadline}
 use Rattle.script_plays.specs.declared.moves.Move as schedule
 use Rattle.script_plays.specs.declared.moves.Move.TheVariants as moves
-use Rattle.proof_network_bridge.specs.Joined.{limit_in}
+use Rattle.proof_network_bridge.specs.WorldViews.{limit_in}
 use Rattle.vocabulary.specs.declared.endpoint.Endpoint.{Endpoint}
 use Rattle.world.specs.Headline.{event_seen, history_seen}
 use Rattle.world.specs.WorldState.{WorldState}

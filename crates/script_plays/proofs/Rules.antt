@@ -20,14 +20,14 @@ use Rattle.event_loop.specs.declared.runner.RunnerStep.TheVariants as steps
 use Rattle.script_files.specs.declared.script.ScriptLine.{ScriptLine}
 use Rattle.script_players.specs.Players.{PlayerState}
 use Rattle.event_loop.specs.declared.loop_state.RunnerState.TheVariants.{Ready}
-use Rattle.script_plays.specs.Playing.{HasHeadline, PlayGives, PlayState}
+use Rattle.script_plays.specs.Plays.{HasHeadline, PlayGives, PlayState}
 use Rattle.script_plays.specs.declared.moves.Move.{Move}
-use Rattle.script_runner.specs.Running.{NextGives, ScriptState}
-use Rattle.proof_network_bridge.specs.Joined.{limit_in}
+use Rattle.script_runner.specs.ScriptSteps.{NextGives, ScriptState}
+use Rattle.proof_network_bridge.specs.WorldViews.{limit_in}
 use Rattle.vocabulary.specs.Limits.{send_limit}
 use Rattle.vocabulary.specs.declared.endpoint.Endpoint.{Endpoint}
 use Rattle.world.specs.Faults.{event_fault, first_fault}
-use Rattle.world.specs.Given.{NamesOwn}
+use Rattle.world.specs.GivenRequests.{NamesOwn}
 use Rattle.world.specs.Headline.{history_seen}
 use Rattle.world.specs.Steps.{ByTheEngine, ByTheWorld, ForRoom, IsRefusedBy, IsWhy}
 use Rattle.world.specs.WorldState.{WorldState}

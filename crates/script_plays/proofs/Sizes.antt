@@ -6,14 +6,14 @@ use Rattle.vocabulary.specs.Limits.{send_limit}
 use Rattle.vocabulary.specs.MessageLimits.{least, limit_of}
 use Rattle.engine_calls.specs.EngineState.{EngineState}
 use Rattle.engine_calls.specs.declared.reply.Completion.{Completion}
-use Rattle.proof_network_bridge.specs.Joined.{limit_in, opening_engines}
+use Rattle.proof_network_bridge.specs.WorldViews.{limit_in, opening_engines}
 use Rattle.event_loop.specs.declared.runner.RunnerStep.{RunnerStep}
 use Rattle.event_loop.specs.declared.runner.RunnerStep.TheVariants as steps
-use Rattle.script_runner.specs.Running.{ScriptState}
+use Rattle.script_runner.specs.ScriptSteps.{ScriptState}
 use Rattle.script_files.specs.declared.script.ScriptLine.{ScriptLine}
 use Rattle.script_players.specs.Players.{PlayerState, told_completion}
-use Rattle.script_plays.specs.Playing.{CallMoves, EventGives, GoGives, GoesBy, MoveGives, PlayState, ScheduleGives}
-use Rattle.script_plays.specs.Playing.{StepMoves, play_opening, players_of, with_told}
+use Rattle.script_plays.specs.Plays.{CallMoves, EventGives, GoGives, GoesBy, MoveGives, PlayState, ScheduleGives}
+use Rattle.script_plays.specs.Plays.{StepMoves, play_opening, players_of, with_told}
 use Rattle.engine_calls.specs.declared.call.Call.{Call}
 use Rattle.event_loop.specs.declared.loop_state.RunnerState.{RunnerState}
 use Rattle.event_loop.specs.declared.loop_state.RunnerState.TheVariants.{Blocked, Over, Ready}

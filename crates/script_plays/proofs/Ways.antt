@@ -5,10 +5,10 @@ use Rattle.std.proofs.lemmas.Option.{none-some, same_Some}
 use Rattle.script_files.specs.declared.script.ScriptLine.{ScriptLine}
 use Rattle.script_players.specs.Players.{PlayerState}
 use Rattle.event_loop.specs.declared.loop_state.RunnerState.TheVariants.{Ready}
-use Rattle.script_plays.specs.Playing.{HasHeadline, MoveGives, PlayState, ScheduleGives, players_of}
+use Rattle.script_plays.specs.Plays.{HasHeadline, MoveGives, PlayState, ScheduleGives, players_of}
 use Rattle.script_plays.specs.declared.moves.Move.{Move}
 use Rattle.proof_script_processes.specs.Processes.{script_at}
-use Rattle.script_runner.specs.Running.{opening}
+use Rattle.script_runner.specs.ScriptSteps.{opening}
 
 pub headline_of : (ms : List Move) (old new : PlayState) → ScheduleGives old ms new → HasHeadline old.world
 headline_of [] old new g = g.1

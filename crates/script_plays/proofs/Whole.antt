@@ -4,7 +4,7 @@ use Rattle.std.proofs.Common.{Some, None, Result, Ok, Err, slice_get, slice_set,
 use Rattle.std.proofs.Common.{append-nil, append_assoc, arith}
 use Rattle.std.proofs.lemmas.Bool.{lt-leb}
 use Rattle.std.proofs.lemmas.Option.{none-some, same_Some}
-use Rattle.proof_network_bridge.specs.Joined.{limit_in}
+use Rattle.proof_network_bridge.specs.WorldViews.{limit_in}
 use Rattle.vocabulary.specs.Limits.{send_limit}
 use Rattle.vocabulary.specs.declared.endpoint.Endpoint.{Endpoint}
 use Rattle.engine_calls.specs.declared.call.Call.{Call}
@@ -24,24 +24,24 @@ use Rattle.proof_one_meaning.proofs.Beginnings.{beginnings_are_histories}
 use Rattle.proof_one_meaning.specs.Plays.{Player, PlaysOn, PlaysTheMeaning, WasAnswered, players_at_start, with_player}
 use Rattle.event_loop.specs.declared.runner.RunnerStep.{RunnerStep}
 use Rattle.event_loop.specs.declared.runner.RunnerStep.TheVariants as steps
-use Rattle.script_runner.specs.Running.{NextGives, ScriptState, opening}
+use Rattle.script_runner.specs.ScriptSteps.{NextGives, ScriptState, opening}
 use Rattle.script_files.specs.declared.script.ScriptLine.{ScriptLine}
 use Rattle.script_plays.specs.Alike.{IsAlike, IsAlikeAt, IsOverAlike, WaitsAlike}
-use Rattle.script_plays.specs.Joined.{AreFine}
+use Rattle.script_plays.specs.MeaningViews.{AreFine}
 use Rattle.replies.specs.Copies.{reply_of}
 use Rattle.script_players.specs.Players.{PlayerState, is_over, state_by, told_if}
 use Rattle.script_plays.specs.PlayLaws.{PlaysAreTheMeaning}
-use Rattle.script_plays.specs.Playing.{CallMoves, EventGives, GoGives, GoesBy, HasHeadline, MoveGives, PlayGives}
-use Rattle.script_plays.specs.Playing.{PlayState, ScheduleGives, StepMoves, play_opening, players_of, with_told}
+use Rattle.script_plays.specs.Plays.{CallMoves, EventGives, GoGives, GoesBy, HasHeadline, MoveGives, PlayGives}
+use Rattle.script_plays.specs.Plays.{PlayState, ScheduleGives, StepMoves, play_opening, players_of, with_told}
 use Rattle.event_loop.specs.declared.loop_state.RunnerState.{RunnerState}
 use Rattle.event_loop.specs.declared.loop_state.RunnerState.TheVariants.{Blocked, Over, Ready}
 use Rattle.script_plays.specs.declared.moves.Move.{Move}
 use Rattle.script_plays.specs.declared.moves.Move.TheVariants as moves
-use Rattle.proof_script_processes.specs.Hearing.{told_of}
+use Rattle.proof_script_processes.specs.ReplyViews.{told_of}
 use Rattle.proof_script_processes.specs.Processes.{Running, next_in_script, running_at_start, script_at}
 use Rattle.proof_script_processes.specs.ScriptLaws.{AreCoveredScripts, meaning_of}
-use Rattle.proof_script_processes.proofs.Falling.{scripts_blocked, scripts_play_their_meaning}
-use Rattle.proof_script_processes.proofs.Following.{starts_follow}
+use Rattle.proof_script_processes.proofs.StepBounds.{scripts_blocked, scripts_play_their_meaning}
+use Rattle.proof_script_processes.proofs.ProcessViews.{starts_follow}
 use Rattle.world.specs.Headline.{event_seen, history_seen}
 use Rattle.world.specs.Steps.{Gave, entry_of}
 use Rattle.world.specs.WorldState.{WorldState}
@@ -53,10 +53,10 @@ use Rattle.script_plays.proofs.Alike.{answers_are_alike}
 use Rattle.script_plays.proofs.Fine.{all_back}
 use Rattle.script_plays.proofs.Goes.{set_same}
 use Rattle.script_plays.proofs.Histories.{worlds_have_histories}
-use Rattle.script_plays.proofs.Fitting.{Replies, replies_to}
+use Rattle.script_plays.proofs.ReplyCopies.{Replies, replies_to}
 use Rattle.script_plays.proofs.Join.{Joined, grow, ends, prints, ready_alike, refused, replied, still}
 use Rattle.script_plays.proofs.Sizes.{limit_is, size_is}
-use Rattle.script_plays.proofs.Joining.{alike_none, alike_set, answer_first, seen_more, set_there}
+use Rattle.script_plays.proofs.PlayerLaws.{alike_none, alike_set, answer_first, seen_more, set_there}
 use Rattle.script_plays.proofs.Keeps.{call_at}
 use Rattle.script_plays.proofs.Ways.{headline_of, one_more, player_at}
 
@@ -405,7 +405,7 @@ begun scripts = record {
         subst (λ (y : PlayerState). IsAlike y (players_at_start (length scripts) (running_at_start scripts) r)) t.0
         (record {
           follows =
-              subst (λ (x : ℕ). Rattle.proof_script_processes.specs.Following.Follows (opening (script_at scripts r) x 0)
+              subst (λ (x : ℕ). Rattle.proof_script_processes.specs.ProcessViews.Follows (opening (script_at scripts r) x 0)
               None (running_at_start scripts r) None) zero_plus (starts_follow scripts r);
           free = refl;
           runs =

@@ -7,14 +7,14 @@ use Rattle.one_meaning.specs.Courses.{Calls, Ends, Prints}
 use Rattle.observation.specs.EngineCalls.{call_seen}
 use Rattle.proof_one_meaning.specs.Plays.{IsAt, Player, gone_on}
 use Rattle.event_loop.specs.declared.runner.RunnerStep.TheVariants as steps
-use Rattle.script_runner.specs.Running.{NextGives, ScriptState}
+use Rattle.script_runner.specs.ScriptSteps.{NextGives, ScriptState}
 use Rattle.replies.specs.Copies.{reply_of}
 use Rattle.script_players.specs.Players.{PlayerState}
 use Rattle.event_loop.specs.declared.loop_state.RunnerState.{RunnerState}
 use Rattle.event_loop.specs.declared.loop_state.RunnerState.TheVariants.{Blocked, Over, Ready}
-use Rattle.proof_script_processes.specs.Following.{Follows}
-use Rattle.proof_script_processes.specs.Forgetting.{plain_call}
-use Rattle.proof_script_processes.specs.Hearing.{IsReplyTo, told_of}
+use Rattle.proof_script_processes.specs.ProcessViews.{Follows}
+use Rattle.proof_script_processes.specs.PlainRequests.{plain_call}
+use Rattle.proof_script_processes.specs.ReplyViews.{IsReplyTo, told_of}
 use Rattle.proof_script_processes.specs.Processes.{Running, next_in_script}
 
 -- ready to go on, and told alike

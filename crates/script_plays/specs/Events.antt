@@ -1,9 +1,9 @@
 -- The events of a schedule's moves.
 use Rattle.std.specs.Prelude.{◌≡◌, ◌⊎◌, List, [], ◌∷◌, length}
-use Rattle.proof_network_bridge.specs.Joined.{limit_in}
+use Rattle.proof_network_bridge.specs.WorldViews.{limit_in}
 use Rattle.perfect_groups.specs.Runs.{IsHistory}
 use Rattle.script_files.specs.declared.script.ScriptLine.{ScriptLine}
-use Rattle.script_plays.specs.Playing.{PlayGives, PlayState}
+use Rattle.script_plays.specs.Plays.{PlayGives, PlayState}
 use Rattle.script_plays.specs.declared.moves.Move.{Move}
 use Rattle.script_plays.specs.declared.moves.Move.TheVariants as moves
 use Rattle.world.specs.Headline.{IsRunOfMachine, history_seen}

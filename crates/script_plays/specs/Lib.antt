@@ -1,5 +1,5 @@
-pub mod Playing
+pub mod Plays
 pub mod Events
-pub mod Joined
+pub mod MeaningViews
 pub mod Alike
 pub mod PlayLaws

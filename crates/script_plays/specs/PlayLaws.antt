@@ -1,8 +1,8 @@
 -- Laws of what `play` gives.
 use Rattle.std.specs.Prelude.{◌<◌, ◌≤◌, List, length}
 use Rattle.script_files.specs.declared.script.ScriptLine.{ScriptLine}
-use Rattle.script_plays.specs.Joined.{PlaysTheOneMeaning}
-use Rattle.script_plays.specs.Playing.{PlayGives, PlayState}
+use Rattle.script_plays.specs.MeaningViews.{PlaysTheOneMeaning}
+use Rattle.script_plays.specs.Plays.{PlayGives, PlayState}
 use Rattle.script_plays.specs.declared.moves.Move.{Move}
 
 -- THE LAW OF `play`: whatever the schedule, scripts play their one meaning

@@ -3,8 +3,8 @@
 ghost use Rattle.std.specs.Prelude.{◌≡◌, ◌≤◌, ◌↔◌, ◌⊎◌, length, IfOk, IfErr, OnOk, IsTrue, Err, Result, slice_get};
 ghost use Rattle.point_to_point_calls.specs.declared.refusal.Refusal.TheVariants as lowers;
 ghost use Rattle.script_plays.specs.Events.{AreEventsOf};
-ghost use Rattle.script_plays.specs.Joined.{PlaysTheOneMeaning};
-ghost use Rattle.script_plays.specs.Playing.{EventGives, MoveGives, PlayGives, ScheduleGives, players_of, with_told};
+ghost use Rattle.script_plays.specs.MeaningViews.{PlaysTheOneMeaning};
+ghost use Rattle.script_plays.specs.Plays.{EventGives, MoveGives, PlayGives, ScheduleGives, players_of, with_told};
 ghost use Rattle.vocabulary.specs.Limits.{most_ranks};
 ghost use Rattle.world.specs.Headline.{IsRunOfMachine};
 ghost use Rattle.world.specs.WorldState.{is_outside};

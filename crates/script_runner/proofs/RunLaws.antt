@@ -8,8 +8,8 @@ use Rattle.script_files.specs.Selections.{FirstOf}
 use Rattle.event_loop.specs.declared.runner.RunnerStep.{RunnerStep}
 use Rattle.event_loop.specs.declared.runner.RunnerStep.TheVariants as steps
 use Rattle.script_runner.specs.ScriptRanks.{Acts, RankState, acts}
-use Rattle.script_runner.specs.Running.{Does, along, does_by, does_or}
-use Rattle.script_runner.specs.Standing.{numbered, taken_last}
+use Rattle.script_runner.specs.ScriptSteps.{Does, along, does_by, does_or}
+use Rattle.script_runner.specs.Positions.{numbered, taken_last}
 
 -- what is so is so where there is an error
 pub on_err : {X E : Type 0} (r : Result X E) (p : Type 0) → p → OnErr r p

@@ -8,7 +8,7 @@ use Rattle.line_diagnostics.specs.declared.fault.LineFault.{LineFault}
 use Rattle.line_diagnostics.specs.Lacks.{lack_of_action, lack_of_statement, lacks_buffer, lacks_layout, lacks_place}
 use Rattle.interpreter.specs.declared.steps.NextStep.{NextStep}
 use Rattle.interpreter.specs.declared.steps.NextStep.TheVariants as nexts
-use Rattle.interpreter.specs.Acting as interpreted
+use Rattle.interpreter.specs.StatementCalls as interpreted
 use Rattle.interpreter.specs.Faults.{FaultyWhere, is_faulty}
 use Rattle.interpreter.specs.NamesState.{NamesState, here, holdings}
 use Rattle.interpreter.proofs.FaultLaws.{Matches, action_faults, buffer_matches, layout_matches, waited_receive_faults}
@@ -19,7 +19,7 @@ use Rattle.event_loop.specs.declared.runner.RunnerStep.TheVariants as steps
 use Rattle.script_runner.specs.ScriptRanks.{Acts, does, does_asked, prints_count, prints_elements, says, states, stops}
 use Rattle.script_files.specs.declared.script.ScriptStatement.{ScriptStatement}
 use Rattle.script_files.specs.declared.script.ScriptStatement.TheVariants as statements
-use Rattle.script_runner.specs.Standing.{StopsWhere, is_stop}
+use Rattle.script_runner.specs.Positions.{StopsWhere, is_stop}
 
 -- what isn't faulty doesn't end the script
 goes_on : (number : ℕ) (next : Option NextStep) (names : NamesState) → is_faulty next ≡ false →

@@ -1,4 +1,4 @@
-pub mod Running
-pub mod Standing
-pub mod LinesAsked
+pub mod ScriptSteps
+pub mod Positions
+pub mod AnswerLines
 pub mod ScriptRanks

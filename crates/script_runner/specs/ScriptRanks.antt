@@ -13,10 +13,10 @@ use Rattle.printed_lines.specs.Lines.{elements_line, words_line}
 use Rattle.script_calls.specs.declared.pending.Pending.{Pending}
 use Rattle.interpreter.specs.declared.steps.NextStep.{NextStep}
 use Rattle.interpreter.specs.declared.steps.NextStep.TheVariants as nexts
-use Rattle.interpreter.specs.Acting as interpreted
-use Rattle.interpreter.specs.Hearing as heard
+use Rattle.interpreter.specs.StatementCalls as interpreted
+use Rattle.interpreter.specs.Answers as heard
 use Rattle.interpreter.specs.NamesState.{NamesState, here, no_names}
-use Rattle.script_runner.specs.LinesAsked.{line_of}
+use Rattle.script_runner.specs.AnswerLines.{line_of}
 
 -- what the names of a rank stand for, and what the answer to its last call is for, while it isn't here
 pub record RankState : Type 0 where

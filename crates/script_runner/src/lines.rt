@@ -2,7 +2,7 @@
 
 ghost use Rattle.std.specs.Prelude.{◌≡◌, IfOk};
 ghost use Rattle.printed_lines.specs.Lines.{error_line};
-ghost use Rattle.script_runner.specs.LinesAsked.{errors_lines, line_of};
+ghost use Rattle.script_runner.specs.AnswerLines.{errors_lines, line_of};
 
 use datagram::Bytes;
 use interpreter::{ErrorNumbers, Told};

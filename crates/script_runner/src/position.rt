@@ -1,7 +1,7 @@
 //! The line of a script at which a rank stands.
 
 ghost use Rattle.std.specs.Prelude.{◌≡◌, drop};
-ghost use Rattle.script_runner.specs.Standing.{numbered, taken_last};
+ghost use Rattle.script_runner.specs.Positions.{numbered, taken_last};
 
 use script_files::{RankLine, RankLines};
 

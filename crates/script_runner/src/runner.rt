@@ -4,8 +4,8 @@ ghost use Rattle.std.specs.Prelude.{◌≡◌, ◌≢◌, [], IfOk, OnErr, is_so
 ghost use Rattle.line_diagnostics.specs.Lacks.{lack_of_statement};
 ghost use Rattle.interpreter.specs.NamesState.{holdings};
 ghost use Rattle.script_runner.specs.ScriptRanks.{heeds, states};
-ghost use Rattle.script_runner.specs.Running.{IsMore, along, does_after, next_of, opening};
-ghost use Rattle.script_runner.specs.Standing.{StopsWhere};
+ghost use Rattle.script_runner.specs.ScriptSteps.{IsMore, along, does_after, next_of, opening};
+ghost use Rattle.script_runner.specs.Positions.{StopsWhere};
 
 use crate::ScriptRank;
 use engine::Reply;
@@ -23,7 +23,7 @@ pub struct ScriptRunner {
 }
 
 impl Model for ScriptRunner {
-    ghost use Rattle.script_runner.specs.Running.{ScriptState};
+    ghost use Rattle.script_runner.specs.ScriptSteps.{ScriptState};
 
     ghost Value = { ScriptState };
 
@@ -122,7 +122,7 @@ impl ScriptRunner {
 }
 
 impl Runner for ScriptRunner {
-    ghost use Rattle.script_runner.specs.Running.{NextGives};
+    ghost use Rattle.script_runner.specs.ScriptSteps.{NextGives};
 
     ghost does = { NextGives };
 

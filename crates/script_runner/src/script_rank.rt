@@ -3,7 +3,7 @@
 ghost use Rattle.std.specs.Prelude.{◌≡◌, IfOk, Some, None, is_some};
 ghost use Rattle.line_diagnostics.specs.Lacks.{lack_of_statement};
 ghost use Rattle.interpreter.specs.NamesState.{here, holdings};
-ghost use Rattle.interpreter.specs.Acting.{count_of};
+ghost use Rattle.interpreter.specs.StatementCalls.{count_of};
 ghost use Rattle.script_runner.specs.ScriptRanks.{acts, does, follows, heeds, IsSpoken, opening, prints_count};
 ghost use Rattle.script_runner.specs.ScriptRanks.{prints_elements, says, states};
 

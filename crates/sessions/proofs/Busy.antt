@@ -11,7 +11,7 @@ use Rattle.reliable_link.specs.declared.out_frame.OutFrame.{OutFrame}
 use Rattle.sessions.specs.Busy.{any_of, busy_among, busy_in}
 use Rattle.reliable_link.specs.ReceiverState.{ReceiverState}
 use Rattle.sessions.specs.Events.{heeded_by}
-use Rattle.sessions.specs.Heard.{WordText, Acknowledges, Repeats, Hands, Holds, Follows, Nothing}
+use Rattle.sessions.specs.HeardBytes.{WordText, Acknowledges, Repeats, Hands, Holds, Follows, Nothing}
 use Rattle.sessions.specs.Peers.{IsIdlePeer, after_all_due, due_peer, new_peer, peer_at, with_receiver}
 use Rattle.sessions.specs.declared.peers.Peer.{Peer}
 use Rattle.reliable_link.specs.SenderState.{after_wait}

@@ -6,7 +6,7 @@ use Rattle.std.proofs.lemmas.Bool.{cases_lt, ltb-false, ltb-true}
 use Rattle.std.proofs.lemmas.List.{length-append, length-set}
 use Rattle.std.proofs.lemmas.List.FromFn.{length-range_with_len}
 use Rattle.std.proofs.lemmas.List.Elements.{All-head, All-tail}
-use Rattle.datagram.specs.Spelling.{OutgoingText}
+use Rattle.datagram.specs.Spellings.{OutgoingText}
 use Rattle.vocabulary.specs.declared.endpoint.Endpoint.{Endpoint}
 use Rattle.reliable_link.specs.SenderState.{SenderState, after_accept, after_ack, entered_on_ack, new_frame, out_count}
 use Rattle.reliable_link.specs.SenderState.{out_end, passed_to}
@@ -17,14 +17,14 @@ use Rattle.sessions.specs.declared.peers.Peer.{Peer}
 use Rattle.sessions.specs.declared.refusal.SessionRefusal.{SessionRefusal}
 use Rattle.sessions.specs.SessionsState.{SessionsState}
 use Rattle.sessions.specs.Peers.{frames_out, new_session, peer_at, with_receiver}
-use Rattle.sessions.specs.Heard.{WordText, Acknowledges, Repeats, Hands, Holds, Follows, Nothing, HeardText}
-use Rattle.sessions.specs.Heard.{session_met, CanHear, CanHeed}
+use Rattle.sessions.specs.HeardBytes.{WordText, Acknowledges, Repeats, Hands, Holds, Follows, Nothing, HeardText}
+use Rattle.sessions.specs.HeardBytes.{session_met, CanHear, CanHeed}
 use Rattle.sessions.specs.Events.{CanSend, after_event, after_heard, after_send, after_sends, answer_in}
 use Rattle.sessions.specs.Events.{heeded_by, next_bytes, out_on_accept, taught_peers}
 use Rattle.sessions.specs.Windows.{StaysWithin, acknowledgements, acknowledgements_of, empties_window, room, room_in}
 use Rattle.sessions.specs.Windows.{room_met}
 use Rattle.sessions.proofs.Amounts.{few_frames}
-use Rattle.sessions.proofs.Meeting.{met_at}
+use Rattle.sessions.proofs.SessionLookups.{met_at}
 use Rattle.sessions.proofs.Numbers.{AreThere, are_there, length_heard}
 
 -- ---- one session

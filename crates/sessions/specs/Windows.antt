@@ -3,7 +3,7 @@ use Rattle.std.specs.Prelude.{ℕ, ◌+◌, ◌-◌, ◌≤◌, Bool, true, fals
 use Rattle.reliable_link.specs.SenderState.{out_count, window}
 use Rattle.sessions.specs.declared.peers.Peer.{Peer}
 use Rattle.sessions.specs.SessionsState.{SessionsState}
-use Rattle.sessions.specs.Heard.{WordText, Acknowledges, Repeats, Hands, Holds, Follows, Nothing, HeardText}
+use Rattle.sessions.specs.HeardBytes.{WordText, Acknowledges, Repeats, Hands, Holds, Follows, Nothing, HeardText}
 use Rattle.sessions.specs.Events.{taught_peers}
 
 -- so many more frames may be out in a session

@@ -9,18 +9,18 @@
 
 ghost use Rattle.std.specs.Prelude.{ℕ, ◌≡◌, ◌%◌, ◌≤◌, ◌<◌, ◌+◌, ◌++◌, [], ◌∷◌, All, IsTrue, false, IfOk, IfErr, OnOk};
 ghost use Rattle.std.specs.Prelude.{OnErr, length, nat_lt, take, slice_set, vec_len, None, Some};
-ghost use Rattle.datagram.specs.Spelling.{outgoing_text};
+ghost use Rattle.datagram.specs.Spellings.{outgoing_text};
 ghost use Rattle.reliable_link.specs.SenderState.{out_end, entered_on_ack};
-ghost use Rattle.reliable_link.specs.Accepting.{HasNumberLeft};
+ghost use Rattle.reliable_link.specs.Acceptance.{HasNumberLeft};
 ghost use Rattle.sessions.specs.SessionsState.{GivesUnless, known_endpoint};
 ghost use Rattle.sessions.specs.Peers.{peer_at, with_new_session, frames_out};
 ghost use Rattle.sessions.specs.Spellings.{ack_bytes};
-ghost use Rattle.sessions.specs.Heard.{word_text, heard_text, heard_option, CanHear};
+ghost use Rattle.sessions.specs.HeardBytes.{word_text, heard_text, heard_option, CanHear};
 ghost use Rattle.sessions.specs.Events.{AreFor, CanSend, taught_known, heeded_by, sendings, sends_limit};
 ghost use Rattle.sessions.specs.Events.{after_event, event_limit, most_answers, TurnedAway};
 ghost use Rattle.sessions.specs.Windows.{StaysWithin};
-ghost use Rattle.sessions.specs.Carrying.{CanSettleIn, CanSettle, known_after, answered, sender_after, bytes_ahead};
-ghost use Rattle.sessions.specs.Carrying.{send_ahead, sends_ahead, settled, all_taken_back};
+ghost use Rattle.sessions.specs.EventExecution.{CanSettleIn, CanSettle, known_after, answered, sender_after, bytes_ahead};
+ghost use Rattle.sessions.specs.EventExecution.{send_ahead, sends_ahead, settled, all_taken_back};
 
 use crate::heard::{Heard, LinkEvent, Unheard};
 use crate::limits::frame_at;

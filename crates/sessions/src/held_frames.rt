@@ -6,8 +6,8 @@
 
 ghost use Rattle.std.specs.Prelude.{◌≡◌, ◌≢◌, ◌<◌, false, length, IfOk, IfErr, slice_set};
 ghost use Rattle.reliable_link.specs.ReceiverState.{advanced};
-ghost use Rattle.sessions.specs.Following.{ready_from, turn_of, without_ready};
-ghost use Rattle.sessions.specs.Heard.{heard_option, heard_text, word_text, CanHeed, WordFits};
+ghost use Rattle.sessions.specs.HeldFrames.{ready_from, turn_of, without_ready};
+ghost use Rattle.sessions.specs.HeardBytes.{heard_option, heard_text, word_text, CanHeed, WordFits};
 ghost use Rattle.sessions.specs.declared.peers.Peer.{Peer};
 ghost use Rattle.sessions.specs.Peers.{peer_at};
 ghost use Rattle.sessions.specs.Spellings.{ack_of};
@@ -24,7 +24,7 @@ use vocabulary::Endpoint;
 
 /// What is heard in bytes of an endpoint that were held, once their turn comes; nothing where they spell no frame. It
 /// takes no memory.
-#[tactic(auto, unfolding(crate::specs::Following::turn_of))]
+#[tactic(auto, unfolding(crate::specs::HeldFrames::turn_of))]
 pub fn turn_in<'a>(source: Endpoint, bytes: &'a Bytes) -> Option<Heard<'a>>
     ensures exact { heard_option result ≡ turn_of source bytes.entry.now }
     ensures fits { IfSome result (λ h. WordFits (word_text h.word)) }

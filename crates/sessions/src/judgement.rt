@@ -1,12 +1,12 @@
 //! How the sessions look at a datagram.
 
 ghost use Rattle.std.specs.Prelude.{◌≡◌, ◌<◌, ◌↔◌, ◌≤◌, ◌+◌, ◌-◌, IsTrue, is_some, length, IfOk, Some};
-ghost use Rattle.datagram.specs.Spelling.{content_text, BodyFits};
+ghost use Rattle.datagram.specs.Spellings.{content_text, BodyFits};
 ghost use Rattle.reliable_link.specs.SenderState.{IsOfSent};
 ghost use Rattle.reliable_link.specs.ReceiverState.{held_at};
 ghost use Rattle.sessions.specs.Peers.{peer_at};
-ghost use Rattle.sessions.specs.Heard.{Hears, Says, word_of, heard_of, session_met, word_text, heard_text, WordFits};
-ghost use Rattle.sessions.specs.Heard.{CanHeed, CanHear, said, stale, unmeant};
+ghost use Rattle.sessions.specs.HeardBytes.{Hears, Says, word_of, heard_of, session_met, word_text, heard_text, WordFits};
+ghost use Rattle.sessions.specs.HeardBytes.{CanHeed, CanHear, said, stale, unmeant};
 
 use crate::heard::{Early, Heard, LinkEvent, Unheard};
 use crate::peers::{self, Peer};
@@ -26,7 +26,7 @@ pub(crate) fn next_in(peer: &Peer, anew: bool) -> u64
 
 /// Whether all frames below this number may be acknowledged, and those behind it be said to be held that the bits of
 /// another stand for; after a lesson none went out.
-#[tactic(auto, using(crate::proofs::Judged::none_sent, crate::proofs::Judged::nothing_sent))]
+#[tactic(auto, using(crate::proofs::JudgementLaws::none_sent, crate::proofs::JudgementLaws::nothing_sent))]
 fn allows_in(peer: &Peer, anew: bool, number: u64, held: u64) -> bool
     ensures { IsTrue result ↔ IsOfSent (session_met anew peer.now).sender number held }
 {
@@ -175,7 +175,7 @@ impl Sessions {
     /// message above the job's limit), 26 (another job), 27 (for another rank or a later incarnation of this one, or
     /// from no other rank of the job), 28 (from a former incarnation of its source), 29 (for a former incarnation of
     /// this rank; with it comes for whom a reset is) and 31 (a number outside the window). A limit is told by `limit_of`.
-    #[tactic(auto, unfolding(crate::specs::Heard::heard_of))]
+    #[tactic(auto, unfolding(crate::specs::HeardBytes::heard_of))]
     pub fn judge<'a>(&self, bytes: &'a [u8]) -> Result<Heard<'a>, Unheard>
         ensures exact { Hears result (heard_of self.now bytes.now) }
         ensures fits { IfOk result (λ h. WordFits (word_text h.word)) }

@@ -4,10 +4,10 @@ ghost use Rattle.std.specs.Prelude.{◌≡◌, ◌≢◌, ◌≤◌, ◌<◌, �
 ghost use Rattle.std.specs.Prelude.{IfErr, nat_lt, ◌^◌, [], ◌∷◌, if◌then◌else◌, slice_set, vec_len, vec_capacity};
 ghost use Rattle.reliable_link.specs.SenderState.{after_accept, after_ack, IsOfSent, entered_on_ack, due_at, out_end};
 ghost use Rattle.reliable_link.specs.SenderState.{IsSomeDue, StandsAt};
-ghost use Rattle.reliable_link.specs.Accepting.{HasNumberLeft};
+ghost use Rattle.reliable_link.specs.Acceptance.{HasNumberLeft};
 ghost use Rattle.reliable_link.specs.ReceiverState.{advanced, after_frame, discarded};
 ghost use Rattle.std.specs.List.{range_with_len};
-ghost use Rattle.sessions.specs.Carrying.{taken_back};
+ghost use Rattle.sessions.specs.EventExecution.{taken_back};
 ghost use Rattle.sessions.specs.Busy.{busy_among, busy_in};
 ghost use Rattle.sessions.specs.Peers.{new_peers, peer_at, with_sender, with_receiver, with_new_session, frames_out};
 ghost use Rattle.sessions.specs.Peers.{with_wait};

@@ -1,7 +1,7 @@
 //! The bytes of a word as they are shown.
 
 ghost use Rattle.std.specs.Prelude.{◌≡◌};
-ghost use Rattle.shown_words.specs.Shown.{printable};
+ghost use Rattle.shown_words.specs.WordTexts.{printable};
 
 use std::fmt;
 
@@ -27,7 +27,7 @@ struct ShownBytes<'a> {
 
 impl<'a> fmt::Display for ShownBytes<'a> {
     ghost use Rattle.std.specs.Prelude.{Some, map};
-    ghost use Rattle.shown_words.specs.Shown.{printable};
+    ghost use Rattle.shown_words.specs.WordTexts.{printable};
 
     ghost output = { λ p. Some (map printable p.bytes.now) };
 
@@ -50,11 +50,11 @@ pub struct Shown<'a> {
 
 impl<'a> fmt::Display for Shown<'a> {
     ghost use Rattle.std.specs.Prelude.{Some};
-    ghost use Rattle.shown_words.specs.Shown.{shown};
+    ghost use Rattle.shown_words.specs.WordTexts.{shown};
 
     ghost output = { λ s. Some (shown s.word.now) };
 
-    #[tactic(auto, unfolding(crate::specs::Shown::shown))]
+    #[tactic(auto, unfolding(crate::specs::WordTexts::shown))]
     fn fmt<W: fmt::Write>(&self, f: &mut fmt::Formatter<W>) -> fmt::Result {
         if self.word.len() <= MOST_SHOWN {
             return ShownBytes { bytes: self.word }.fmt(f);

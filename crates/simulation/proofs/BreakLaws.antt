@@ -2,7 +2,7 @@
 use Rattle.std.proofs.Common.{◌≡◌, ◌⊎◌, inl, inr, ℕ, List, [], ◌∷◌, ◌++◌, Option, Some, None, refl, sym, ap, subst, ◌∙◌}
 use Rattle.simulation.specs.Beginnings.{BreaksOff, Starts}
 use Rattle.simulation.specs.Parts.{Part, joined, no_part}
-use Rattle.simulation.specs.Printing.{CutsOff, Prints, PrintsBeginning}
+use Rattle.simulation.specs.Output.{CutsOff, Prints, PrintsBeginning}
 use Rattle.simulation.specs.declared.error.SimulateError.{SimulateError}
 use Rattle.simulation.specs.declared.error.SimulateError.TheVariants as errors
 use Rattle.simulation.proofs.PrintLaws.{begins_more, begins_none}

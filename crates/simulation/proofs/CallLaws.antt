@@ -1,6 +1,6 @@
 -- The parts that calls and statements make.
 use Rattle.std.proofs.Common.{◌≡◌, ℕ, Bool, true, false, List, [], ◌∷◌, ◌++◌, Option, Some, None, Result, Ok, Err, refl, sym, ap, subst, ◌∙◌}
-use Rattle.interpreter.specs.Acting.{acts_on}
+use Rattle.interpreter.specs.StatementCalls.{acts_on}
 use Rattle.interpreter.specs.declared.steps.NextStep.{NextStep}
 use Rattle.interpreter.specs.declared.steps.NextStep.TheVariants as nexts
 use Rattle.interpreter.specs.declared.steps.PendingCall.{PendingCall}
@@ -9,8 +9,8 @@ use Rattle.line_diagnostics.specs.declared.fault.LineFault.{LineFault}
 use Rattle.script_calls.specs.declared.pending.Pending.{Pending}
 use Rattle.simulation.specs.Parts.{ActGives, AskGives, CallGives, CallsGive, FollowingGives, FurtherCall, FurtherGives}
 use Rattle.simulation.specs.Parts.{Part, Standing, call_lines, call_makes, joined, no_part, printed_part, standing, step_part, taken_lines}
-use Rattle.simulation.specs.Printed.{refused_lines, stepped_lines, told_lines}
-use Rattle.simulation.specs.Printing.{CutsOff, Prints}
+use Rattle.simulation.specs.StepLines.{refused_lines, stepped_lines, told_lines}
+use Rattle.simulation.specs.Output.{CutsOff, Prints}
 use Rattle.simulation.specs.RankAnswers.{Heeded, IsFaulty, IsMade, heeded, is_silent, made_in, takes_back, with_names}
 use Rattle.simulation.specs.Turns.{ActRuns, AskRuns, CallRuns, CallsRun, FollowingRuns, FurtherRuns, Runs, TakenGives}
 use Rattle.simulation.specs.declared.error.SimulateError.{SimulateError}

@@ -8,7 +8,7 @@ use Rattle.line_diagnostics.specs.declared.fault.LineFault.{LineFault}
 use Rattle.simulation.specs.Courses.{Course, IsFaultyLine, LineGives, Scene}
 use Rattle.simulation.specs.Files.{LineStops, LinesRun, StopsBy}
 use Rattle.simulation.specs.Parts.{Happening, Part, joined, no_part}
-use Rattle.simulation.specs.Printing.{Prints}
+use Rattle.simulation.specs.Output.{Prints}
 use Rattle.simulation.specs.Turns.{LineRuns}
 use Rattle.simulation.specs.declared.error.SimulateError.{SimulateError}
 use Rattle.simulation.specs.declared.error.SimulateError.TheVariants as errors

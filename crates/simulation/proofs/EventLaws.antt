@@ -3,8 +3,8 @@ use Rattle.std.proofs.Common.{◌≡◌, ℕ, List, [], ◌∷◌, ◌++◌, Opt
 use Rattle.std.proofs.lemmas.List.{append-nil}
 use Rattle.simulation.specs.Courses.{Ranks, EventGives, IsOnlyAt, RestartGives, Scene, scene}
 use Rattle.simulation.specs.Parts.{Part, joined, no_part, step_part}
-use Rattle.simulation.specs.Printed.{refused_lines, stepped_lines}
-use Rattle.simulation.specs.Printing.{Prints}
+use Rattle.simulation.specs.StepLines.{refused_lines, stepped_lines}
+use Rattle.simulation.specs.Output.{Prints}
 use Rattle.simulation.specs.RankAnswers.{entry_in, fresh}
 use Rattle.simulation.specs.Turns.{CompletedRuns, EventRuns, RestartRuns, Runs}
 use Rattle.simulation.specs.declared.ranks.RankNames.{RankNames}

@@ -5,10 +5,10 @@ use Rattle.std.specs.Prelude.{IfErr, slice_get}
 use Rattle.std.specs.List.{flat_map, range_with_len}
 use Rattle.std.proofs.lemmas.Grind.{flat_map-append}
 use Rattle.std.proofs.lemmas.List.{append-nil, append_assoc}
-use Rattle.simulation.specs.Printing.{CutsOff, Prints, PrintsBeginning, text_of}
+use Rattle.simulation.specs.Output.{CutsOff, Prints, PrintsBeginning, text_of}
 use Rattle.simulation.specs.declared.error.SimulateError.{SimulateError}
 use Rattle.simulation.specs.declared.error.SimulateError.TheVariants as errors
-use Rattle.simulation.specs.Printed.{lines_at, lines_between}
+use Rattle.simulation.specs.StepLines.{lines_at, lines_between}
 
 pub prints_none : (old : Option (List ℕ)) → Prints old old []
 prints_none None = tt

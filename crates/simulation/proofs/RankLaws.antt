@@ -4,7 +4,7 @@ use Rattle.engine_calls.specs.declared.reply.Fact.{Fact}
 use Rattle.engine_calls.specs.declared.reply.Fact.TheVariants as facts
 use Rattle.engine_calls.specs.declared.reply.Reply.{Reply}
 use Rattle.engine_calls.specs.declared.reply.Reply.TheVariants as replies
-use Rattle.interpreter.specs.Hearing.{Hears, hears}
+use Rattle.interpreter.specs.Answers.{Hears, hears}
 use Rattle.interpreter.specs.NamesState.{NamesState}
 use Rattle.interpreter.specs.declared.steps.NextStep.{NextStep}
 use Rattle.replies.specs.Copies.{IsCopyOf, IsCopyOfFact}

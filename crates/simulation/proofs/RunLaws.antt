@@ -8,7 +8,7 @@ use Rattle.event_files.specs.declared.file.EventFile.{EventFile}
 use Rattle.event_files.specs.declared.file.EventLine.{EventLine}
 use Rattle.event_files.specs.declared.file.EventStatement.{EventStatement}
 use Rattle.event_files.specs.declared.file.EventStatement.TheVariants as statements
-use Rattle.interpreter.specs.Acting.{acts_on}
+use Rattle.interpreter.specs.StatementCalls.{acts_on}
 use Rattle.interpreter.specs.declared.steps.NextStep.{NextStep}
 use Rattle.interpreter.specs.declared.steps.NextStep.TheVariants as nexts
 use Rattle.interpreter.specs.declared.steps.PendingCall.{PendingCall}
@@ -16,7 +16,7 @@ use Rattle.line_diagnostics.specs.declared.fault.LineFault.{LineFault}
 use Rattle.simulation.specs.Courses.{BehindEvent, CompletedBy, CompletedIn, Course, EventGives, IsOpening, LineGives, RestartGives, Scene, scene}
 use Rattle.simulation.specs.Files.{FileRuns, FileStops, LinesRun, RunsWhole, Stops, StopsBy, answers_of, events_of}
 use Rattle.simulation.specs.Parts.{AskGives, CallGives, CallsGive, FollowingGives, FurtherGives, Happening, Part, Standing, joined, no_part}
-use Rattle.simulation.specs.Printing.{Prints}
+use Rattle.simulation.specs.Output.{Prints}
 use Rattle.simulation.specs.RankAnswers.{entry_in}
 use Rattle.simulation.specs.declared.error.SimulateError.{SimulateError}
 use Rattle.simulation.specs.declared.error.SimulateError.TheVariants as errors

@@ -6,7 +6,7 @@ use Rattle.engine_calls.specs.declared.reply.Completion.{Completion}
 use Rattle.event_files.specs.declared.file.EventLine.{EventLine}
 use Rattle.event_files.specs.declared.file.EventStatement.{EventStatement}
 use Rattle.event_files.specs.declared.file.EventStatement.TheVariants as statements
-use Rattle.interpreter.specs.Acting.{acts_on}
+use Rattle.interpreter.specs.StatementCalls.{acts_on}
 use Rattle.interpreter.specs.declared.steps.NextStep.{NextStep}
 use Rattle.interpreter.specs.declared.steps.NextStep.TheVariants as nexts
 use Rattle.interpreter.specs.declared.steps.PendingCall.{PendingCall}
@@ -16,8 +16,8 @@ use Rattle.simulation.specs.Beginnings.{EventBegins, FollowingBegins, FurtherBeg
 use Rattle.simulation.specs.Courses.{IsFaultyLine, IsSame, Ranks, Scene, found_at, names_at, or_fresh, scene}
 use Rattle.simulation.specs.Files.{LineStops, SimulationState}
 use Rattle.simulation.specs.Parts.{CallGives, Part, Standing, call_lines, joined, no_part, standing, step_part, taken_lines}
-use Rattle.simulation.specs.Printed.{refused_lines, stepped_lines}
-use Rattle.simulation.specs.Printing.{CutsOff, Prints}
+use Rattle.simulation.specs.StepLines.{refused_lines, stepped_lines}
+use Rattle.simulation.specs.Output.{CutsOff, Prints}
 use Rattle.simulation.specs.RankAnswers.{Heeded, IsMade, entry_in, heeded, is_silent, made_in, takes_back, takes_completion}
 use Rattle.simulation.specs.RankAnswers.{with_names}
 use Rattle.simulation.specs.Turns.{CallRuns, LineActed}

@@ -11,7 +11,7 @@ use Rattle.interpreter.specs.declared.steps.NextStep.{NextStep}
 use Rattle.interpreter.specs.declared.steps.PendingCall.{PendingCall}
 use Rattle.simulation.specs.Courses.{AtRank, CompletedBy, CompletedIn, IsOnlyAt, IsSame, Ranks, Scene, found_at, names_at, or_fresh, scene}
 use Rattle.simulation.specs.Parts.{ActGives, CompletionGives, FollowingGives, Part, Standing, no_part, standing}
-use Rattle.simulation.specs.Printing.{Prints}
+use Rattle.simulation.specs.Output.{Prints}
 use Rattle.simulation.specs.RankAnswers.{Heeded, IsFaulty, IsMade, Made, fresh, heeded, takes_completion}
 use Rattle.simulation.specs.Turns.{ActRuns, ActRunsAt, CompletedRuns, CompletionRuns, FollowingRuns, LineActed, Runs}
 use Rattle.simulation.specs.declared.calls.Acted.{Acted}

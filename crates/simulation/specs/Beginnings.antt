@@ -3,12 +3,12 @@ use Rattle.std.specs.Prelude.{◌≡◌, ◌⊎◌, ℕ, List, [], ◌∷◌, Op
 use Rattle.engine_calls.specs.declared.reply.Completion.{Completion}
 use Rattle.event_files.specs.declared.file.EventStatement.{EventStatement}
 use Rattle.event_files.specs.declared.file.EventStatement.TheVariants as statements
-use Rattle.interpreter.specs.Acting.{acts_on}
+use Rattle.interpreter.specs.StatementCalls.{acts_on}
 use Rattle.interpreter.specs.declared.steps.NextStep.{NextStep}
 use Rattle.interpreter.specs.declared.steps.NextStep.TheVariants as nexts
 use Rattle.simulation.specs.Courses.{Scene, names_at, scene}
 use Rattle.simulation.specs.Parts.{CallGives, CallsGive, Part, Standing, answer_lines, joined, no_part, standing, step_part}
-use Rattle.simulation.specs.Printing.{PrintsBeginning}
+use Rattle.simulation.specs.Output.{PrintsBeginning}
 use Rattle.simulation.specs.RankAnswers.{entry_in, takes_completion, with_names}
 use Rattle.simulation.specs.declared.error.SimulateError.{SimulateError}
 use Rattle.simulation.specs.declared.error.SimulateError.TheVariants as errors

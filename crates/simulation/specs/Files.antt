@@ -8,7 +8,7 @@ use Rattle.line_diagnostics.specs.declared.fault.LineFault.{LineFault}
 use Rattle.simulation.specs.Beginnings.{LineBegins, Starts}
 use Rattle.simulation.specs.Courses.{Course, IsFaultyLine, IsOpening, Scene}
 use Rattle.simulation.specs.Parts.{Happening, Part}
-use Rattle.simulation.specs.Printing.{Prints, PrintsBeginning}
+use Rattle.simulation.specs.Output.{Prints, PrintsBeginning}
 use Rattle.simulation.specs.declared.error.SimulateError.{SimulateError}
 use Rattle.simulation.specs.declared.error.SimulateError.TheVariants as errors
 use Rattle.tokens.specs.Lines.{lines_of}

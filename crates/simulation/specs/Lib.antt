@@ -1,5 +1,5 @@
-pub mod Printed
-pub mod Printing
+pub mod StepLines
+pub mod Output
 pub mod Lines
 pub mod RankAnswers
 pub mod Parts

@@ -13,8 +13,8 @@ use Rattle.collective_steps.specs.declared.step.Ending.{Ending}
 use Rattle.collective_steps.specs.declared.step.Ending.TheVariants as endings
 use Rattle.communicators.specs.declared.question.CommunicatorComparison.{CommunicatorComparison}
 use Rattle.communicators.specs.declared.question.CommunicatorComparison.TheVariants as comparisons
-use Rattle.datagram.specs.Reading.{datagram_of}
-use Rattle.datagram.specs.Spelling.{DatagramText}
+use Rattle.datagram.specs.ByteMeanings.{datagram_of}
+use Rattle.datagram.specs.Spellings.{DatagramText}
 use Rattle.datagram.specs.declared.refusal.DatagramRefusal as datagrams
 use Rattle.engine_calls.specs.declared.reply.Completion.{Completion}
 use Rattle.engine_calls.specs.declared.reply.Completion.TheVariants as completions

@@ -3,12 +3,12 @@
 use Rattle.std.specs.Prelude.{◌≡◌, ℕ, Bool, true, false, List, [], ◌∷◌, ◌++◌, Option, Some, None, Result, Ok, Err}
 use Rattle.std.specs.Prelude.{if◌then◌else◌}
 use Rattle.engine_calls.specs.declared.reply.Completion.{Completion}
-use Rattle.interpreter.specs.Acting.{Acts, acts_on}
+use Rattle.interpreter.specs.StatementCalls.{Acts, acts_on}
 use Rattle.interpreter.specs.declared.steps.NextStep.{NextStep}
 use Rattle.interpreter.specs.declared.steps.NextStep.TheVariants as nexts
 use Rattle.interpreter.specs.NamesState.{NamesState}
 use Rattle.script_calls.specs.declared.pending.Pending.{Pending}
-use Rattle.simulation.specs.Printed.{refused_lines, stepped_lines, told_lines}
+use Rattle.simulation.specs.StepLines.{refused_lines, stepped_lines, told_lines}
 use Rattle.simulation.specs.RankAnswers.{Made, is_silent, made_in, nothing_heeded, takes_back, takes_completion, with_names}
 use Rattle.interpreter.specs.declared.steps.PendingCall.{PendingCall}
 use Rattle.simulation.specs.declared.ranks.RankNames.{RankNames}

@@ -4,8 +4,8 @@ use Rattle.std.specs.Prelude.{option_and_then, slice_get}
 use Rattle.engine_calls.specs.declared.reply.Completion.{Completion}
 use Rattle.engine_calls.specs.declared.reply.Reply.{Reply}
 use Rattle.engine_calls.specs.declared.reply.Reply.TheVariants as replies
-use Rattle.interpreter.specs.Acting.{acts_on}
-use Rattle.interpreter.specs.Hearing.{Hears, hears, taken_back}
+use Rattle.interpreter.specs.StatementCalls.{acts_on}
+use Rattle.interpreter.specs.Answers.{Hears, hears, taken_back}
 use Rattle.interpreter.specs.NamesState.{NamesState, holdings, no_names}
 use Rattle.interpreter.specs.declared.steps.NextStep.{NextStep}
 use Rattle.interpreter.specs.declared.steps.NextStep.TheVariants as nexts
@@ -14,7 +14,7 @@ use Rattle.line_diagnostics.specs.Lacks.{lack_of_action}
 use Rattle.line_diagnostics.specs.declared.fault.LineFault.{LineFault}
 use Rattle.script_calls.specs.declared.pending.Pending.{Pending}
 use Rattle.script_calls.specs.declared.pending.Pending.TheVariants as pendings
-use Rattle.simulation.specs.Printed.{told_lines}
+use Rattle.simulation.specs.StepLines.{told_lines}
 use Rattle.simulation.specs.declared.ranks.RankNames.{RankNames}
 use Rattle.statements.specs.declared.action.Action.{Action}
 use Rattle.replies.specs.Copies.{reply_of}

@@ -9,8 +9,8 @@ use Rattle.script_calls.specs.declared.pending.Pending.{Pending}
 use Rattle.simulation.specs.Courses.{AtRank, CompletedIn, EventGives, IsFaultyLine, LineGives, RestartGives, Scene, names_at}
 use Rattle.simulation.specs.Parts.{ActGives, AskGives, CallGives, CallsGive, CompletionGives, FollowingGives, FurtherGives}
 use Rattle.simulation.specs.Parts.{Part, Standing, taken_lines}
-use Rattle.simulation.specs.Printed.{stepped_lines}
-use Rattle.simulation.specs.Printing.{Prints}
+use Rattle.simulation.specs.StepLines.{stepped_lines}
+use Rattle.simulation.specs.Output.{Prints}
 use Rattle.simulation.specs.RankAnswers.{IsFaulty, is_silent, made_in}
 use Rattle.simulation.specs.declared.calls.Acted.{Acted}
 use Rattle.simulation.specs.declared.calls.Acted.TheVariants as acted

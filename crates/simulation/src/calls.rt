@@ -4,8 +4,8 @@ ghost use Rattle.std.specs.Prelude.{◌≡◌, IfErr, IfOk, OnOk, option_map};
 ghost use Rattle.simulation.specs.Beginnings.{ActBegins, AskBegins, BreaksOff, CallMade, CallsBegin};
 ghost use Rattle.simulation.specs.Beginnings.{FollowingBegins, FurtherBegins};
 ghost use Rattle.simulation.specs.Parts.{standing, taken_lines};
-ghost use Rattle.simulation.specs.Printed.{refused_lines, stepped_lines};
-ghost use Rattle.simulation.specs.Printing.{CutsOff, Prints};
+ghost use Rattle.simulation.specs.StepLines.{refused_lines, stepped_lines};
+ghost use Rattle.simulation.specs.Output.{CutsOff, Prints};
 ghost use Rattle.simulation.specs.RankAnswers.{entry_in, heeded, is_silent, IsMade, made_in, reply_in, takes_back, with_names};
 ghost use Rattle.simulation.specs.Turns.{ActRuns, AskRuns, CallRuns, CallsRun, FollowingRuns, FurtherRuns, TakenGives};
 

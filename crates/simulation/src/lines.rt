@@ -3,11 +3,11 @@
 ghost use Rattle.std.specs.Prelude.{◌≡◌, ◌∷◌, [], map, IfErr, IfOk, OnOk};
 ghost use Rattle.printed_lines.specs.Answers.{answer_text, emission_text, outcome_text};
 ghost use Rattle.printed_lines.specs.CommunicatorTexts.{position_text};
-ghost use Rattle.datagram.specs.Spelling.{datagram_text};
+ghost use Rattle.datagram.specs.Spellings.{datagram_text};
 ghost use Rattle.simulation.specs.Lines.{answer_line, compared, completion_line, datagram_lines, emission_of};
 ghost use Rattle.simulation.specs.Lines.{ending_line, fact_line, match_line, outcome_line, outcomes_line};
 ghost use Rattle.simulation.specs.Lines.{probe_line, refusal_line, reply_line, taken_line, told_line};
-ghost use Rattle.simulation.specs.Printing.{CutsOff, Prints};
+ghost use Rattle.simulation.specs.Output.{CutsOff, Prints};
 
 use crate::error::SimulateError;
 use collective_steps::Ending;

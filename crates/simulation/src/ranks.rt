@@ -1,8 +1,8 @@
 //! A rank of a file of events: what its names stand for, and what its blocked call is for.
 
 ghost use Rattle.std.specs.Prelude.{◌≡◌, Some, IfOk, IfSome, OnOk};
-ghost use Rattle.interpreter.specs.Acting.{acts_on};
-ghost use Rattle.interpreter.specs.Hearing.{hears, taken_back};
+ghost use Rattle.interpreter.specs.StatementCalls.{acts_on};
+ghost use Rattle.interpreter.specs.Answers.{hears, taken_back};
 ghost use Rattle.simulation.specs.RankAnswers.{fresh, is_blocked, IsFaulty, IsMade, own_rank};
 ghost use Rattle.simulation.specs.RankAnswers.{takes_completion, takes_reply, with_names};
 

@@ -4,8 +4,8 @@ ghost use Rattle.std.specs.Prelude.{◌≡◌, ℕ, IfErr, IfOk, OnOk};
 ghost use Rattle.simulation.specs.Beginnings.{BreaksOff, EventBegins};
 ghost use Rattle.simulation.specs.Courses.{IsOpening, scene};
 ghost use Rattle.simulation.specs.Files.{LineStops, LinesRun, StopsBy};
-ghost use Rattle.simulation.specs.Printed.{refused_lines};
-ghost use Rattle.simulation.specs.Printing.{Prints};
+ghost use Rattle.simulation.specs.StepLines.{refused_lines};
+ghost use Rattle.simulation.specs.Output.{Prints};
 ghost use Rattle.simulation.specs.Turns.{EventRuns, LineRuns, RestartRuns};
 ghost use Rattle.world.specs.Headline.{IsRunOfMachine};
 

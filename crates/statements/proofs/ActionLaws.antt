@@ -18,11 +18,18 @@ use Rattle.tokens.specs.Grammar.{Word, NamesIt, type_word}
 use Rattle.statements.specs.Words.{verb_of}
 use Rattle.tokens.specs.Words.{basic_type_of}
 use Rattle.tokens.specs.Results.{◌>>=◌}
-use Rattle.statements.specs.Reading.{communicator_of, target_of, source_of, tag_of, requested_of, through_of}
-use Rattle.statements.specs.Reading.{one_request, elements_of, buffer_with, buffer_of, sending_of, receiving_of}
-use Rattle.statements.specs.Reading.{isend_of, irecv_of, probing_of, improbe_of, mrecv_of, one_of, layout_of}
-use Rattle.statements.specs.Reading.{communicator_alone, two_communicators, bcast_of, gather_of, scatter_of, reduce_of}
-use Rattle.statements.specs.Reading.{allreduce_of, dup_of, split_of, action_by, action_of}
+use Rattle.statements.specs.LineWords.{communicator_of, target_of, source_of, tag_of, requested_of, through_of}
+use Rattle.statements.specs.LineWords.{one_request, elements_of, buffer_with, buffer_of, sending_of, receiving_of}
+use Rattle.statements.specs.LineWords.{isend_of, irecv_of, probing_of, improbe_of, mrecv_of, one_of, layout_of}
+use Rattle.statements.specs.LineWords.{
+  communicator_alone,
+  two_communicators,
+  bcast_of,
+  gather_of,
+  scatter_of,
+  reduce_of,
+}
+use Rattle.statements.specs.LineWords.{allreduce_of, dup_of, split_of, action_by, action_of}
 use Rattle.tokens.specs.Fields.{first, end_of_line, name_of, each}
 use Rattle.statements.proofs.VerbLaws.{verb_word, verb_takes, verb_again}
 use Rattle.tokens.proofs.WordLaws.{bind_ok, made, type_takes, type_again}

@@ -14,8 +14,8 @@ use Rattle.statements.specs.Grammar.{operation_word, IsBlocks, IsBroadcasting, I
 use Rattle.statements.specs.Grammar.{IsReducingToAll}
 use Rattle.tokens.specs.Grammar.{Word, IsLetter}
 use Rattle.tokens.specs.Fields.{first, end_of_line, name_of, rank_of}
-use Rattle.statements.specs.Reading.{communicator_of, operation_of, block_from, bcast_of, gather_of, scatter_of}
-use Rattle.statements.specs.Reading.{reduce_of, allreduce_of}
+use Rattle.statements.specs.LineWords.{communicator_of, operation_of, block_from, bcast_of, gather_of, scatter_of}
+use Rattle.statements.specs.LineWords.{reduce_of, allreduce_of}
 use Rattle.tokens.proofs.WordLaws.{Yields, step, yielded, bind_ok, made, pick, same_word, other_word}
 use Rattle.tokens.proofs.FieldLaws.{named_takes, named_again, rank_takes, rank_again}
 use Rattle.statements.proofs.FieldSteps.{three, four, five}

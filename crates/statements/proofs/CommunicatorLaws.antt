@@ -11,8 +11,8 @@ use Rattle.statements.specs.Grammar.{IsColour, IsCommunicator, IsKey, IsSplittin
 use Rattle.tokens.specs.Grammar.{Word, NamesIt}
 use Rattle.tokens.specs.Numbers.{number_up_to}
 use Rattle.tokens.specs.Fields.{first, end_of_line, name_of}
-use Rattle.statements.specs.Reading.{colour_of, communicator_alone, communicator_of, dup_of, key_below, key_of}
-use Rattle.statements.specs.Reading.{split_of, two_communicators}
+use Rattle.statements.specs.LineWords.{colour_of, communicator_alone, communicator_of, dup_of, key_below, key_of}
+use Rattle.statements.specs.LineWords.{split_of, two_communicators}
 use Rattle.tokens.proofs.FieldLaws.{named_takes, named_again}
 use Rattle.tokens.proofs.WordLaws.{bind_ok, made, pick, no_test, same_word, no_letters, bounded_takes, bounded_again}
 use Rattle.statements.proofs.FieldSteps.{two, four}

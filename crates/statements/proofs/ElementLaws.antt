@@ -18,7 +18,7 @@ use Rattle.statements.specs.Grammar.{IsAbove, IsFloat, IsValue, AreValues, AreEl
 use Rattle.tokens.specs.Grammar.{Word, IsNumeral}
 use Rattle.tokens.specs.Numbers.{number_up_to, count_of}
 use Rattle.tokens.specs.Results.{◌>>=◌}
-use Rattle.statements.specs.Reading.{value_of, is_star, copies_of, copies_at, elements_of, float_of, integer_of}
+use Rattle.statements.specs.LineWords.{value_of, is_star, copies_of, copies_at, elements_of, float_of, integer_of}
 use Rattle.tokens.specs.Fields.{each}
 use Rattle.tokens.proofs.MarkLaws.{mark_here, HasNo, digits_plain, no_place, a_place, take_front, drop_front}
 use Rattle.tokens.proofs.WordLaws.{bind_ok, made, pick, no_test, count_takes, count_again, bounded_takes, bounded_again}

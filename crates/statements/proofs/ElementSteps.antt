@@ -2,7 +2,7 @@
 use Rattle.std.proofs.Common.{◌≡◌, ℕ, List, Some, replicate, refl, sym, ap, ◌∙◌}
 use Rattle.vocabulary.specs.declared.basic_type.BasicType.{BasicType}
 use Rattle.datatypes.specs.Contents.{Contents}
-use Rattle.statements.specs.Reading.{copies_of, elements_of, buffer_with}
+use Rattle.statements.specs.LineWords.{copies_of, elements_of, buffer_with}
 use Rattle.tokens.specs.declared.fault.LineError.{LineError}
 use Rattle.tokens.specs.Grammar.{Word}
 use Rattle.tokens.specs.Results.{Fails}

@@ -12,8 +12,8 @@ use Rattle.statements.specs.declared.action.LayoutClause.{LayoutClause}
 use Rattle.statements.specs.Grammar.{IsCommunicator, IsTarget, IsSource, IsTag, IsRequested, IsThrough}
 use Rattle.tokens.specs.Grammar.{Word, IsLarge, StandFor, NamesIt}
 use Rattle.tokens.specs.Numbers.{number_or}
-use Rattle.statements.specs.Reading.{one_request, communicator_of, target_of, source_of, tag_of, requested_of}
-use Rattle.statements.specs.Reading.{behind_as, through_of}
+use Rattle.statements.specs.LineWords.{one_request, communicator_of, target_of, source_of, tag_of, requested_of}
+use Rattle.statements.specs.LineWords.{behind_as, through_of}
 use Rattle.tokens.specs.Fields.{first, end_of_line, each, name_of, rank_of, large_of}
 use Rattle.tokens.proofs.WordLaws.{bind_ok, made, pick, same_word, other_word, no_letters, capped_takes, capped_again}
 use Rattle.statements.proofs.FieldSteps.{two}

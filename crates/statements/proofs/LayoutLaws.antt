@@ -18,8 +18,8 @@ use Rattle.statements.specs.Grammar.{IsOld, IsBlock, IsFormed, IsLayout}
 use Rattle.tokens.specs.Grammar.{Word, type_word}
 use Rattle.tokens.specs.Words.{basic_type_of}
 use Rattle.tokens.specs.Results.{◌>>=◌}
-use Rattle.statements.specs.Reading.{form_word_of, old_by, old_of, is_colon, block_at, block_of, one_block, last}
-use Rattle.statements.specs.Reading.{contiguous_of, vector_of, indexed_of, formed_by, layout_of}
+use Rattle.statements.specs.LineWords.{form_word_of, old_by, old_of, is_colon, block_at, block_of, one_block, last}
+use Rattle.statements.specs.LineWords.{contiguous_of, vector_of, indexed_of, formed_by, layout_of}
 use Rattle.tokens.specs.Fields.{first, end_of_line, each, name_of, large_of}
 use Rattle.tokens.proofs.WordLaws.{bind_ok, made, is_nothing, Yields, step, yielded, same_word, type_takes, type_again}
 use Rattle.tokens.proofs.EachLaws.{all_take, all_again}

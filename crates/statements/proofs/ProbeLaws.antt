@@ -13,8 +13,16 @@ use Rattle.tokens.specs.Results.{◌>>=◌}
 use Rattle.tokens.specs.Fields.{first, end_of_line, name_of}
 use Rattle.tokens.proofs.WordLaws.{bind_ok, made}
 use Rattle.tokens.proofs.FieldLaws.{named_takes, named_again}
-use Rattle.statements.specs.Reading.{communicator_of, source_of, tag_of, through_of, probing_of, landing_of, improbe_of}
-use Rattle.statements.specs.Reading.{mrecv_of}
+use Rattle.statements.specs.LineWords.{
+  communicator_of,
+  source_of,
+  tag_of,
+  through_of,
+  probing_of,
+  landing_of,
+  improbe_of,
+}
+use Rattle.statements.specs.LineWords.{mrecv_of}
 use Rattle.statements.proofs.FieldLaws.{communicator_takes, communicator_again, source_takes, source_again, tag_takes}
 use Rattle.statements.proofs.FieldLaws.{tag_again, through_takes, through_again}
 use Rattle.statements.proofs.FieldSteps.{two, three}

@@ -1,4 +1,4 @@
 pub mod Grammar
 pub mod Words
-pub mod Reading
+pub mod LineWords
 pub mod Meanings

@@ -1,7 +1,7 @@
 //! What is said of collectives that move elements, by the words that spell it.
 
 ghost use Rattle.std.specs.Prelude.{◌≡◌};
-ghost use Rattle.statements.specs.Reading.{action_by, block_from, communicator_and_two, operation_of};
+ghost use Rattle.statements.specs.LineWords.{action_by, block_from, communicator_and_two, operation_of};
 ghost use Rattle.tokens.specs.Results.{Gives};
 
 use crate::action::{Action, CommunicatorName};
@@ -14,7 +14,7 @@ use tokens::{LineError, Name, Token, is, name_of, rank_of, require};
 use vocabulary::Operation;
 
 /// The operation that the word names.
-#[tactic(auto, unfolding(crate::specs::Reading::operation_of))]
+#[tactic(auto, unfolding(crate::specs::LineWords::operation_of))]
 fn operation_of(word: &[u8]) -> Option<Operation>
     ensures { result ≡ operation_of word.now }
 {
@@ -46,7 +46,7 @@ fn operation_of(word: &[u8]) -> Option<Operation>
 }
 
 /// A buffer's name, or `-`.
-#[tactic(auto, unfolding(crate::specs::Reading::block_from))]
+#[tactic(auto, unfolding(crate::specs::LineWords::block_from))]
 fn block_from(alloc: Global, word: &[u8]) -> Result<Option<Name>, LineError>
     ensures { Gives (λ x. x) result (block_from word.now) }
 {
@@ -71,7 +71,7 @@ fn communicator_and_two(
 }
 
 /// `COMM ROOT B`
-#[tactic(auto, unfolding(crate::specs::Reading::bcast_of))]
+#[tactic(auto, unfolding(crate::specs::LineWords::bcast_of))]
 pub(crate) fn bcast_of(alloc: Global, words: &[Token]) -> Result<Action, LineError>
     ensures { Gives (λ x. x) result (action_by Verb.Bcast words.now) }
 {
@@ -87,7 +87,7 @@ pub(crate) fn bcast_of(alloc: Global, words: &[Token]) -> Result<Action, LineErr
 }
 
 /// `COMM ROOT B INTO`
-#[tactic(auto, unfolding(crate::specs::Reading::gather_of))]
+#[tactic(auto, unfolding(crate::specs::LineWords::gather_of))]
 pub(crate) fn gather_of(alloc: Global, words: &[Token]) -> Result<Action, LineError>
     ensures { Gives (λ x. x) result (action_by Verb.Gather words.now) }
 {
@@ -103,7 +103,7 @@ pub(crate) fn gather_of(alloc: Global, words: &[Token]) -> Result<Action, LineEr
 }
 
 /// `COMM ROOT B INTO`, where B may be `-`
-#[tactic(auto, unfolding(crate::specs::Reading::scatter_of))]
+#[tactic(auto, unfolding(crate::specs::LineWords::scatter_of))]
 pub(crate) fn scatter_of(alloc: Global, words: &[Token]) -> Result<Action, LineError>
     ensures { Gives (λ x. x) result (action_by Verb.Scatter words.now) }
 {
@@ -120,7 +120,7 @@ pub(crate) fn scatter_of(alloc: Global, words: &[Token]) -> Result<Action, LineE
 }
 
 /// `COMM ROOT OP B INTO`
-#[tactic(auto, unfolding(crate::specs::Reading::reduce_of))]
+#[tactic(auto, unfolding(crate::specs::LineWords::reduce_of))]
 pub(crate) fn reduce_of(alloc: Global, words: &[Token]) -> Result<Action, LineError>
     ensures { Gives (λ x. x) result (action_by Verb.Reduce words.now) }
 {
@@ -139,7 +139,7 @@ pub(crate) fn reduce_of(alloc: Global, words: &[Token]) -> Result<Action, LineEr
 }
 
 /// `COMM OP B INTO`
-#[tactic(auto, unfolding(crate::specs::Reading::allreduce_of))]
+#[tactic(auto, unfolding(crate::specs::LineWords::allreduce_of))]
 pub(crate) fn allreduce_of(alloc: Global, words: &[Token]) -> Result<Action, LineError>
     ensures { Gives (λ x. x) result (action_by Verb.Allreduce words.now) }
 {

@@ -1,8 +1,8 @@
 //! What is said of communicators, by the words that spell it.
 
 ghost use Rattle.std.specs.Prelude.{◌≡◌, ◌≤◌};
-ghost use Rattle.statements.specs.Reading.{action_by, colour_of, communicator_alone, communicator_of, key_below};
-ghost use Rattle.statements.specs.Reading.{key_of, name_and_communicator, two_communicators};
+ghost use Rattle.statements.specs.LineWords.{action_by, colour_of, communicator_alone, communicator_of, key_below};
+ghost use Rattle.statements.specs.LineWords.{key_of, name_and_communicator, two_communicators};
 ghost use Rattle.tokens.specs.Results.{Gives};
 
 use crate::action::{Action, CommunicatorName, Splitting};
@@ -13,7 +13,7 @@ use std::alloc::Global;
 use tokens::{LineError, Name, Token, is, name_of, number_up_to};
 
 /// A colour, or `undefined`.
-#[tactic(auto, unfolding(crate::specs::Reading::colour_of))]
+#[tactic(auto, unfolding(crate::specs::LineWords::colour_of))]
 fn colour_of(word: &[u8]) -> Result<Option<u32>, LineError>
     ensures { Gives (λ x. x) result (colour_of word.now) }
 {
@@ -39,7 +39,7 @@ fn key_below(magnitude: u64) -> i32
 }
 
 /// A key, which may have `-` in front.
-#[tactic(auto, unfolding(crate::specs::Reading::key_of))]
+#[tactic(auto, unfolding(crate::specs::LineWords::key_of))]
 fn key_of(word: &[u8]) -> Result<i32, LineError>
     ensures { Gives (λ x. x) result (key_of word.now) }
 {
@@ -58,7 +58,7 @@ fn key_of(word: &[u8]) -> Result<i32, LineError>
 }
 
 /// One communicator, and nothing behind it.
-#[tactic(auto, unfolding(crate::specs::Reading::communicator_alone))]
+#[tactic(auto, unfolding(crate::specs::LineWords::communicator_alone))]
 pub(crate) fn communicator_alone(
     alloc: Global,
     words: &[Token],
@@ -69,7 +69,7 @@ pub(crate) fn communicator_alone(
 }
 
 /// `COMM COMM`
-#[tactic(auto, unfolding(crate::specs::Reading::two_communicators))]
+#[tactic(auto, unfolding(crate::specs::LineWords::two_communicators))]
 pub(crate) fn two_communicators(
     alloc: Global,
     words: &[Token],
@@ -95,7 +95,7 @@ fn name_and_communicator(
 }
 
 /// `NEW COMM`
-#[tactic(auto, unfolding(crate::specs::Reading::dup_of))]
+#[tactic(auto, unfolding(crate::specs::LineWords::dup_of))]
 pub(crate) fn dup_of(alloc: Global, words: &[Token]) -> Result<Action, LineError>
     ensures { Gives (λ x. x) result (action_by Verb.Dup words.now) }
 {
@@ -105,7 +105,7 @@ pub(crate) fn dup_of(alloc: Global, words: &[Token]) -> Result<Action, LineError
 }
 
 /// `NEW COMM COLOUR KEY`
-#[tactic(auto, unfolding(crate::specs::Reading::split_of))]
+#[tactic(auto, unfolding(crate::specs::LineWords::split_of))]
 pub(crate) fn split_of(alloc: Global, words: &[Token]) -> Result<Action, LineError>
     ensures { Gives (λ x. x) result (action_by Verb.Split words.now) }
 {

@@ -1,8 +1,8 @@
 //! What one word of a statement stands for.
 
 ghost use Rattle.std.specs.Prelude.{◌≡◌};
-ghost use Rattle.statements.specs.Reading.{communicator_of, communicator_and_buffer, target_of, source_of, tag_of};
-ghost use Rattle.statements.specs.Reading.{requested_of, one_request, behind_as, through_of};
+ghost use Rattle.statements.specs.LineWords.{communicator_of, communicator_and_buffer, target_of, source_of, tag_of};
+ghost use Rattle.statements.specs.LineWords.{requested_of, one_request, behind_as, through_of};
 ghost use Rattle.tokens.specs.Fields.{first, name_of, end_of_line, rank_of, large_of, each};
 ghost use Rattle.tokens.specs.Results.{Gives};
 
@@ -12,7 +12,7 @@ use std::alloc::Global;
 use tokens::{LineError, Name, Token, is, large_of, name_of, number_or, rank_of};
 use vocabulary::Source;
 
-#[tactic(auto, unfolding(crate::specs::Reading::communicator_of))]
+#[tactic(auto, unfolding(crate::specs::LineWords::communicator_of))]
 pub(crate) fn communicator_of(alloc: Global, word: &[u8]) -> Result<CommunicatorName, LineError>
     ensures { Gives (λ x. x) result (communicator_of word.now) }
 {
@@ -38,7 +38,7 @@ pub(crate) fn communicator_and_buffer(
     Ok((communicator, buffer))
 }
 
-#[tactic(auto, unfolding(crate::specs::Reading::target_of))]
+#[tactic(auto, unfolding(crate::specs::LineWords::target_of))]
 pub(crate) fn target_of(word: &[u8]) -> Result<Source, LineError>
     ensures { Gives (λ x. x) result (target_of word.now) }
 {
@@ -48,7 +48,7 @@ pub(crate) fn target_of(word: &[u8]) -> Result<Source, LineError>
     Ok(Source::Rank(rank_of(word)?))
 }
 
-#[tactic(auto, unfolding(crate::specs::Reading::source_of))]
+#[tactic(auto, unfolding(crate::specs::LineWords::source_of))]
 pub(crate) fn source_of(word: &[u8]) -> Result<Source, LineError>
     ensures { Gives (λ x. x) result (source_of word.now) }
 {
@@ -61,7 +61,7 @@ pub(crate) fn source_of(word: &[u8]) -> Result<Source, LineError>
     Ok(Source::Rank(rank_of(word)?))
 }
 
-#[tactic(auto, unfolding(crate::specs::Reading::tag_of))]
+#[tactic(auto, unfolding(crate::specs::LineWords::tag_of))]
 pub(crate) fn tag_of(word: &[u8]) -> Result<Option<u32>, LineError>
     ensures { Gives (λ x. x) result (tag_of word.now) }
 {
@@ -74,7 +74,7 @@ pub(crate) fn tag_of(word: &[u8]) -> Result<Option<u32>, LineError>
     }
 }
 
-#[tactic(auto, unfolding(crate::specs::Reading::requested_of))]
+#[tactic(auto, unfolding(crate::specs::LineWords::requested_of))]
 pub(crate) fn requested_of(alloc: Global, word: &[u8]) -> Result<RequestName, LineError>
     ensures { Gives (λ x. x) result (requested_of word.now) }
 {
@@ -98,7 +98,7 @@ pub(crate) fn requests_of(alloc: Global, words: &[Token]) -> Result<RequestNames
 }
 
 /// `L N`
-#[tactic(auto, unfolding(crate::specs::Reading::behind_as))]
+#[tactic(auto, unfolding(crate::specs::LineWords::behind_as))]
 fn behind_as(alloc: Global, words: &[Token]) -> Result<LayoutClause, LineError>
     ensures { Gives (λ x. x) result (behind_as words.now) }
 {
@@ -109,7 +109,7 @@ fn behind_as(alloc: Global, words: &[Token]) -> Result<LayoutClause, LineError>
 }
 
 /// `as L N`, or nothing.
-#[tactic(auto, unfolding(crate::specs::Reading::through_of))]
+#[tactic(auto, unfolding(crate::specs::LineWords::through_of))]
 pub(crate) fn through_of(alloc: Global, words: &[Token]) -> Result<Option<LayoutClause>, LineError>
     ensures { Gives (λ x. x) result (through_of words.now) }
 {

@@ -1,6 +1,6 @@
 //! The words in front of a line.
 
-ghost use Rattle.statements.specs.Reading.{one_alone, first_two, two_alone, first_four, four_alone};
+ghost use Rattle.statements.specs.LineWords.{one_alone, first_two, two_alone, first_four, four_alone};
 ghost use Rattle.tokens.specs.Results.{Gives};
 
 use tokens::{LineError, Token, end_of_line, first};

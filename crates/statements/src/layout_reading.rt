@@ -2,8 +2,8 @@
 
 ghost use Rattle.std.specs.Prelude.{◌≡◌};
 ghost use Rattle.std.specs.List.{position};
-ghost use Rattle.statements.specs.Reading.{action_by, block_of, contiguous_of, form_word_of, formed_by, indexed_of};
-ghost use Rattle.statements.specs.Reading.{is_colon, last, old_of, one_block, stripes_of, vector_of};
+ghost use Rattle.statements.specs.LineWords.{action_by, block_of, contiguous_of, form_word_of, formed_by, indexed_of};
+ghost use Rattle.statements.specs.LineWords.{is_colon, last, old_of, one_block, stripes_of, vector_of};
 ghost use Rattle.tokens.specs.Fields.{each};
 ghost use Rattle.tokens.specs.Results.{Gives};
 
@@ -27,7 +27,7 @@ enum FormWord {
 }
 
 /// How the word says that a layout is made.
-#[tactic(auto, unfolding(crate::specs::Reading::form_word_of))]
+#[tactic(auto, unfolding(crate::specs::LineWords::form_word_of))]
 fn form_word_of(word: &[u8]) -> Option<FormWord>
     ensures { result ≡ form_word_of word.now }
 {
@@ -43,7 +43,7 @@ fn form_word_of(word: &[u8]) -> Option<FormWord>
 }
 
 /// A type, or the name of a layout.
-#[tactic(auto, unfolding(crate::specs::Reading::old_of))]
+#[tactic(auto, unfolding(crate::specs::LineWords::old_of))]
 fn old_of(alloc: Global, word: &[u8]) -> Result<OldLayout, LineError>
     ensures { Gives (λ x. x) result (old_of word.now) }
 {
@@ -60,7 +60,7 @@ fn colon_place(word: &[u8]) -> Option<usize>
 }
 
 /// `LEN:DISP`
-#[tactic(auto, unfolding(crate::specs::Reading::block_of))]
+#[tactic(auto, unfolding(crate::specs::LineWords::block_of))]
 fn block_of(word: &[u8]) -> Result<IndexedBlock, LineError>
     ensures { Gives (λ x. x) result (block_of word.now) }
 {
@@ -99,7 +99,7 @@ fn last(words: &[Token]) -> Result<(&[Token], &[u8]), LineError>
 }
 
 /// `N OLD`
-#[tactic(auto, unfolding(crate::specs::Reading::contiguous_of))]
+#[tactic(auto, unfolding(crate::specs::LineWords::contiguous_of))]
 fn contiguous_of(alloc: Global, words: &[Token]) -> Result<(LayoutForm, OldLayout), LineError>
     ensures { Gives (λ x. x) result (contiguous_of words.now) }
 {
@@ -121,7 +121,7 @@ fn stripes_of(count: &[u8], blocklength: &[u8], stride: &[u8]) -> Result<Stripes
 }
 
 /// `C B S OLD`
-#[tactic(auto, unfolding(crate::specs::Reading::vector_of))]
+#[tactic(auto, unfolding(crate::specs::LineWords::vector_of))]
 fn vector_of(alloc: Global, words: &[Token]) -> Result<(LayoutForm, OldLayout), LineError>
     ensures { Gives (λ x. x) result (vector_of words.now) }
 {
@@ -132,7 +132,7 @@ fn vector_of(alloc: Global, words: &[Token]) -> Result<(LayoutForm, OldLayout), 
 }
 
 /// `LEN:DISP .. OLD`
-#[tactic(auto, unfolding(crate::specs::Reading::indexed_of))]
+#[tactic(auto, unfolding(crate::specs::LineWords::indexed_of))]
 fn indexed_of(alloc: Global, words: &[Token]) -> Result<(LayoutForm, OldLayout), LineError>
     ensures { Gives (λ x. x) result (indexed_of words.now) }
 {
@@ -158,7 +158,7 @@ fn formed_by(
 }
 
 /// A layout's name, and how it is made.
-#[tactic(auto, unfolding(crate::specs::Reading::layout_of))]
+#[tactic(auto, unfolding(crate::specs::LineWords::layout_of))]
 pub(crate) fn layout_of(alloc: Global, words: &[Token]) -> Result<Action, LineError>
     ensures { Gives (λ x. x) result (action_by Verb.Layout words.now) }
 {

@@ -1,7 +1,7 @@
 //! What is said of probes and of the messages that they find, by the words that spell it.
 
 ghost use Rattle.std.specs.Prelude.{◌≡◌};
-ghost use Rattle.statements.specs.Reading.{action_by, landing_of, probing_of};
+ghost use Rattle.statements.specs.LineWords.{action_by, landing_of, probing_of};
 ghost use Rattle.tokens.specs.Results.{Gives};
 
 use crate::action::{Action, Landing, Probing};
@@ -12,7 +12,7 @@ use std::alloc::Global;
 use tokens::{LineError, Token, first, name_of};
 
 /// `COMM SRC TAG`
-#[tactic(auto, unfolding(crate::specs::Reading::probing_of))]
+#[tactic(auto, unfolding(crate::specs::LineWords::probing_of))]
 pub(crate) fn probing_of(alloc: Global, words: &[Token]) -> Result<Probing, LineError>
     ensures { Gives (λ x. x) result (probing_of words.now) }
 {
@@ -29,7 +29,7 @@ pub(crate) fn probing_of(alloc: Global, words: &[Token]) -> Result<Probing, Line
 }
 
 /// `B`, with or without `as L N`.
-#[tactic(auto, unfolding(crate::specs::Reading::landing_of))]
+#[tactic(auto, unfolding(crate::specs::LineWords::landing_of))]
 fn landing_of(alloc: Global, words: &[Token]) -> Result<Landing, LineError>
     ensures { Gives (λ x. x) result (landing_of words.now) }
 {
@@ -40,7 +40,7 @@ fn landing_of(alloc: Global, words: &[Token]) -> Result<Landing, LineError>
 }
 
 /// `M COMM SRC TAG`
-#[tactic(auto, unfolding(crate::specs::Reading::improbe_of))]
+#[tactic(auto, unfolding(crate::specs::LineWords::improbe_of))]
 pub(crate) fn improbe_of(alloc: Global, words: &[Token]) -> Result<Action, LineError>
     ensures { Gives (λ x. x) result (action_by Verb.Improbe words.now) }
 {
@@ -50,7 +50,7 @@ pub(crate) fn improbe_of(alloc: Global, words: &[Token]) -> Result<Action, LineE
 }
 
 /// `M B`, with or without `as L N`.
-#[tactic(auto, unfolding(crate::specs::Reading::mrecv_of))]
+#[tactic(auto, unfolding(crate::specs::LineWords::mrecv_of))]
 pub(crate) fn mrecv_of(alloc: Global, words: &[Token]) -> Result<Action, LineError>
     ensures { Gives (λ x. x) result (action_by Verb.Mrecv words.now) }
 {

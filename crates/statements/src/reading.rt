@@ -1,7 +1,7 @@
 //! What a rank does, by the words that spell it.
 
 ghost use Rattle.std.specs.Prelude.{◌≡◌};
-ghost use Rattle.statements.specs.Reading.{places_of, sending_of, receiving_of, isend_of, one_of, action_by, action_of};
+ghost use Rattle.statements.specs.LineWords.{places_of, sending_of, receiving_of, isend_of, one_of, action_by, action_of};
 ghost use Rattle.tokens.specs.Results.{Gives};
 
 use crate::action::{
@@ -20,7 +20,7 @@ use crate::verb::{Verb, verb_of};
 use std::alloc::Global;
 use tokens::{LineError, Name, Token, basic_type_of, first, name_of, require};
 
-#[tactic(auto, unfolding(crate::specs::Reading::buffer_of))]
+#[tactic(auto, unfolding(crate::specs::LineWords::buffer_of))]
 fn buffer_of(alloc: Global, words: &[Token]) -> Result<Action, LineError>
     ensures { Gives (λ x. x) result (action_by Verb.Buffer words.now) }
 {
@@ -46,7 +46,7 @@ fn places_of(
 }
 
 /// The arguments of a send, which the words `COMM DEST TAG B` spell, with or without `as L N`.
-#[tactic(auto, unfolding(crate::specs::Reading::sending_of))]
+#[tactic(auto, unfolding(crate::specs::LineWords::sending_of))]
 pub fn sending_of(alloc: Global, words: &[Token]) -> Result<Sending, LineError>
     ensures { Gives (λ x. x) result (sending_of words.now) }
 {
@@ -64,7 +64,7 @@ pub fn sending_of(alloc: Global, words: &[Token]) -> Result<Sending, LineError>
 }
 
 /// The arguments of a receive, which the words `COMM SRC TAG B` spell, with or without `as L N`.
-#[tactic(auto, unfolding(crate::specs::Reading::receiving_of))]
+#[tactic(auto, unfolding(crate::specs::LineWords::receiving_of))]
 pub fn receiving_of(alloc: Global, words: &[Token]) -> Result<Receiving, LineError>
     ensures { Gives (λ x. x) result (receiving_of words.now) }
 {
@@ -82,7 +82,7 @@ pub fn receiving_of(alloc: Global, words: &[Token]) -> Result<Receiving, LineErr
 }
 
 /// `Q COMM DEST TAG B`: the name of a send's request, and its arguments.
-#[tactic(auto, unfolding(crate::specs::Reading::isend_of))]
+#[tactic(auto, unfolding(crate::specs::LineWords::isend_of))]
 fn isend_of(alloc: Global, words: &[Token]) -> Result<(Name, Sending), LineError>
     ensures { Gives (λ x. x) result (isend_of words.now) }
 {
@@ -92,7 +92,7 @@ fn isend_of(alloc: Global, words: &[Token]) -> Result<(Name, Sending), LineError
     Ok((request, sending))
 }
 
-#[tactic(auto, unfolding(crate::specs::Reading::irecv_of))]
+#[tactic(auto, unfolding(crate::specs::LineWords::irecv_of))]
 fn irecv_of(alloc: Global, words: &[Token]) -> Result<Action, LineError>
     ensures { Gives (λ x. x) result (action_by Verb.Irecv words.now) }
 {
@@ -101,7 +101,7 @@ fn irecv_of(alloc: Global, words: &[Token]) -> Result<Action, LineError>
     Ok(Action::Irecv(request, receiving_of(alloc, rest)?))
 }
 
-#[tactic(auto, unfolding(crate::specs::Reading::one_of))]
+#[tactic(auto, unfolding(crate::specs::LineWords::one_of))]
 fn one_of(alloc: Global, words: &[Token]) -> Result<RequestName, LineError>
     ensures { Gives (λ x. x) result (one_of words.now) }
 {
@@ -150,7 +150,7 @@ fn action_by(alloc: Global, verb: Verb, rest: &[Token]) -> Result<Action, LineEr
 }
 
 /// What a rank does, which the words spell.
-#[tactic(auto, unfolding(crate::specs::Reading::action_of))]
+#[tactic(auto, unfolding(crate::specs::LineWords::action_of))]
 pub fn action_of(alloc: Global, words: &[Token]) -> Result<Action, LineError>
     ensures { Gives (λ x. x) result (action_of words.now) }
 {

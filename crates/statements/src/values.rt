@@ -3,7 +3,7 @@
 ghost use Rattle.std.specs.Prelude.{◌≡◌, ◌<◌, IfOk, IfSome};
 ghost use Rattle.std.specs.List.{position};
 ghost use Rattle.datatypes.specs.Elements.{numbers_of};
-ghost use Rattle.statements.specs.Reading.{value_of, is_star, copies_of, buffer_with, float_in, float_of, integer_of};
+ghost use Rattle.statements.specs.LineWords.{value_of, is_star, copies_of, buffer_with, float_in, float_of, integer_of};
 ghost use Rattle.std.specs.Float.Ieee.{binary32, binary64};
 ghost use Rattle.tokens.specs.Numbers.{count_of};
 ghost use Rattle.tokens.specs.Results.{Gives};
@@ -71,7 +71,7 @@ fn float_of(basic: BasicType, word: &[u8]) -> Option<u64>
 }
 
 /// The element that the word spells.
-#[tactic(auto, unfolding(crate::specs::Reading::value_of))]
+#[tactic(auto, unfolding(crate::specs::LineWords::value_of))]
 fn value_of(basic: BasicType, word: &[u8]) -> Option<u64>
     ensures exact { result ≡ value_of basic word.now }
     ensures within { IfSome result (λ number. number < numbers_of basic) }
@@ -84,7 +84,7 @@ fn value_of(basic: BasicType, word: &[u8]) -> Option<u64>
 }
 
 /// How many copies, and of which element.
-#[tactic(auto, unfolding(crate::specs::Reading::copies_of))]
+#[tactic(auto, unfolding(crate::specs::LineWords::copies_of))]
 fn copies_of(basic: BasicType, word: &[u8]) -> Result<(u64, u64), LineError>
     ensures exact { Gives (λ x. x) result (copies_of basic word.now) }
     ensures within { IfOk result (λ copies. copies.1 < numbers_of basic) }

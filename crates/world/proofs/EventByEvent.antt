@@ -15,10 +15,10 @@ use Rattle.perfect_groups.specs.Membership.{Membership}
 use Rattle.perfect_groups.specs.Runs.{seen}
 use Rattle.perfect_groups.specs.Soundness.{IsAmong}
 use Rattle.proof_group_network.specs.Network.{Happening}
-use Rattle.proof_network_bridge.proofs.Closed.{engines_share_groups, following_is_each_run}
+use Rattle.proof_network_bridge.proofs.WorldLaws.{engines_share_groups, following_is_each_run}
 use Rattle.proof_network_bridge.proofs.Worlds.{place_is}
 use Rattle.proof_network_bridge.specs.GoingOn.{IsFollowedBy, IsSeenBy}
-use Rattle.proof_network_bridge.specs.Joined.{limit_in, network_after, opening_engines}
+use Rattle.proof_network_bridge.specs.WorldViews.{limit_in, network_after, opening_engines}
 use Rattle.proof_network_runs.proofs.GoingOn.{each_has_a_run, happenings_go_on, none_is_a_run}
 use Rattle.proof_network_runs.specs.Runs.{GoesOnWith, GoesWith, HasARun, IsAt, IsOneAtMost, after, rank_of}
 use Rattle.proof_pure_network.specs.Network.{here}

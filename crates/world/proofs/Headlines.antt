@@ -1,8 +1,8 @@
 -- A world that follows the pure network with communicators is seen as a run of the machine of queues and groups.
 use Rattle.std.proofs.Common.{ℕ, length, subst}
-use Rattle.proof_network_bridge.proofs.Closed.{following_is_run}
-use Rattle.proof_network_bridge.specs.Following.{IsSeenOfMachine}
-use Rattle.proof_network_bridge.specs.Joined.{limit_in, network_after}
+use Rattle.proof_network_bridge.proofs.WorldLaws.{following_is_run}
+use Rattle.proof_network_bridge.specs.EventLaws.{IsSeenOfMachine}
+use Rattle.proof_network_bridge.specs.WorldViews.{limit_in, network_after}
 use Rattle.world.proofs.Keys.{means_what_is_seen}
 use Rattle.world.specs.Headline.{IsRunOfMachine, IsSound, SessionsAreTrue, history_seen}
 use Rattle.world.specs.WorldState.{WorldState}

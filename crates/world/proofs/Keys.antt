@@ -13,14 +13,14 @@ use Rattle.incarnation.specs.declared.place.Place.{Place}
 use Rattle.perfect_groups.specs.Calls as machine
 use Rattle.perfect_queues.specs.Completions as completions
 use Rattle.proof_engine_view.specs.Rows.{IsRow}
-use Rattle.proof_engine_view.specs.Shown.{IsShown}
+use Rattle.proof_engine_view.specs.CoreViews.{IsShown}
 use Rattle.proof_group_network.specs.Network.{GroupNetwork}
 use Rattle.proof_pure_network.specs.Network.{here}
-use Rattle.proof_session_carrying.specs.Announced.{announcements_in}
+use Rattle.proof_session_carrying.specs.Announcements.{announcements_in}
 use Rattle.observation.specs.CoreCalls.{own_serial, request_by, requests_by, serial_meant}
 use Rattle.proof_network_bridge.proofs.Worlds.{set_cases}
-use Rattle.proof_network_bridge.specs.Following.{next_place}
-use Rattle.proof_network_bridge.specs.Joined.{IsFollowed, limit_in, network_after}
+use Rattle.proof_network_bridge.specs.EventLaws.{next_place}
+use Rattle.proof_network_bridge.specs.WorldViews.{IsFollowed, limit_in, network_after}
 use Rattle.observation.specs.EngineCalls.{call_meant, call_seen}
 use Rattle.proof_request_keys.proofs.Engines.{calls_keep_keys, datagrams_keep_keys, given_are_named, named_are_own}
 use Rattle.proof_request_keys.proofs.Engines.{ticks_keep_keys}
@@ -33,7 +33,7 @@ use Rattle.requests.specs.declared.table.TableEntry as table
 use Rattle.requests.specs.declared.table.Request.{Request}
 use Rattle.vocabulary.specs.declared.endpoint.Endpoint.{Endpoint}
 use Rattle.world.specs.Faults.{event_fault}
-use Rattle.world.specs.Given.{AreNamed, GivesRequest, IsPast, NamesOwn, WasGiven, WasGivenIf}
+use Rattle.world.specs.GivenRequests.{AreNamed, GivesRequest, IsPast, NamesOwn, WasGiven, WasGivenIf}
 use Rattle.world.specs.Headline.{history_seen}
 use Rattle.world.specs.Steps.{CallRuns, DatagramRuns, DeliveryRuns, EventRuns, Gave, Ran, RestartRuns, TakesBytes}
 use Rattle.world.specs.Steps.{TakesCall, TakesTime, TickRuns, entry_of, nothing_of}

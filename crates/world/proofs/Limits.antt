@@ -3,10 +3,10 @@ use Rattle.std.proofs.Common.{◌≡◌, ℕ, List, [], ◌∷◌, ◌++◌, len
 use Rattle.std.specs.Prelude.{slice_get}
 use Rattle.engine_calls.specs.EngineState.{EngineState}
 use Rattle.perfect_groups.specs.Events as machine
-use Rattle.proof_group_network.proofs.NetworkKept.{run_limit_with_groups}
+use Rattle.proof_group_network.proofs.NetworkInvariant.{run_limit_with_groups}
 use Rattle.proof_group_network.specs.Network.{Happening, new_group_network}
 use Rattle.proof_network_bridge.specs.GoingOn.{Happened, IsFollowedBy, IsFollowedOn, Stands}
-use Rattle.proof_network_bridge.specs.Joined.{limit_in}
+use Rattle.proof_network_bridge.specs.WorldViews.{limit_in}
 
 -- what engines follow has their limit, where there is one
 pub limit_by : (n limit : ℕ) (happenings : List Happening) (engines : List EngineState) (d : List (ℕ × List ℕ))

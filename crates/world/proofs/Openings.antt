@@ -1,7 +1,7 @@
 -- The engines of a world at its start.
 use Rattle.std.proofs.Common.{◌≡◌, ℕ, zero, suc, ◌+◌, List, [], ◌∷◌, ◌++◌, ap, ◌∙◌, arith}
 use Rattle.engine_calls.specs.EngineState.{EngineState, opening}
-use Rattle.proof_network_bridge.specs.Joined.{opening_engines}
+use Rattle.proof_network_bridge.specs.WorldViews.{opening_engines}
 use Rattle.vocabulary.specs.declared.message_limit.MessageLimit.{MessageLimit}
 use Rattle.link_truth.specs.Wire.{at, in_job, place_of}
 

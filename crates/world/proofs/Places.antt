@@ -6,10 +6,10 @@ use Rattle.perfect_groups.specs.Events as machine
 use Rattle.engine_calls.specs.EngineState.{EngineState}
 use Rattle.point_to_point_calls.specs.declared.refusal.Refusal.TheVariants as lowers
 use Rattle.incarnation.specs.declared.place.Place.{Place}
-use Rattle.proof_group_network.proofs.NetworkKept.{run_limit_with_groups}
+use Rattle.proof_group_network.proofs.NetworkInvariant.{run_limit_with_groups}
 use Rattle.proof_group_network.specs.Network.{new_group_network}
 use Rattle.proof_network_bridge.proofs.Halves.{sessions_there}
-use Rattle.proof_network_bridge.specs.Joined.{IsFollowed}
+use Rattle.proof_network_bridge.specs.WorldViews.{IsFollowed}
 use Rattle.world.specs.Headline.{IsSound}
 use Rattle.world.specs.Steps.{restart_fault}
 use Rattle.world.specs.WorldState.{ArePlaced}

@@ -6,7 +6,7 @@ use Rattle.std.proofs.lemmas.Bool.{eqb-false, lt-ltb, ne_eqb}
 use Rattle.engine_calls.specs.EngineState.{EngineState}
 use Rattle.sessions.specs.Peers.{IsIdlePeer, peer_at}
 use Rattle.incarnation.specs.declared.place.Place.{Place}
-use Rattle.incarnation.specs.Judging.{is_other}
+use Rattle.incarnation.specs.Judgements.{is_other}
 use Rattle.sessions.specs.SessionsState.{SessionsState}
 use Rattle.link_truth.specs.Quiet.{AreQuiet, IsQuietTowards}
 use Rattle.observation.specs.Sessions.{sessions_in}

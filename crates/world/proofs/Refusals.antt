@@ -15,14 +15,14 @@ use Rattle.collective_steps.specs.declared.step.Ending.{Ending}
 use Rattle.sessions.specs.declared.heard.Unheard.{Unheard}
 use Rattle.sessions.specs.declared.refusal.SessionRefusal as lower
 use Rattle.sessions.specs.Events.{TurnedAway}
-use Rattle.sessions.specs.Heard.{HeardText, heard_of}
+use Rattle.sessions.specs.HeardBytes.{HeardText, heard_of}
 use Rattle.sessions.specs.SessionsState.{SessionsState}
 use Rattle.point_to_point_calls.specs.declared.refusal.Refusal.{Refusal}
-use Rattle.proof_network_bridge.specs.Following.{RefusesDatagram}
+use Rattle.proof_network_bridge.specs.EventLaws.{RefusesDatagram}
 use Rattle.proof_group_network.specs.Network.{Happening}
 use Rattle.proof_network_bridge.specs.GoingOn.{IsFollowedBy}
-use Rattle.proof_network_bridge.specs.Joined.{IsClean, limit_in}
-use Rattle.proof_network_bridge.proofs.Closed.{refusals_stand}
+use Rattle.proof_network_bridge.specs.WorldViews.{IsClean, limit_in}
+use Rattle.proof_network_bridge.proofs.WorldLaws.{refusals_stand}
 use Rattle.requests.specs.declared.answer.Answer.{Answer}
 use Rattle.world.specs.Faults.{event_fault, target_of}
 use Rattle.world.specs.EventByEvent.{IsSoundBy}
@@ -34,7 +34,7 @@ use Rattle.world.specs.declared.event.HistoryEntry.{HistoryEntry}
 use Rattle.world.specs.declared.event.Event.{Event}
 use Rattle.world.specs.declared.event.Event.TheVariants as events
 use Rattle.world.specs.declared.event.Failed.{Failed}
-use Rattle.world.proofs.Asked.{first_fault_refuses}
+use Rattle.world.proofs.RefusalRules.{first_fault_refuses}
 use Rattle.world.proofs.Places.{sound_placed}
 use Rattle.world.proofs.Sound.{is_sound, sound_by}
 use Rattle.world.proofs.Strays.{alike_at_engine, stray_breaks}

@@ -16,13 +16,13 @@ use Rattle.perfect_groups.specs.Events as machine
 use Rattle.observation.specs.EngineCalls.{told_call, told_completion}
 use Rattle.proof_group_network.specs.Network.{Happening}
 use Rattle.proof_network_runs.specs.Runs.{rank_of}
-use Rattle.proof_network_bridge.specs.Following.{next_place}
+use Rattle.proof_network_bridge.specs.EventLaws.{next_place}
 use Rattle.proof_network_bridge.specs.GoingOn.{Happened, IsFollowedBy, IsFollowedOn, LeavesFollowedOn, Stands}
-use Rattle.proof_network_bridge.specs.Joined.{IsFollowed, limit_in, opening_engines}
-use Rattle.proof_network_bridge.proofs.Closed.{calls_follow_on, datagrams_follow_on, opening_follows_none}
-use Rattle.proof_network_bridge.proofs.Closed.{restarts_follow_on, ticks_stand}
-use Rattle.proof_network_bridge.proofs.Followed.{by_happenings}
-use Rattle.proof_network_bridge.proofs.Followed.{followed as followed_by}
+use Rattle.proof_network_bridge.specs.WorldViews.{IsFollowed, limit_in, opening_engines}
+use Rattle.proof_network_bridge.proofs.WorldLaws.{calls_follow_on, datagrams_follow_on, opening_follows_none}
+use Rattle.proof_network_bridge.proofs.WorldLaws.{restarts_follow_on, ticks_stand}
+use Rattle.proof_network_bridge.proofs.RankEvents.{by_happenings}
+use Rattle.proof_network_bridge.proofs.RankEvents.{followed as followed_by}
 use Rattle.world.specs.EventByEvent.{IsSoundBy}
 use Rattle.world.specs.WorldState.{IsWorld, StandsIn, WorldState}
 use Rattle.world.specs.Headline.{IsSound, entry_seen, history_seen}

@@ -6,20 +6,28 @@ use Rattle.std.proofs.lemmas.Option.{same_Some, slice_get_within}
 use Rattle.std.proofs.lemmas.Bool.{le-leb, leb-true, lt-leb}
 use Rattle.std.proofs.lemmas.Grind.{common_steps}
 use Rattle.vocabulary.specs.MessageLimits.{limit_of}
-use Rattle.proof_network_bridge.specs.Joined.{limit_in}
+use Rattle.proof_network_bridge.specs.WorldViews.{limit_in}
 use Rattle.datagram.specs.declared.datagram.Header.{Header}
 use Rattle.datagram.specs.declared.refusal.DatagramRefusal as reading
 use Rattle.datagram.specs.declared.refusal.DatagramRefusal.TheVariants as readings
 use Rattle.datagram.proofs.Grammar.{within_parts}
-use Rattle.datagram.specs.Reading.{body_of, content_of, datagram_of, datagram_within, header_of, kind_of, number_at}
-use Rattle.datagram.specs.Spelling.{DatagramText}
+use Rattle.datagram.specs.ByteMeanings.{
+  body_of,
+  content_of,
+  datagram_of,
+  datagram_within,
+  header_of,
+  kind_of,
+  number_at,
+}
+use Rattle.datagram.specs.Spellings.{DatagramText}
 use Rattle.datagram.proofs.Fields.{bind_ok, guard_ok, ok_is}
 use Rattle.incarnation.specs.declared.judgement.Judgement.{Judgement}
 use Rattle.incarnation.specs.declared.refusal.IncarnationRefusal as judging
 use Rattle.incarnation.specs.declared.refusal.IncarnationRefusal.TheVariants as judgings
-use Rattle.incarnation.specs.Judging.{judgement}
-use Rattle.incarnation.specs.Knowing.{Knowledge}
-use Rattle.sessions.specs.Heard.{heard_by, heard_in, heard_of, plainly}
+use Rattle.incarnation.specs.Judgements.{judgement}
+use Rattle.incarnation.specs.Knowledge.{Knowledge}
+use Rattle.sessions.specs.HeardBytes.{heard_by, heard_in, heard_of, plainly}
 use Rattle.sessions.specs.Refusals as sessions_refusals
 use Rattle.sessions.specs.SessionsState.{SessionsState, knowledge}
 use Rattle.sessions.specs.declared.refusal.SessionRefusal as sessions

@@ -13,11 +13,11 @@ use Rattle.perfect_groups.specs.Calls.{Call, held_at}
 use Rattle.perfect_groups.specs.Communicators.{Communicator}
 use Rattle.perfect_groups.specs.Events as machine
 use Rattle.proof_group_network.specs.Network.{Happening}
-use Rattle.proof_network_bridge.specs.Joined.{limit_in}
+use Rattle.proof_network_bridge.specs.WorldViews.{limit_in}
 use Rattle.proof_network_bridge.specs.GoingOn.{IsFollowedBy}
 use Rattle.proof_network_runs.specs.Runs.{GoesWith, IsAt, IsOneAtMost}
 use Rattle.world.specs.Faults.{target_of}
-use Rattle.world.specs.Given.{AreNamed}
+use Rattle.world.specs.GivenRequests.{AreNamed}
 use Rattle.world.specs.Headline.{IsRunOfMachine, history_seen}
 use Rattle.world.specs.Steps.{StepGives}
 use Rattle.world.specs.WorldState.{IsWorld, WorldState}

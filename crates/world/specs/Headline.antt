@@ -31,10 +31,10 @@ use Rattle.link_truth.specs.Links.{Links}
 use Rattle.link_truth.specs.Quiet.{AreQuiet}
 use Rattle.link_truth.specs.Truth.{AreTrue}
 use Rattle.observation.specs.Faults.{AnswersNone, IsFaultless, fault_in}
-use Rattle.proof_network_bridge.specs.Joined.{IsFollowed, limit_in}
+use Rattle.proof_network_bridge.specs.WorldViews.{IsFollowed, limit_in}
 use Rattle.observation.specs.Sessions.{sessions_in}
 use Rattle.observation.specs.EngineCalls.{call_meant, call_seen, told_call, told_completion}
-use Rattle.world.specs.Given.{AreNamed, NamesOwn}
+use Rattle.world.specs.GivenRequests.{AreNamed, NamesOwn}
 use Rattle.world.specs.WorldState.{WorldState, IsWorld}
 use Rattle.world.specs.declared.event.HistoryEntry.{HistoryEntry}
 use Rattle.world.specs.declared.event.Event.{Event}

@@ -2,7 +2,7 @@ pub mod Refusals
 pub mod WorldState
 pub mod Strays
 pub mod Faults
-pub mod Given
+pub mod GivenRequests
 pub mod Headline
 pub mod Steps
 pub mod Views

@@ -1,7 +1,7 @@
 -- When an engine is quiet towards another one.
 use Rattle.std.specs.Prelude.{◌≡◌, true, List, All}
 use Rattle.engine_calls.specs.EngineState.{EngineState}
-use Rattle.incarnation.specs.Judging.{is_other}
+use Rattle.incarnation.specs.Judgements.{is_other}
 use Rattle.link_truth.specs.Quiet.{IsQuietTowards}
 
 -- e's sessions are quiet towards d's rank, if they are different ranks of one job

@@ -24,8 +24,8 @@ use Rattle.world.specs.declared.event.FailedRun.{FailedRun}
 use Rattle.world.specs.declared.event.Stepped.{Stepped}
 use Rattle.world.specs.declared.refusal.WorldRefusal.{WorldRefusal}
 use Rattle.world.specs.declared.refusal.WorldRefusal.TheVariants as refusals
-use Rattle.proof_network_bridge.specs.Joined.{limit_in}
-use Rattle.proof_network_bridge.specs.Following.{RefusesDatagram, RefusesTick, TakesDatagram, TakesTick, next_place}
+use Rattle.proof_network_bridge.specs.WorldViews.{limit_in}
+use Rattle.proof_network_bridge.specs.EventLaws.{RefusesDatagram, RefusesTick, TakesDatagram, TakesTick, next_place}
 use Rattle.world.specs.Faults.{event_fault, first_fault, target_of}
 use Rattle.world.specs.Headline.{IsRunOfMachine}
 use Rattle.world.specs.Strays.{EngineRefuses, carries_job}

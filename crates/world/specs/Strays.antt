@@ -1,8 +1,8 @@
 -- Why stray bytes are refused.
 use Rattle.std.specs.Prelude.{◌≡◌, ℕ, ◌==◌, ◌&&◌, Bool, nat_le, List, length, Result, Ok, Err, if◌then◌else◌}
 use Rattle.datagram.specs.declared.refusal.DatagramRefusal as lowest
-use Rattle.datagram.specs.Spelling.{DatagramText}
-use Rattle.datagram.specs.Reading.{datagram_within, number_at}
+use Rattle.datagram.specs.Spellings.{DatagramText}
+use Rattle.datagram.specs.ByteMeanings.{datagram_within, number_at}
 use Rattle.engine.specs.Datagrams.{DatagramGives}
 use Rattle.engine_calls.specs.EngineState.{EngineState}
 use Rattle.point_to_point_calls.specs.declared.refusal.Refusal as lower

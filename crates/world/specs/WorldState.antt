@@ -2,7 +2,7 @@
 use Rattle.std.specs.Prelude.{◌≡◌, ℕ, ◌*◌, ◌+◌, ◌<◌, ◌≤◌, Bool, ◌||◌, ◌==◌, nat_lt, List, [], length, All, Some}
 use Rattle.std.specs.Prelude.{slice_get}
 use Rattle.engine_calls.specs.EngineState.{EngineState}
-use Rattle.proof_network_bridge.specs.Joined.{IsClean, limit_in, opening_engines}
+use Rattle.proof_network_bridge.specs.WorldViews.{IsClean, limit_in, opening_engines}
 use Rattle.vocabulary.specs.Limits.{most_ranks}
 use Rattle.vocabulary.specs.MessageLimits.{least, limit_of}
 use Rattle.vocabulary.specs.declared.message_limit.MessageLimit.{MessageLimit}

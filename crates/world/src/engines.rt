@@ -4,7 +4,7 @@ ghost use Rattle.std.specs.Prelude.{◌≡◌, ◌≤◌, ◌<◌, ◌*◌, leng
 ghost use Rattle.std.specs.Prelude.{slice_get, vec_len};
 ghost use Rattle.point_to_point_calls.specs.declared.refusal.Refusal.TheVariants as lowers;
 ghost use Rattle.engine_calls.specs.EngineState.{opening};
-ghost use Rattle.proof_network_bridge.specs.Joined.{limit_among, limit_in, opening_engines};
+ghost use Rattle.proof_network_bridge.specs.WorldViews.{limit_among, limit_in, opening_engines};
 ghost use Rattle.link_truth.specs.Wire.{at, in_job, place_of};
 ghost use Rattle.vocabulary.specs.Limits.{most_ranks};
 ghost use Rattle.vocabulary.specs.MessageLimits.{limit_of};

@@ -1,5 +1,5 @@
 use Rattle.std.proofs.Common.{◌≡◌, ℕ, ◌/◌, length, arith}
-use Rattle.c_rank.proofs.Turning.{turned_all, turned_step}
+use Rattle.c_rank.proofs.ByteOrderLaws.{turned_all, turned_step}
 use Rattle.c_rank.proofs.elements.turn_sized.Goals as goal
 
 pub loop-place-preserved : goal.loop-place-preserved

@@ -2,7 +2,7 @@
 use Rattle.std.proofs.Common.{◌≡◌, ◌<◌, ◌+◌, ◌∙◌, ℕ, ap, arith, get_or, length, subst, sym}
 use Rattle.std.proofs.lemmas.Grind.{common_steps}
 use Rattle.collective_progress.specs.Progress.{IsKept, Seen}
-use Rattle.collective_progress.proofs.Seeing.{looked_next}
+use Rattle.collective_progress.proofs.NoteLaws.{looked_next}
 use Rattle.collective_progress.proofs.counts.look_at_all.Goals as goal
 
 pub loop-count-preserved : goal.loop-count-preserved

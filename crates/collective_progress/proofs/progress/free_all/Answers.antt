@@ -2,7 +2,7 @@
 use Rattle.std.proofs.Common.{◌≡◌, ◌<◌, ◌≤◌, ◌∙◌, Option, None, ℕ, arith, length}
 use Rattle.std.proofs.lemmas.Grind.{common_steps}
 use Rattle.std.proofs.lemmas.List.{length-set}
-use Rattle.collective_progress.proofs.Seeing.{freed_all, freed_more}
+use Rattle.collective_progress.proofs.NoteLaws.{freed_all, freed_more}
 use Rattle.collective_progress.proofs.progress.free_all.Goals as goal
 
 pub loop-slot-preserved : goal.loop-slot-preserved

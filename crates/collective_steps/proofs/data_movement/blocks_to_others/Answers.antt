@@ -1,7 +1,7 @@
 -- One more member is told its block.
 use Rattle.std.proofs.Common.{arith}
 use Rattle.std.proofs.lemmas.Grind.{common_steps}
-use Rattle.collective_steps.proofs.Scattered.{block_fits, blocks_more}
+use Rattle.collective_steps.proofs.ScatterLaws.{block_fits, blocks_more}
 use Rattle.collective_steps.proofs.data_movement.blocks_to_others.Goals as goal
 
 pub tell_block-requires-clause-there : goal.tell_block-requires-clause-there

@@ -2,7 +2,7 @@
 use Rattle.std.proofs.Common.{◌≡◌, sym, subst, IfErr}
 use Rattle.collective_steps.specs.Steps.{IsDecided, IsLacking, LacksFor, copy_step}
 use Rattle.collective_messages.specs.declared.entry.Entry.{Entry}
-use Rattle.collective_steps.proofs.Lacking.{err_more, lacks_copy}
+use Rattle.collective_steps.proofs.PreparationLaws.{err_more, lacks_copy}
 use Rattle.collective_steps.proofs.preparation.decision_step.Goals as goal
 
 pub returns-in-Dup-clause-err : goal.returns-in-Dup-clause-err

@@ -2,7 +2,7 @@
 use Rattle.std.proofs.Common.{◌≡◌, List, length, ap, ◌∙◌, subst}
 use Rattle.collective_steps.specs.Steps.{IsLacking, IsSplit, Prepared, made_by, made_step}
 use Rattle.context_agreement.specs.Parts.{SplitPart}
-use Rattle.collective_steps.proofs.Lacking.{lacks_split, ok_more, split_made}
+use Rattle.collective_steps.proofs.PreparationLaws.{lacks_split, ok_more, split_made}
 use Rattle.collective_steps.proofs.preparation.split_step.Goals as goal
 
 pub returns-in-Ok-made_by-clause-ok : goal.returns-in-Ok-made_by-clause-ok

@@ -1,5 +1,5 @@
 -- The law, by induction on the calls.
-use Rattle.context_agreement.proofs.Giving.{none_twice, none_of_two, none_of_the_first, draws_are_asked}
+use Rattle.context_agreement.proofs.ContextLaws.{none_twice, none_of_two, none_of_the_first, draws_are_asked}
 use Rattle.context_agreement.proofs.laws.contexts_are_given_once.Goals as goal
 
 pub returns-clause-none_twice : goal.returns-clause-none_twice

@@ -1,5 +1,5 @@
 -- One more run, with a colour or without one.
-use Rattle.context_agreement.proofs.Cutting.{cut_with, cut_without, colour_at, before_more}
+use Rattle.context_agreement.proofs.RowParts.{cut_with, cut_without, colour_at, before_more}
 use Rattle.context_agreement.proofs.split.split_at_colours.Goals as goal
 
 pub loop-start-preserved-in_ok-push : goal.loop-start-preserved-in_ok-push

@@ -2,7 +2,7 @@
 use Rattle.std.proofs.Common.{subst, List, IsPermutation}
 use Rattle.context_agreement.specs.declared.split.SplitRow.{SplitRow}
 use Rattle.context_agreement.specs.Splits.{IsCut}
-use Rattle.context_agreement.proofs.Sorting.{non_decreasing, IsSplitPlan-sorted}
+use Rattle.context_agreement.proofs.RowOrder.{non_decreasing, IsSplitPlan-sorted}
 use Rattle.context_agreement.proofs.split.split_plan.Goals as goal
 
 pub split_at_colours-requires : goal.split_at_colours-requires

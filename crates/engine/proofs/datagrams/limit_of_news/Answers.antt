@@ -1,8 +1,8 @@
 -- The limit of the frames that the core calls for depends on how many they are.
 use Rattle.std.proofs.Common.{length, sym, ap, ◌∙◌}
-use Rattle.point_to_point_calls.specs.Hearing.{NewsText}
+use Rattle.point_to_point_calls.specs.FrameNews.{NewsText}
 use Rattle.point_to_point.specs.Arrivals.{news_frames}
-use Rattle.sessions.specs.Heard.{heard_text}
+use Rattle.sessions.specs.HeardBytes.{heard_text}
 use Rattle.engine.specs.Datagrams.{replies}
 use Rattle.engine_calls.specs.Refusals.{fault_of_sessions}
 use Rattle.engine.proofs.Replies.{replies_are_for}

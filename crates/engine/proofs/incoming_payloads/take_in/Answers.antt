@@ -1,5 +1,5 @@
 use Rattle.std.proofs.Common.{[], sym, ◌∙◌}
-use Rattle.engine.proofs.Announced.{limit_met, memory_wanting, none_for, on_ok}
+use Rattle.engine.proofs.PayloadPieces.{limit_met, memory_wanting, none_for, on_ok}
 use Rattle.engine.proofs.incoming_payloads.take_in.Goals as goal
 
 pub returns-in-Some-clause-err : goal.returns-in-Some-clause-err

@@ -1,5 +1,5 @@
 use Rattle.datatypes.proofs.RunLaws.{if_ok}
-use Rattle.engine.proofs.Announced.{data_are}
+use Rattle.engine.proofs.PayloadPieces.{data_are}
 use Rattle.engine.proofs.outgoing_payloads.data_frames.Goals as goal
 
 pub returns-clause-ok : goal.returns-clause-ok

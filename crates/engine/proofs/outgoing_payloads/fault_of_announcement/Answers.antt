@@ -1,7 +1,7 @@
 use Rattle.std.proofs.Common.{[], ◌∷◌, sym, ◌∙◌}
-use Rattle.datagram.specs.Spelling.{request_text}
-use Rattle.sessions.specs.Heard.{heard_text}
-use Rattle.engine.proofs.Announced.{answer_is_for, mode_fault}
+use Rattle.datagram.specs.Spellings.{request_text}
+use Rattle.sessions.specs.HeardBytes.{heard_text}
+use Rattle.engine.proofs.PayloadPieces.{answer_is_for, mode_fault}
 use Rattle.engine.specs.Datagrams.{answer_to}
 use Rattle.engine.proofs.outgoing_payloads.fault_of_announcement.Goals as goal
 

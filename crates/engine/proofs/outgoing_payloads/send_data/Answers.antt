@@ -1,10 +1,10 @@
 -- The data go out on the answer, or the limit or want of memory stops them.
 use Rattle.std.proofs.Common.{All, List, Some, sym, ap, subst, ◌∙◌}
 use Rattle.std.proofs.lemmas.Result.{err_from_is_err_and}
-use Rattle.datagram.specs.Spelling.{OutgoingText}
+use Rattle.datagram.specs.Spellings.{OutgoingText}
 use Rattle.sessions.specs.Events.{CanSend, event_limit, sendings}
-use Rattle.sessions.specs.Heard.{heard_text}
-use Rattle.engine.proofs.Announced.{data_can_go, data_go_to, limit_met, memory_wanting, on_ok}
+use Rattle.sessions.specs.HeardBytes.{heard_text}
+use Rattle.engine.proofs.PayloadPieces.{data_can_go, data_go_to, limit_met, memory_wanting, on_ok}
 use Rattle.engine.specs.Datagrams.{data_sent}
 use Rattle.engine_calls.specs.Refusals.{fault_of_sessions}
 use Rattle.engine.proofs.outgoing_payloads.send_data.Goals as goal

@@ -1,12 +1,12 @@
 -- What is heard is refused as what its notice says.
 use Rattle.std.proofs.Common.{Err, None, Ok, Option, Some, refl, sym, subst, ap, ◌∙◌}
 use Rattle.collective_steps.specs.declared.step.Ending.{Ending}
-use Rattle.datagram.specs.Spelling.{clear_text, data_text, eager_text, request_text}
+use Rattle.datagram.specs.Spellings.{clear_text, data_text, eager_text, request_text}
 use Rattle.incarnation.specs.declared.place.Place.{Place}
-use Rattle.sessions.specs.Heard.{heard_text}
+use Rattle.sessions.specs.HeardBytes.{heard_text}
 use Rattle.engine.proofs.WithoutMemory.{by_notice, piece_refused, unread}
 use Rattle.engine.specs.Datagrams.{NoticeText, OfAnnouncement, OfAnswer, OfMessage, OfPiece, notice_text, whole_in}
-use Rattle.engine.specs.Following.{WhyUnread}
+use Rattle.engine.specs.HeldFrameEnds.{WhyUnread}
 use Rattle.engine.specs.Parts.{engine_by}
 use Rattle.engine.specs.declared.notice_kinds.Notice.{Notice}
 use Rattle.engine.proofs.refused_turns.refusal_of.Goals as goal

@@ -1,12 +1,12 @@
 -- Data that are due are refused as their message is, or for the sessions' limit or want of memory.
 use Rattle.std.proofs.Common.{[], Option, Some, None, sym, subst, ◌∙◌}
-use Rattle.datagram.specs.Spelling.{data_text}
+use Rattle.datagram.specs.Spellings.{data_text}
 use Rattle.incarnation.specs.declared.place.Place.{Place}
 use Rattle.point_to_point_calls.specs.Refusals.{IsRefusal}
 use Rattle.point_to_point_calls.specs.declared.refusal.Refusal.{Refusal}
-use Rattle.sessions.specs.Heard.{heard_text}
+use Rattle.sessions.specs.HeardBytes.{heard_text}
 use Rattle.engine.proofs.WithoutMemory.{due, not_due, of_nobody, unread}
-use Rattle.engine.specs.Following.{WhyUnread}
+use Rattle.engine.specs.HeldFrameEnds.{WhyUnread}
 use Rattle.engine.specs.Parts.{engine_by}
 use Rattle.engine.proofs.refused_turns.refusal_of_piece.Goals as goal
 

@@ -1,7 +1,7 @@
 use Rattle.std.proofs.Common.{◌≡◌, ◌∷◌, [], ◌++◌, ◌==◌, filter, subst}
-use Rattle.datagram.specs.Spelling.{OutgoingText}
+use Rattle.datagram.specs.Spellings.{OutgoingText}
 use Rattle.sessions.specs.Events.{sendings}
-use Rattle.engine_calls.proofs.Stepping.{one_chosen}
+use Rattle.engine_calls.proofs.StepFrames.{one_chosen}
 use Rattle.engine_calls.specs.Steps.{written}
 use Rattle.engine_calls.specs.declared.frames.Written.{Written}
 use Rattle.engine_calls.proofs.frames.add_for.Goals as goal

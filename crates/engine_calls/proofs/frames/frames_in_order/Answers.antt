@@ -2,7 +2,7 @@
 use Rattle.std.proofs.Common.{List, [], subst, sym, arith}
 use Rattle.sessions.specs.Events.{sendings}
 use Rattle.datagram.specs.declared.frame.Outgoing.{Outgoing}
-use Rattle.engine_calls.proofs.Ordered.{AreOrdered, none_in_order, one_in_order_as}
+use Rattle.engine_calls.proofs.FrameOrder.{AreOrdered, none_in_order, one_in_order_as}
 use Rattle.engine_calls.proofs.frames.frames_in_order.Goals as goal
 
 pub loop-message-init : goal.loop-message-init

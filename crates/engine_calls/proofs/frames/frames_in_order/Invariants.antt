@@ -1,6 +1,6 @@
 use Rattle.std.proofs.Common.{take}
 use Rattle.sessions.specs.Events.{sendings}
-use Rattle.engine_calls.proofs.Ordered.{AreOrdered}
+use Rattle.engine_calls.proofs.FrameOrder.{AreOrdered}
 use Rattle.engine_calls.proofs.frames.frames_in_order.Given as goal
 
 abbrev pub invariant-loop-message : goal.invariant-loop-message

@@ -1,6 +1,6 @@
 -- A step is sent.
 use Rattle.std.proofs.Common.{length, map, ap, ◌∙◌}
-use Rattle.engine_calls.proofs.Stepping.{as_many, written_send}
+use Rattle.engine_calls.proofs.StepFrames.{as_many, written_send}
 use Rattle.engine_calls.specs.Steps.{written}
 use Rattle.engine_calls.proofs.frames.send_step.Goals as goal
 

@@ -1,10 +1,10 @@
 -- Messages that were written out are sent in the order of the ranks.
 use Rattle.std.proofs.Common.{All, List, map, sym, ap, subst, ◌∙◌}
-use Rattle.datagram.specs.Spelling.{OutgoingText}
+use Rattle.datagram.specs.Spellings.{OutgoingText}
 use Rattle.sessions.specs.Events.{CanSend, after_event, event_limit, sendings}
-use Rattle.sessions.specs.Heard.{heard_option}
+use Rattle.sessions.specs.HeardBytes.{heard_option}
 use Rattle.engine_calls.specs.Steps.{written}
-use Rattle.engine_calls.proofs.Stepping.{all_by_rank, frames_are, sessions_stop}
+use Rattle.engine_calls.proofs.StepFrames.{all_by_rank, frames_are, sessions_stop}
 use Rattle.engine_calls.proofs.frames.send_written.Goals as goal
 
 pub carry_out-requires-clause-frames : goal.carry_out-requires-clause-frames

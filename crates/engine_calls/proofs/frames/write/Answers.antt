@@ -1,5 +1,5 @@
 use Rattle.std.proofs.Common.{subst, arith}
-use Rattle.payload.specs.Spelling.{PayloadFits}
+use Rattle.payload.specs.Spellings.{PayloadFits}
 use Rattle.engine_calls.proofs.frames.write.Goals as goal
 
 pub returns-in-Ok-clause-whole : goal.returns-in-Ok-clause-whole

@@ -3,7 +3,7 @@ use Rattle.std.proofs.Common.{map, sym, subst}
 use Rattle.std.proofs.lemmas.Result.{err_from_is_err_and}
 use Rattle.collective_messages.specs.declared.message.CollectiveMessage.{CollectiveMessage}
 use Rattle.point_to_point_calls.specs.declared.refusal.Refusal.{Refusal}
-use Rattle.engine_calls.proofs.Stepping.{one_left_out, one_more}
+use Rattle.engine_calls.proofs.StepFrames.{one_left_out, one_more}
 use Rattle.engine_calls.specs.Frames.{all_can_go, can_go}
 use Rattle.engine_calls.specs.Steps.{IsAdded, IsLeftOut, written}
 use Rattle.engine_calls.proofs.frames.write_each.Goals as goal

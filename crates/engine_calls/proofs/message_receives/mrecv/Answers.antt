@@ -1,6 +1,6 @@
 -- The receive of a message that was judged is answered, or comes back.
 use Rattle.std.proofs.Common.{ap}
-use Rattle.engine_calls.proofs.Answering.{fault_refused}
+use Rattle.engine_calls.proofs.ReplyLaws.{fault_refused}
 use Rattle.engine_calls.proofs.Judged.{blank, message_back, message_of}
 use Rattle.engine_calls.specs.Asks.{engine_of, groups_of}
 use Rattle.engine_calls.specs.declared.call.Call.TheVariants as calls

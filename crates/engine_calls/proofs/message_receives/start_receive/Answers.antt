@@ -1,7 +1,7 @@
 -- The receive of a message is answered, or comes back for want of memory.
 use Rattle.std.proofs.Common.{refl}
-use Rattle.engine_calls.proofs.Answering.{lacking, message_received}
-use Rattle.point_to_point.specs.Waiting.{waited}
+use Rattle.engine_calls.proofs.ReplyLaws.{lacking, message_received}
+use Rattle.point_to_point.specs.Completions.{waited}
 use Rattle.point_to_point_calls.specs.CoreCalls as core_calls
 use Rattle.engine_calls.proofs.message_receives.start_receive.Goals as goal
 

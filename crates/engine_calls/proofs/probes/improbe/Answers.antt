@@ -1,6 +1,6 @@
 -- A matching probe that was judged is answered, or refused.
 use Rattle.std.proofs.Common.{refl}
-use Rattle.engine_calls.proofs.Answering.{fault_refused}
+use Rattle.engine_calls.proofs.ReplyLaws.{fault_refused}
 use Rattle.engine_calls.proofs.Judged.{blank, search_back, search_of, search_shares, search_unlimited}
 use Rattle.engine_calls.specs.Asks.{engine_of, groups_of}
 use Rattle.engine_calls.specs.declared.call.Call.TheVariants as calls

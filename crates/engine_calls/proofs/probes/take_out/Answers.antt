@@ -1,6 +1,6 @@
 -- A matching probe is answered, or comes back for want of memory.
 use Rattle.std.proofs.Common.{refl, sym, ◌∙◌}
-use Rattle.engine_calls.proofs.Answering.{lacking, searched}
+use Rattle.engine_calls.proofs.ReplyLaws.{lacking, searched}
 use Rattle.point_to_point_calls.specs.CoreCalls as core_calls
 use Rattle.engine_calls.proofs.probes.take_out.Goals as goal
 

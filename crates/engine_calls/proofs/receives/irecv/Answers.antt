@@ -1,6 +1,6 @@
 -- A receive that was judged is started, or comes back.
 use Rattle.std.proofs.Common.{ap, sym, ◌∙◌}
-use Rattle.engine_calls.proofs.Answering.{fault_refused}
+use Rattle.engine_calls.proofs.ReplyLaws.{fault_refused}
 use Rattle.engine_calls.proofs.Judged.{blank, receive_back, receive_of, receive_shares}
 use Rattle.engine_calls.specs.Asks.{engine_of, groups_of}
 use Rattle.engine_calls.specs.declared.call.Call.TheVariants as calls

@@ -1,5 +1,5 @@
 -- A receive is started, or comes back for want of memory.
-use Rattle.engine_calls.proofs.Answering.{lacking, receive_started}
+use Rattle.engine_calls.proofs.ReplyLaws.{lacking, receive_started}
 use Rattle.std.proofs.Common.{refl, sym, ◌∙◌}
 use Rattle.point_to_point_calls.specs.CoreCalls as core_calls
 use Rattle.engine_calls.proofs.receives.start_receive.Goals as goal

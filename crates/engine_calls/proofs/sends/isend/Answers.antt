@@ -1,6 +1,6 @@
 -- A send that was judged is started, or comes back.
 use Rattle.std.proofs.Common.{ap, sym, ◌∙◌}
-use Rattle.engine_calls.proofs.Answering.{fault_refused}
+use Rattle.engine_calls.proofs.ReplyLaws.{fault_refused}
 use Rattle.engine_calls.proofs.Judged.{blank, send_back, send_of}
 use Rattle.engine_calls.specs.Asks.{engine_of, groups_of}
 use Rattle.engine_calls.specs.declared.call.Call.{Call}

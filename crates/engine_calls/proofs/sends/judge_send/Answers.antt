@@ -5,7 +5,7 @@ use Rattle.communicators.specs.declared.route.Route.{Route}
 use Rattle.engine_calls.proofs.Asks.{known_same, send_asked, send_made, send_refused, send_ruled}
 use Rattle.engine_calls.specs.Asks.{groups_of}
 use Rattle.incarnation.specs.declared.place.Place.{Place}
-use Rattle.point_to_point_calls.specs.Sending.{IsAddressed}
+use Rattle.point_to_point_calls.specs.SendRules.{IsAddressed}
 use Rattle.engine_calls.proofs.sends.judge_send.Goals as goal
 
 pub returns-in-None : goal.returns-in-None

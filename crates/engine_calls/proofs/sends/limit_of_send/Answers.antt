@@ -2,7 +2,7 @@
 use Rattle.std.proofs.Common.{◌≡◌, ◌<◌, ℕ, Option, sym, ap₂, subst, ◌∙◌}
 use Rattle.std.specs.Prelude.{IfSome}
 use Rattle.incarnation.specs.declared.place.Place.{Place}
-use Rattle.point_to_point_calls.specs.Sending.{destination, rank_to}
+use Rattle.point_to_point_calls.specs.SendRules.{destination, rank_to}
 use Rattle.point_to_point_calls.specs.declared.refusal.Refusal.{Refusal}
 use Rattle.point_to_point_calls.proofs.SendLaws.{rank_is_there}
 use Rattle.point_to_point.specs.Calls.{call_frame}

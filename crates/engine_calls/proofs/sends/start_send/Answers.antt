@@ -1,5 +1,5 @@
 -- A send is started, or comes back for want of memory.
-use Rattle.engine_calls.proofs.Answering.{lacking, send_started}
+use Rattle.engine_calls.proofs.ReplyLaws.{lacking, send_started}
 use Rattle.std.proofs.Common.{refl}
 use Rattle.point_to_point_calls.specs.CoreCalls as core_calls
 use Rattle.engine_calls.proofs.sends.start_send.Goals as goal

@@ -1,6 +1,6 @@
 -- A cancel that breaks no rule is taken, and else refused.
 use Rattle.std.proofs.Common.{refl, sym, ◌∙◌}
-use Rattle.engine_calls.proofs.Answering.{fault_refused, requests_answered}
+use Rattle.engine_calls.proofs.ReplyLaws.{fault_refused, requests_answered}
 use Rattle.engine_calls.specs.Asks.{engine_of, groups_of}
 use Rattle.engine_calls.specs.declared.call.Call.TheVariants as calls
 use Rattle.engine_calls.specs.declared.reply.Reply.TheVariants as replies

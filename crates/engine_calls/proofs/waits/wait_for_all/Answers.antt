@@ -1,7 +1,7 @@
 -- A wait for all is answered, or comes back for want of memory.
 use Rattle.std.proofs.Common.{List, Option, subst}
-use Rattle.engine_calls.proofs.Answering.{requests_answered, requests_lacking}
-use Rattle.point_to_point.specs.Waiting.{Waits, waited}
+use Rattle.engine_calls.proofs.ReplyLaws.{requests_answered, requests_lacking}
+use Rattle.point_to_point.specs.Completions.{Waits, waited}
 use Rattle.point_to_point_calls.specs.CoreCalls as core_calls
 use Rattle.requests.specs.declared.awaited_requests.Awaited.TheVariants.{AllOf}
 use Rattle.requests.specs.declared.table.Request.{Request}

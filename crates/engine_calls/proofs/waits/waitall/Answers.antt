@@ -1,6 +1,6 @@
 -- A wait for all that breaks no rule is answered, and else refused.
 use Rattle.std.proofs.Common.{refl, sym, ◌∙◌}
-use Rattle.engine_calls.proofs.Answering.{fault_refused}
+use Rattle.engine_calls.proofs.ReplyLaws.{fault_refused}
 use Rattle.engine_calls.specs.Asks.{engine_of, groups_of}
 use Rattle.engine_calls.specs.declared.call.Call.TheVariants as calls
 use Rattle.engine_calls.proofs.waits.waitall.Goals as goal

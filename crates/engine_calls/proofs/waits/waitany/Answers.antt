@@ -1,9 +1,9 @@
 -- A call on requests that breaks no rule is answered, and else refused.
 use Rattle.std.proofs.Common.{refl, sym, ◌∙◌}
-use Rattle.engine_calls.proofs.Answering.{fault_refused, requests_answered}
+use Rattle.engine_calls.proofs.ReplyLaws.{fault_refused, requests_answered}
 use Rattle.engine_calls.specs.Asks.{engine_of, groups_of}
 use Rattle.engine_calls.specs.declared.call.Call.TheVariants as calls
-use Rattle.point_to_point.specs.Waiting.{waited}
+use Rattle.point_to_point.specs.Completions.{waited}
 use Rattle.point_to_point_calls.specs.CoreCalls as core_calls
 use Rattle.engine_calls.proofs.waits.waitany.Goals as goal
 

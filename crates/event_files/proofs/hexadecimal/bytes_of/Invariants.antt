@@ -1,5 +1,5 @@
 use Rattle.std.proofs.Common.{◌≡◌, ◌*◌, drop}
-use Rattle.event_files.specs.Reading.{bytes_of}
+use Rattle.event_files.specs.LineWords.{bytes_of}
 use Rattle.event_files.proofs.HexLaws.{with_bytes}
 use Rattle.event_files.proofs.hexadecimal.bytes_of.Given as goal
 

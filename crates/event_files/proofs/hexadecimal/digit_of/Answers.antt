@@ -1,6 +1,6 @@
 -- FOR SPEED ALONE: each goal here is proved without this file, too; with it a wrong body is refused soon.
 use Rattle.std.proofs.Common.{rules}
-use Rattle.event_files.specs.Reading.{digit_of}
+use Rattle.event_files.specs.LineWords.{digit_of}
 use Rattle.event_files.proofs.hexadecimal.digit_of.Goals as goal
 
 pub overflow_sub-result-then-byte-le102 : goal.overflow_sub-result-then-byte-le102

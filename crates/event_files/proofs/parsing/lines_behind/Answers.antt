@@ -1,6 +1,6 @@
 use Rattle.std.proofs.Common.{◌+◌}
 use Rattle.tokens.proofs.LineSteps.{all_read}
-use Rattle.event_files.specs.Reading.{line_read}
+use Rattle.event_files.specs.LineWords.{line_read}
 use Rattle.event_files.proofs.StartSteps.{begins}
 use Rattle.event_files.proofs.parsing.lines_behind.Goals as goal
 

@@ -1,6 +1,6 @@
 use Rattle.std.proofs.Common.{[], ◌∷◌, ◌++◌, refl, arith, ◌∙◌, ap, sym, take}
 use Rattle.std.proofs.lemmas.List.{map_push}
-use Rattle.event_loop.specs.Listening.{Word, after_one, nothing_heard, received}
+use Rattle.event_loop.specs.Input.{Word, after_one, nothing_heard, received}
 use Rattle.event_loop.specs.declared.input.Input.{Input}
 use Rattle.event_loop.proofs.Runs.{takes_more, heard_more}
 use Rattle.event_loop.proofs.input.listen.Goals as goal

@@ -1,6 +1,6 @@
 use Rattle.std.proofs.Common.{◌≡◌, List}
 use Rattle.std.specs.Prelude.{map}
-use Rattle.event_loop.specs.Listening.{Word, TakesIn, after_all, nothing_heard, received}
+use Rattle.event_loop.specs.Input.{Word, TakesIn, after_all, nothing_heard, received}
 use Rattle.event_loop.proofs.input.listen.Given as goal
 
 abbrev pub invariant-loop : goal.invariant-loop

@@ -1,6 +1,6 @@
 use Rattle.std.proofs.Common.{refl, arith, ◌∙◌}
 use Rattle.std.proofs.lemmas.List.{map_more}
-use Rattle.event_loop.specs.Sending.{sent}
+use Rattle.event_loop.specs.Output.{sent}
 use Rattle.event_loop.proofs.output.send_all.Goals as goal
 
 pub loop-target-init : goal.loop-target-init

@@ -1,6 +1,6 @@
 use Rattle.std.proofs.Common.{◌≡◌, take}
 use Rattle.std.specs.Prelude.{map}
-use Rattle.event_loop.specs.Sending.{sent}
+use Rattle.event_loop.specs.Output.{sent}
 use Rattle.event_loop.proofs.output.send_all.Given as goal
 
 abbrev pub invariant-loop-target : goal.invariant-loop-target

@@ -1,7 +1,7 @@
 use Rattle.std.proofs.Common.{◌≡◌, ℕ, List}
 use Rattle.std.specs.Prelude.{map}
 use Rattle.event_loop.specs.declared.exchange.Exchange.TheVariants.{Printed}
-use Rattle.event_loop.specs.Speaking.{Speaks}
+use Rattle.event_loop.specs.RunnerLines.{Speaks}
 use Rattle.event_loop.proofs.runner_turn.speak.Given as goal
 
 abbrev pub invariant-loop : goal.invariant-loop

@@ -1,6 +1,6 @@
 use Rattle.std.proofs.Common.{◌≡◌, map, subst, sym}
 use Rattle.std.proofs.lemmas.Result.{IfOk-weaker}
-use Rattle.launch_keeper.specs.Joined.{IsJoined, join_outputs}
+use Rattle.launch_keeper.specs.JoinedOutput.{IsJoined, join_outputs}
 use Rattle.launch_keeper.proofs.JoinLaws.{is_joined}
 use Rattle.launch_keeper.proofs.joined.join.Goals as goal
 

@@ -1,5 +1,5 @@
 use Rattle.std.proofs.Common.{◌≡◌, ◌++◌, drop, map}
-use Rattle.launch_keeper.specs.Joined.{join_outputs}
+use Rattle.launch_keeper.specs.JoinedOutput.{join_outputs}
 use Rattle.launch_keeper.proofs.joined.join_outputs.Given as goal
 
 abbrev pub invariant-loop-rank : goal.invariant-loop-rank

@@ -1,5 +1,5 @@
 use Rattle.std.proofs.Common.{◌≡◌, ◌++◌, drop, true}
-use Rattle.launch_keeper.specs.Joined.{marked}
+use Rattle.launch_keeper.specs.JoinedOutput.{marked}
 use Rattle.launch_keeper.proofs.joined.push_marked.Given as goal
 
 abbrev pub invariant-loop-byte : goal.invariant-loop-byte

@@ -1,5 +1,5 @@
 use Rattle.std.proofs.Common.{◌≡◌, ◌++◌, drop}
-use Rattle.launch_plan.specs.Spelling.{sets_behind_colons}
+use Rattle.launch_plan.specs.WordLists.{sets_behind_colons}
 use Rattle.launch_plan.proofs.spelling.push_others.Given as goal
 
 abbrev pub invariant-loop-line : goal.invariant-loop-line

@@ -3,7 +3,7 @@ use Rattle.std.specs.Option.{option_copied}
 use Rattle.std.proofs.lemmas.Result.{IfOk-weaker}
 use Rattle.launch_plan.specs.Launches.{Launch}
 use Rattle.launch_plan.specs.Grammar.{AskFor}
-use Rattle.launch_plan.specs.Spelling.{spelled_out}
+use Rattle.launch_plan.specs.WordLists.{spelled_out}
 use Rattle.launch_plan.proofs.SpellingLaws.{spelled_same}
 use Rattle.launch_plan.proofs.spelling.spelled_out.Goals as goal
 

@@ -3,7 +3,7 @@ use Rattle.std.specs.Prelude.{filter}
 use Rattle.std.specs.Option.{option_copied}
 use Rattle.launch_plan.specs.Configuration.{is_blank, is_nonempty, words_of}
 use Rattle.launch_plan.specs.Cuts.{parts_left}
-use Rattle.launch_plan.specs.Judging.{stage_behind}
+use Rattle.launch_plan.specs.SetFaults.{stage_behind}
 use Rattle.launch_plan.proofs.CutLaws.{left_len}
 use Rattle.launch_plan.proofs.validation.stage_behind.Given as goal
 

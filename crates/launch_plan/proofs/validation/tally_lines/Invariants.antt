@@ -3,7 +3,7 @@ use Rattle.std.specs.List.{slice_split}
 use Rattle.std.specs.Option.{option_copied}
 use Rattle.launch_plan.specs.Configuration.{is_line_end}
 use Rattle.launch_plan.specs.Cuts.{parts_left}
-use Rattle.launch_plan.specs.Judging.{tally_lines, nothing_tallied}
+use Rattle.launch_plan.specs.SetFaults.{tally_lines, nothing_tallied}
 use Rattle.launch_plan.proofs.CutLaws.{left_len}
 use Rattle.launch_plan.proofs.validation.tally_lines.Given as goal
 

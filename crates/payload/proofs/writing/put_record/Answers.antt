@@ -1,5 +1,5 @@
 use Rattle.std.proofs.Common.{append_assoc}
-use Rattle.payload.specs.Spelling.{record_spelling}
+use Rattle.payload.specs.Spellings.{record_spelling}
 use Rattle.payload.proofs.writing.put_record.Goals as goal
 
 pub returns-clause-items : goal.returns-clause-items

@@ -2,7 +2,7 @@
 use Rattle.std.proofs.Common.{ap, ◌∙◌}
 use Rattle.std.specs.Prelude.{map}
 use Rattle.datatypes.proofs.RunLaws.{if_ok}
-use Rattle.point_to_point_calls.specs.Hearing.{framed}
+use Rattle.point_to_point_calls.specs.FrameNews.{framed}
 use Rattle.point_to_point_calls.proofs.Pieces.{frames_are}
 use Rattle.point_to_point_calls.proofs.frames.data_frames.Goals as goal
 

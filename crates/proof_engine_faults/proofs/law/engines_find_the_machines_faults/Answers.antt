@@ -1,4 +1,4 @@
-use Rattle.proof_engine_faults.proofs.Judged.{own_judgements, own_refusals, own_takings}
+use Rattle.proof_engine_faults.proofs.CallFaults.{own_judgements, own_refusals, own_takings}
 use Rattle.proof_engine_faults.proofs.Orderly.{engines_of_worlds_are_orderly, new_engines_are_orderly}
 use Rattle.proof_engine_faults.proofs.law.engines_find_the_machines_faults.Goals as goal
 

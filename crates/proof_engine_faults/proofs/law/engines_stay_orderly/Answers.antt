@@ -1,6 +1,6 @@
-use Rattle.proof_engine_faults.proofs.Staying.{calls_keep_order, completions_keep_order, datagrams_keep_order}
-use Rattle.proof_engine_faults.proofs.Staying.{new_engines_stay_orderly, out_keeps_order, ticks_keep_order}
-use Rattle.proof_engine_faults.proofs.Staying.{waits_keep_order}
+use Rattle.proof_engine_faults.proofs.OrderlyEngines.{calls_keep_order, completions_keep_order, datagrams_keep_order}
+use Rattle.proof_engine_faults.proofs.OrderlyEngines.{new_engines_stay_orderly, out_keeps_order, ticks_keep_order}
+use Rattle.proof_engine_faults.proofs.OrderlyEngines.{waits_keep_order}
 use Rattle.proof_engine_faults.proofs.law.engines_stay_orderly.Goals as goal
 
 pub returns-clause-new : goal.returns-clause-new

@@ -2,16 +2,16 @@ use Rattle.proof_engine_matching.proofs.AnnouncedLemmas.{announcements_agree}
 use Rattle.proof_engine_matching.proofs.ArrivalLemmas.{arrivals_match}
 use Rattle.proof_engine_matching.proofs.EndingLemmas.{outcomes_agree, own_outcomes_agree}
 use Rattle.proof_engine_matching.proofs.PostLemmas.{posts_match, takes_match}
-use Rattle.proof_engine_steps.proofs.AnnouncementsTaken.{announcements_are_taken}
-use Rattle.proof_engine_steps.proofs.AnswersTaken.{answers_are_taken}
-use Rattle.proof_engine_steps.proofs.CallsShown.{calls_are_shown}
+use Rattle.proof_engine_steps.proofs.AnnouncementArrivals.{announcements_are_taken}
+use Rattle.proof_engine_steps.proofs.AnswerArrivals.{answers_are_taken}
+use Rattle.proof_engine_steps.proofs.CallViews.{calls_are_shown}
 use Rattle.proof_engine_steps.proofs.News.{messages_are_taken, news_are_shown}
-use Rattle.proof_engine_steps.proofs.OpeningShown.{opening_is_settled, opening_is_shown}
-use Rattle.proof_engine_steps.proofs.PiecesTaken.{pieces_are_taken}
+use Rattle.proof_engine_steps.proofs.OpeningView.{opening_is_settled, opening_is_shown}
+use Rattle.proof_engine_steps.proofs.PieceArrivals.{pieces_are_taken}
 use Rattle.proof_engine_steps.proofs.Probes.{looks_are_judged, looks_are_shown, searches_find_all}
 use Rattle.proof_engine_steps.proofs.RefusedCalls.{allowed_calls_are_faultless, faults_have_reasons, room_is_a_reason}
 use Rattle.proof_engine_steps.proofs.UnderWay.{others_may_announce}
-use Rattle.proof_engine_steps.proofs.Waking.{wakes_are_shown}
+use Rattle.proof_engine_steps.proofs.BlockedRanks.{wakes_are_shown}
 use Rattle.proof_engine_steps.proofs.law.engines_are_cores.Goals as goal
 
 pub returns-clause-calls : goal.returns-clause-calls

@@ -1,4 +1,8 @@
-use Rattle.proof_engine_steps.proofs.Counting.{numbers_are_counts, transfers_from_are_counted, transfers_to_are_counted}
+use Rattle.proof_engine_steps.proofs.TransferCounts.{
+  numbers_are_counts,
+  transfers_from_are_counted,
+  transfers_to_are_counted,
+}
 use Rattle.proof_engine_steps.proofs.numbers.transfers_are_counted.Goals as goal
 
 pub returns-clause-numbers : goal.returns-clause-numbers

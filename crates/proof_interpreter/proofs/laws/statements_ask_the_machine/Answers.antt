@@ -1,4 +1,4 @@
-use Rattle.proof_interpreter.proofs.Asking.{statements_ask}
+use Rattle.proof_interpreter.proofs.StatementCalls.{statements_ask}
 use Rattle.proof_interpreter.proofs.laws.statements_ask_the_machine.Goals as goal
 
 pub returns : goal.returns

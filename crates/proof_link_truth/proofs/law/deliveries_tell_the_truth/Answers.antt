@@ -1,6 +1,6 @@
 use Rattle.proof_link_truth.proofs.Deliveries.{deliveries_begin, discards_are_true, turns_are_true}
 use Rattle.proof_link_truth.proofs.Deliveries.{turns_tell_the_truth}
-use Rattle.proof_link_truth.proofs.Reordering.{order_is_free}
+use Rattle.proof_link_truth.proofs.OrderLaws.{order_is_free}
 use Rattle.proof_link_truth.proofs.law.deliveries_tell_the_truth.Goals as goal
 
 pub returns-clause-begin : goal.returns-clause-begin

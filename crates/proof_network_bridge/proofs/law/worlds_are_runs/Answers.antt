@@ -1,5 +1,5 @@
-use Rattle.proof_network_bridge.proofs.Closed.{calls_follow, datagrams_follow, following_is_run, opening_follows}
-use Rattle.proof_network_bridge.proofs.Closed.{refusals_follow, restarts_follow, ticks_follow}
+use Rattle.proof_network_bridge.proofs.WorldLaws.{calls_follow, datagrams_follow, following_is_run, opening_follows}
+use Rattle.proof_network_bridge.proofs.WorldLaws.{refusals_follow, restarts_follow, ticks_follow}
 use Rattle.proof_network_bridge.proofs.law.worlds_are_runs.Goals as goal
 
 pub returns-clause-opening : goal.returns-clause-opening

@@ -1,6 +1,6 @@
-use Rattle.proof_network_bridge.proofs.Closed.{calls_follow_on, datagrams_follow_on, engines_share_groups}
-use Rattle.proof_network_bridge.proofs.Closed.{following_is_each_run, opening_follows_none, refusals_stand}
-use Rattle.proof_network_bridge.proofs.Closed.{restarts_follow_on, ticks_stand}
+use Rattle.proof_network_bridge.proofs.WorldLaws.{calls_follow_on, datagrams_follow_on, engines_share_groups}
+use Rattle.proof_network_bridge.proofs.WorldLaws.{following_is_each_run, opening_follows_none, refusals_stand}
+use Rattle.proof_network_bridge.proofs.WorldLaws.{restarts_follow_on, ticks_stand}
 use Rattle.proof_network_bridge.proofs.law.worlds_go_on.Goals as goal
 
 pub returns-clause-opening : goal.returns-clause-opening

@@ -1,5 +1,5 @@
 -- The laws stand.
-use Rattle.proof_queue_calls.proofs.Judged.{judged_alike, of_both_halves}
+use Rattle.proof_queue_calls.proofs.CallFaults.{judged_alike, of_both_halves}
 use Rattle.proof_queue_calls.proofs.law.calls_are_of_both_halves.Goals as goal
 
 pub returns-clause-judged : goal.returns-clause-judged

@@ -1,4 +1,4 @@
-use Rattle.proof_script_processes.proofs.Running.{keys_are_no_matter, requests_are_handed_on}
+use Rattle.proof_script_processes.proofs.NextSteps.{keys_are_no_matter, requests_are_handed_on}
 use Rattle.proof_script_processes.proofs.laws.keys_are_no_matter.Goals as goal
 
 pub returns-clause-any : goal.returns-clause-any

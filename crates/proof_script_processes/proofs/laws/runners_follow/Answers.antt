@@ -1,4 +1,4 @@
-use Rattle.proof_script_processes.proofs.Following.{runners_follow, starts_follow}
+use Rattle.proof_script_processes.proofs.ProcessViews.{runners_follow, starts_follow}
 use Rattle.proof_script_processes.proofs.laws.runners_follow.Goals as goal
 
 pub returns-clause-start : goal.returns-clause-start

@@ -1,5 +1,5 @@
-use Rattle.proof_session_carrying.proofs.Arriving.{brought_arrives, notices_arrive}
-use Rattle.proof_session_carrying.proofs.Carrying.{handed_is_carried, next_stands, out_is_carried, still_is_still}
+use Rattle.proof_session_carrying.proofs.NoticeMessages.{brought_arrives, notices_arrive}
+use Rattle.proof_session_carrying.proofs.SessionViews.{handed_is_carried, next_stands, out_is_carried, still_is_still}
 use Rattle.proof_session_carrying.proofs.law.sessions_carry.Goals as goal
 
 pub returns-clause-out : goal.returns-clause-out

@@ -2,7 +2,7 @@
 use Rattle.std.proofs.Common.{rules, ◌≡◌, true, get_or, Option, Some, sym, ap, ◌∙◌}
 use Rattle.std.proofs.lemmas.List.Quantifiers.{position-Some}
 use Rattle.std.proofs.lemmas.Option.{slice_get-get_or}
-use Rattle.rendezvous.specs.Collecting.{Collecting, is_from, is_next_data}
+use Rattle.rendezvous.specs.Collections.{Collecting, is_from, is_next_data}
 use Rattle.rendezvous.specs.State.{blank, collection_for, collection_at, is_taken}
 use Rattle.rendezvous.proofs.Steps.{fits_behind, remove_set}
 use Rattle.rendezvous.proofs.transfers.take_piece.Goals as goal

@@ -1,6 +1,6 @@
 -- A request is unfinished in one of the parts, or in none.
 use Rattle.std.proofs.Common.{sym, ◌∙◌}
-use Rattle.requests.proofs.Searching.{in_second, in_parts}
+use Rattle.requests.proofs.SearchLaws.{in_second, in_parts}
 use Rattle.requests.proofs.completion.find_unfinished.Goals as goal
 
 pub returns-in-Some : goal.returns-in-Some

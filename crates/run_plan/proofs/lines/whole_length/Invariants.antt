@@ -1,6 +1,6 @@
 -- No line ends behind what is left to be looked at.
 use Rattle.std.proofs.Common.{◌≤◌, drop, length}
-use Rattle.launch_keeper.specs.Joined.{IsLine}
+use Rattle.launch_keeper.specs.JoinedOutput.{IsLine}
 use Rattle.run_plan.proofs.lines.whole_length.Given as goal
 
 abbrev pub invariant-loop-length : goal.invariant-loop-length

@@ -1,6 +1,6 @@
 -- FOR SPEED ALONE: each goal here is proved without this file, too; with it a wrong body is refused soon.
 use Rattle.std.proofs.Common.{rules}
-use Rattle.script_files.specs.Reading.{member_of}
+use Rattle.script_files.specs.LineWords.{member_of}
 use Rattle.script_files.proofs.fields.member_of.Goals as goal
 
 pub point_place-requires : goal.point_place-requires

@@ -1,6 +1,6 @@
 use Rattle.std.proofs.Common.{[], ◌∷◌}
 use Rattle.std.proofs.lemmas.Result.{err_from_is_err_and}
-use Rattle.script_files.specs.Reading.{member_of, one_member}
+use Rattle.script_files.specs.LineWords.{member_of, one_member}
 use Rattle.tokens.proofs.EachLaws.{each_goes_on, each_ends, each_is_done, one_fails, one_is}
 use Rattle.script_files.proofs.fields.members_of.Goals as goal
 

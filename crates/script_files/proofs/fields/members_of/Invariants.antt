@@ -1,5 +1,5 @@
 use Rattle.std.proofs.Common.{◌≡◌, drop}
-use Rattle.script_files.specs.Reading.{one_member}
+use Rattle.script_files.specs.LineWords.{one_member}
 use Rattle.tokens.specs.Fields.{each}
 use Rattle.tokens.proofs.EachLaws.{with_more}
 use Rattle.script_files.proofs.fields.members_of.Given as goal

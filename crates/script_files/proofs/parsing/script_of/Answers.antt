@@ -1,6 +1,6 @@
 use Rattle.std.proofs.Common.{◌+◌, sym, arith}
 use Rattle.tokens.proofs.LineSteps.{all_read}
-use Rattle.script_files.specs.Reading.{line_read}
+use Rattle.script_files.specs.LineWords.{line_read}
 use Rattle.script_files.proofs.parsing.script_of.Goals as goal
 
 pub returns : goal.returns

@@ -1,7 +1,7 @@
 use Rattle.std.proofs.Common.{◌≡◌, ◌+◌, drop}
 use Rattle.tokens.specs.Lines.{lines_from, with_front}
 use Rattle.tokens.proofs.Lists.{shown}
-use Rattle.script_files.specs.Reading.{line_read}
+use Rattle.script_files.specs.LineWords.{line_read}
 use Rattle.script_files.proofs.parsing.script_of.Given as goal
 
 abbrev pub invariant-loop-place : goal.invariant-loop-place

@@ -1,6 +1,6 @@
 -- FOR SPEED ALONE: each goal here is proved without this file, too; with it a wrong body is refused soon.
 use Rattle.std.proofs.Common.{rules}
-use Rattle.script_files.specs.Reading.{said_words}
+use Rattle.script_files.specs.LineWords.{said_words}
 use Rattle.script_files.proofs.reading.said_words.Goals as goal
 
 pub first-requires : goal.first-requires

@@ -1,6 +1,6 @@
 use Rattle.std.proofs.Common.{◌≡◌, ℕ, List, Ok, Err, sym, ap, ◌∙◌, subst}
 use Rattle.engine_calls.specs.declared.call.Call.{Call}
-use Rattle.script_players.proofs.Called.{call_refused, call_taken, on_ok}
+use Rattle.script_players.proofs.CallLaws.{call_refused, call_taken, on_ok}
 use Rattle.script_players.proofs.played.call.Goals as goal
 
 -- src/played.rt:126:1

@@ -1,8 +1,8 @@
 use Rattle.std.proofs.Common.{◌≡◌, ◌+◌, ◌++◌, ℕ, List, length, sym, subst, arith}
 use Rattle.std.proofs.lemmas.Grind.{common_steps}
 use Rattle.script_players.specs.Players.{PlayerState}
-use Rattle.script_plays.proofs.Moving.{begun_more, count_more}
-use Rattle.script_plays.specs.Playing.{players_of}
+use Rattle.script_plays.proofs.MoveLaws.{begun_more, count_more}
+use Rattle.script_plays.specs.Plays.{players_of}
 use Rattle.script_plays.proofs.playing.all_begin.Goals as goal
 
 -- src/playing.rt:115:5

@@ -1,6 +1,6 @@
 -- The players so far, and those of the scripts that are left, are those of all.
 use Rattle.std.proofs.Common.{◌≡◌, ◌++◌, ◌+◌, length}
-use Rattle.script_plays.specs.Playing.{players_of}
+use Rattle.script_plays.specs.Plays.{players_of}
 use Rattle.script_plays.proofs.playing.all_begin.Given as goal
 
 abbrev pub invariant-loop-script : goal.invariant-loop-script

@@ -1,6 +1,6 @@
 use Rattle.std.proofs.Common.{arith}
 use Rattle.std.proofs.lemmas.Grind.{common_steps}
-use Rattle.script_plays.proofs.Moving.{on_ok, player_goes}
+use Rattle.script_plays.proofs.MoveLaws.{on_ok, player_goes}
 use Rattle.script_plays.proofs.playing.go.Goals as goal
 
 -- src/playing.rt:55:1

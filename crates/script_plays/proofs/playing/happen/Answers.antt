@@ -1,5 +1,5 @@
 use Rattle.std.proofs.Common.{Ok}
-use Rattle.script_plays.proofs.Moving.{event_taken, on_ok}
+use Rattle.script_plays.proofs.MoveLaws.{event_taken, on_ok}
 use Rattle.script_plays.proofs.playing.happen.Goals as goal
 
 -- src/playing.rt:35:1

@@ -1,4 +1,4 @@
-use Rattle.script_plays.proofs.Moving.{rest_on, sizes_on}
+use Rattle.script_plays.proofs.MoveLaws.{rest_on, sizes_on}
 use Rattle.script_plays.proofs.playing.make_moves.Goals as goal
 
 -- src/playing.rt:101:5

@@ -1,6 +1,6 @@
 -- What the moves that are left give now is what all of them give from the start.
 use Rattle.std.proofs.Common.{◌≡◌, drop, length}
-use Rattle.script_plays.specs.Playing.{PlayState, ScheduleGives}
+use Rattle.script_plays.specs.Plays.{PlayState, ScheduleGives}
 use Rattle.script_plays.proofs.playing.make_moves.Given as goal
 
 abbrev pub invariant-loop-next : goal.invariant-loop-next

@@ -1,7 +1,7 @@
 use Rattle.std.proofs.Common.{arith}
 use Rattle.std.proofs.lemmas.Grind.{common_steps}
 use Rattle.script_plays.proofs.Histories.{histories_are_of_schedules}
-use Rattle.script_plays.proofs.Moving.{play_gives, sizes_begin}
+use Rattle.script_plays.proofs.MoveLaws.{play_gives, sizes_begin}
 use Rattle.script_plays.proofs.Whole.{plays_are_the_meaning}
 use Rattle.script_plays.proofs.playing.play.Goals as goal
 

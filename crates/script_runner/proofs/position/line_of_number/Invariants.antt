@@ -1,5 +1,5 @@
 use Rattle.std.proofs.Common.{◌≡◌, length}
-use Rattle.script_runner.specs.Standing.{numbered}
+use Rattle.script_runner.specs.Positions.{numbered}
 use Rattle.script_runner.proofs.position.line_of_number.Given as goal
 
 abbrev pub decreases-loop-line : goal.decreases-loop-line

@@ -1,5 +1,5 @@
 use Rattle.std.proofs.Common.{◌≡◌, [], length}
-use Rattle.script_runner.specs.Running.{along}
+use Rattle.script_runner.specs.ScriptSteps.{along}
 use Rattle.script_runner.proofs.runner.go_on.Given as goal
 
 abbrev pub decreases-loop-line : goal.decreases-loop-line

@@ -3,9 +3,9 @@ use Rattle.std.proofs.lemmas.List.{drop_all}
 use Rattle.datagram.specs.declared.frame.Outgoing.{Outgoing}
 use Rattle.sessions.specs.Events.{sendings}
 use Rattle.std.proofs.Common.{List}
-use Rattle.sessions.specs.Carrying.{all_taken_back, taken_back}
+use Rattle.sessions.specs.EventExecution.{all_taken_back, taken_back}
 use Rattle.sessions.specs.declared.peers.Peer.{Peer}
-use Rattle.sessions.proofs.Undoing.{length_back, back_more, there_at}
+use Rattle.sessions.proofs.UndoLaws.{length_back, back_more, there_at}
 use Rattle.sessions.proofs.event_execution.take_back_each.Goals as goal
 
 pub loop-done-init : goal.loop-done-init

@@ -1,6 +1,6 @@
 use Rattle.std.proofs.Common.{◌≡◌, ◌-◌, length, drop}
 use Rattle.sessions.specs.Events.{sendings}
-use Rattle.sessions.specs.Carrying.{all_taken_back}
+use Rattle.sessions.specs.EventExecution.{all_taken_back}
 use Rattle.sessions.proofs.event_execution.take_back_each.Given as goal
 
 abbrev pub invariant-loop-done : goal.invariant-loop-done

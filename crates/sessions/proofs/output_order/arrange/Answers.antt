@@ -1,6 +1,6 @@
 use Rattle.std.proofs.Common.{rules}
 use Rattle.std.proofs.lemmas.List.Sorted.{IsNonDecreasingBy-from_sort_by_key}
-use Rattle.sessions.specs.Arranging.{order_of}
+use Rattle.sessions.specs.OutgoingOrder.{order_of}
 use Rattle.sessions.proofs.output_order.arrange.Goals as goal
 
 pub returns-clause-order : goal.returns-clause-order

@@ -1,5 +1,5 @@
 use Rattle.std.proofs.Common.{refl}
-use Rattle.sessions.proofs.Arranged.{in_order}
+use Rattle.sessions.proofs.ListEnds.{in_order}
 use Rattle.sessions.proofs.output_order.arrange_from.Goals as goal
 
 pub returns : goal.returns

@@ -1,7 +1,7 @@
 -- The datagrams so far are printed.
 use Rattle.std.proofs.Common.{◌≡◌, ◌≤◌}
-use Rattle.simulation.specs.Printing.{Prints}
-use Rattle.simulation.specs.Printed.{lines_between}
+use Rattle.simulation.specs.Output.{Prints}
+use Rattle.simulation.specs.StepLines.{lines_between}
 use Rattle.simulation.proofs.event_printing.print_between.Given as goal
 
 abbrev pub invariant-loop-number : goal.invariant-loop-number

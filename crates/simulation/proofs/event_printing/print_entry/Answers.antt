@@ -1,5 +1,5 @@
 use Rattle.std.proofs.Common.{IfErr}
-use Rattle.simulation.specs.Printed.{answered_line, completed_lines, emitted_lines}
+use Rattle.simulation.specs.StepLines.{answered_line, completed_lines, emitted_lines}
 use Rattle.simulation.proofs.PrintLaws.{cuts_entry, err_more}
 use Rattle.simulation.proofs.event_printing.print_entry.Goals as goal
 

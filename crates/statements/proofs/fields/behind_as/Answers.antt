@@ -1,6 +1,6 @@
 -- FOR SPEED ALONE: each goal here is proved without this file, too; with it a wrong body is refused soon.
 use Rattle.std.proofs.Common.{rules}
-use Rattle.statements.specs.Reading.{behind_as}
+use Rattle.statements.specs.LineWords.{behind_as}
 use Rattle.statements.proofs.fields.behind_as.Goals as goal
 
 pub two_alone-requires : goal.two_alone-requires

@@ -1,6 +1,6 @@
 use Rattle.std.proofs.Common.{[], ◌∷◌}
 use Rattle.std.proofs.lemmas.Result.{err_from_is_err_and}
-use Rattle.statements.specs.Reading.{requested_of, one_request}
+use Rattle.statements.specs.LineWords.{requested_of, one_request}
 use Rattle.tokens.proofs.EachLaws.{each_goes_on, each_ends, each_is_done, one_fails, one_is}
 use Rattle.statements.proofs.fields.requests_of.Goals as goal
 

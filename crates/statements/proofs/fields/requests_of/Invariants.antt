@@ -1,5 +1,5 @@
 use Rattle.std.proofs.Common.{◌≡◌, drop}
-use Rattle.statements.specs.Reading.{one_request}
+use Rattle.statements.specs.LineWords.{one_request}
 use Rattle.tokens.specs.Fields.{each}
 use Rattle.tokens.proofs.EachLaws.{with_more}
 use Rattle.statements.proofs.fields.requests_of.Given as goal

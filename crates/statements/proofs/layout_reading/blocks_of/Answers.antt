@@ -1,6 +1,6 @@
 use Rattle.std.proofs.Common.{[], ◌∷◌}
 use Rattle.std.proofs.lemmas.Result.{err_from_is_err_and}
-use Rattle.statements.specs.Reading.{block_of, one_block}
+use Rattle.statements.specs.LineWords.{block_of, one_block}
 use Rattle.tokens.proofs.EachLaws.{each_goes_on, each_ends, each_is_done, one_fails, one_is}
 use Rattle.statements.proofs.layout_reading.blocks_of.Goals as goal
 

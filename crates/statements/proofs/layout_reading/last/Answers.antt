@@ -1,7 +1,7 @@
 use Rattle.std.proofs.Common.{Some, sym, ap, ◌∙◌}
 use Rattle.std.proofs.lemmas.List.{nil_from_length}
 use Rattle.tokens.specs.Grammar.{Word}
-use Rattle.statements.specs.Reading.{last}
+use Rattle.statements.specs.LineWords.{last}
 use Rattle.statements.proofs.LayoutLaws.{last_again, no_last}
 use Rattle.statements.proofs.layout_reading.last.Goals as goal
 

@@ -1,6 +1,6 @@
 use Rattle.std.proofs.Common.{replicate}
 use Rattle.std.proofs.lemmas.Result.{err_from_is_err_and}
-use Rattle.statements.specs.Reading.{elements_of}
+use Rattle.statements.specs.LineWords.{elements_of}
 use Rattle.statements.proofs.ElementSteps.{elements_fail, elements_are, buffer_fails, buffer_is}
 use Rattle.tokens.proofs.EachLaws.{each_goes_on, each_ends, each_is_done}
 use Rattle.statements.proofs.values.buffer_with.Goals as goal

@@ -1,5 +1,5 @@
 use Rattle.std.proofs.Common.{◌≡◌, drop}
-use Rattle.statements.specs.Reading.{elements_of}
+use Rattle.statements.specs.LineWords.{elements_of}
 use Rattle.tokens.specs.Fields.{each}
 use Rattle.tokens.proofs.EachLaws.{with_more}
 use Rattle.statements.proofs.values.buffer_with.Given as goal

@@ -1,5 +1,5 @@
 use Rattle.std.proofs.Common.{◌≡◌}
-use Rattle.proof_network_bridge.specs.Joined.{opening_engines}
+use Rattle.proof_network_bridge.specs.WorldViews.{opening_engines}
 use Rattle.world.proofs.engines.new_engines.Given as goal
 
 abbrev pub invariant-loop-rank : goal.invariant-loop-rank

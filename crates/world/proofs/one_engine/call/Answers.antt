@@ -1,7 +1,7 @@
 use Rattle.std.proofs.Common.{Option, sym, ap, subst, ◌∙◌}
 use Rattle.engine_calls.specs.declared.reply.Reply.{Reply}
 use Rattle.incarnation.specs.declared.place.Place.{Place}
-use Rattle.world.proofs.Called.{is_taken, refused_call}
+use Rattle.world.proofs.CallLaws.{is_taken, refused_call}
 use Rattle.world.specs.Steps.{TakesCall}
 use Rattle.world.proofs.one_engine.call.Goals as goal
 

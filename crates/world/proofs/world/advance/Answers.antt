@@ -1,11 +1,11 @@
 use Rattle.std.proofs.Common.{ℕ, List, [], ◌++◌, length, refl, sym, ap, subst, ◌∙◌, arith, inl, inr}
 use Rattle.std.specs.Prelude.{vec_capacity}
 use Rattle.std.proofs.lemmas.Grind.{common_steps}
-use Rattle.proof_network_bridge.specs.Joined.{limit_in}
+use Rattle.proof_network_bridge.specs.WorldViews.{limit_in}
 use Rattle.world.specs.Steps.{ByTheEngine, ByTheWorld, ForRoom, HasOwnBytes, IsWhy}
 use Rattle.world.specs.Views.{gave_in, refusal_in}
 use Rattle.world.specs.declared.refusal.WorldRefusal.{WorldRefusal}
-use Rattle.world.proofs.Asked.{asked_and_refused, none_asked}
+use Rattle.world.proofs.RefusalRules.{asked_and_refused, none_asked}
 use Rattle.world.proofs.Places.{sound_placed}
 use Rattle.world.proofs.Sound.{event_sound, fault_as, sound_same, went}
 use Rattle.world.proofs.Refusals.{copied_call, had_no_room, refusal_sound, refused_plainly, refused_so}

@@ -27,7 +27,7 @@ use denote.Struct.Owning.{shape}
 use denote.Struct.Struct.{within}
 use denote.Steps.{heard, nothing}
 use denote.Triple.Walked.{Stays, stay_dropped, walk_of, says, ends_at}
-use Rattle.c_exports.specs.Holding.{holds}
+use Rattle.c_exports.specs.HandleContents.{holds}
 use Rattle.std_heap.specs.contracts.Global.{the_row as G}
 use Rattle.std_heap.specs.contracts.GlobalAllocator.TheImpl.{ghosts, dict}
 use Rattle.std_heap.proofs.Global.TheLaws.{the_row_laws as G-laws}

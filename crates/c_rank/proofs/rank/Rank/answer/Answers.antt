@@ -1,7 +1,7 @@
 use Rattle.std.proofs.Common.{◌≡◌, sym, ap, subst, ◌∙◌}
 use Rattle.engine_calls.specs.Calls.{CallGives}
 use Rattle.engine_calls.specs.EngineState.{EngineState}
-use Rattle.c_rank.proofs.Answering.{answers_call}
+use Rattle.c_rank.proofs.AnswerLaws.{answers_call}
 use Rattle.c_rank.specs.State.{RankState}
 use Rattle.c_rank.proofs.rank.Rank.answer.Goals as goal
 

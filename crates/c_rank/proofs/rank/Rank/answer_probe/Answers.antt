@@ -2,7 +2,7 @@ use Rattle.std.proofs.Common.{◌≡◌, sym, ap, subst, ◌∙◌}
 use Rattle.engine_calls.specs.Calls.{CallGives}
 use Rattle.engine_calls.specs.EngineState.{EngineState}
 use Rattle.engine_calls.specs.declared.call.Call.TheVariants as calls
-use Rattle.c_rank.proofs.Answering.{answers_probe}
+use Rattle.c_rank.proofs.AnswerLaws.{answers_probe}
 use Rattle.c_rank.specs.State.{RankState}
 use Rattle.c_rank.proofs.rank.Rank.answer_probe.Goals as goal
 

@@ -1,5 +1,5 @@
 -- More of those for whom the rank waits are known.
-use Rattle.collective_progress.proofs.Seeing.{entered_kept}
+use Rattle.collective_progress.proofs.NoteLaws.{entered_kept}
 use Rattle.collective_progress.proofs.progress.Progress.catch_up.Goals as goal
 
 pub returns-clause-kept : goal.returns-clause-kept

@@ -2,7 +2,7 @@
 use Rattle.std.proofs.Common.{◌≡◌, ◌∙◌, ◌||◌, Bool, ap, arith, drop, sym}
 use Rattle.std.proofs.lemmas.Grind.{common_steps}
 use Rattle.collective_messages.specs.Notes.{differs_in}
-use Rattle.collective_progress.proofs.Seeing.{differs_is}
+use Rattle.collective_progress.proofs.NoteLaws.{differs_is}
 use Rattle.collective_progress.proofs.progress.Progress.has_difference.Goals as goal
 
 pub returns-then-difference_seen : goal.returns-then-difference_seen

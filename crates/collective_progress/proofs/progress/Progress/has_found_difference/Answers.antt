@@ -2,7 +2,7 @@
 use Rattle.std.proofs.Common.{◌≡◌, ◌∙◌, ◌||◌, Bool, ap, arith, drop, sym}
 use Rattle.std.proofs.lemmas.Grind.{common_steps}
 use Rattle.collective_messages.specs.Notes.{found_in}
-use Rattle.collective_progress.proofs.Seeing.{found_is}
+use Rattle.collective_progress.proofs.NoteLaws.{found_is}
 use Rattle.collective_progress.proofs.progress.Progress.has_found_difference.Goals as goal
 
 pub returns-then-difference_found : goal.returns-then-difference_found

@@ -4,15 +4,15 @@ use Rattle.std.proofs.lemmas.Grind.{common_steps}
 use Rattle.std.proofs.lemmas.List.{length-set}
 use Rattle.std.specs.Option.{option_map}
 use Rattle.point_to_point_calls.specs.declared.refusal.Refusal.{Refusal}
-use Rattle.sessions.specs.Following.{turn_of}
-use Rattle.sessions.specs.Heard.{CanHear, HeardText, heard_text}
+use Rattle.sessions.specs.HeldFrames.{turn_of}
+use Rattle.sessions.specs.HeardBytes.{CanHear, HeardText, heard_text}
 use Rattle.sessions.specs.Windows.{StaysWithin, room}
 use Rattle.engine_calls.specs.EngineState.{EngineState}
 use Rattle.engine.specs.Datagrams.{HeardGives, notice_in, without_next}
-use Rattle.engine.specs.Following.{FollowEnds}
-use Rattle.engine.proofs.Hearing.{unheard_leaves}
-use Rattle.engine.proofs.Turning.{can_hear, discard_within, longer, of_bytes, refused_turn, replaced, taken}
-use Rattle.engine.proofs.Turning.{turn_known, turn_within}
+use Rattle.engine.specs.HeldFrameEnds.{FollowEnds}
+use Rattle.engine.proofs.DatagramLaws.{unheard_leaves}
+use Rattle.engine.proofs.TurnLaws.{can_hear, discard_within, longer, of_bytes, refused_turn, replaced, taken}
+use Rattle.engine.proofs.TurnLaws.{turn_known, turn_within}
 use Rattle.engine.proofs.engine.Engine.+follow.Goals as goal
 
 pub returns-in_default-turn_in-clause-within : goal.returns-in_default-turn_in-clause-within

@@ -1,7 +1,7 @@
 -- What isn't held any more leaves the room as it was; what is neither 30 nor 13 is 14.
 use Rattle.std.proofs.Common.{◌≡◌, length, refl, subst, inr}
 use Rattle.engine_calls.specs.EngineState.{EngineState}
-use Rattle.engine.proofs.Turning.{discard_within}
+use Rattle.engine.proofs.TurnLaws.{discard_within}
 use Rattle.engine.proofs.WithoutMemory.{memory_alone}
 use Rattle.engine.proofs.engine.Engine.discard_or_keep.Goals as goal
 

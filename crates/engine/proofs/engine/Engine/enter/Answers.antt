@@ -1,5 +1,5 @@
 use Rattle.std.proofs.Common.{sym, ◌∙◌}
-use Rattle.engine.proofs.Entered.{entered_at, stays_out}
+use Rattle.engine.proofs.EntryLaws.{entered_at, stays_out}
 use Rattle.engine.specs.Parts.{PartsState, state_of}
 use Rattle.engine.proofs.engine.Engine.enter.Goals.{in-Ok, in-Err}
 use Rattle.engine.proofs.engine.Engine.enter.Goals as goal

@@ -1,6 +1,6 @@
 use Rattle.std.proofs.Common.{sym, ap, ◌∙◌}
 use Rattle.std.specs.Prelude.{option_map}
-use Rattle.engine.proofs.Ruled.{entry_ruled}
+use Rattle.engine.proofs.EntryFaults.{entry_ruled}
 use Rattle.engine_calls.specs.Refusals.{of_rule}
 use Rattle.engine.specs.Parts.{engine_with}
 use Rattle.engine.proofs.engine.Engine.fault_of_entry.Goals as goal

@@ -3,8 +3,8 @@ use Rattle.std.proofs.Common.{Some, ap, subst, ◌∙◌}
 use Rattle.point_to_point_calls.specs.declared.refusal.Refusal.{Refusal}
 use Rattle.engine_calls.specs.EngineState.{EngineState}
 use Rattle.engine.specs.Datagrams.{turn_from}
-use Rattle.engine.specs.Following.{GoesOrStays, IsTurnRefusal}
-use Rattle.engine.proofs.Turning.{left_next}
+use Rattle.engine.specs.HeldFrameEnds.{GoesOrStays, IsTurnRefusal}
+use Rattle.engine.proofs.TurnLaws.{left_next}
 use Rattle.engine.proofs.engine.Engine.leave.Goals as goal
 
 pub returns-in-Some-clause-exact : goal.returns-in-Some-clause-exact

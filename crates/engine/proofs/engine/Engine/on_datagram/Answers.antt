@@ -1,8 +1,8 @@
 use Rattle.std.proofs.Common.{◌≡◌, Result, Ok, Err, OnOk, sym, subst}
 use Rattle.point_to_point_calls.specs.declared.refusal.Refusal.{Refusal}
 use Rattle.sessions.specs.Events.{taught_known}
-use Rattle.sessions.specs.Heard.{HeardText, heard_text}
-use Rattle.engine.proofs.Hearing.{heard_is_known, hearing_is, refusal_leaves, turned_away}
+use Rattle.sessions.specs.HeardBytes.{HeardText, heard_text}
+use Rattle.engine.proofs.DatagramLaws.{heard_is_known, hearing_is, refusal_leaves, turned_away}
 use Rattle.engine.specs.Datagrams.{HearingGives}
 use Rattle.engine_calls.specs.EngineState.{EngineState}
 use Rattle.engine.specs.Parts.{engine_with}

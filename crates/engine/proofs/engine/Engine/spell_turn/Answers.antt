@@ -1,9 +1,9 @@
 -- What follows can be heard, and its number isn't the last one.
 use Rattle.std.proofs.Common.{◌<◌, length, sym, ap, subst, ◌∙◌, arith}
 use Rattle.std.specs.Option.{is_some}
-use Rattle.sessions.specs.Heard.{heard_text}
+use Rattle.sessions.specs.HeardBytes.{heard_text}
 use Rattle.engine_calls.specs.EngineState.{EngineState}
-use Rattle.engine.proofs.Turning.{can_hear, left, of_bytes}
+use Rattle.engine.proofs.TurnLaws.{can_hear, left, of_bytes}
 use Rattle.engine.proofs.engine.Engine.spell_turn.Goals as goal
 
 pub limit_of-requires-clause-can : goal.limit_of-requires-clause-can

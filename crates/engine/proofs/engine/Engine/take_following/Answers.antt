@@ -1,5 +1,5 @@
 use Rattle.std.proofs.Common.{suc, arith}
-use Rattle.engine.proofs.Turning.{arranged_within, forget}
+use Rattle.engine.proofs.TurnLaws.{arranged_within, forget}
 use Rattle.engine.proofs.engine.Engine.take_following.Goals as goal
 
 pub returns-clause-within : goal.returns-clause-within

@@ -1,13 +1,13 @@
 -- What is heard is taken in, then what follows it, and then the blocked call is answered.
 use Rattle.std.proofs.Common.{◌≡◌, ◌+◌, ◌≤◌, ◌∙◌, length, sym, ap, subst, arith, Some}
-use Rattle.datagram.specs.Spelling.{frame_text}
-use Rattle.sessions.specs.Heard.{HeardText, heard_text, word_text}
+use Rattle.datagram.specs.Spellings.{frame_text}
+use Rattle.sessions.specs.HeardBytes.{HeardText, heard_text, word_text}
 use Rattle.sessions.specs.Windows.{room}
 use Rattle.sessions.proofs.Windows.{few_within}
 use Rattle.engine_calls.specs.EngineState.{EngineState}
 use Rattle.engine.specs.Datagrams.{FollowedBy, notice_in, says_nothing}
-use Rattle.engine.proofs.Hearing.{known_carried, taken_unless, unheard_leaves}
-use Rattle.engine.proofs.Turning.{acknowledged_first, follows_handed, follows_none, heard_carried}
+use Rattle.engine.proofs.DatagramLaws.{known_carried, taken_unless, unheard_leaves}
+use Rattle.engine.proofs.TurnLaws.{acknowledged_first, follows_handed, follows_none, heard_carried}
 use Rattle.engine.proofs.engine.Engine.take_in.Goals.{in-Hands, in_default}
 use Rattle.engine.proofs.engine.Engine.take_in.Goals as goal
 

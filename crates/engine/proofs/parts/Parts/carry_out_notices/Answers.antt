@@ -4,8 +4,8 @@ use Rattle.std.proofs.lemmas.Result.{err_from_is_err_and}
 use Rattle.point_to_point_calls.specs.declared.refusal.Refusal.{Refusal}
 use Rattle.point_to_point.specs.CoreState.{CoreState}
 use Rattle.rendezvous.specs.declared.transfers.Numbers.{Numbers}
-use Rattle.sessions.specs.Heard.{heard_text}
-use Rattle.engine.proofs.Taken.{memory_stops, told}
+use Rattle.sessions.specs.HeardBytes.{heard_text}
+use Rattle.engine.proofs.MessageLaws.{memory_stops, told}
 use Rattle.engine.specs.Datagrams.{numbers_met, payloads_met}
 use Rattle.engine_calls.specs.Frames.{step_limit}
 use Rattle.engine_calls.specs.Steps.{StepStops}

@@ -13,7 +13,7 @@ use Rattle.collective_transfers.specs.State as payloads
 use Rattle.collective_transfers.specs.State.{after_announcing}
 use Rattle.point_to_point.specs.CoreState.{with_numbers}
 use Rattle.rendezvous.specs.declared.transfers.Numbers.{Numbers}
-use Rattle.engine.specs.Entering.{WhyNot}
+use Rattle.engine.specs.CollectiveEntries.{WhyNot}
 use Rattle.engine.specs.Parts.{PartsState, state_of}
 use Rattle.engine_calls.specs.Steps.{StepStops}
 use Rattle.point_to_point_calls.specs.declared.refusal.Refusal.{Refusal}

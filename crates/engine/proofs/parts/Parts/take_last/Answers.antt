@@ -1,7 +1,7 @@
 -- The message is the payload's.
 use Rattle.std.proofs.Common.{Option, subst}
 use Rattle.collective_steps.specs.declared.step.Ending.{Ending}
-use Rattle.sessions.specs.Heard.{heard_text}
+use Rattle.sessions.specs.HeardBytes.{heard_text}
 use Rattle.engine.proofs.LastPiece.{message_back, message_taken}
 use Rattle.engine.proofs.parts.Parts.take_last.Goals as goal
 

@@ -5,12 +5,12 @@ use Rattle.collective_steps.specs.declared.step.Ending.{Ending}
 use Rattle.communicators.specs.Members as members
 use Rattle.context_agreement.specs.Communicators.{Held}
 use Rattle.incarnation.specs.declared.place.Place.{Place}
-use Rattle.payload.specs.Spelling.{payload_text}
+use Rattle.payload.specs.Spellings.{payload_text}
 use Rattle.std.specs.Prelude.{Some}
 use Rattle.point_to_point_calls.specs.declared.refusal.Refusal.{Refusal}
-use Rattle.sessions.specs.Heard.{heard_text}
-use Rattle.engine.proofs.Hearing.{same_engine, same_groups}
-use Rattle.engine.proofs.Taken.{noticed, stopped, unready}
+use Rattle.sessions.specs.HeardBytes.{heard_text}
+use Rattle.engine.proofs.DatagramLaws.{same_engine, same_groups}
+use Rattle.engine.proofs.MessageLaws.{noticed, stopped, unready}
 use Rattle.engine.specs.Datagrams.{IsTold, WhyUnnoticed, numbers_met, received}
 use Rattle.engine.specs.JobPayloads.{payload_in}
 use Rattle.engine.specs.Parts.{engine_with, state_of}

@@ -1,7 +1,7 @@
 -- The message of a whole payload is taken in beside the others, or the payload is put back.
 use Rattle.std.proofs.Common.{Err, Ok, sym, ◌∙◌}
-use Rattle.datagram.specs.Spelling.{data_text}
-use Rattle.sessions.specs.Heard.{heard_text}
+use Rattle.datagram.specs.Spellings.{data_text}
+use Rattle.sessions.specs.HeardBytes.{heard_text}
 use Rattle.engine.proofs.LastPiece.{last_given, next_given}
 use Rattle.engine.proofs.parts.Parts.take_piece.Goals as goal
 

@@ -2,7 +2,7 @@
 use Rattle.std.proofs.Common.{◌≡◌, ◌∙◌, sym, ap, length, arith, rules, List, ℕ, subst}
 use Rattle.std.proofs.lemmas.Bool.{both_ways}
 use Rattle.groups.specs.Comparisons.{HaveSameMembers}
-use Rattle.groups.proofs.Comparing.{HaveSameMembers-included, list_all-same, length-same, pointwise-same}
+use Rattle.groups.proofs.ComparisonLaws.{HaveSameMembers-included, list_all-same, length-same, pointwise-same}
 use Rattle.groups.proofs.group.Group.compare.Goals as goal
 use Rattle.groups.proofs.group.Group.compare.Goals.{else-first-second-via-then-first-second+else-holds_all}
 use Rattle.groups.proofs.group.Group.compare.Goals.{else-first-second-via-else-first-second}

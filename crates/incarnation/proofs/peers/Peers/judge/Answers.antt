@@ -1,7 +1,7 @@
 -- FOR SPEED ALONE: each goal here is proved without this file, too; with it a wrong body is refused soon.
 use Rattle.std.proofs.Common.{arith, rules}
 use Rattle.std.proofs.lemmas.Grind.{common_steps}
-use Rattle.incarnation.specs.Judging.{judgement}
+use Rattle.incarnation.specs.Judgements.{judgement}
 use Rattle.incarnation.proofs.peers.Peers.judge.Goals as goal
 
 pub returns-then-header-self-clause-rule : goal.returns-then-header-self-clause-rule

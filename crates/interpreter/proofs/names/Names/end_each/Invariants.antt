@@ -1,6 +1,6 @@
 -- What has ended so far and what is left come to what all comes to.
 use Rattle.std.proofs.Common.{◌≡◌, length}
-use Rattle.interpreter.specs.Hearing.{ended_each}
+use Rattle.interpreter.specs.Answers.{ended_each}
 use Rattle.interpreter.proofs.SeveralLaws.{HaveEnded}
 use Rattle.interpreter.proofs.names.Names.end_each.Given as goal
 

@@ -1,7 +1,7 @@
 use Rattle.std.proofs.Common.{◌∙◌, Option, Some, sym, ap}
 use Rattle.script_calls.specs.declared.pending.Pending.TheVariants as pendings
 use Rattle.interpreter.specs.declared.steps.NextStep.{NextStep}
-use Rattle.interpreter.specs.Acting.{Acts, places_named}
+use Rattle.interpreter.specs.StatementCalls.{Acts, places_named}
 use Rattle.interpreter.specs.NamesState.{here, place_named}
 use Rattle.interpreter.proofs.CallLaws.{receive_made}
 use Rattle.interpreter.proofs.names.Names.receive_to_wait.Goals as goal

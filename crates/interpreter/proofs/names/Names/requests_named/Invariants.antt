@@ -1,5 +1,5 @@
 use Rattle.std.proofs.Common.{◌≡◌, drop}
-use Rattle.interpreter.specs.Acting.{requests_named}
+use Rattle.interpreter.specs.StatementCalls.{requests_named}
 use Rattle.interpreter.proofs.SeveralLaws.{found_before}
 use Rattle.interpreter.proofs.names.Names.requests_named.Given as goal
 

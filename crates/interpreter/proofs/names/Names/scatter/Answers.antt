@@ -1,6 +1,6 @@
 use Rattle.std.proofs.Common.{◌∙◌, Option, sym, ap}
 use Rattle.interpreter.specs.declared.steps.NextStep.{NextStep}
-use Rattle.interpreter.specs.Acting.{Acts, blocks_named}
+use Rattle.interpreter.specs.StatementCalls.{Acts, blocks_named}
 use Rattle.interpreter.specs.NamesState.{here, is_root, place_named}
 use Rattle.interpreter.proofs.CallLaws.{scatter_made}
 use Rattle.interpreter.proofs.names.Names.scatter.Goals as goal

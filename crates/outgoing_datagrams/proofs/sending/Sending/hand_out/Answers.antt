@@ -1,7 +1,7 @@
 use Rattle.std.proofs.Common.{rules, ◌≡◌, subst}
 use Rattle.std.specs.Prelude.{None}
-use Rattle.outgoing_datagrams.specs.Outgoing.{HandsOn, kept_in}
-use Rattle.outgoing_datagrams.proofs.Handing.{out_run}
+use Rattle.outgoing_datagrams.specs.HandedDatagrams.{HandsOn, kept_in}
+use Rattle.outgoing_datagrams.proofs.HandedSteps.{out_run}
 use Rattle.outgoing_datagrams.proofs.sending.Sending.hand_out.Goals as goal
 
 pub returns : goal.returns

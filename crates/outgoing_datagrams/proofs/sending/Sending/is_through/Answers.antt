@@ -1,6 +1,6 @@
 use Rattle.std.proofs.Common.{rules, ◌≡◌, length, ap}
-use Rattle.outgoing_datagrams.specs.Outgoing.{SendingState}
-use Rattle.outgoing_datagrams.proofs.Handing.{through}
+use Rattle.outgoing_datagrams.specs.HandedDatagrams.{SendingState}
+use Rattle.outgoing_datagrams.proofs.HandedSteps.{through}
 use Rattle.outgoing_datagrams.proofs.sending.Sending.is_through.Goals as goal
 
 pub returns : goal.returns

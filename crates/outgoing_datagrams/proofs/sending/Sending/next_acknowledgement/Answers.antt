@@ -1,7 +1,7 @@
 use Rattle.std.proofs.Common.{◌≡◌, List, drop, ap, ◌∙◌}
 use Rattle.port_transport.specs.Wires.{Parcel}
-use Rattle.outgoing_datagrams.specs.Outgoing.{SendingState}
-use Rattle.outgoing_datagrams.proofs.Handing.{first_waits, next_of}
+use Rattle.outgoing_datagrams.specs.HandedDatagrams.{SendingState}
+use Rattle.outgoing_datagrams.proofs.HandedSteps.{first_waits, next_of}
 use Rattle.outgoing_datagrams.proofs.sending.Sending.next_acknowledgement.Goals as goal
 
 pub returns-clause-next : goal.returns-clause-next

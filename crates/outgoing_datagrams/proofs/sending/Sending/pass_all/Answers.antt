@@ -1,7 +1,7 @@
 use Rattle.std.proofs.Common.{rules, ◌≡◌, ◌+◌, [], ◌∷◌, length, subst, ◌∙◌}
 use Rattle.std.specs.Prelude.{None}
-use Rattle.outgoing_datagrams.specs.Outgoing.{HandsOn, kept_in}
-use Rattle.outgoing_datagrams.proofs.Handing.{hands_joined, one_fewer}
+use Rattle.outgoing_datagrams.specs.HandedDatagrams.{HandsOn, kept_in}
+use Rattle.outgoing_datagrams.proofs.HandedSteps.{hands_joined, one_fewer}
 use Rattle.outgoing_datagrams.proofs.sending.Sending.pass_all.Goals as goal
 
 pub returns-in-Some-clause-hands : goal.returns-in-Some-clause-hands

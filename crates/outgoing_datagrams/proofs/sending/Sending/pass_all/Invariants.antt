@@ -1,5 +1,5 @@
 use Rattle.std.proofs.Common.{◌≡◌, ◌+◌, ◌≤◌, List, [], length}
-use Rattle.outgoing_datagrams.specs.Outgoing.{HandsOn}
+use Rattle.outgoing_datagrams.specs.HandedDatagrams.{HandsOn}
 use Rattle.outgoing_datagrams.proofs.sending.Sending.pass_all.Given as goal
 
 abbrev pub invariant-loop : goal.invariant-loop

@@ -1,9 +1,9 @@
 use Rattle.std.proofs.Common.{◌≡◌, ℕ, List, drop, ap, subst, ◌∙◌}
 use Rattle.std.specs.Prelude.{max}
 use Rattle.port_transport.specs.Wires.{Parcel}
-use Rattle.outgoing_datagrams.specs.Outgoing.{SendingState}
+use Rattle.outgoing_datagrams.specs.HandedDatagrams.{SendingState}
 use Rattle.outgoing_datagrams.specs.Runs.{IsRun}
-use Rattle.outgoing_datagrams.proofs.Handing.{take_rest}
+use Rattle.outgoing_datagrams.proofs.HandedSteps.{take_rest}
 use Rattle.outgoing_datagrams.proofs.sending.Sending.put_next.Goals as goal
 
 pub returns-clause-run : goal.returns-clause-run

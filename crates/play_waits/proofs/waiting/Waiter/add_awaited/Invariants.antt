@@ -1,5 +1,5 @@
 use Rattle.std.proofs.Common.{◌≡◌, ◌++◌, filter, drop}
-use Rattle.play_waits.specs.Entering.{is_awaited}
+use Rattle.play_waits.specs.AwaitedMembers.{is_awaited}
 use Rattle.play_waits.proofs.waiting.Waiter.add_awaited.Given as goal
 
 -- those so far and those of the rest are those of all

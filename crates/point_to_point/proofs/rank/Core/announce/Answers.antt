@@ -1,6 +1,6 @@
 -- Who announces the next transfer is a rank of the job.
 use Rattle.std.proofs.Common.{ap}
-use Rattle.datagram.specs.Spelling.{request_text}
+use Rattle.datagram.specs.Spellings.{request_text}
 use Rattle.point_to_point.specs.CoreState.{Held}
 use Rattle.point_to_point.proofs.Allowances.{answerable}
 use Rattle.point_to_point.proofs.rank.Core.announce.Goals as goal

@@ -1,7 +1,7 @@
 -- PROOF, and for speed: the goals answered by `search rules` are proved without this file, too.
 use Rattle.std.proofs.Common.{rules}
-use Rattle.point_to_point.proofs.Keeping.{kept_on_cts}
-use Rattle.point_to_point.proofs.Taken.{kept_on_answer}
+use Rattle.point_to_point.proofs.CoreLaws.{kept_on_cts}
+use Rattle.point_to_point.proofs.TakenMessages.{kept_on_answer}
 use Rattle.point_to_point.proofs.rank.Core.finish_offer.Goals as goal
 
 pub on_cts-requires : goal.on_cts-requires

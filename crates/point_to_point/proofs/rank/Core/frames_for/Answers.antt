@@ -1,7 +1,7 @@
 -- The frames can go, and are few.
 use Rattle.std.proofs.Common.{subst}
 use Rattle.point_to_point.specs.CoreState.{Held, IsKept}
-use Rattle.point_to_point_calls.specs.Hearing.{news_text}
+use Rattle.point_to_point_calls.specs.FrameNews.{news_text}
 use Rattle.point_to_point.proofs.Replies.{frames_are_few, frames_go}
 use Rattle.point_to_point.proofs.rank.Core.frames_for.Goals as goal
 

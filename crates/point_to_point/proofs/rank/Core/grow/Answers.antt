@@ -1,6 +1,6 @@
 -- Data that come leave the messages that were taken out.
-use Rattle.point_to_point.proofs.Keeping.{kept_on_data}
-use Rattle.point_to_point.proofs.Taken.{kept_on_delivery}
+use Rattle.point_to_point.proofs.CoreLaws.{kept_on_data}
+use Rattle.point_to_point.proofs.TakenMessages.{kept_on_delivery}
 use Rattle.point_to_point.proofs.rank.Core.grow.Goals as goal
 
 pub invariant_of-self : goal.invariant_of-self

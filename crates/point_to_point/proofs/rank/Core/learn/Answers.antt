@@ -1,6 +1,6 @@
 -- What is left is kept as all was.
-use Rattle.point_to_point.proofs.Keeping.{kept_on_drop}
-use Rattle.point_to_point.proofs.Taken.{kept_on_replaces}
+use Rattle.point_to_point.proofs.CoreLaws.{kept_on_drop}
+use Rattle.point_to_point.proofs.TakenMessages.{kept_on_replaces}
 use Rattle.point_to_point.proofs.rank.Core.learn.Goals as goal
 
 pub invariant_of-self : goal.invariant_of-self

@@ -1,9 +1,9 @@
 -- The message that was found is the one that the receive would take.
 use Rattle.std.proofs.Common.{ap, sym, ◌∙◌}
 use Rattle.match_queues.specs.State.{place_for}
-use Rattle.point_to_point_calls.specs.Receiving.{posted_by}
+use Rattle.point_to_point_calls.specs.ReceiveMatches.{posted_by}
 use Rattle.point_to_point.specs.CoreState.{Held}
-use Rattle.point_to_point.specs.Receiving.{found_by}
+use Rattle.point_to_point.specs.Receives.{found_by}
 use Rattle.point_to_point.proofs.rank.Core.message_at.Goals as goal
 
 pub returns : goal.returns

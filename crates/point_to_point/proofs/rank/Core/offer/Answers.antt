@@ -1,8 +1,8 @@
 -- PROOF, and for speed: the goals answered by `search rules` are proved without this file, too.
 use Rattle.std.proofs.Common.{◌<◌, sym, subst, rules}
 use Rattle.point_to_point.specs.CoreState.{Held}
-use Rattle.point_to_point.proofs.Keeping.{kept_on_begin}
-use Rattle.point_to_point.proofs.Taken.{kept_on_start}
+use Rattle.point_to_point.proofs.CoreLaws.{kept_on_begin}
+use Rattle.point_to_point.proofs.TakenMessages.{kept_on_start}
 use Rattle.point_to_point.proofs.rank.Core.offer.Goals as goal
 
 pub start-request-requires-clause-room : goal.start-request-requires-clause-room

@@ -2,7 +2,7 @@
 use Rattle.std.proofs.Common.{◌≡◌, ap, ◌∙◌, rules}
 use Rattle.match_queues.specs.State.{place_for}
 use Rattle.match_queues.specs.declared.envelope.PostedReceive.{PostedReceive}
-use Rattle.point_to_point_calls.specs.Receiving.{posted_by}
+use Rattle.point_to_point_calls.specs.ReceiveMatches.{posted_by}
 use Rattle.point_to_point.specs.Calls.{sought_at}
 use Rattle.point_to_point.specs.CoreState.{Held}
 use Rattle.point_to_point.proofs.rank.Core.place_of_message.Goals as goal

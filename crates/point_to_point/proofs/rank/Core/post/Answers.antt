@@ -1,7 +1,7 @@
 -- The message that the receive finds is taken out of those that are kept.
 use Rattle.std.proofs.Common.{sym, subst}
-use Rattle.point_to_point.proofs.Keeping.{kept_on_post}
-use Rattle.point_to_point.proofs.Taken.{Holds, kept_on_start, post_holds}
+use Rattle.point_to_point.proofs.CoreLaws.{kept_on_post}
+use Rattle.point_to_point.proofs.TakenMessages.{Holds, kept_on_start, post_holds}
 use Rattle.point_to_point.proofs.rank.Core.post.Goals as goal
 
 pub invariant_of-self : goal.invariant_of-self

@@ -1,6 +1,6 @@
 -- PROOF, and for speed: the goals answered by `search rules` are proved without this file, too.
 use Rattle.std.proofs.Common.{rules}
-use Rattle.point_to_point.proofs.Taken.{kept_on_start}
+use Rattle.point_to_point.proofs.TakenMessages.{kept_on_start}
 use Rattle.point_to_point.proofs.rank.Core.receive_nothing.Goals as goal
 
 pub null_status-requires : goal.null_status-requires

@@ -1,8 +1,8 @@
 -- The message that comes is answerable, and those that were taken out stay.
 use Rattle.std.proofs.Common.{sym, subst}
 use Rattle.point_to_point.specs.CoreState.{Held, IsAnswerable}
-use Rattle.point_to_point.proofs.Keeping.{kept_on_arrival, kept_on_collection}
-use Rattle.point_to_point.proofs.Taken.{kept_on_announcement, kept_on_answer, kept_on_finish}
+use Rattle.point_to_point.proofs.CoreLaws.{kept_on_arrival, kept_on_collection}
+use Rattle.point_to_point.proofs.TakenMessages.{kept_on_announcement, kept_on_answer, kept_on_finish}
 use Rattle.point_to_point.proofs.rank.Core.receive_or_keep.Goals as goal
 
 pub invariant_of-self-in-Whole : goal.invariant_of-self-in-Whole

@@ -1,6 +1,6 @@
 -- What a send offers goes to a rank of the job, and is within the limit of a message.
 use Rattle.std.proofs.Common.{sym, ◌∙◌}
-use Rattle.point_to_point.proofs.Allowed.{allowed_send, offer_is_there, offer_is_within}
+use Rattle.point_to_point.proofs.FaultlessCalls.{allowed_send, offer_is_there, offer_is_within}
 use Rattle.point_to_point.proofs.rank.Core.send.Goals as goal
 
 pub offer-requires-clause-there : goal.offer-requires-clause-there

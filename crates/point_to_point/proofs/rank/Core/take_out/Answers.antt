@@ -6,9 +6,9 @@ use Rattle.match_queues.specs.State.{message_for, place_for}
 use Rattle.match_queues.specs.declared.envelope.Message.{Message}
 use Rattle.point_to_point.specs.CoreState.{Held, IsAnswerable}
 use Rattle.point_to_point.specs.Messages.{probed_by}
-use Rattle.point_to_point.proofs.Keeping.{kept_on_take}
-use Rattle.point_to_point.proofs.Posting.{found_is_answerable}
-use Rattle.point_to_point.proofs.Taken.{kept_on_start}
+use Rattle.point_to_point.proofs.CoreLaws.{kept_on_take}
+use Rattle.point_to_point.proofs.ReceiveLaws.{found_is_answerable}
+use Rattle.point_to_point.proofs.TakenMessages.{kept_on_start}
 use Rattle.point_to_point.proofs.rank.Core.take_out.Goals as goal
 
 pub invariant_of-self : goal.invariant_of-self

@@ -1,6 +1,6 @@
 -- Requests that are used up leave the messages that were taken out.
 use Rattle.std.proofs.Common.{refl}
-use Rattle.point_to_point.proofs.Taken.{kept_on_completion}
+use Rattle.point_to_point.proofs.TakenMessages.{kept_on_completion}
 use Rattle.point_to_point.proofs.rank.Core.wake.Goals as goal
 
 pub invariant_of-self : goal.invariant_of-self

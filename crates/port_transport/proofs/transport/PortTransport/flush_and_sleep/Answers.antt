@@ -1,5 +1,5 @@
 use Rattle.std.proofs.Common.{[], refl}
-use Rattle.port_transport.proofs.Passing.{passes_joined}
+use Rattle.port_transport.proofs.PortSteps.{passes_joined}
 use Rattle.port_transport.proofs.Steps.{goes, on_ok, stays}
 use Rattle.port_transport.proofs.transport.PortTransport.flush_and_sleep.Goals as goal
 

@@ -1,5 +1,5 @@
 use Rattle.std.proofs.Common.{[], ◌∷◌}
-use Rattle.port_transport.proofs.Passing.{passes_joined}
+use Rattle.port_transport.proofs.PortSteps.{passes_joined}
 use Rattle.port_transport.specs.Wires.{Parcel}
 use Rattle.port_transport.proofs.Steps.{from_same, goes, goes_or_stays, on_ok}
 use Rattle.port_transport.proofs.transport.PortTransport.keep.Goals as goal

@@ -1,5 +1,5 @@
 use Rattle.std.proofs.Common.{[], ◌∷◌, refl}
-use Rattle.port_transport.proofs.Passing.{passes_joined}
+use Rattle.port_transport.proofs.PortSteps.{passes_joined}
 use Rattle.port_transport.specs.declared.wire.WireEvent.TheVariants.{Wrote}
 use Rattle.port_transport.specs.Ports.{with_end}
 use Rattle.port_transport.proofs.Steps.{goes, on_ok, stays}

@@ -1,5 +1,5 @@
 use Rattle.std.proofs.Common.{[], refl}
-use Rattle.port_transport.proofs.Passing.{passes_joined}
+use Rattle.port_transport.proofs.PortSteps.{passes_joined}
 use Rattle.port_transport.specs.Ports.{received_in}
 use Rattle.port_transport.specs.Wires.{arrived}
 use Rattle.port_transport.proofs.Steps.{goes_or_stays, none_gone, none_written, stays}

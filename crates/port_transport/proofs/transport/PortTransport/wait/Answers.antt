@@ -1,7 +1,7 @@
 use Rattle.std.proofs.Common.{[], refl, subst}
 use Rattle.std.specs.Prelude.{OnOk}
 use Rattle.port_transport.specs.Ports.{Passes}
-use Rattle.port_transport.proofs.Passing.{passes_joined}
+use Rattle.port_transport.proofs.PortSteps.{passes_joined}
 use Rattle.port_transport.proofs.Steps.{goes, on_ok, stays}
 use Rattle.port_transport.proofs.transport.PortTransport.wait.Goals as goal
 

@@ -1,7 +1,7 @@
 use Rattle.std.proofs.Common.{◌≡◌, ◌∙◌, sym, length, Some, None}
 use Rattle.std.proofs.lemmas.List.{length-map}
-use Rattle.datagram.specs.Spelling.{outgoing_text}
-use Rattle.sessions.specs.Heard.{heard_text}
+use Rattle.datagram.specs.Spellings.{outgoing_text}
+use Rattle.sessions.specs.HeardBytes.{heard_text}
 use Rattle.sessions.specs.Events.{sendings}
 use Rattle.sessions.proofs.Whole.{few_carried, placed_carried, unheard_carried}
 use Rattle.sessions.proofs.Windows.{within_carried}

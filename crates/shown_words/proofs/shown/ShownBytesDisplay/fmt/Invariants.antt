@@ -1,6 +1,6 @@
 use Rattle.std.proofs.Common.{map, take}
 use Rattle.std.specs.Fmt.{HasWritten, IsPlainFormatter}
-use Rattle.shown_words.specs.Shown.{printable}
+use Rattle.shown_words.specs.WordTexts.{printable}
 use Rattle.shown_words.proofs.shown.ShownBytesDisplay.fmt.Given as goal
 
 abbrev pub invariant-loop-byte : goal.invariant-loop-byte

@@ -1,6 +1,6 @@
 use Rattle.world.proofs.EventByEvent.{has_some_run, shares_onwards}
 use Rattle.world.proofs.Headlines.{is_run_of_machine, sessions_are_true}
-use Rattle.world.proofs.Ordered.{sessions_are_in_order}
+use Rattle.world.proofs.SessionOrder.{sessions_are_in_order}
 use Rattle.world.proofs.world.World.history.Goals as goal
 
 pub returns-clause-headline : goal.returns-clause-headline

@@ -1,4 +1,4 @@
-use Rattle.world.proofs.Ordered.{nothing_is_held}
+use Rattle.world.proofs.SessionOrder.{nothing_is_held}
 use Rattle.world.proofs.Places.{sound_placed}
 use Rattle.world.proofs.QuietPairs.{quiet_iff}
 use Rattle.world.proofs.world.World.is_quiet.Goals as goal

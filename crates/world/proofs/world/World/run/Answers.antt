@@ -1,6 +1,6 @@
 use Rattle.world.proofs.EventByEvent.{goes_all_the_way}
 use Rattle.world.proofs.Headlines.{is_run_of_machine, sessions_are_true}
-use Rattle.world.proofs.Ordered.{sessions_are_in_order}
+use Rattle.world.proofs.SessionOrder.{sessions_are_in_order}
 use Rattle.world.proofs.world.World.run.Goals as goal
 
 pub returns-then-is_err-clause-headline : goal.returns-then-is_err-clause-headline

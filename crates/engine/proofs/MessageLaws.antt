@@ -1,0 +1,219 @@
+-- What taking a message of a collective gives.
+use Rattle.std.proofs.Common.{◌≡◌, List, Option, Some, None, Ok, refl, sym, ap, subst, ◌∙◌, inl, inr}
+use Rattle.collective_messages.specs.Arrivals.{ArrivalGives}
+use Rattle.collective_messages.specs.declared.note.Note.{Note}
+use Rattle.collective_messages.specs.declared.address.Address.{Address}
+use Rattle.collective_messages.specs.declared.refusal.CollectiveRefusal as noted
+use Rattle.collective_messages.specs.declared.refusal.CollectiveRefusal.TheVariants as notes
+use Rattle.collective_messages.specs.declared.message.CollectiveMessage.{CollectiveMessage}
+use Rattle.collective_transfers.specs.Payloads.{Announced, Whole}
+use Rattle.collective_transfers.specs.State as payloads
+use Rattle.collective_transfers.specs.State.{after_announcing}
+use Rattle.collectives.specs.Calls.{IsReady, MessageRefused, after_lesson, with_note}
+use Rattle.collectives.specs.State.{State, after_step}
+use Rattle.collective_steps.specs.Steps.{contexts_after, ending_of}
+use Rattle.collectives.specs.declared.collective.ReadyMessage.{ReadyMessage}
+use Rattle.collective_steps.specs.declared.step.Ending.{Ending}
+use Rattle.context_agreement.specs.Communicators.{ContextsState}
+use Rattle.engine.specs.JobPayloads.{payload_in}
+use Rattle.payload.specs.Spellings.{PartFits, PayloadText}
+use Rattle.point_to_point_calls.specs.declared.refusal.Refusal.{Refusal}
+use Rattle.point_to_point_calls.specs.declared.refusal.Refusal.TheVariants as refusals
+use Rattle.point_to_point.specs.CoreState.{CoreState, with_numbers}
+use Rattle.point_to_point.specs.Arrivals.{after_news}
+use Rattle.rendezvous.specs.declared.transfers.Numbers.{Numbers}
+use Rattle.sessions.specs.Events.{after_event}
+use Rattle.sessions.specs.HeardBytes.{HeardText}
+use Rattle.sessions.specs.SessionsState.{SessionsState}
+use Rattle.vocabulary.specs.declared.endpoint.Endpoint.{Endpoint}
+use Rattle.engine.specs.Datagrams.{IsNoticed, IsTold, WhyUnnoticed, address_of, ended_by, lesson_alone, lesson_in}
+use Rattle.engine.specs.Datagrams.{met_by, numbers_met, payloads_met}
+use Rattle.engine_calls.specs.EngineState.{EngineState, or_before}
+use Rattle.engine_calls.specs.Frames.{AreWhole, step_limit, step_numbers, step_payloads, step_sendings}
+use Rattle.engine_calls.specs.Refusals.{of_collectives}
+use Rattle.engine_calls.specs.Steps.{StepStops, ending_met}
+
+-- of three endings, the first that there is
+first_of_three : (a b c : Option Ending) → or_before (or_before a b) c ≡ or_before a (or_before b c)
+first_of_three None b c = refl
+first_of_three (Some o) b c = refl
+
+-- what the communicators keep in between, and what they answer
+pub record IsTakenIn (old : EngineState) (lesson : Option Endpoint) (ready : ReadyMessage) (s1 s2 s3 : State)
+    (k1 k2 k3 : ContextsState)
+    (replaced left ending : Option Ending) : Type 0 where
+  pub kept : s1 ≡ old.groups.collective
+  pub held : k1 ≡ old.groups.contexts
+  pub learnt : s2 ≡ after_lesson s1 k1 lesson
+  pub same : k2 ≡ k1
+  pub replaces : replaced ≡ ending_met s1 k1 lesson
+  pub taken : s3 ≡ after_step (with_note s2 ready.note) ready.step.outcome
+  pub got : k3 ≡ contexts_after k2 ready.step.drawn ready.step.outcome
+  pub leaves : left ≡ ending_of k2 ready.step.outcome
+  pub ends : ending ≡ or_before left replaced
+
+-- what becomes of the core, the numbers of transfers and the payloads, and what is sent
+pub record IsCounted (core : CoreState) (before : payloads.State) (s : SessionsState) (h : HeardText)
+    (ms : List CollectiveMessage) (c d e : CoreState) (ns n2 : List Numbers)
+    (ps : List Announced) (q0 q1 q2 : payloads.State) (links : SessionsState) : Type 0 where
+  pub kept : c ≡ core
+  pub taken : d ≡ after_news c (lesson_alone h)
+  pub counted : e ≡ with_numbers d n2
+  pub numbers : ns ≡ numbers_met c h
+  pub next : n2 ≡ step_numbers ns ms
+  pub whole : AreWhole ms
+  pub goes : step_limit s ns (Some h) ms ≡ None
+  pub sent : links ≡ after_event s (Some h) (step_sendings s.place ns ms)
+  pub announced : ps ≡ step_payloads ns ms
+  pub same : q0 ≡ before
+  pub left : q1 ≡ payloads_met q0 (lesson_in h)
+  pub added : q2 ≡ after_announcing q1 ps
+
+-- so the others are told
+pub told : (core : CoreState) (before : payloads.State) (s : SessionsState) (h : HeardText)
+    (ms : List CollectiveMessage) (c d e : CoreState) (ns n2 : List Numbers)
+    (ps : List Announced) (q0 q1 q2 : payloads.State) (links : SessionsState) →
+    IsCounted core before s h ms c d e ns n2 ps q0 q1 q2 links →
+    IsTold core before s h ms e q2 links
+told core before s h ms c d e ns n2 ps q0 q1 q2 links count =
+    let first : ns ≡ numbers_met core h = count.numbers ∙ ap (λ (x : CoreState). numbers_met x h) count.kept in
+    let news : d ≡ after_news core (lesson_alone h) = count.taken ∙ ap (λ (x : CoreState). after_news x (lesson_alone h)) count.kept in
+    let rest : q1 ≡ payloads_met before (lesson_in h) = count.left ∙ ap (λ (q : payloads.State). payloads_met q (lesson_in h)) count.same in
+    record {
+      whole = count.whole;
+      goes = subst (λ (n : List Numbers). step_limit s n (Some h) ms ≡ None) first count.goes;
+      core = count.counted ∙ ap (λ (x : CoreState). with_numbers x n2) news
+          ∙ ap (λ (n : List Numbers). with_numbers (after_news core (lesson_alone h)) n)
+          (count.next ∙ ap (λ (n : List Numbers). step_numbers n ms) first);
+      payloads = count.added ∙ ap (λ (q : payloads.State). after_announcing q ps) rest
+          ∙ ap (λ (l : List Announced). after_announcing (payloads_met before (lesson_in h)) l)
+          (count.announced ∙ ap (λ (n : List Numbers). step_payloads n ms) first);
+      sessions = count.sent ∙ ap (λ (n : List Numbers). after_event s (Some h) (step_sendings s.place n ms)) first;
+    }
+
+-- for want of memory any step is stopped
+pub memory_stops : (limit : Option Refusal) (e : Refusal) → e ≡ refusals.OutOfMemory → StepStops limit e
+memory_stops limit e is = subst (λ (r : Refusal). StepStops limit r) (sym is) tt
+
+pub noticed : (old : EngineState) (h : HeardText) (w : Whole) (lesson : Option Endpoint) (p : PayloadText)
+    (ready : ReadyMessage)
+    (s1 s2 s3 : State) (k1 k2 k3 : ContextsState) (replaced left ending : Option Ending) (c : CoreState)
+    (q : payloads.State) (links : SessionsState) →
+    lesson ≡ lesson_in h → payload_in old.sessions.place.size w.bytes ≡ Some p →
+    IsReady (after_lesson old.groups.collective old.groups.contexts lesson) old.groups.contexts
+    (address_of h.source w) p ready →
+    IsTold old.core old.payloads old.sessions h ready.step.messages c q links →
+    IsTakenIn old lesson ready s1 s2 s3 k1 k2 k3 replaced left ending →
+    IsNoticed old (payloads_met old.payloads (lesson_in h)) h w
+    (record {
+      core = c;
+      groups = record { collective = s3; contexts = k3 };
+      ended =
+          or_before ending old.ended;
+      payloads = q;
+      sessions = links;
+    })
+noticed old h w lesson p ready s1 s2 s3 k1 k2 k3 replaced left ending c q links taught read is told take =
+    let same : k2 ≡ old.groups.contexts = take.same ∙ take.held in
+    let learnt : s2 ≡ met_by old h =
+    take.learnt ∙ ap (λ (s : State). after_lesson s k1 lesson) take.kept ∙
+    ap (λ (k : ContextsState). after_lesson old.groups.collective k lesson) take.held
+    ∙ ap (after_lesson old.groups.collective old.groups.contexts) taught in
+    let replaces : replaced ≡ ended_by old.groups (lesson_in h) =
+    take.replaces ∙ ap (λ (s : State). ending_met s k1 lesson) take.kept ∙
+    ap (λ (k : ContextsState). ending_met old.groups.collective k lesson) take.held
+    ∙ ap (ended_by old.groups) taught in
+    let leaves : left ≡ ending_of old.groups.contexts ready.step.outcome = take.leaves ∙ ap (λ (k : ContextsState). ending_of k ready.step.outcome) same in
+    record {
+      payload = p;
+      read = read;
+      ready = ready;
+      is_ready =
+          subst (λ (l : Option Endpoint). IsReady (after_lesson old.groups.collective old.groups.contexts l)
+          old.groups.contexts (address_of h.source w) p ready) taught is;
+      whole = told.whole;
+      goes = told.goes;
+      core = told.core;
+      collective = take.taken ∙ ap (λ (s : State). after_step (with_note s ready.note) ready.step.outcome) learnt;
+      contexts = take.got ∙ ap (λ (k : ContextsState). contexts_after k ready.step.drawn ready.step.outcome) same;
+      ended = ap (λ (o : Option Ending). or_before o old.ended) take.ends ∙ first_of_three left replaced old.ended
+          ∙ ap (λ (o : Option Ending). or_before o (or_before replaced old.ended)) leaves
+          ∙ ap (λ (o : Option Ending). or_before (ending_of old.groups.contexts ready.step.outcome)
+          (or_before o old.ended)) replaces;
+      payloads = told.payloads;
+      sessions = told.sessions;
+    }
+
+-- ---- why it isn't taken
+
+-- it can't be made ready
+pub unready : (old : EngineState) (h : HeardText) (w : Whole) (lesson : Option Endpoint) (p : PayloadText)
+    (why : noted.CollectiveRefusal) → lesson ≡ lesson_in h →
+    payload_in old.sessions.place.size w.bytes ≡ Some p →
+    MessageRefused (after_lesson old.groups.collective old.groups.contexts lesson) old.groups.contexts
+    (address_of h.source w) p why →
+    WhyUnnoticed old h w (of_collectives why)
+unready old h w lesson p why taught read is =
+    go why (subst
+    (λ (l : Option Endpoint). MessageRefused (after_lesson old.groups.collective old.groups.contexts l)
+    old.groups.contexts (address_of h.source w) p why) taught is)
+  where
+    go : (r : noted.CollectiveRefusal) → MessageRefused (met_by old h) old.groups.contexts (address_of h.source w) p r →
+        WhyUnnoticed old h w (of_collectives r)
+    go notes.BadFrame m = inr (p, read, m)
+    go notes.Limit m = (p, read, inl m)
+    go notes.OutOfMemory m = (p, read, m)
+    go notes.NoCommunicator m = absurd m
+    go notes.Blocked m = absurd m
+
+-- the part of a message that came fits its record
+arrival_fits : (a : Address) (p : PayloadText) (came : Option Note) →
+    ArrivalGives a.sender a.context a.number p (Ok came) → PartFits p.record_is p.part
+arrival_fits a p None gives = gives.0
+arrival_fits a p (Some n) gives = gives.0
+
+-- and so does that of one that is ready
+ready_fits : (s : State) (k : ContextsState) (a : Address) (p : PayloadText) (ready : ReadyMessage) →
+    IsReady s k a p ready → PartFits p.record_is p.part
+ready_fits s k a p ready is = arrival_fits a p is.0 is.1
+
+-- its step is stopped
+pub stopped : (old : EngineState) (h : HeardText) (w : Whole) (lesson : Option Endpoint) (p : PayloadText)
+    (ready : ReadyMessage) (why : Refusal) → lesson ≡ lesson_in h →
+    payload_in old.sessions.place.size w.bytes ≡ Some p →
+    IsReady (after_lesson old.groups.collective old.groups.contexts lesson) old.groups.contexts
+    (address_of h.source w) p ready →
+    StepStops (step_limit old.sessions (numbers_met old.core h) (Some h) ready.step.messages) why →
+    WhyUnnoticed old h w why
+stopped old h w lesson p ready why taught read is stops =
+    go why stops
+    (subst (λ (l : Option Endpoint). IsReady (after_lesson old.groups.collective old.groups.contexts l)
+    old.groups.contexts (address_of h.source w) p ready) taught is)
+  where
+    go : (r : Refusal) → StepStops (step_limit old.sessions (numbers_met old.core h) (Some h) ready.step.messages) r →
+        IsReady (met_by old h) old.groups.contexts (address_of h.source w) p ready →
+        WhyUnnoticed old h w r
+    go refusals.OutOfMemory s i =
+        (p, read, ready_fits (met_by old h) old.groups.contexts (address_of h.source w) p ready i)
+    go refusals.Limit s i = (p, read, inr (ready, i, s))
+    go refusals.Count s i = absurd s
+    go refusals.WrongType s i = absurd s
+    go refusals.Tag s i = absurd s
+    go refusals.Communicator s i = absurd s
+    go refusals.Rank s i = absurd s
+    go refusals.Request s i = absurd s
+    go refusals.Root s i = absurd s
+    go refusals.Operation s i = absurd s
+    go refusals.Replaced s i = absurd s
+    go refusals.Short s i = absurd s
+    go refusals.Magic s i = absurd s
+    go refusals.Version s i = absurd s
+    go refusals.Kind s i = absurd s
+    go refusals.Length s i = absurd s
+    go refusals.ForeignJob s i = absurd s
+    go refusals.NotForMe s i = absurd s
+    go refusals.StaleSource s i = absurd s
+    go refusals.StaleTarget s i = absurd s
+    go refusals.BadFrame s i = absurd s
+    go refusals.OutOfWindow s i = absurd s
+    go refusals.ClockBack s i = absurd s
