@@ -5,4 +5,4 @@ pub mod CallFaults
 pub mod Orderly
 mod Tables
 mod GroupsOfJob
-mod Staying
+mod OrderlyEngines
