@@ -1,0 +1,8 @@
+use Rattle.engine.proofs.engine.Engine.cancel.Goals as goal
+
+pub returns : goal.returns
+returns c =
+    let i = c.self.inside in
+    rw (← c.self.view_is)
+    (c.cancel.ensures (record { ended = i.ended; payloads = i.parts.payloads.state })
+    i.parts.sessions)
