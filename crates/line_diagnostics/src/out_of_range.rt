@@ -107,7 +107,7 @@ fn is_colour_outside(word: &[u8]) -> bool
 }
 
 /// Whether the word is a key: a number of 32 bits with its sign.
-#[tactic(auto, unfolding(statements::specs::Reading::key_of))]
+#[tactic(auto, unfolding(statements::specs::LineWords::key_of))]
 fn is_key(word: &[u8]) -> bool
     ensures { result ≡ is_some (key_of word.now) }
 {

@@ -46,7 +46,7 @@ pub(crate) fn is_action_verb(word: &[u8]) -> bool
 }
 
 /// Whether the word is the verb of a statement that only scripts have.
-#[tactic(auto, unfolding(script_files::specs::Reading::verb_of))]
+#[tactic(auto, unfolding(script_files::specs::LineWords::verb_of))]
 fn is_only_script_verb(word: &[u8]) -> bool
     ensures { result ≡ is_only_script_verb word.now }
 {
@@ -68,7 +68,7 @@ pub(crate) fn is_script_verb(word: &[u8]) -> bool
 }
 
 /// Whether the word is the verb of a statement that only files of events have.
-#[tactic(auto, unfolding(event_files::specs::Reading::verb_of))]
+#[tactic(auto, unfolding(event_files::specs::LineWords::verb_of))]
 pub(crate) fn is_event_verb(word: &[u8]) -> bool
     ensures { result ≡ is_event_verb word.now }
 {
