@@ -1,3 +1,4 @@
+pub mod CallLaws
 pub mod EntryLaws
 pub mod EntryFaults
 pub mod JobPayloads

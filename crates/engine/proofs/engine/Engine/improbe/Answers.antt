@@ -1,3 +1,6 @@
+use Rattle.engine.proofs.CallLaws.{stays_placed}
+use Rattle.engine.specs.Parts.{engine_with}
+use Rattle.engine_calls.specs.declared.call.Call.TheVariants as calls
 use Rattle.engine.proofs.engine.Engine.improbe.Goals as goal
 
 pub returns : goal.returns
@@ -5,3 +8,10 @@ returns c =
     let i = c.self.inside in
     rw (← c.self.view_is)
     (c.improbe.ensures (record { ended = i.ended; payloads = i.parts.payloads.state }))
+
+pub invariant_of-self : goal.invariant_of-self
+invariant_of-self c =
+    let i = c.self.inside in
+    stays_placed (engine_with i.parts i.ended) _ (calls.Improbe c.args.probe) c.improbe.result
+    (c.improbe.ensures (record { ended = i.ended; payloads = i.parts.payloads.state }))
+    c.self.invariant
