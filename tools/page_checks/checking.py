@@ -68,6 +68,12 @@ class Checks:
         if any(it.kind in ("shell", "sh") for it in page.fences):
             self.add(page.name, self.commands, page, folder)
 
+    def excerpts(self, page):
+        """Checks the excerpts alone that a page shows."""
+        for fence in page.fences:
+            if fence.kind in reading.EXCERPTS:
+                self.add("%s:%d" % (page.name, fence.number), self.excerpt, fence)
+
     @staticmethod
     def keep(page, fence, folder, kept):
         """Writes a file of the page into its folder."""
@@ -240,6 +246,8 @@ def check(top, paths, programs):
             page.check_links()
             if are_run:
                 checks.page(page)
+            else:
+                checks.excerpts(page)
         if not paths:
             checks.examples()
         done = checks.finish()
