@@ -233,7 +233,7 @@ impl Core {
 
     fn make_room_for_message(&mut self, frame: Option<Frame<'_>>) -> Result<(), Refusal>
         ensures room { OnOk result (needs_message_room (frame_option frame.entry) ≡ true → 0 < self.new.messages) }
-        ensures kept { self.new ≡ record self.old { messages = self.new.messages } }
+        ensures kept { self.new ≡ record self.old { places = self.new.places; messages = self.new.messages } }
         ensures err { IfErr result (λ e. e ≡ refusals.OutOfMemory) }
         ensures need { OnErr result (needs_message_room (frame_option frame.entry) ≡ true) }
     {
