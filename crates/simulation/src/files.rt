@@ -72,7 +72,7 @@ pub fn simulate_or_tell<W: Write>(alloc: Global, text: &[u8], out: &mut W) -> Re
     }
 }
 
-/// The same, where nobody asks why a line can't be followed.
+/// The same, for those who don't ask why a line can't be followed.
 pub fn simulate<W: Write>(alloc: Global, text: &[u8], out: &mut W) -> Result<(), SimulateError>
     ensures ok { OnOk result (RunsWhole text.now (W.contents out.old) (W.contents out.new)) }
     ensures err { IfErr result (λ e. StopsAnyhow text.now e (W.contents out.old) (W.contents out.new)) }
