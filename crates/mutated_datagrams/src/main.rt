@@ -4,7 +4,7 @@
 //!
 //! `mutated_datagrams COUNT SEED [counts]`: how many mutated datagrams come, and where chance begins. Prints whether
 //! some were taken and by which numbers some were refused, with `counts` how many. Status 0, 1 where an engine showed
-//! otherwise than it is to or memory was wanting, and 2 where the words aren't these.
+//! otherwise than it is to, or memory was wanting, and 2 where the words aren't these.
 #![tactic(auto)]
 
 mod calls;
