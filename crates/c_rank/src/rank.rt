@@ -3,14 +3,12 @@
 ghost use Rattle.std.specs.Prelude.{◌≡◌, ◌≤◌, ◌<◌, ◌⊎◌, ◌↔◌, [], All, IfErr, IfNone, IfOk, IfSome, IsTrue, None, Result, length, true};
 ghost use Rattle.engine.specs.Looks.{type_probed};
 ghost use Rattle.engine.specs.Datagrams.{DatagramGives};
-ghost use Rattle.engine_calls.specs.Calls.{CallGives};
-ghost use Rattle.engine_calls.specs.EngineState.{completion_of, without_completion};
 ghost use Rattle.engine_calls.specs.declared.call.Call.TheVariants as calls;
 ghost use Rattle.engine_calls.specs.declared.reply.Reply.{Reply};
 ghost use Rattle.point_to_point_calls.specs.declared.refusal.Refusal.{Refusal};
 ghost use Rattle.requests.specs.Table.{finished_at};
 ghost use Rattle.sessions.specs.Peers.{IsIdlePeer};
-ghost use Rattle.c_rank.specs.Calls.{Answers, AnswersMeant, Finishes, Tells, TellsReply, look_told, type_out};
+ghost use Rattle.c_rank.specs.Calls.{Answers, AnswersMeant, Tells, TellsReply, look_told, type_out};
 ghost use Rattle.c_rank.specs.OutgoingDatagrams.{HandsFirst, HandsNext, KeepsRest, pending};
 ghost use Rattle.c_rank.specs.State.{IsNoLimit, IsNoPlace, IsOpening, TellsTime, Ticks, number_of_result, place_said};
 ghost use Rattle.c_rank.specs.AnswerCopies.{Takes, TakesOf};

@@ -3,7 +3,6 @@
 ghost use Rattle.std.specs.Prelude.{◌≡◌, find};
 ghost use Rattle.std.specs.Option.{option_copied};
 ghost use Rattle.collective_progress.specs.Blocks.{are_known, block_known, block_of_note, block_said, is_like};
-ghost use Rattle.collective_progress.specs.Blocks.{like_mine};
 ghost use Rattle.collective_messages.specs.Notes.{member_at, tells_entry};
 
 use crate::seat::Seat;

@@ -1,7 +1,7 @@
 //! What was found in the notes of a collective so far, and what is found by it.
 
 ghost use Rattle.std.specs.Prelude.{◌≡◌, ◌<◌, ◌≤◌, ◌==◌, OnOk, find, length, replicate, position, slice_get, take};
-ghost use Rattle.std.specs.Prelude.{true, None, Some};
+ghost use Rattle.std.specs.Prelude.{None, Some};
 ghost use Rattle.std.specs.Option.{option_copied};
 ghost use Rattle.collective_messages.specs.Notes.{differs_in, found_in, is_known, member_at, result_place, tells_entry};
 ghost use Rattle.collective_messages.specs.Notes.{tells_result};

@@ -10,7 +10,7 @@ ghost use Rattle.collectives.specs.Calls.{entered, entry_rule, inside_in, inside
 ghost use Rattle.collectives.specs.Calls.{lesson_ending, limit_at, most_collectives, present_met, with_note};
 ghost use Rattle.collective_messages.specs.Tallies.{count_in};
 ghost use Rattle.collectives.specs.State.{after_step, has_told, left, opening, told_in, was_left};
-ghost use Rattle.collective_steps.specs.Steps.{MeetsLimit, contexts_after, ending_of, is_waiting};
+ghost use Rattle.collective_steps.specs.Steps.{MeetsLimit, contexts_after, ending_of};
 
 use crate::limits::{has_former, is_limited, members_incarnation};
 use collective_messages::{

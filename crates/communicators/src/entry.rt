@@ -1,7 +1,7 @@
 //! Entering collectives, the messages of others, and lessons: each is made ready, which changes nothing but room, and
 //! then carried out, which can't fail.
 
-ghost use Rattle.std.specs.Prelude.{◌≡◌, ◌<◌, ◌+◌, All, IfErr, IfOk, None, OnOk, Some, false};
+ghost use Rattle.std.specs.Prelude.{◌≡◌, ◌<◌, ◌+◌, All, IfErr, IfOk, None, OnOk, false};
 ghost use Rattle.collective_messages.specs.Messages.{IsFitting};
 ghost use Rattle.collective_messages.specs.Tallies.{count_in};
 ghost use Rattle.collectives.specs.Calls.{IsReady, MessageRefused, entered, entry_rule, inside_of, learned};

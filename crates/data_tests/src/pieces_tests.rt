@@ -1,7 +1,6 @@
 //! Payloads of collectives that are announced and that come in pieces.
 
-use collective_transfers::{AnnouncedPayload, CollectiveTransfers, ComingPayload, WholePayload};
-use rendezvous::{count_of, pieces_of};
+use rendezvous::{AnnouncedPayload, ComingPayload, Transfers, WholePayload, count_of, pieces_of};
 use std::alloc::Global;
 
 /// So many bytes, each of which is its place modulo 251.
@@ -18,23 +17,33 @@ fn said(whole: &WholePayload, sent: &[u8]) -> (u64, u32, bool) {
     (whole.context(), whole.number(), whole.bytes() == sent)
 }
 
+/// The transfers of a rank of a job of four, to which rank 3 announced a payload of so many bytes.
+fn begun(alloc: Global, total: usize) -> Option<Transfers> {
+    let mut transfers = Transfers::new(alloc, 4).ok()?;
+    transfers.reserve_coming().ok()?;
+    let payload = ComingPayload::new(alloc, 3, 0, 77, 8, total).ok()?;
+    if !transfers.is_next(3, 0) {
+        return None;
+    }
+    transfers.begin_payload(payload);
+    Some(transfers)
+}
+
 /// What the pieces of 2,500 bytes give, one after the other: of which collective the payload is, and whether it is what
 /// was sent.
 fn passed(alloc: Global) -> Option<(usize, usize, Option<(u64, u32, bool)>, bool)> {
     let all = bytes(alloc, 2500)?;
-    let mut transfers = CollectiveTransfers::new(alloc);
-    transfers.reserve_coming().ok()?;
-    transfers.begin(ComingPayload::new(alloc, 3, 5, 77, 8, 2500).ok()?);
+    let mut transfers = begun(alloc, 2500)?;
     let mut early = Vec::new(alloc);
     let mut given = None;
     for piece in pieces_of(alloc, &all).ok()? {
-        if !transfers.is_due(3, 5, piece.offset, piece.bytes) {
+        if !transfers.payload_is_due(3, 0, piece.offset, piece.bytes) {
             return None;
         }
-        match transfers.take_whole(3, 5, piece.bytes) {
+        match transfers.take_whole(3, 0, piece.bytes) {
             Some(whole) => given = Some(said(&whole, &all)),
             None => {
-                transfers.on_data(3, 5, piece.offset, piece.bytes);
+                transfers.on_payload_data(3, 0, piece.offset, piece.bytes);
                 early.push(piece.offset).ok()?;
             }
         }
@@ -43,7 +52,7 @@ fn passed(alloc: Global) -> Option<(usize, usize, Option<(u64, u32, bool)>, bool
         count_of(&all),
         early.len(),
         given,
-        transfers.is_coming(3, 5),
+        transfers.is_coming(3, 0),
     ))
 }
 
@@ -61,24 +70,22 @@ fn put_back(alloc: Global) -> Option<([bool; 3], (u64, u32, bool))> {
     let all = bytes(alloc, 1500)?;
     let first = all.get(0..1024)?;
     let last = all.get(1024..1500)?;
-    let mut transfers = CollectiveTransfers::new(alloc);
-    transfers.reserve_coming().ok()?;
-    transfers.begin(ComingPayload::new(alloc, 3, 5, 77, 8, 1500).ok()?);
-    if !transfers.is_due(3, 5, 0, first) {
+    let mut transfers = begun(alloc, 1500)?;
+    if !transfers.payload_is_due(3, 0, 0, first) {
         return None;
     }
-    transfers.on_data(3, 5, 0, first);
-    let Some(whole) = transfers.take_whole(3, 5, last) else {
+    transfers.on_payload_data(3, 0, 0, first);
+    let Some(whole) = transfers.take_whole(3, 0, last) else {
         return None;
     };
-    let is_gone = !transfers.is_coming(3, 5);
+    let is_gone = !transfers.is_coming(3, 0);
     transfers.put_back(whole);
     let states = [
         is_gone,
-        transfers.is_coming(3, 5),
-        transfers.is_due(3, 5, 1024, last),
+        transfers.is_coming(3, 0),
+        transfers.payload_is_due(3, 0, 1024, last),
     ];
-    match transfers.take_whole(3, 5, last) {
+    match transfers.take_whole(3, 0, last) {
         Some(again) => Some((states, said(&again, &all))),
         None => None,
     }
@@ -93,20 +100,18 @@ fn a_payload_that_is_put_back_comes_as_before(rt: HostRuntime) {
 /// short, and that of another transfer or rank.
 fn other_pieces(alloc: Global) -> Option<[bool; 5]> {
     let all = bytes(alloc, 3000)?;
-    let mut transfers = CollectiveTransfers::new(alloc);
-    transfers.reserve_coming().ok()?;
-    transfers.begin(ComingPayload::new(alloc, 3, 5, 77, 8, 3000).ok()?);
+    let mut transfers = begun(alloc, 3000)?;
     let full = all.get(0..1024)?;
-    if !transfers.is_due(3, 5, 0, full) {
+    if !transfers.payload_is_due(3, 0, 0, full) {
         return None;
     }
-    transfers.on_data(3, 5, 0, full);
+    transfers.on_payload_data(3, 0, 0, full);
     Some([
-        transfers.is_due(3, 5, 0, full),
-        transfers.is_due(3, 5, 2048, full),
-        transfers.is_due(3, 5, 1024, all.get(0..1023)?),
-        transfers.is_due(3, 6, 1024, full),
-        transfers.is_due(2, 5, 1024, full),
+        transfers.payload_is_due(3, 0, 0, full),
+        transfers.payload_is_due(3, 0, 2048, full),
+        transfers.payload_is_due(3, 0, 1024, all.get(0..1023)?),
+        transfers.payload_is_due(3, 1, 1024, full),
+        transfers.payload_is_due(2, 0, 1024, full),
     ])
 }
 
@@ -124,34 +129,41 @@ fn announced(alloc: Global, target: u16, transfer: u32, count: usize) -> Option<
     Some(AnnouncedPayload::new(target, transfer, bytes))
 }
 
+/// Announces a payload of so many bytes to the rank, under its next number.
+fn announce(alloc: Global, transfers: &mut Transfers, target: u16, count: usize) -> Option<()> {
+    let payload = announced(alloc, target, transfers.next_to(target), count)?;
+    transfers.reserve_announced(1).ok()?;
+    if transfers.is_full_to(payload.target()) {
+        return None;
+    }
+    let mut all = Vec::new(alloc);
+    all.push(payload).ok()?;
+    transfers.announce_payloads(all);
+    Some(())
+}
+
 /// Two payloads to rank 1 and one to rank 2; then one is answered, and rank 2 is started anew. How many bytes each has
 /// that is kept.
 fn kept(alloc: Global) -> Option<[[Option<usize>; 3]; 3]> {
-    let mut transfers = CollectiveTransfers::new(alloc);
-    let mut all = Vec::new(alloc);
-    all.push(announced(alloc, 1, 0, 1025)?).ok()?;
-    all.push(announced(alloc, 2, 0, 1026)?).ok()?;
-    all.push(announced(alloc, 1, 1, 1027)?).ok()?;
-    if all.len() > 3 {
-        return None;
-    }
-    transfers.reserve_announced(3).ok()?;
-    transfers.announce(all);
+    let mut transfers = Transfers::new(alloc, 4).ok()?;
+    announce(alloc, &mut transfers, 1, 1025)?;
+    announce(alloc, &mut transfers, 2, 1026)?;
+    announce(alloc, &mut transfers, 1, 1027)?;
     let first = lengths(&transfers);
-    transfers.on_answer(1, 0);
+    transfers.on_payload_cts(1, 0);
     let second = lengths(&transfers);
     transfers.drop_from(2);
     Some([first, second, lengths(&transfers)])
 }
 
-fn length(transfers: &CollectiveTransfers, rank: u16, transfer: u32) -> Option<usize> {
+fn length(transfers: &Transfers, rank: u16, transfer: u32) -> Option<usize> {
     match transfers.announced_to(rank, transfer) {
         Some(payload) => Some(payload.bytes().len()),
         None => None,
     }
 }
 
-fn lengths(transfers: &CollectiveTransfers) -> [Option<usize>; 3] {
+fn lengths(transfers: &Transfers) -> [Option<usize>; 3] {
     [
         length(transfers, 1, 0),
         length(transfers, 2, 0),

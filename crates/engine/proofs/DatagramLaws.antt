@@ -3,15 +3,15 @@ use Rattle.std.proofs.Common.{◌≡◌, ◌<◌, ℕ, List, [], ◌∷◌, leng
 use Rattle.std.proofs.Common.{false, refl, sym, ap, subst, ◌∙◌, arith, inl, inr}
 use Rattle.std.proofs.lemmas.Grind.{common_steps}
 use Rattle.std.proofs.lemmas.List.{get_or-set_same}
-use Rattle.std.specs.Prelude.{IfErr, OnErr, OnOk, slice_index}
+use Rattle.std.specs.Prelude.{IfErr, OnOk, slice_index}
 use Rattle.vocabulary.specs.declared.endpoint.Endpoint.{Endpoint}
 use Rattle.datagram.specs.declared.datagram.Header.{Header}
 use Rattle.datagram.specs.declared.refusal.DatagramRefusal as reading
 use Rattle.datagram.specs.declared.refusal.DatagramRefusal.TheVariants as readings
-use Rattle.collective_transfers.specs.Payloads.{Whole}
+use Rattle.rendezvous.specs.Payloads.{Whole}
 use Rattle.collective_steps.specs.declared.step.Ending.{Ending}
-use Rattle.collective_transfers.specs.State as payloads
-use Rattle.collective_transfers.specs.State.{is_due, whole_with}
+use Rattle.rendezvous.specs.PayloadState as payloads
+use Rattle.rendezvous.specs.PayloadState.{is_due, whole_with}
 use Rattle.datagram.specs.Spellings.{BodyText, DataText, EagerText, FrameBody, AckBody, ResetBody, DatagramText}
 use Rattle.datagram.specs.Spellings.{OutgoingText, body_is_within}
 use Rattle.datagram.specs.ByteMeanings.{bounded, datagram_of, datagram_within, guard}
@@ -408,7 +408,7 @@ same_groups s g collective contexts = λ i. record s {
 
 -- what is heard is what its notice says
 pub as_heard : (n : Option NoticeText) (old new : Parts) (r : Result (Option Ending) Refusal) (h : HeardText) →
-    n ≡ notice_in h.lesson old.payloads.state h.source.rank h.word →
+    n ≡ notice_in h.lesson old.core.payloads.state h.source.rank h.word →
     PartsGive (λ e x f. HeardGivesBy n e h x f) old r new → PartsGive (λ e x f. HeardGives e h x f) old r new
 as_heard n old new (Ok ending) h is gives = λ before.
     subst (λ (m : Option NoticeText). HeardGivesBy m (engine_with old before) h (Ok tt)
@@ -421,7 +421,7 @@ as_heard n old new (Err e) h is gives = λ before.
 pub as_message : (h : HeardText) (t : EagerText) (w : Whole) (old new : Parts) (r : Result (Option Ending) Refusal) →
     w ≡ whole_in t → PartsGive (MessageGives h w) old r new → PartsGive (λ e x f. NoticeGives e h t x f) old r new
 as_message h t w old new (Ok ending) is gives = λ before.
-    subst (λ (v : Whole). IsNoticed (engine_with old before) (payloads_met old.payloads.state (lesson_in h)) h v
+    subst (λ (v : Whole). IsNoticed (engine_with old before) (payloads_met old.core.payloads.state (lesson_in h)) h v
     (engine_with new (or_before ending before))) is (gives before)
 as_message h t w old new (Err e) is gives = λ before. (
   subst (λ (v : Whole). WhyUnnoticed (engine_with old before) h v e) is (gives before).0,

@@ -1,5 +1,5 @@
 -- What is read of a message of the job is what its bytes say.
-use Rattle.std.proofs.Common.{◌≡◌, ℕ, Bool, true, false, List, Option, Some, None, if◌then◌else◌, refl, subst, sym, ◌∙◌}
+use Rattle.std.proofs.Common.{◌≡◌, ℕ, Bool, true, false, List, Option, Some, None, if◌then◌else◌, refl, subst}
 use Rattle.collective_messages.specs.Arrivals.{names_beyond}
 use Rattle.payload.specs.ByteMeanings.{payload_of}
 use Rattle.payload.specs.Spellings.{PayloadText}

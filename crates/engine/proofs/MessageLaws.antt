@@ -1,14 +1,15 @@
 -- What taking a message of a collective gives.
-use Rattle.std.proofs.Common.{◌≡◌, List, Option, Some, None, Ok, refl, sym, ap, subst, ◌∙◌, inl, inr}
+use Rattle.std.proofs.Common.{◌≡◌, Bool, true, false, cond, List, Option, Some, None, Ok, refl, sym, ap, subst, ◌∙◌}
+use Rattle.std.proofs.Common.{inl, inr}
 use Rattle.collective_messages.specs.Arrivals.{ArrivalGives}
 use Rattle.collective_messages.specs.declared.note.Note.{Note}
 use Rattle.collective_messages.specs.declared.address.Address.{Address}
 use Rattle.collective_messages.specs.declared.refusal.CollectiveRefusal as noted
 use Rattle.collective_messages.specs.declared.refusal.CollectiveRefusal.TheVariants as notes
 use Rattle.collective_messages.specs.declared.message.CollectiveMessage.{CollectiveMessage}
-use Rattle.collective_transfers.specs.Payloads.{Announced, Whole}
-use Rattle.collective_transfers.specs.State as payloads
-use Rattle.collective_transfers.specs.State.{after_announcing}
+use Rattle.rendezvous.specs.Payloads.{Announced, Whole}
+use Rattle.rendezvous.specs.PayloadState as payloads
+use Rattle.rendezvous.specs.PayloadState.{after_announcing}
 use Rattle.collectives.specs.Calls.{IsReady, MessageRefused, after_lesson, with_note}
 use Rattle.collectives.specs.State.{State, after_step}
 use Rattle.collective_steps.specs.Steps.{contexts_after, ending_of}
@@ -20,17 +21,26 @@ use Rattle.payload.specs.Spellings.{PartFits, PayloadText}
 use Rattle.point_to_point_calls.specs.declared.refusal.Refusal.{Refusal}
 use Rattle.point_to_point_calls.specs.declared.refusal.Refusal.TheVariants as refusals
 use Rattle.point_to_point.specs.CoreState.{CoreState, with_numbers}
-use Rattle.point_to_point.specs.Arrivals.{after_news}
+use Rattle.point_to_point.specs.CoreState as held
+use Rattle.point_to_point.specs.Arrivals as cores
+use Rattle.point_to_point.specs.Arrivals.{CanTake, after_news}
+use Rattle.point_to_point_calls.specs.FrameNews.{NewsText, bad_unless, transfers_met}
+use Rattle.point_to_point_calls.specs.declared.news.PreparedNews.{PreparedNews}
+use Rattle.rendezvous.specs.PayloadNumbers.{AreLeft, counted, with_lesson}
+use Rattle.rendezvous.specs.State.{is_next}
 use Rattle.rendezvous.specs.declared.transfers.Numbers.{Numbers}
 use Rattle.sessions.specs.Events.{after_event}
 use Rattle.sessions.specs.HeardBytes.{HeardText}
 use Rattle.sessions.specs.SessionsState.{SessionsState}
+use Rattle.datagram.specs.Spellings.{RequestText}
+use Rattle.vocabulary.specs.Modes.{is_standard}
 use Rattle.vocabulary.specs.declared.endpoint.Endpoint.{Endpoint}
-use Rattle.engine.specs.Datagrams.{IsNoticed, IsTold, WhyUnnoticed, address_of, ended_by, lesson_alone, lesson_in}
+use Rattle.engine.specs.Datagrams.{IsNoticed, IsTold, WhyUnnoticed, address_of, announcement_fault, ended_by}
+use Rattle.engine.specs.Datagrams.{lesson_alone, lesson_in}
 use Rattle.engine.specs.Datagrams.{met_by, numbers_met, payloads_met}
 use Rattle.engine_calls.specs.EngineState.{EngineState, or_before}
-use Rattle.engine_calls.specs.Frames.{AreWhole, step_limit, step_numbers, step_payloads, step_sendings}
-use Rattle.engine_calls.specs.Refusals.{of_collectives}
+use Rattle.engine_calls.specs.Frames.{AreWhole, numbers_heard, step_limit, step_numbers, step_payloads, step_sendings}
+use Rattle.engine_calls.specs.Refusals.{first_fault, of_collectives}
 use Rattle.engine_calls.specs.Steps.{StepStops, ending_met}
 
 -- of three endings, the first that there is
@@ -52,15 +62,79 @@ pub record IsTakenIn (old : EngineState) (lesson : Option Endpoint) (ready : Rea
   pub leaves : left ≡ ending_of k2 ready.step.outcome
   pub ends : ending ≡ or_before left replaced
 
+-- ---- what a lesson leaves
+
+-- of the numbers of transfers, as the core has them then
+pub news_numbers : (c : CoreState) (h : HeardText) →
+    (after_news c (lesson_alone h)).transfers.numbers ≡ numbers_met c h
+news_numbers c h = by h.lesson
+  where
+    by : (b : Bool) → (cores.after_lesson b c h.source).transfers.numbers ≡
+        (transfers_met b c.transfers h.source.rank).numbers
+    by true = refl
+    by false = refl
+
+-- and as a step counts on from them
+pub heard_numbers : (c : CoreState) (h : HeardText) → numbers_heard c.transfers.numbers (Some h) ≡ numbers_met c h
+heard_numbers c h = by h.lesson
+  where
+    by : (b : Bool) → with_lesson (cond b (Some h.source.rank) None) c.transfers.numbers ≡
+        (transfers_met b c.transfers h.source.rank).numbers
+    by true = refl
+    by false = refl
+
+-- of the payloads
+pub left_payloads : (h : HeardText) (q : payloads.State) →
+    cores.payloads_met h.lesson q h.source.rank ≡ payloads_met q (lesson_in h)
+left_payloads h q = by h.lesson
+  where
+    by : (b : Bool) → cores.payloads_met b q h.source.rank ≡ payloads_met q (cond b (Some h.source) None)
+    by true = refl
+    by false = refl
+
+-- an announcement that breaks no rule has the number that is due
+pub announced_next : (c : CoreState) (s : SessionsState) (h : HeardText) (t : RequestText) →
+    announcement_fault c s h t ≡ None → is_next (numbers_met c h) h.source.rank t.transfer ≡ true
+announced_next c s h t is = by (bad_unless (is_standard t.mode)) (is_next (numbers_met c h) h.source.rank t.transfer) _ is
+  where
+    by : (a : Option Refusal) (b : Bool) (f : Option Refusal) → first_fault a (first_fault (bad_unless b) f) ≡ None →
+        b ≡ true
+    by (Some e) b f n = absurd cc
+    by None true f n = refl
+    by None false f n = absurd cc
+
+-- news that can be taken still can, whatever payloads there are
+pub can_still : (g d : held.Held) (q : payloads.Held) (n : NewsText) (r : PreparedNews) →
+    d ≡ record g { payloads = q } → CanTake g n r → CanTake d n r
+can_still g d q n r same can =
+    subst (λ (x : held.Held). CanTake x n r) (sym same) (record {
+      keys = can.keys;
+      message = can.message;
+      room = can.room;
+      collection = can.collection;
+      place = can.place;
+    })
+
+-- what is announced can be counted once the news are taken
+pub still_left : (core c d : CoreState) (h : HeardText) (ps : List Announced) → c ≡ core →
+    d ≡ after_news c (lesson_alone h) → AreLeft (numbers_heard core.transfers.numbers (Some h)) ps →
+    AreLeft d.transfers.numbers ps
+still_left core c d h ps kept taken left =
+    subst (λ (n : List Numbers). AreLeft n ps)
+    (heard_numbers core h ∙ sym (news_numbers core h)
+    ∙ sym (ap (λ (x : CoreState). x.transfers.numbers)
+    (taken ∙ ap (λ (x : CoreState). after_news x (lesson_alone h)) kept)))
+    left
+
 -- what becomes of the core, the numbers of transfers and the payloads, and what is sent
 pub record IsCounted (core : CoreState) (before : payloads.State) (s : SessionsState) (h : HeardText)
-    (ms : List CollectiveMessage) (c d e : CoreState) (ns n2 : List Numbers)
+    (ms : List CollectiveMessage) (c d e : CoreState) (ns : List Numbers)
     (ps : List Announced) (q0 q1 q2 : payloads.State) (links : SessionsState) : Type 0 where
   pub kept : c ≡ core
   pub taken : d ≡ after_news c (lesson_alone h)
-  pub counted : e ≡ with_numbers d n2
+  pub begun : e ≡ with_numbers d (counted d.transfers.numbers ps)
   pub numbers : ns ≡ numbers_met c h
-  pub next : n2 ≡ step_numbers ns ms
+  pub next : counted ns ps ≡ step_numbers ns ms
   pub whole : AreWhole ms
   pub goes : step_limit s ns (Some h) ms ≡ None
   pub sent : links ≡ after_event s (Some h) (step_sendings s.place ns ms)
@@ -71,20 +145,22 @@ pub record IsCounted (core : CoreState) (before : payloads.State) (s : SessionsS
 
 -- so the others are told
 pub told : (core : CoreState) (before : payloads.State) (s : SessionsState) (h : HeardText)
-    (ms : List CollectiveMessage) (c d e : CoreState) (ns n2 : List Numbers)
+    (ms : List CollectiveMessage) (c d e : CoreState) (ns : List Numbers)
     (ps : List Announced) (q0 q1 q2 : payloads.State) (links : SessionsState) →
-    IsCounted core before s h ms c d e ns n2 ps q0 q1 q2 links →
+    IsCounted core before s h ms c d e ns ps q0 q1 q2 links →
     IsTold core before s h ms e q2 links
-told core before s h ms c d e ns n2 ps q0 q1 q2 links count =
+told core before s h ms c d e ns ps q0 q1 q2 links count =
     let first : ns ≡ numbers_met core h = count.numbers ∙ ap (λ (x : CoreState). numbers_met x h) count.kept in
     let news : d ≡ after_news core (lesson_alone h) = count.taken ∙ ap (λ (x : CoreState). after_news x (lesson_alone h)) count.kept in
     let rest : q1 ≡ payloads_met before (lesson_in h) = count.left ∙ ap (λ (q : payloads.State). payloads_met q (lesson_in h)) count.same in
+    let next : counted (after_news core (lesson_alone h)).transfers.numbers ps ≡ step_numbers (numbers_met core h) ms =
+    ap (λ (n : List Numbers). counted n ps) (news_numbers core h ∙ sym first) ∙ count.next
+    ∙ ap (λ (n : List Numbers). step_numbers n ms) first in
     record {
       whole = count.whole;
       goes = subst (λ (n : List Numbers). step_limit s n (Some h) ms ≡ None) first count.goes;
-      core = count.counted ∙ ap (λ (x : CoreState). with_numbers x n2) news
-          ∙ ap (λ (n : List Numbers). with_numbers (after_news core (lesson_alone h)) n)
-          (count.next ∙ ap (λ (n : List Numbers). step_numbers n ms) first);
+      core = count.begun ∙ ap (λ (x : CoreState). with_numbers x (counted x.transfers.numbers ps)) news
+          ∙ ap (λ (n : List Numbers). with_numbers (after_news core (lesson_alone h)) n) next;
       payloads = count.added ∙ ap (λ (q : payloads.State). after_announcing q ps) rest
           ∙ ap (λ (l : List Announced). after_announcing (payloads_met before (lesson_in h)) l)
           (count.announced ∙ ap (λ (n : List Numbers). step_payloads n ms) first);

@@ -6,6 +6,7 @@ use Rattle.std.proofs.lemmas.List.{length-append, length-drop, length-take}
 use Rattle.std.proofs.lemmas.List.Sorted.{length_permutation}
 use Rattle.std.proofs.lemmas.Option.{same_Some}
 use Rattle.std.specs.Option.{is_some}
+use Rattle.collective_steps.specs.declared.step.Ending.{Ending}
 use Rattle.vocabulary.specs.declared.endpoint.Endpoint.{Endpoint}
 use Rattle.datagram.specs.declared.refusal.DatagramRefusal as reading
 use Rattle.datagram.specs.Spellings.{AckBody, BodyText, DatagramText, FrameBody, FrameText, ResetBody, OutgoingText}
@@ -29,11 +30,13 @@ use Rattle.sessions.proofs.SessionLookups.{peer_there}
 use Rattle.sessions.proofs.Windows.{room_set}
 use Rattle.point_to_point_calls.specs.declared.refusal.Refusal.{Refusal}
 use Rattle.point_to_point_calls.specs.declared.refusal.Refusal.TheVariants as refusals
-use Rattle.engine_calls.specs.EngineState.{EngineState}
+use Rattle.engine_calls.specs.EngineState.{EngineState, or_before}
 use Rattle.engine.specs.Datagrams.{FollowGives, FollowedBy, HasFollowed, HeardGives, TurnGives, acknowledged, notice_in}
 use Rattle.engine.specs.Datagrams.{MeetsWant, says_nothing, turn_from, without_next}
 use Rattle.engine.specs.HeldFrameEnds.{FollowEnds, GoesOrStays, IsLeft, IsTurnRefusal, IsWant, LeavesTurn}
 use Rattle.engine.specs.HeldFrameEnds.{NextIsRefused, TurnEnds}
+use Rattle.engine.specs.Parts.{PartsGive, engine_with}
+use Rattle.engine.specs.declared.parts.Parts.{Parts}
 use Rattle.engine.proofs.WithoutMemory.{turn_refusal}
 use Rattle.engine.proofs.DatagramLaws.{IsCarried, carried_by, known_carried, unheard_leaves}
 
@@ -103,6 +106,10 @@ receiver_sends : (s : SessionsState) (fs : List OutgoingText) (rank : ℕ) →
 receiver_sends s [] rank = refl
 receiver_sends s (f ∷ fs) rank = receiver_sends (after_send s f) fs rank ∙ receiver_kept s.peers f.target rank _ refl
 
+-- what was carried out leaves the rank in its place
+place_carried : (old new : SessionsState) (h : HeardText) → IsCarried old h new → new.place ≡ old.place
+place_carried old new h goes = ap (λ (s : SessionsState). s.place) goes.carried ∙ place_after old (Some h) goes.frames
+
 -- the acknowledgement that was spelled before says what is reached behind it
 ack_is : (s mid : SessionsState) (source : Endpoint) (h : HeardText) → IsTurnOf source h →
     source.rank < length s.peers → IsCarried s h mid →
@@ -115,13 +122,23 @@ ack_is s mid source h t there goes =
     ap (λ (x : SessionsState). (peer_at x.peers source.rank).receiver) carried
     ∙ receiver_sends (after_heard s (Some (turn source t.frame))) goes.frames source.rank
     ∙ ap (λ (p : Peer). p.receiver) (peer_there s.peers source.rank new there) in
-    let place : mid.place ≡ s.place = ap (λ (x : SessionsState). x.place) goes.carried ∙ place_after s (Some h) goes.frames in
     ap (λ (r : ReceiverState). ack_of mid.place source r) receiver
-    ∙ ap (λ p. ack_of p source (advanced (peer_at s.peers source.rank).receiver)) place
+    ∙ ap (λ p. ack_of p source (advanced (peer_at s.peers source.rank).receiver)) (place_carried s mid h goes)
 
 pub heard_carried : (old mid : EngineState) (h : HeardText) → HeardGives old h (Ok tt) mid →
     IsCarried old.sessions h mid.sessions
 heard_carried old mid h gives = carried_by (notice_in h.lesson old.payloads h.source.rank h.word) old mid h tt gives
+
+-- what is heard leaves the rank in its place, also where it is refused
+pub heard_stays : (old new : Parts) (h : HeardText) (r : Result (Option Ending) Refusal) →
+    PartsGive (λ e x f. HeardGives e h x f) old r new → new.sessions.place ≡ old.sessions.place
+heard_stays old new h (Ok ending) gives =
+    place_carried old.sessions new.sessions h
+    (heard_carried (engine_with old None) (engine_with new (or_before ending None)) h (gives None))
+heard_stays old new h (Err e) gives =
+    ap (λ (x : EngineState). x.sessions.place)
+    (unheard_leaves (notice_in h.lesson old.core.payloads.state h.source.rank h.word) (engine_with old None)
+    (engine_with new None) h e (gives None))
 
 -- so what is put in the place of the former one is just that
 pub replaced : (old mid : EngineState) (at : ℕ) (source : Endpoint) (h : HeardText) (ack : List ℕ) → IsTurnOf source h →

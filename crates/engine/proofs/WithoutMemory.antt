@@ -1,10 +1,10 @@
 -- With what a frame whose turn comes is refused: 30, 13 or 14, and no other; and how that is found without memory.
-use Rattle.std.proofs.Common.{◌≡◌, ℕ, Bool, true, false, List, [], ◌∷◌, Option, Some, None, Result, Ok, Err, refl, sym, ap}
-use Rattle.std.proofs.Common.{subst, ◌∙◌, inl, inr}
-use Rattle.std.specs.Prelude.{◌⊎◌, if◌then◌else◌, ◌==◌, is_some}
-use Rattle.collective_transfers.specs.Payloads.{Whole}
-use Rattle.collective_transfers.specs.State as payloads
-use Rattle.collective_transfers.specs.State.{is_due, whole_with}
+use Rattle.std.proofs.Common.{◌≡◌, ℕ, Bool, true, false, List, [], ◌∷◌, Option, Some, None, Err, refl, sym, ap}
+use Rattle.std.proofs.Common.{subst, inl, inr}
+use Rattle.std.specs.Prelude.{if◌then◌else◌, ◌==◌, is_some}
+use Rattle.rendezvous.specs.Payloads.{Whole}
+use Rattle.rendezvous.specs.PayloadState as payloads
+use Rattle.rendezvous.specs.PayloadState.{is_due, whole_with}
 use Rattle.datagram.specs.Spellings.{ClearFrame, ClearText, DataFrame, DataText, EagerFrame, FrameText, OutgoingText}
 use Rattle.datagram.specs.Spellings.{RequestFrame, RequestText}
 use Rattle.datagram.specs.declared.kinds.Clearance.{Clearance}

@@ -1,7 +1,7 @@
 -- Entering a collective of the communicator at a place: what that gives, and why it doesn't.
 use Rattle.std.specs.Prelude.{◌≡◌, ◌⊎◌, ℕ, Option, Some, None, Result, Ok, Err}
 use Rattle.collective_messages.specs.declared.entry.Entry.{Entry}
-use Rattle.collective_transfers.specs.State.{after_announcing}
+use Rattle.rendezvous.specs.PayloadState.{after_announcing}
 use Rattle.collectives.specs.Calls.{EntryGives, inside_of}
 use Rattle.collective_steps.specs.Steps.{IsPreparedEntry, Prepared}
 use Rattle.collective_steps.specs.Steps as steps

@@ -1,13 +1,13 @@
 -- What a datagram does to the engine: what is heard in it, all of its parts take in.
 use Rattle.std.specs.Prelude.{◌≡◌, ◌⊎◌, ℕ, zero, suc, Bool, true, false, is_some, length, List, [], ◌∷◌, Option, Some}
-use Rattle.std.specs.Prelude.{None, option_map, Result, Ok, Err, if◌then◌else◌, map, slice_index}
+use Rattle.std.specs.Prelude.{None, option_map, Result, Ok, Err, if◌then◌else◌, slice_index}
 use Rattle.collective_messages.specs.declared.address.Address.{Address}
 use Rattle.collective_messages.specs.declared.message.CollectiveMessage.{CollectiveMessage}
 use Rattle.collective_messages.specs.declared.refusal.CollectiveRefusal.TheVariants as notes
-use Rattle.collective_transfers.specs.Payloads.{Announced, Coming, Whole}
-use Rattle.collective_transfers.specs.State as payloads
-use Rattle.collective_transfers.specs.State.{after_announcing, after_answer, after_begin, after_data, after_drop}
-use Rattle.collective_transfers.specs.State.{announced_to, coming_from, is_due, whole_with}
+use Rattle.rendezvous.specs.Payloads.{Announced, Coming, Whole}
+use Rattle.rendezvous.specs.PayloadState as payloads
+use Rattle.rendezvous.specs.PayloadState.{after_announcing, after_answer, after_begin, after_data, after_drop}
+use Rattle.rendezvous.specs.PayloadState.{announced_to, coming_from, is_due, whole_with}
 use Rattle.collectives.specs.Calls.{IsReady, MessageRefused, after_lesson, with_note}
 use Rattle.collectives.specs.State.{State, after_step}
 use Rattle.collective_steps.specs.Steps.{contexts_after, ending_of}

@@ -2,9 +2,9 @@
 use Rattle.std.specs.Prelude.{◌≡◌, List, [], ◌∷◌, Option, Some, Result, Ok, Err}
 use Rattle.collective_messages.specs.declared.message.CollectiveMessage.{CollectiveMessage}
 use Rattle.collective_steps.specs.declared.step.Ending.{Ending}
-use Rattle.collective_transfers.specs.Payloads.{Taken, Whole}
-use Rattle.collective_transfers.specs.State as payloads
-use Rattle.collective_transfers.specs.State.{after_return}
+use Rattle.rendezvous.specs.Payloads.{Taken, Whole}
+use Rattle.rendezvous.specs.PayloadState as payloads
+use Rattle.rendezvous.specs.PayloadState.{after_begin, after_return}
 use Rattle.datagram.specs.Spellings.{RequestText}
 use Rattle.point_to_point.specs.Arrivals.{after_news}
 use Rattle.point_to_point.specs.CoreState.{CoreState, with_numbers}
@@ -13,8 +13,8 @@ use Rattle.rendezvous.specs.State.{with_announced}
 use Rattle.sessions.specs.Events.{after_event}
 use Rattle.sessions.specs.HeardBytes.{HeardText}
 use Rattle.sessions.specs.SessionsState.{SessionsState}
-use Rattle.engine.specs.Datagrams.{IsNoticed, IsTold, WhyUnnoticed, answer_to, lesson_alone, lesson_in, numbers_met}
-use Rattle.engine.specs.Datagrams.{payloads_met}
+use Rattle.engine.specs.Datagrams.{IsNoticed, IsTold, WhyUnnoticed, answer_to, coming_by, lesson_alone, lesson_in}
+use Rattle.engine.specs.Datagrams.{numbers_met, payloads_met}
 use Rattle.engine.specs.declared.parts.Parts.{Parts}
 use Rattle.engine_calls.specs.Asks.{groups_of}
 use Rattle.engine_calls.specs.EngineState.{EngineState, GroupsState, or_before}
@@ -32,7 +32,7 @@ abbrev pub state_of : Parts → PartsState
 state_of p = record {
   core = p.core.state;
   groups = groups_of p.communicators;
-  payloads = p.payloads.state;
+  payloads = p.core.payloads.state;
   sessions = p.sessions;
 }
 
@@ -54,10 +54,6 @@ engine_with p ended = engine_in (state_of p) ended
 abbrev pub engine_by : CoreState → payloads.State → SessionsState → GroupsState → (ended : Option Ending) → EngineState
 engine_by c p s g ended = record { core = c; groups = g; ended = ended; payloads = p; sessions = s }
 
--- they stay at their place
-abbrev pub StayInPlace : (old new : Parts) → Type 0
-StayInPlace old new = (new.sessions.place ≡ old.sessions.place) × (new.core.state.place ≡ old.core.state.place)
-
 -- An event of the engine, told of its parts: whatever ending the engine has to hand out, so they take the event in, and
 -- with what a collective ends by it comes before that; or so they refuse it
 abbrev pub PartsGive : (EngineState → Result (Unit {0}) Refusal → EngineState → Type 0) → (old : Parts) →
@@ -74,7 +70,7 @@ PartsGive gives old (Err e) new =
 abbrev pub TellingGives : (old : Parts) → HeardText → List CollectiveMessage → Result (Unit {0}) Refusal →
     (new : Parts) → Type 0
 TellingGives old h ms (Ok x) new =
-    IsTold old.core.state old.payloads.state old.sessions h ms new.core.state new.payloads.state new.sessions
+    IsTold old.core.state old.core.payloads.state old.sessions h ms new.core.state new.core.payloads.state new.sessions
 TellingGives old h ms (Err e) new =
     StepStops (step_limit old.sessions (numbers_met old.core.state h) (Some h) ms) e
 
@@ -93,10 +89,11 @@ LastPieceGives h t old (Err e) new =
 
 -- ---- announcements
 
--- the announcement of a payload is counted, and the answer to it is sent
+-- the announcement of a payload is counted, the answer to it is sent, and the payload begins to come
 abbrev pub IsCounted : (old : Parts) → HeardText → RequestText → (new : Parts) → Type 0
 IsCounted old h t new =
     (new.core.state ≡
     with_numbers (after_news old.core.state (lesson_alone h))
     (with_announced (numbers_met old.core.state h) h.source.rank))
+    × (new.core.payloads.state ≡ after_begin (payloads_met old.core.payloads.state (lesson_in h)) (coming_by h t))
     × (new.sessions ≡ after_event old.sessions (Some h) (answer_to h t ∷ []))

@@ -4,7 +4,7 @@ ghost use Rattle.std.specs.Prelude.{◌≡◌, ◌≤◌, ◌+◌, ◌*◌, None
 ghost use Rattle.collectives.specs.Calls.{entry_rule, limit_at};
 ghost use Rattle.engine_calls.specs.Calls.{EnteringGives, RefusedLeaves, reply_on_entry};
 ghost use Rattle.engine.specs.CollectiveEntries.{GoingGives};
-ghost use Rattle.engine.specs.Parts.{StayInPlace, state_of};
+ghost use Rattle.engine.specs.Parts.{state_of};
 ghost use Rattle.engine_calls.specs.Faults.{fault_of};
 ghost use Rattle.engine_calls.specs.declared.call.Call.TheVariants as calls;
 
@@ -35,19 +35,10 @@ impl Parts {
         ensures handed { IfErr result (λ back. back.value ≡ entry) }
         ensures unchanged { OnErr result (state_of self.new ≡ state_of self.old) }
         ensures few { length self.new.sessions.out ≤ length self.old.sessions.out + 64 * self.old.sessions.place.size }
-        ensures placed { StayInPlace self.old self.new }
+        ensures placed { self.new.sessions.place ≡ self.old.sessions.place }
     {
         // The place shows that there is a session for each rank.
         let _place = self.sessions.place();
-        let mut numbers = match self.core.numbers() {
-            Ok(numbers) => numbers,
-            Err(refused) => {
-                return Err(HandedBack {
-                    refused,
-                    value: entry,
-                });
-            }
-        };
         let ready = match self.communicators.prepare_entry(place, entry) {
             Ok(ready) => ready,
             Err(RefusedEntry { entry, refused }) => {
@@ -59,15 +50,13 @@ impl Parts {
         };
         match send_step(
             alloc,
-            &mut self.payloads,
+            &mut self.core,
             &mut self.sessions,
             None,
             ready.messages(),
-            &mut numbers,
         ) {
             Ok(announced) => {
-                self.core.set_numbers(numbers);
-                self.payloads.announce(announced);
+                self.core.announce_payloads(announced);
                 Ok(self.communicators.enter(ready))
             }
             Err(refused) => Err(HandedBack {

@@ -1,6 +1,6 @@
 //! How an engine takes datagrams in.
 
-ghost use Rattle.std.specs.Prelude.{◌≡◌, ◌≤◌, ◌<◌, ◌+◌, ◌*◌, length, IfErr, IfOk, None, OnErr, OnOk, Some};
+ghost use Rattle.std.specs.Prelude.{◌≡◌, ◌≤◌, ◌<◌, ◌+◌, ◌*◌, length, IfErr, None, OnErr, OnOk, Some};
 ghost use Rattle.datagram.specs.Spellings.{eager_text};
 ghost use Rattle.point_to_point_calls.specs.FrameNews.{frame_option, news_text};
 ghost use Rattle.point_to_point.specs.Arrivals.{CanTake, news_fault};
@@ -11,11 +11,11 @@ ghost use Rattle.engine_calls.specs.Refusals.{fault_of_sessions};
 ghost use Rattle.engine.specs.Datagrams.{DatagramGives, HeardGives, NewsGives, SourceIsKnown, RefusedDatagramLeaves};
 ghost use Rattle.engine.specs.Datagrams.{form_fault, frame_in, hold_fault, news_of, received, replies, says_nothing};
 ghost use Rattle.engine.specs.Datagrams.{whole_in};
-ghost use Rattle.engine.specs.Parts.{PartsGive, StayInPlace};
+ghost use Rattle.engine.specs.Parts.{PartsGive};
 
 use crate::engine::Engine;
 use crate::notice_kinds::{Notice, notice_in};
-use crate::notices::{ReceivedPayload, ending_or, forget, learn, lesson_in};
+use crate::notices::{ReceivedPayload, ending_or, learn, lesson_in};
 use crate::parts::Parts;
 use collectives::Ending;
 use datagram::{Eager, Frame, Plane};
@@ -159,10 +159,8 @@ impl Parts {
     fn take_news(&mut self, heard: Heard<'_>) -> Result<Option<Ending>, Refusal>
         requires can { CanHear self.old.sessions (Some (heard_text heard)) }
         requires fits { WordFits (word_text heard.word) }
-        requires place { self.old.core.state.place ≡ self.old.sessions.place }
         ensures exact { PartsGive (λ e r f. NewsGives e (heard_text heard.entry) r f) self.old result self.new }
         ensures within { OnOk result (StaysWithin (Some (heard_text heard.entry)) self.old.sessions self.new.sessions) }
-        ensures placed { StayInPlace self.old self.new }
     {
         if says_nothing(heard) {
             return Ok(None);
@@ -180,9 +178,7 @@ impl Parts {
         let ready = self.core.prepare_news(news)?;
         carry_out(&self.core, &mut self.sessions, heard, &ready)?;
         self.core.take_news(news, ready);
-        let lesson = lesson_in(heard);
-        forget(&mut self.payloads, lesson);
-        Ok(learn(&mut self.communicators, lesson))
+        Ok(learn(&mut self.communicators, lesson_in(heard)))
     }
 
     /// Takes in what is heard, or refuses it. Answered is with what a collective ends by it.
@@ -190,12 +186,10 @@ impl Parts {
         requires can { CanHear self.old.sessions (Some (heard_text heard)) }
         requires fits { WordFits (word_text heard.word) }
         requires there { heard.source.rank < self.old.sessions.place.size }
-        requires place { self.old.core.state.place ≡ self.old.sessions.place }
         ensures exact { PartsGive (λ e r f. HeardGives e (heard_text heard.entry) r f) self.old result self.new }
         ensures within { OnOk result (StaysWithin (Some (heard_text heard.entry)) self.old.sessions self.new.sessions) }
-        ensures placed { StayInPlace self.old self.new }
     {
-        match notice_in(&self.payloads, heard) {
+        match notice_in(&self.core, heard) {
             Some(Notice::Message(message)) => self.take_message(alloc, heard, received_in(message)),
             Some(Notice::Announcement(request)) => self.take_announcement(alloc, heard, request),
             Some(Notice::Answer(answer)) => match self.take_answer(alloc, heard, answer) {
@@ -211,6 +205,7 @@ impl Parts {
 impl Engine {
     /// Takes in what is heard, or refuses it. With what a collective ends by it is kept until that is handed out. No
     /// blocked call is answered yet.
+    #[tactic(auto, using(crate::proofs::TurnLaws::heard_stays))]
     pub(crate) fn take_heard(&mut self, heard: Heard<'_>) -> Result<(), Refusal>
         requires can { CanHear self.old.sessions (Some (heard_text heard)) }
         requires fits { WordFits (word_text heard.word) }
@@ -218,7 +213,6 @@ impl Engine {
         ensures exact { HeardGives self.old (heard_text heard.entry) result self.new }
         ensures within { OnOk result (StaysWithin (Some (heard_text heard.entry)) self.old.sessions self.new.sessions) }
         ensures placed { self.new.sessions.place ≡ self.old.sessions.place }
-        ensures core_placed { self.new.core.place ≡ self.old.core.place }
     {
         let ending = self.parts.hear(self.alloc, heard)?;
         let before = self.ended.take();
@@ -277,7 +271,12 @@ impl Engine {
         // The place shows that there is a known incarnation for each rank.
         let _place = self.parts.sessions.place();
         match self.parts.sessions.judge(bytes) {
-            Ok(heard) => self.take_in(heard),
+            Ok(heard) => {
+                let taken = self.take_in(heard);
+                // The parts show that the core has the place of the sessions.
+                let _parts = &self.parts;
+                taken
+            }
             Err(unheard) => Err(of_sessions(self.parts.sessions.refuse(unheard))),
         }
     }

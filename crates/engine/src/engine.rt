@@ -10,7 +10,6 @@ ghost use Rattle.engine_calls.specs.EngineState.{without_out};
 ghost use Rattle.engine.specs.Ticks.{TickGives, after_wait};
 
 use crate::parts::Parts;
-use collective_transfers::CollectiveTransfers;
 use collectives::Ending;
 use communicators::Communicators;
 use datagram::Bytes;
@@ -23,7 +22,6 @@ use std::alloc::Global;
 use std::marker::Model;
 
 /// One rank of a job.
-#[derive(Drop)]
 pub struct Engine {
     /// Where the memory of its own comes from.
     pub(crate) alloc: Global,
@@ -33,16 +31,25 @@ pub struct Engine {
     pub(crate) ended: Option<Ending>,
 }
 
+/// A drop of its own is proved here alone; a derived one, with that of each type within, is proved anew in each crate
+/// that drops an engine in generic code.
+impl Drop for Engine {
+    fn drop(self) {
+        let Engine {
+            alloc: _,
+            parts: _parts,
+            ended: _ended,
+        } = self;
+    }
+}
+
 impl Model for Engine {
-    ghost use Rattle.std.specs.Prelude.{◌≡◌};
     ghost use Rattle.engine_calls.specs.EngineState.{EngineState};
     ghost use Rattle.engine.specs.Parts.{engine_with};
 
     ghost Value = { EngineState };
 
     ghost view = { λ e. engine_with e.parts e.ended };
-
-    ghost invariant = { λ e. e.parts.core.state.place ≡ e.parts.sessions.place };
 }
 
 /// The answer of a blocked call: that of its collective, or that of its requests.
@@ -77,7 +84,6 @@ impl Engine {
                 parts: Parts {
                     core,
                     communicators,
-                    payloads: CollectiveTransfers::new(alloc),
                     sessions,
                 },
                 ended: None,

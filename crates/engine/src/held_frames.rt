@@ -97,7 +97,7 @@ impl Engine {
         ensures kept { self.new ≡ self.old }
     {
         let parts = &mut self.parts;
-        refusal_of_next(&parts.core, &mut parts.payloads, &parts.sessions, source)
+        refusal_of_next(&mut parts.core, &parts.sessions, source)
     }
 
     /// The next frame of an endpoint was refused so in its turn: with 30 it isn't held any more, with 13 and 14 it stays
@@ -110,7 +110,6 @@ impl Engine {
         ensures longer { length self.old.sessions.out ≤ length self.new.sessions.out }
         ensures known { self.new.sessions.known ≡ self.old.sessions.known }
         ensures placed { self.new.sessions.place ≡ self.old.sessions.place }
-        ensures core_placed { self.new.core.place ≡ self.old.core.place }
     {
         // The place shows that there is a session for each rank.
         let _place = self.parts.sessions.place();
@@ -134,7 +133,6 @@ impl Engine {
         ensures longer { length self.old.sessions.out ≤ length self.new.sessions.out }
         ensures known { self.new.sessions.known ≡ self.old.sessions.known }
         ensures placed { self.new.sessions.place ≡ self.old.sessions.place }
-        ensures core_placed { self.new.core.place ≡ self.old.core.place }
     {
         match self.refuse_next(source) {
             Some(refused) => self.discard_or_keep(source, refused),
@@ -155,7 +153,6 @@ impl Engine {
         ensures longer { length self.old.sessions.out ≤ length self.new.sessions.out }
         ensures known { self.new.sessions.known ≡ self.old.sessions.known }
         ensures placed { self.new.sessions.place ≡ self.old.sessions.place }
-        ensures core_placed { self.new.core.place ≡ self.old.core.place }
     {
         if turns == 0 {
             return None;
@@ -205,7 +202,6 @@ impl Engine {
             room self.old.sessions.peers }
         ensures known { self.new.sessions.known ≡ self.old.sessions.known }
         ensures placed { self.new.sessions.place ≡ self.old.sessions.place }
-        ensures core_placed { self.new.core.place ≡ self.old.core.place }
     {
         // No more frames are held than the window has places.
         let _why = self.follow(at, source, WINDOW as u32);
@@ -215,7 +211,6 @@ impl Engine {
     /// The blocked call is answered, if its answer is ready by now.
     fn wake(&mut self)
         ensures exact { self.new ≡ woken_engine self.old }
-        ensures core_placed { self.new.core.place ≡ self.old.core.place }
     {
         self.parts.core.wake();
     }
@@ -234,7 +229,6 @@ impl Engine {
         ensures refused { IfErr result (λ e. HeardGives self.old (heard_text heard.entry) (Err e) self.new) }
         ensures few { length self.new.sessions.out ≤ length self.old.sessions.out + 65 * self.old.sessions.place.size }
         ensures placed { self.new.sessions.place ≡ self.old.sessions.place }
-        ensures core_placed { self.new.core.place ≡ self.old.core.place }
     {
         // The place shows that there is a session for each rank.
         let _place = self.parts.sessions.place();

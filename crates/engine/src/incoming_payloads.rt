@@ -2,23 +2,23 @@
 
 ghost use Rattle.std.specs.Prelude.{◌≡◌, ◌≤◌, ◌<◌, [], true, false, length, IfErr, None, OnErr, OnOk, Option, Some};
 ghost use Rattle.collective_steps.specs.declared.step.Ending.{Ending};
-ghost use Rattle.collective_transfers.specs.State.{is_due};
 ghost use Rattle.datagram.specs.Spellings.{data_text};
 ghost use Rattle.point_to_point_calls.specs.Refusals.{IsRefusal};
+ghost use Rattle.rendezvous.specs.PayloadState.{is_due};
 ghost use Rattle.sessions.specs.Windows.{StaysWithin};
 ghost use Rattle.sessions.specs.HeardBytes.{heard_text, CanHear};
 ghost use Rattle.sessions.specs.Events.{after_event, event_limit};
 ghost use Rattle.engine_calls.specs.Refusals.{fault_of_sessions};
 ghost use Rattle.engine.specs.Datagrams.{PieceGives, PieceGivesBy, received};
-ghost use Rattle.engine.specs.Parts.{LastPieceGives, PartsGive, StayInPlace, engine_with};
+ghost use Rattle.engine.specs.Parts.{LastPieceGives, PartsGive, engine_with};
 
 use crate::notices::ReceivedPayload;
 use crate::outgoing_payloads::{carry_out, limit_of};
 use crate::parts::Parts;
-use collective_transfers::WholePayload;
 use collectives::Ending;
 use datagram::Data;
-use point_to_point::Refusal;
+use point_to_point::{Core, Refusal};
+use rendezvous::WholePayload;
 use sessions::{Heard, Sessions};
 use std::alloc::Global;
 
@@ -37,6 +37,15 @@ fn take_in(sessions: &mut Sessions, heard: Heard<'_>) -> Result<(), Refusal>
         return Err(limit);
     }
     carry_out(sessions, heard, &[])
+}
+
+/// Whether a piece is the next one of a payload that comes from the rank.
+pub(crate) fn is_due(core: &Core, rank: u16, piece: Data<'_>) -> bool
+    ensures { result ≡
+        is_due core.now.payloads.state rank piece.entry.transfer piece.entry.offset piece.entry.bytes.now }
+{
+    core.transfers()
+        .payload_is_due(rank, piece.transfer, piece.offset, piece.bytes)
 }
 
 /// What a payload says that has come whole.
@@ -60,17 +69,16 @@ impl Parts {
         whole: WholePayload,
     ) -> Result<Option<Ending>, Refusal>
         requires can { CanHear self.old.sessions (Some (heard_text heard)) }
-        requires place { whole.place ≤ length self.old.payloads.state.coming }
-        requires room { 0 < self.old.payloads.more_coming }
+        requires place { whole.place ≤ length self.old.core.payloads.state.coming }
+        requires room { 0 < self.old.core.payloads.more_coming }
         ensures exact { PartsGive (LastPieceGives (heard_text heard.entry) whole) self.old result self.new }
         ensures within { OnOk result (StaysWithin (Some (heard_text heard.entry)) self.old.sessions self.new.sessions) }
-        ensures placed { StayInPlace self.old self.new }
     {
         let message = received_whole(&whole);
         match self.take_message(alloc, heard, message) {
             Ok(ending) => Ok(ending),
             Err(refused) => {
-                self.payloads.put_back(whole);
+                self.core.put_back(whole);
                 Err(refused)
             }
         }
@@ -80,16 +88,15 @@ impl Parts {
     /// 14; then nothing changes.
     fn take_next(&mut self, heard: Heard<'_>, piece: Data<'_>) -> Result<(), Refusal>
         requires can { CanHear self.old.sessions (Some (heard_text heard)) }
-        requires due { is_due self.old.payloads.state heard.source.rank piece.transfer piece.offset piece.bytes.now ≡
+        requires due { is_due self.old.core.payloads.state heard.source.rank piece.transfer piece.offset piece.bytes.now ≡
             true }
         ensures exact { (before : Option Ending) →
             PieceGivesBy true None (engine_with self.old before) (heard_text heard.entry) (data_text piece.entry) result
             (engine_with self.new before) }
         ensures within { OnOk result (StaysWithin (Some (heard_text heard.entry)) self.old.sessions self.new.sessions) }
-        ensures placed { StayInPlace self.old self.new }
     {
         take_in(&mut self.sessions, heard)?;
-        self.payloads.on_data(heard.source.rank, piece.transfer, piece.offset, piece.bytes);
+        self.core.on_payload_data(heard.source.rank, piece.transfer, piece.offset, piece.bytes);
         Ok(())
     }
 
@@ -107,18 +114,14 @@ impl Parts {
         ensures exact { PartsGive
             (λ e r f. PieceGives e (heard_text heard.entry) (data_text piece.entry) r f) self.old result self.new }
         ensures within { OnOk result (StaysWithin (Some (heard_text heard.entry)) self.old.sessions self.new.sessions) }
-        ensures placed { StayInPlace self.old self.new }
     {
         // The place shows that the job has a rank at least.
         let _place = self.sessions.place();
         let rank = heard.source.rank;
-        if !self
-            .payloads
-            .is_due(rank, piece.transfer, piece.offset, piece.bytes)
-        {
+        if !is_due(&self.core, rank, piece) {
             return Err(Refusal::BadFrame);
         }
-        match self.payloads.take_whole(rank, piece.transfer, piece.bytes) {
+        match self.core.take_whole(rank, piece.transfer, piece.bytes) {
             Some(whole) => self.take_last(alloc, heard, whole),
             None => match self.take_next(heard, piece) {
                 Ok(()) => Ok(None),

@@ -1,13 +1,13 @@
 //! What of a datagram concerns a collective.
 
 ghost use Rattle.std.specs.Prelude.{◌≡◌, option_map};
-ghost use Rattle.datagram.specs.Spellings.{clear_text, data_text, eager_text, frame_text, request_text};
+ghost use Rattle.datagram.specs.Spellings.{eager_text, frame_text, request_text};
 ghost use Rattle.sessions.specs.HeardBytes.{word_text};
 ghost use Rattle.engine.specs.Datagrams.{announcement_on, is_from_collective, is_to_collective, notice_in};
 ghost use Rattle.engine.specs.Datagrams.{notice_of_frame, notice_of_message, notice_text};
 
-use collective_transfers::CollectiveTransfers;
 use datagram::{ClearToSend, Data, Eager, Frame, Plane, RequestToSend};
+use point_to_point::Core;
 use sessions::{Heard, LinkEvent};
 
 /// What concerns a collective.
@@ -44,51 +44,41 @@ fn announcement_on<'a>(request: RequestToSend) -> Option<Notice<'a>>
 }
 
 /// Whether the transfer to the rank that has this number is of a collective: with a lesson none is.
-fn is_to_collective(payloads: &CollectiveTransfers, lesson: bool, rank: u16, transfer: u32) -> bool
-    ensures { result ≡ is_to_collective lesson payloads.now.state rank transfer }
+fn is_to_collective(core: &Core, lesson: bool, rank: u16, transfer: u32) -> bool
+    ensures { result ≡ is_to_collective lesson core.now.payloads.state rank transfer }
 {
     if lesson {
         return false;
     }
-    payloads.is_announced(rank, transfer)
+    core.transfers().is_announced(rank, transfer)
 }
 
 /// Whether the transfer from the rank that has this number is of a collective: with a lesson none is.
-fn is_from_collective(
-    payloads: &CollectiveTransfers,
-    lesson: bool,
-    rank: u16,
-    transfer: u32,
-) -> bool
-    ensures { result ≡ is_from_collective lesson payloads.now.state rank transfer }
+fn is_from_collective(core: &Core, lesson: bool, rank: u16, transfer: u32) -> bool
+    ensures { result ≡ is_from_collective lesson core.now.payloads.state rank transfer }
 {
     if lesson {
         return false;
     }
-    payloads.is_coming(rank, transfer)
+    core.transfers().is_coming(rank, transfer)
 }
 
 /// What of a frame concerns a collective. Answers and data don't say so: the number of their transfer tells.
-fn notice_of_frame<'a>(
-    payloads: &CollectiveTransfers,
-    lesson: bool,
-    rank: u16,
-    frame: Frame<'a>,
-) -> Option<Notice<'a>>
-    ensures { option_map notice_text result ≡ notice_of_frame lesson payloads.now.state rank (frame_text frame.entry) }
+fn notice_of_frame<'a>(core: &Core, lesson: bool, rank: u16, frame: Frame<'a>) -> Option<Notice<'a>>
+    ensures { option_map notice_text result ≡ notice_of_frame lesson core.now.payloads.state rank (frame_text frame.entry) }
 {
     match frame {
         Frame::Eager(message) => notice_of_message(message),
         Frame::RequestToSend(request) => announcement_on(request),
         Frame::ClearToSend(answer) => {
-            if is_to_collective(payloads, lesson, rank, answer.transfer) {
+            if is_to_collective(core, lesson, rank, answer.transfer) {
                 Some(Notice::Answer(answer))
             } else {
                 None
             }
         }
         Frame::Data(piece) => {
-            if is_from_collective(payloads, lesson, rank, piece.transfer) {
+            if is_from_collective(core, lesson, rank, piece.transfer) {
                 Some(Notice::Piece(piece))
             } else {
                 None
@@ -98,16 +88,14 @@ fn notice_of_frame<'a>(
 }
 
 /// What of a word that is heard concerns a collective, if it does.
-pub(crate) fn notice_in<'a>(payloads: &CollectiveTransfers, heard: Heard<'a>) -> Option<Notice<'a>>
+pub(crate) fn notice_in<'a>(core: &Core, heard: Heard<'a>) -> Option<Notice<'a>>
     ensures { option_map notice_text result
-        ≡ notice_in heard.entry.lesson payloads.now.state heard.entry.source.rank (word_text heard.entry.word) }
+        ≡ notice_in heard.entry.lesson core.now.payloads.state heard.entry.source.rank (word_text heard.entry.word) }
 {
     match heard.word {
-        LinkEvent::Hands(frame) => {
-            notice_of_frame(payloads, heard.lesson, heard.source.rank, frame)
-        }
+        LinkEvent::Hands(frame) => { notice_of_frame(core, heard.lesson, heard.source.rank, frame) }
         LinkEvent::Follows(frame) => {
-            notice_of_frame(payloads, heard.lesson, heard.source.rank, frame)
+            notice_of_frame(core, heard.lesson, heard.source.rank, frame)
         }
         LinkEvent::Acknowledges(..)
         | LinkEvent::Repeats

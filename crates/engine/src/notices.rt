@@ -1,26 +1,24 @@
 //! How a rank takes in messages of collectives, and lessons that end one.
 
-ghost use Rattle.std.specs.Prelude.{◌≡◌, ◌≤◌, All, length, IfErr, IfOk, None, OnErr, OnOk, Some};
+ghost use Rattle.std.specs.Prelude.{◌≡◌, ◌≤◌, All, IfErr, IfOk, None, OnErr, OnOk, Some};
 ghost use Rattle.collective_messages.specs.Messages.{IsFitting};
 ghost use Rattle.collectives.specs.Calls.{after_lesson};
 ghost use Rattle.engine.specs.JobPayloads.{payload_in};
 ghost use Rattle.payload.specs.Spellings.{payload_text};
 ghost use Rattle.sessions.specs.Windows.{StaysWithin};
 ghost use Rattle.sessions.specs.HeardBytes.{CanHear, heard_text};
-ghost use Rattle.engine.specs.Datagrams.{lesson_in, numbers_met, payloads_met, received};
-ghost use Rattle.engine.specs.Parts.{MessageGives, PartsGive, StayInPlace, TellingGives, state_of};
+ghost use Rattle.engine.specs.Datagrams.{lesson_in, received};
+ghost use Rattle.engine.specs.Parts.{MessageGives, PartsGive, TellingGives, state_of};
 ghost use Rattle.engine_calls.specs.EngineState.{or_before};
 ghost use Rattle.engine_calls.specs.Steps.{ending_met};
 
 use crate::parts::Parts;
 use collective_messages::{Address, CollectiveMessage, names_beyond};
-use collective_transfers::CollectiveTransfers;
 use collectives::Ending;
 use communicators::Communicators;
 use engine_calls::{of_collectives, send_step};
 use payload::{Payload, read_payload};
-use point_to_point::{Core, News, Refusal};
-use rendezvous::{Numbers, start_anew};
+use point_to_point::{News, Refusal};
 use sessions::Heard;
 use std::alloc::Global;
 use vocabulary::Endpoint;
@@ -49,31 +47,6 @@ pub(crate) fn learn(communicators: &mut Communicators, lesson: Option<Endpoint>)
         Some(source) => communicators.learn(source.rank, source.incarnation),
         None => None,
     }
-}
-
-/// Of the payloads of collectives is left what a lesson leaves, if there is one.
-pub(crate) fn forget(payloads: &mut CollectiveTransfers, lesson: Option<Endpoint>)
-    ensures state { payloads.new.state ≡ payloads_met payloads.old.state lesson }
-    ensures announced { payloads.old.more_announced ≤ payloads.new.more_announced }
-    ensures coming { payloads.old.more_coming ≤ payloads.new.more_coming }
-{
-    if let Some(source) = lesson {
-        payloads.drop_from(source.rank);
-    }
-}
-
-/// The numbers of the sessions' transfers, copied, once a lesson is learnt, if there is one; or want of memory (14).
-pub(crate) fn numbers_met(core: &Core, heard: Heard<'_>) -> Result<Vec<Numbers>, Refusal>
-    ensures ok { IfOk result (λ numbers. numbers.items ≡ numbers_met core.now.state (heard_text heard.entry)) }
-    ensures width { IfOk result (λ numbers. length numbers.items ≡ core.now.state.place.size) }
-    ensures err { IfErr result (λ e. e ≡ Refusal.OutOfMemory) }
-{
-    let mut numbers = core.numbers()?;
-    if !heard.lesson {
-        return Ok(numbers);
-    }
-    start_anew(&mut numbers, heard.source.rank);
-    Ok(numbers)
 }
 
 /// An ending, or one that came before.
@@ -129,11 +102,9 @@ impl Parts {
         ensures exact { TellingGives self.old (heard_text heard.entry) messages.now result self.new }
         ensures unchanged { OnErr result (state_of self.new ≡ state_of self.old) }
         ensures communicators { self.new.communicators ≡ self.old.communicators }
-        ensures coming { self.old.payloads.more_coming ≤ self.new.payloads.more_coming }
+        ensures coming { self.old.core.payloads.more_coming ≤ self.new.core.payloads.more_coming }
         ensures within { OnOk result (StaysWithin (Some (heard_text heard.entry)) self.old.sessions self.new.sessions) }
-        ensures placed { StayInPlace self.old self.new }
     {
-        let mut numbers = numbers_met(&self.core, heard)?;
         let news = News {
             source: heard.source,
             lesson: heard.lesson,
@@ -142,16 +113,13 @@ impl Parts {
         let prepared = self.core.prepare_news(news)?;
         let announced = send_step(
             alloc,
-            &mut self.payloads,
+            &mut self.core,
             &mut self.sessions,
             Some(heard),
             messages,
-            &mut numbers,
         )?;
         self.core.take_news(news, prepared);
-        self.core.set_numbers(numbers);
-        forget(&mut self.payloads, lesson_in(heard));
-        self.payloads.announce(announced);
+        self.core.announce_payloads(announced);
         Ok(())
     }
 
@@ -168,9 +136,8 @@ impl Parts {
         ensures exact { PartsGive (MessageGives (heard_text heard.entry) (received message.entry)) self.old result
             self.new }
         ensures unchanged { OnErr result (state_of self.new ≡ state_of self.old) }
-        ensures coming { self.old.payloads.more_coming ≤ self.new.payloads.more_coming }
+        ensures coming { self.old.core.payloads.more_coming ≤ self.new.core.payloads.more_coming }
         ensures within { OnOk result (StaysWithin (Some (heard_text heard.entry)) self.old.sessions self.new.sessions) }
-        ensures placed { StayInPlace self.old self.new }
     {
         let payload = read(message.bytes, self.sessions.place().size)?;
         let address = Address {

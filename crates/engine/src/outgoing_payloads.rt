@@ -2,10 +2,11 @@
 
 ghost use Rattle.std.specs.Prelude.{◌≡◌, ◌≤◌, ◌<◌, [], ◌∷◌, All, List, true, length, is_some, IfErr, IfOk, None};
 ghost use Rattle.std.specs.Prelude.{OnErr, OnOk, Option, Some};
+ghost use Rattle.std.specs.Option.{option_copied};
 ghost use Rattle.collective_steps.specs.declared.step.Ending.{Ending};
-ghost use Rattle.collective_transfers.specs.State.{announced_to};
 ghost use Rattle.datagram.specs.Spellings.{clear_text, request_text, OutgoingText};
 ghost use Rattle.point_to_point_calls.specs.Refusals.{IsRefusal};
+ghost use Rattle.rendezvous.specs.PayloadState.{announced_to};
 ghost use Rattle.sessions.specs.Windows.{StaysWithin};
 ghost use Rattle.sessions.specs.HeardBytes.{heard_text, CanHear};
 ghost use Rattle.sessions.specs.Events.{AreFor, CanSend, after_event, event_limit, sendings};
@@ -13,17 +14,16 @@ ghost use Rattle.vocabulary.specs.Limits.{greatest_limit};
 ghost use Rattle.engine_calls.specs.Refusals.{fault_of_sessions};
 ghost use Rattle.engine.specs.Datagrams.{AnnouncementGives, AnswerGives, announcement_fault, answer_to, coming_by};
 ghost use Rattle.engine.specs.Datagrams.{data_sent};
-ghost use Rattle.engine.specs.Parts.{IsCounted, PartsGive, StayInPlace, engine_with, state_of};
+ghost use Rattle.engine.specs.Parts.{IsCounted, PartsGive, engine_with, state_of};
 
-use crate::notices::{forget, learn, lesson_in, numbers_met};
+use crate::notices::{learn, lesson_in};
 use crate::parts::Parts;
-use collective_transfers::{CollectiveTransfers, ComingPayload};
 use collectives::Ending;
 use datagram::{ClearToSend, Clearance, Frame, Outgoing, RequestToSend};
 use engine_calls::of_sessions;
 use point_to_point::{Core, News, Refusal};
 use point_to_point_calls::frames_of;
-use rendezvous::{announce, count_of, pieces_of};
+use rendezvous::{AnnouncedPayload, ComingPayload, count_of, pieces_of};
 use sessions::{Heard, Sessions};
 use std::alloc::Global;
 use vocabulary::Mode;
@@ -97,13 +97,15 @@ fn send_answer(
 /// The place for a payload that is announced, for which there is room; or want of memory (14), and nothing changes.
 fn make_place(
     alloc: Global,
-    payloads: &mut CollectiveTransfers,
+    core: &mut Core,
     heard: Heard<'_>,
     request: RequestToSend,
 ) -> Result<ComingPayload, Refusal>
     ensures ok { IfOk result (λ payload. payload ≡ coming_by (heard_text heard.entry) (request_text request)) }
-    ensures room { OnOk result (0 < payloads.new.more_coming) }
-    ensures kept { payloads.new.state ≡ payloads.old.state }
+    ensures room { OnOk result (0 < core.new.payloads.more_coming) }
+    ensures kept { core.new ≡ record core.old {
+      payloads = record core.old.payloads { more_coming = core.new.payloads.more_coming };
+    } }
     ensures err { IfErr result (λ e. e ≡ Refusal.OutOfMemory) }
 {
     let Ok(payload) = ComingPayload::new(
@@ -116,10 +118,22 @@ fn make_place(
     ) else {
         return Err(Refusal::OutOfMemory);
     };
-    match payloads.reserve_coming() {
+    match core.reserve_coming() {
         Ok(()) => Ok(payload),
-        Err(_) => Err(Refusal::OutOfMemory),
+        Err(refused) => Err(refused),
     }
+}
+
+/// The payload that an answer asks for, where it was announced.
+pub(crate) fn announced_for<'a>(
+    core: &'a Core,
+    heard: Heard<'_>,
+    answer: ClearToSend,
+) -> Option<&'a AnnouncedPayload>
+    ensures { option_copied result ≡ announced_to core.now.payloads.state heard.entry.source.rank answer.transfer }
+{
+    core.transfers()
+        .announced_to(heard.source.rank, answer.transfer)
 }
 
 /// The frames of all data of a payload for a rank, lent from it; or want of memory (14).
@@ -196,22 +210,27 @@ pub(crate) fn fault_of_announcement(
 }
 
 impl Parts {
-    /// The announcement of a payload, which breaks no rule and meets no limit, is counted, and the answer to it is
-    /// sent; or there is no memory (14), and nothing changes.
-    fn count_and_answer(&mut self, heard: Heard<'_>, request: RequestToSend) -> Result<(), Refusal>
+    /// The announcement of a payload, which breaks no rule and meets no limit, is answered, and the payload begins to
+    /// come, for which there is room: it is counted; or there is no memory (14), and nothing changes.
+    fn begin_payload(
+        &mut self,
+        heard: Heard<'_>,
+        request: RequestToSend,
+        coming: ComingPayload,
+    ) -> Result<(), Refusal>
         requires can { CanHear self.old.sessions (Some (heard_text heard)) }
         requires there { heard.source.rank < self.old.sessions.place.size }
         requires allowed { announcement_fault self.old.core.state self.old.sessions (heard_text heard)
             (request_text request) ≡ None }
+        requires coming { coming ≡ coming_by (heard_text heard) (request_text request) }
+        requires room { 0 < self.old.core.payloads.more_coming }
         ensures exact { OnOk result
             (IsCounted self.old (heard_text heard.entry) (request_text request) self.new) }
         ensures err { IfErr result (λ e. e ≡ Refusal.OutOfMemory) }
         ensures unchanged { OnErr result (state_of self.new ≡ state_of self.old) }
-        ensures others { (self.new.communicators ≡ self.old.communicators) × (self.new.payloads ≡ self.old.payloads) }
+        ensures communicators { self.new.communicators ≡ self.old.communicators }
         ensures within { OnOk result (StaysWithin (Some (heard_text heard.entry)) self.old.sessions self.new.sessions) }
-        ensures placed { StayInPlace self.old self.new }
     {
-        let mut numbers = numbers_met(&self.core, heard)?;
         let news = News {
             source: heard.source,
             lesson: heard.lesson,
@@ -219,9 +238,8 @@ impl Parts {
         };
         let prepared = self.core.prepare_news(news)?;
         send_answer(&mut self.sessions, heard, request)?;
-        announce(&mut numbers, heard.source.rank, request.transfer);
         self.core.take_news(news, prepared);
-        self.core.set_numbers(numbers);
+        self.core.begin_payload(coming);
         Ok(())
     }
 
@@ -239,19 +257,13 @@ impl Parts {
             (λ e r f. AnnouncementGives e (heard_text heard.entry) (request_text request) r f) self.old result
             self.new }
         ensures within { OnOk result (StaysWithin (Some (heard_text heard.entry)) self.old.sessions self.new.sessions) }
-        ensures placed { StayInPlace self.old self.new }
     {
         if let Some(fault) = fault_of_announcement(&self.core, &self.sessions, heard, request) {
             return Err(fault);
         }
-        let coming = make_place(alloc, &mut self.payloads, heard, request)?;
-        match self.count_and_answer(heard, request) {
-            Ok(()) => {
-                let lesson = lesson_in(heard);
-                forget(&mut self.payloads, lesson);
-                self.payloads.begin(coming);
-                Ok(learn(&mut self.communicators, lesson))
-            }
+        let coming = make_place(alloc, &mut self.core, heard, request)?;
+        match self.begin_payload(heard, request, coming) {
+            Ok(()) => Ok(learn(&mut self.communicators, lesson_in(heard))),
             Err(refused) => Err(refused),
         }
     }
@@ -266,20 +278,16 @@ impl Parts {
     ) -> Result<(), Refusal>
         requires can { CanHear self.old.sessions (Some (heard_text heard)) }
         requires there { heard.source.rank < self.old.sessions.place.size }
-        requires announced { is_some (announced_to self.old.payloads.state heard.source.rank answer.transfer) ≡ true }
+        requires announced { is_some (announced_to self.old.core.payloads.state heard.source.rank answer.transfer) ≡ true }
         ensures exact { (before : Option Ending) →
             AnswerGives (engine_with self.old before) (heard_text heard.entry) (clear_text answer) result
             (engine_with self.new before) }
         ensures within { OnOk result (StaysWithin (Some (heard_text heard.entry)) self.old.sessions self.new.sessions) }
-        ensures placed { StayInPlace self.old self.new }
     {
         if let Clearance::Drop = answer.clearance {
             return Err(Refusal::BadFrame);
         }
-        let Some(payload) = self
-            .payloads
-            .announced_to(heard.source.rank, answer.transfer)
-        else {
+        let Some(payload) = announced_for(&self.core, heard, answer) else {
             return Err(Refusal::BadFrame);
         };
         send_data(
@@ -289,7 +297,7 @@ impl Parts {
             answer.transfer,
             payload.bytes(),
         )?;
-        self.payloads.on_answer(heard.source.rank, answer.transfer);
+        self.core.on_payload_cts(heard.source.rank, answer.transfer);
         Ok(())
     }
 }

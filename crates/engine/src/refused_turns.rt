@@ -1,12 +1,12 @@
 //! With what a frame whose turn comes would be refused, were there no memory at all: a rule that it breaks, or a limit
 //! that it meets, comes before want of memory.
 
-ghost use Rattle.std.specs.Prelude.{◌≡◌, ◌<◌, List, Option, Some, Err, IsTrue, false, is_some, option_map, true};
+ghost use Rattle.std.specs.Prelude.{◌≡◌, ◌<◌, Option, Some, Err, false, is_some, option_map, true};
 ghost use Rattle.collective_steps.specs.declared.step.Ending.{Ending};
-ghost use Rattle.collective_transfers.specs.State.{announced_to};
 ghost use Rattle.datagram.specs.Spellings.{clear_text, data_text, request_text};
 ghost use Rattle.point_to_point.specs.CoreState.{CoreState};
 ghost use Rattle.point_to_point_calls.specs.Refusals.{IsRefusal};
+ghost use Rattle.rendezvous.specs.PayloadState.{announced_to};
 ghost use Rattle.sessions.specs.Events.{event_limit};
 ghost use Rattle.sessions.specs.HeldFrames.{ready_from, turn_of};
 ghost use Rattle.sessions.specs.HeardBytes.{heard_text, word_text, CanHear};
@@ -18,10 +18,10 @@ ghost use Rattle.engine_calls.specs.EngineState.{GroupsState};
 ghost use Rattle.engine_calls.specs.Refusals.{fault_of_sessions};
 
 use crate::datagrams::{hold_fault, limit_of_news, news_of};
+use crate::incoming_payloads::is_due;
 use crate::notice_kinds::{Notice, notice_in};
 use crate::notices::read;
-use crate::outgoing_payloads::{fault_of_announcement, limit_of};
-use collective_transfers::CollectiveTransfers;
+use crate::outgoing_payloads::{announced_for, fault_of_announcement, limit_of};
 use datagram::{ClearToSend, Clearance, Data, RequestToSend};
 use point_to_point::{Core, Refusal};
 use rendezvous::count_of;
@@ -99,20 +99,20 @@ fn limit_of_data(
 
 /// The refusal of the answer to a payload that this rank announced.
 fn refusal_of_answer(
-    payloads: &CollectiveTransfers,
+    core: &Core,
     sessions: &Sessions,
     heard: Heard<'_>,
     answer: ClearToSend,
 ) -> Refusal
     requires can { CanHear sessions.now (Some (heard_text heard)) }
-    requires announced { is_some (announced_to payloads.now.state heard.source.rank answer.transfer) ≡ true }
+    requires announced { is_some (announced_to core.now.payloads.state heard.source.rank answer.transfer) ≡ true }
     ensures { IsRefusal
-        (answer_fault payloads.now.state sessions.now (heard_text heard.entry) (clear_text answer)) result }
+        (answer_fault core.now.payloads.state sessions.now (heard_text heard.entry) (clear_text answer)) result }
 {
     if let Clearance::Drop = answer.clearance {
         return Refusal::BadFrame;
     }
-    let Some(payload) = payloads.announced_to(heard.source.rank, answer.transfer) else {
+    let Some(payload) = announced_for(core, heard, answer) else {
         return Refusal::BadFrame;
     };
     or_memory(limit_of_data(sessions, heard, answer.transfer, payload.bytes()))
@@ -121,68 +121,65 @@ fn refusal_of_answer(
 /// The refusal of data of a payload that comes. With the last of them the payload is put together, read, and taken
 /// apart again.
 fn refusal_of_piece(
-    payloads: &mut CollectiveTransfers,
+    core: &mut Core,
     sessions: &Sessions,
     heard: Heard<'_>,
     piece: Data<'_>,
 ) -> Refusal
     requires { CanHear sessions.now (Some (heard_text heard)) }
-    ensures exact { (core : CoreState) (groups : GroupsState) (ended : Option Ending) →
-        WhyNoPiece (engine_by core payloads.old.state sessions.now groups ended) (heard_text heard.entry)
+    ensures exact { (c : CoreState) (groups : GroupsState) (ended : Option Ending) →
+        WhyNoPiece (engine_by c core.old.payloads.state sessions.now groups ended) (heard_text heard.entry)
         (data_text piece.entry) result }
-    ensures kept { payloads.new.state ≡ payloads.old.state }
+    ensures state { core.new.state ≡ core.old.state }
+    ensures payloads { core.new.payloads.state ≡ core.old.payloads.state }
 {
     let rank = heard.source.rank;
-    if !payloads.is_due(rank, piece.transfer, piece.offset, piece.bytes) {
+    if !is_due(core, rank, piece) {
         return Refusal::BadFrame;
     }
-    let Some(whole) = payloads.take_whole(rank, piece.transfer, piece.bytes) else {
+    let Some(whole) = core.take_whole(rank, piece.transfer, piece.bytes) else {
         return or_memory(limit_of(sessions, heard, 0));
     };
     let refusal = refusal_of_message(whole.bytes(), sessions.place().size);
-    payloads.put_back(whole);
+    core.put_back(whole);
     refusal
 }
 
 /// The refusal of what is heard and says something.
-fn refusal_of(
-    core: &Core,
-    payloads: &mut CollectiveTransfers,
-    sessions: &Sessions,
-    heard: Heard<'_>,
-) -> Refusal
+fn refusal_of(core: &mut Core, sessions: &Sessions, heard: Heard<'_>) -> Refusal
     requires can { CanHear sessions.now (Some (heard_text heard)) }
     requires something { says_nothing heard.lesson (word_text heard.word) ≡ false }
     ensures exact { (groups : GroupsState) (ended : Option Ending) →
-        HeardGives (engine_by core.now.state payloads.old.state sessions.now groups ended) (heard_text heard.entry)
-        (Err result) (engine_by core.now.state payloads.old.state sessions.now groups ended) }
-    ensures kept { payloads.new.state ≡ payloads.old.state }
+        HeardGives (engine_by core.old.state core.old.payloads.state sessions.now groups ended) (heard_text heard.entry)
+        (Err result) (engine_by core.old.state core.old.payloads.state sessions.now groups ended) }
+    ensures state { core.new.state ≡ core.old.state }
+    ensures payloads { core.new.payloads.state ≡ core.old.payloads.state }
 {
-    match notice_in(payloads, heard) {
+    match notice_in(core, heard) {
         Some(Notice::Message(message)) => {
             refusal_of_message(message.elements, sessions.place().size)
         }
         Some(Notice::Announcement(request)) => {
             refusal_of_announcement(core, sessions, heard, request)
         }
-        Some(Notice::Answer(answer)) => refusal_of_answer(payloads, sessions, heard, answer),
-        Some(Notice::Piece(piece)) => refusal_of_piece(payloads, sessions, heard, piece),
+        Some(Notice::Answer(answer)) => refusal_of_answer(core, sessions, heard, answer),
+        Some(Notice::Piece(piece)) => refusal_of_piece(core, sessions, heard, piece),
         None => refusal_of_news(core, sessions, heard),
     }
 }
 
 /// The refusal of the next frame of an endpoint, where it is held: 30 where what is held spells no frame.
 pub(crate) fn refusal_of_next(
-    core: &Core,
-    payloads: &mut CollectiveTransfers,
+    core: &mut Core,
     sessions: &Sessions,
     source: Endpoint,
 ) -> Option<Refusal>
     requires { source.rank < sessions.now.place.size }
     ensures exact { (groups : GroupsState) (ended : Option Ending) →
         NextIsRefused (option_map (turn_of source) (ready_from sessions.now source.rank)) result
-        (engine_by core.now.state payloads.old.state sessions.now groups ended) }
-    ensures kept { payloads.new.state ≡ payloads.old.state }
+        (engine_by core.old.state core.old.payloads.state sessions.now groups ended) }
+    ensures state { core.new.state ≡ core.old.state }
+    ensures payloads { core.new.payloads.state ≡ core.old.payloads.state }
 {
     // The place shows that there is a session for each rank.
     let _place = sessions.place();
@@ -190,7 +187,7 @@ pub(crate) fn refusal_of_next(
         return None;
     };
     match turn_in(source, bytes) {
-        Some(heard) => Some(refusal_of(core, payloads, sessions, heard)),
+        Some(heard) => Some(refusal_of(core, sessions, heard)),
         None => Some(Refusal::BadFrame),
     }
 }

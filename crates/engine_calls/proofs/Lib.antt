@@ -4,6 +4,7 @@ pub mod Asks
 pub mod Looks
 pub mod ReplyLaws
 pub mod StepFrames
+pub mod StepNumbers
 pub mod FrameOrder
 pub mod Laws
 pub mod Judged

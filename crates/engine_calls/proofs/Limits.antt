@@ -3,23 +3,11 @@ use Rattle.point_to_point_calls.specs.declared.sends.Destination.{Destination}
 use Rattle.std.proofs.Common.{◌≡◌, ◌==◌, ℕ, [], ◌∷◌, Bool, true, false, Option, Some, None, refl, sym, ap, subst}
 use Rattle.std.proofs.lemmas.Option.{same_Some}
 use Rattle.std.specs.Prelude.{option_map}
-use Rattle.vocabulary.specs.declared.envelope.Source.{Source}
-use Rattle.vocabulary.specs.declared.envelope.Source.TheVariants.{Any, Rank, Null}
 use Rattle.vocabulary.specs.declared.mode.Mode.{Mode}
 use Rattle.datagram.specs.Spellings.{FrameText, OutgoingText}
 use Rattle.datatypes.specs.Contents.{Contents}
 use Rattle.incarnation.specs.declared.place.Place.{Place}
-use Rattle.requests.specs.Regions.{sent_from}
-use Rattle.point_to_point_calls.specs.CoreCalls.{RoutedCall}
-use Rattle.point_to_point_calls.specs.CoreCalls.{Isend, Irecv, Wait, Test, Waitany, Waitall}
-use Rattle.point_to_point_calls.specs.CoreCalls.{Cancel, Improbe, Mrecv}
-use Rattle.point_to_point_calls.specs.declared.refusal.Refusal.{Refusal}
-use Rattle.point_to_point_calls.specs.Calls.{NeedsMemory}
-use Rattle.point_to_point.specs.Calls.{call_frame, call_rank}
-use Rattle.point_to_point.specs.CoreState.{CoreState}
-use Rattle.point_to_point.specs.Messages.{message_frame}
-use Rattle.point_to_point.specs.Receives.{receive_frame}
-use Rattle.point_to_point_calls.specs.SendRules.{destination, frame_to, frame_unless, frame_with, rank_to, rank_unless}
+use Rattle.point_to_point_calls.specs.SendRules.{frame_to, frame_unless, rank_to, rank_unless}
 use Rattle.rendezvous.specs.State.{State}
 use Rattle.sessions.specs.declared.refusal.SessionRefusal as lower
 use Rattle.sessions.specs.Events.{event_limit}

@@ -1,14 +1,12 @@
 -- What a probe finds that takes nothing out, and its first rule.
-use Rattle.std.proofs.Common.{◌≡◌, ◌≤◌, ◌||◌, ℕ, Bool, true, false, List, [], length, Option, Some, None, Ok, Err, refl}
+use Rattle.std.proofs.Common.{◌≡◌, ◌≤◌, ◌||◌, ℕ, Bool, true, false, List, length, Option, Some, None, Ok, Err, refl}
 use Rattle.std.proofs.Common.{sym, ap, subst, ◌∙◌, is_some, option_map}
 use Rattle.std.specs.Prelude.{IfSome, nat_lt}
 use Rattle.std.proofs.lemmas.Bool.{ltb-false}
 use Rattle.communicators.specs.Routes.{RouteText}
 use Rattle.match_queues.specs.declared.envelope.Message.{Message}
-use Rattle.perfect_groups.specs.Calls.{held_at}
-use Rattle.perfect_groups.specs.Faults.{is_source_beyond, is_within}
+use Rattle.perfect_groups.specs.Faults.{is_within}
 use Rattle.point_to_point_calls.specs.ReceiveMatches.{status_of}
-use Rattle.point_to_point_calls.specs.CoreCalls as core_calls
 use Rattle.point_to_point_calls.specs.declared.refusal.Refusal.{Refusal}
 use Rattle.point_to_point_calls.specs.declared.refusal.Refusal.TheVariants as refusals
 use Rattle.point_to_point.specs.Calls.{argument_fault}
@@ -23,10 +21,10 @@ use Rattle.engine_calls.proofs.Asks.{busy_is, free_is, source_shares}
 use Rattle.engine_calls.specs.Asks.{IsProbed, LookGives, engine_of, route_probe, source_rule}
 use Rattle.engine_calls.specs.Calls.{LookingGives, WhyRefused}
 use Rattle.engine_calls.specs.EngineState.{EngineState, GroupsState, Rest, member_of}
-use Rattle.engine_calls.specs.Faults.{broken, fault_of, free_fault, group_limit, is_busy, is_replaced, look_rules}
+use Rattle.engine_calls.specs.Faults.{broken, fault_of, group_limit, look_rules}
 use Rattle.engine_calls.specs.Faults.{on_route}
 use Rattle.engine_calls.specs.Refusals.{first_fault}
-use Rattle.engine_calls.specs.Routes.{probe_by, route_at}
+use Rattle.engine_calls.specs.Routes.{route_at}
 use Rattle.engine_calls.specs.declared.call.Call.TheVariants as calls
 use Rattle.point_to_point_calls.specs.declared.call.Probe.{Probe}
 use Rattle.engine_calls.specs.declared.reply.Reply.TheVariants as replies

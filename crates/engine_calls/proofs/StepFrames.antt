@@ -1,14 +1,14 @@
 -- The frames of a step: in the order of the ranks, and within the format's limits.
-use Rattle.std.proofs.Common.{◌≡◌, ℕ, zero, suc, ◌+◌, ◌*◌, ◌<◌, ◌≤◌, ◌==◌, ◌&&◌, ◌||◌, ◌⊎◌, inl, inr, not, set}
+use Rattle.std.proofs.Common.{◌≡◌, ℕ, zero, suc, ◌+◌, ◌*◌, ◌<◌, ◌≤◌, ◌==◌, ◌&&◌, ◌||◌, ◌⊎◌, inl, inr, not}
 use Rattle.std.proofs.Common.{append_assoc, Bool, true, false, cond, List, [], ◌∷◌, ◌++◌, length, map, filter, take}
 use Rattle.std.proofs.Common.{get_or, Option, Some, None, refl, sym, ap, subst, ◌∙◌, arith}
 use Rattle.std.specs.Prelude.{All, if◌then◌else◌, nat_le, nat_lt}
 use Rattle.std.proofs.lemmas.Bool.{leb-true, lt-ltb, ltb-false, ltb-true}
-use Rattle.std.proofs.lemmas.List.{append-nil, length-set, map_more}
+use Rattle.std.proofs.lemmas.List.{append-nil, map_more}
 use Rattle.std.proofs.lemmas.List.Elements.{All-append, All-cons, All-filter, All-nil, filter-append}
 use Rattle.collective_messages.specs.Messages.{says}
 use Rattle.collective_messages.specs.declared.message.CollectiveMessage.{CollectiveMessage}
-use Rattle.collective_transfers.specs.Payloads.{Announced}
+use Rattle.rendezvous.specs.Payloads.{Announced}
 use Rattle.datagram.specs.Spellings.{FrameFits, OutgoingText}
 use Rattle.incarnation.specs.declared.place.Place.{Place}
 use Rattle.payload.specs.Spellings.{spelling}
@@ -63,7 +63,7 @@ by_rank_more k fs =
 
 -- ---- one more message
 
-both_of : (a b : Bool) → (a && b) ≡ true → (a ≡ true) × (b ≡ true)
+pub both_of : (a b : Bool) → (a && b) ≡ true → (a ≡ true) × (b ≡ true)
 both_of true b is = (refl, is)
 both_of false b is = absurd cc
 
@@ -281,15 +281,6 @@ pub written_send : (p q : Place) (ns n2 : List Numbers) (ms : List CollectiveMes
 written_send p q ns n2 ms fs gs ps place same ready =
     subst (λ (r : Place). All (CanSend r) gs) place
     (subst (λ (hs : List OutgoingText). All (CanSend p) hs) (sym (same ∙ ready.frames)) (all_send p ns ms ready.go))
-
-numbers_stay : (b : Bool) (ns : List Numbers) (rank : ℕ) (n : Numbers) → length (cond b (set ns rank n) ns) ≡ length ns
-numbers_stay true ns rank n = length-set ns rank n
-numbers_stay false ns rank n = refl
-
--- there are as many sessions as before
-pub as_many : (ns : List Numbers) (ms : List CollectiveMessage) → length (step_numbers ns ms) ≡ length ns
-as_many ns [] = refl
-as_many ns (m ∷ ms) = as_many (numbers_after ns m) ms ∙ numbers_stay (is_large m) ns m.target.rank _
 
 pub all_by_rank : (p : Place) (k : ℕ) (fs : List OutgoingText) → All (CanSend p) fs → All (CanSend p) (by_rank k fs)
 all_by_rank p zero fs all = All-nil (CanSend p)

@@ -2,7 +2,7 @@
 -- the sessions tell the others; or a question is answered.
 use Rattle.std.specs.Prelude.{◌≡◌, ◌⊎◌, ℕ, Option, Some, None, Ok, option_map}
 use Rattle.collective_messages.specs.declared.entry.Entry.{Entry}
-use Rattle.collective_transfers.specs.State.{after_announcing}
+use Rattle.rendezvous.specs.PayloadState.{after_announcing}
 use Rattle.collectives.specs.Calls.{EntryGives, inside_of}
 use Rattle.collective_steps.specs.Steps.{IsPreparedEntry, Prepared}
 use Rattle.collective_steps.specs.Steps as steps

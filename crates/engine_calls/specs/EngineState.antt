@@ -1,6 +1,6 @@
 -- What a rank's engine holds: a core, its communicators and collectives, and its sessions.
 use Rattle.std.specs.Prelude.{[], Option, Some, None}
-use Rattle.collective_transfers.specs.State as payloads
+use Rattle.rendezvous.specs.PayloadState as payloads
 use Rattle.collectives.specs.State as collectives
 use Rattle.collective_steps.specs.declared.step.Ending.{Ending}
 use Rattle.communicators.specs.Members.{membership_of}

@@ -4,13 +4,14 @@ use Rattle.std.specs.Prelude.{length, Option, Some, None, if◌then◌else◌, n
 use Rattle.std.specs.List.{AllByRecursion}
 use Rattle.collective_messages.specs.Messages.{IsWithinType, says}
 use Rattle.collective_messages.specs.declared.message.CollectiveMessage.{CollectiveMessage}
-use Rattle.collective_transfers.specs.Payloads.{Announced}
+use Rattle.rendezvous.specs.Payloads.{Announced}
 use Rattle.datagram.specs.Spellings.{EagerFrame, FrameText, RequestFrame, OutgoingText}
 use Rattle.datagram.specs.declared.kinds.Plane.TheVariants.{Collective}
 use Rattle.incarnation.specs.declared.place.Place.{Place}
 use Rattle.payload.specs.Spellings.{PayloadFits, spelling}
 use Rattle.point_to_point_calls.specs.declared.refusal.Refusal.{Refusal}
 use Rattle.point_to_point_calls.specs.declared.refusal.Refusal.TheVariants as refusals
+use Rattle.rendezvous.specs.PayloadNumbers.{with_lesson}
 use Rattle.rendezvous.specs.State.{is_full_to, next_to, with_begun}
 use Rattle.rendezvous.specs.declared.transfers.Numbers.{Numbers}
 use Rattle.sessions.specs.Events.{after_event, event_limit}
@@ -34,6 +35,15 @@ frame_limit s None = None
 frame_limit s (Some f) = fault_of_sessions (event_limit s None (f ∷ []))
 
 -- THE FRAMES OF A COLLECTIVE
+
+-- the rank that is known at a new incarnation by what is heard, if there is one
+abbrev pub lesson_in : Option HeardText → Option ℕ
+lesson_in None = None
+lesson_in (Some h) = if h.lesson then Some h.source.rank else None
+
+-- the numbers of the sessions' transfers then: with a lesson those of its session start anew
+abbrev pub numbers_heard : List Numbers → Option HeardText → List Numbers
+numbers_heard ns heard = with_lesson (lesson_in heard) ns
 
 -- whether a payload is too long for a frame: it is announced, and goes in pieces (our own)
 abbrev pub is_large : CollectiveMessage → Bool

@@ -4,8 +4,8 @@ use Rattle.collective_messages.specs.Messages.{says}
 use Rattle.collective_messages.specs.declared.message.CollectiveMessage.{CollectiveMessage}
 use Rattle.collectives.specs.Calls.{lesson_ending}
 use Rattle.collectives.specs.State.{State}
-use Rattle.collective_transfers.specs.Payloads.{Announced}
-use Rattle.collective_transfers.specs.State as payloads
+use Rattle.rendezvous.specs.Payloads.{Announced}
+use Rattle.rendezvous.specs.PayloadState as payloads
 use Rattle.communicators.specs.Members.{Held}
 use Rattle.collective_steps.specs.declared.step.Ending.{Ending}
 use Rattle.context_agreement.specs.Communicators.{ContextsState}

@@ -1,6 +1,6 @@
 //! The frames of a step of a collective.
 
-ghost use Rattle.std.specs.Prelude.{◌≡◌, ◌≤◌, ◌++◌, ◌==◌, [], ◌∷◌, false, All, IfErr, IfOk, IfSome, None, Some, OnErr};
+ghost use Rattle.std.specs.Prelude.{◌≡◌, ◌≤◌, ◌++◌, ◌==◌, [], ◌∷◌, true, All, IfErr, IfOk, IfSome, None, Some, OnErr};
 ghost use Rattle.std.specs.Prelude.{OnOk, filter, length, map};
 ghost use Rattle.collective_messages.specs.Messages.{IsFitting, says};
 ghost use Rattle.datagram.specs.Spellings.{outgoing_text};
@@ -9,20 +9,20 @@ ghost use Rattle.sessions.specs.Events.{CanSend, after_event, event_limit, sendi
 ghost use Rattle.sessions.specs.HeardBytes.{CanHear, heard_option};
 ghost use Rattle.sessions.specs.Windows.{StaysWithin};
 ghost use Rattle.vocabulary.specs.Limits.{eager_limit, greatest_limit};
-ghost use Rattle.engine_calls.specs.Frames.{AreWhole, IsWhole, all_can_go, by_rank, can_go, is_sendable, payload_frame};
-ghost use Rattle.engine_calls.specs.Frames.{payload_kept, step_limit, step_numbers, step_payloads, step_sendings};
+ghost use Rattle.engine_calls.specs.Frames.{AreWhole, IsWhole, all_can_go, by_rank, can_go, lesson_in, numbers_heard};
+ghost use Rattle.engine_calls.specs.Frames.{payload_frame, payload_kept, step_limit, step_numbers, step_payloads};
+ghost use Rattle.engine_calls.specs.Frames.{step_sendings, transfer_of};
 ghost use Rattle.engine_calls.specs.Refusals.{fault_of_sessions};
-ghost use Rattle.rendezvous.specs.State.{is_full_to, next_to, with_begun};
+ghost use Rattle.rendezvous.specs.PayloadNumbers.{AreLeft, counted, with_lesson};
 ghost use Rattle.engine_calls.specs.Steps.{AreReady, IsAdded, IsLeftOut, StepStops, part_frame, written};
 
 use crate::refusal::of_sessions;
 use collective_messages::CollectiveMessage;
-use collective_transfers::{AnnouncedPayload, CollectiveTransfers};
 use datagram::{Eager, Frame, Outgoing, Plane, RequestToSend};
 use incarnation::Place;
 use payload::write_payload;
-use point_to_point::Refusal;
-use rendezvous::{Numbers, begin, is_full_to};
+use point_to_point::{Core, Refusal};
+use rendezvous::{AnnouncedPayload, Transfers};
 use sessions::{Heard, Sessions};
 use std::alloc::Global;
 use vocabulary::{BasicType, EAGER_LIMIT, GREATEST_LIMIT, HIGHEST_TAG, Mode};
@@ -73,21 +73,39 @@ fn write(alloc: Global, message: &CollectiveMessage) -> Result<Vec<u8>, Refusal>
     }
 }
 
-/// Whether so many bytes can go to a rank: in a frame, or under a number that is left for a transfer.
-fn is_sendable(numbers: &[Numbers], rank: u16, count: usize) -> bool
-    ensures { result ≡ is_sendable numbers.now rank count }
+/// Under which number a message is announced that is spelled in so many bytes, behind these payloads; none where it goes
+/// in a frame. It fails where it can't go: to no rank of the job, under a number that no tag can be, with more bytes than
+/// a message may have, or without a number that is left for its transfer.
+fn transfer_of(
+    place: Place,
+    transfers: &Transfers,
+    lesson: Option<u16>,
+    announced: &[AnnouncedPayload],
+    message: &CollectiveMessage,
+    count: usize,
+) -> Result<Option<u32>, Refusal>
+    requires count { count ≡ length (spelling (says message.now)) }
+    requires left { AreLeft (with_lesson lesson transfers.now.state.numbers) announced.now }
+    ensures ok { IfOk result (λ transfer. transfer
+        ≡ transfer_of (counted (with_lesson lesson transfers.now.state.numbers) announced.now) message.now) }
+    ensures goes { OnOk result
+        (can_go place (counted (with_lesson lesson transfers.now.state.numbers) announced.now) message.now ≡ true) }
+    ensures err { IfErr result (IsLeftOut
+        (can_go place (counted (with_lesson lesson transfers.now.state.numbers) announced.now) message.now)) }
 {
-    count <= EAGER_LIMIT || (count <= GREATEST_LIMIT && !is_full_to(numbers, rank))
-}
-
-/// Whether a message can go that is spelled in so many bytes: to a rank of the job, under a number that a tag can be.
-fn can_go(place: Place, numbers: &[Numbers], message: &CollectiveMessage, count: usize) -> bool
-    requires { count ≡ length (spelling (says message.now)) }
-    ensures { result ≡ can_go place numbers.now message.now }
-{
-    message.target.rank < place.size
-        && message.number <= HIGHEST_TAG
-        && is_sendable(numbers, message.target.rank, count)
+    if message.target.rank >= place.size || message.number > HIGHEST_TAG {
+        return Err(Refusal::Limit);
+    }
+    if count <= EAGER_LIMIT {
+        return Ok(None);
+    }
+    if count > GREATEST_LIMIT {
+        return Err(Refusal::Limit);
+    }
+    match transfers.number_behind(lesson, announced, message.target.rank) {
+        Some(transfer) => Ok(Some(transfer)),
+        None => Err(Refusal::Limit),
+    }
 }
 
 /// Puts a frame behind those of a step.
@@ -138,33 +156,28 @@ fn add_whole(
     add_frame(frames, message, count, FrameContent::Whole(bytes))
 }
 
-/// Adds the announcement of a message under the next number of its rank, and keeps its bytes.
+/// Adds the announcement of a message under the number of its transfer, and keeps its bytes.
 fn add_announced(
     message: &CollectiveMessage,
     bytes: Vec<u8>,
-    numbers: &mut Vec<Numbers>,
+    transfer: u32,
     frames: &mut Vec<Written>,
     announced: &mut Vec<AnnouncedPayload>,
 ) -> Result<(), Refusal>
     requires says { bytes.items ≡ spelling (says message.now) }
     requires limit { length bytes.items ≤ greatest_limit }
-    requires left { is_full_to numbers.old.items message.now.target.rank ≡ false }
-    ensures numbers { OnOk result (numbers.new.items ≡ with_begun numbers.old.items message.now.target.rank) }
     ensures frames { OnOk result (map written frames.new.items ≡ map written frames.old.items
         ++ (record {
           target = message.now.target.rank;
           frame =
-              payload_frame (Some (next_to numbers.old.items message.now.target.rank)) message.now.context
-              message.now.number (spelling (says message.now));
+              payload_frame (Some transfer) message.now.context message.now.number (spelling (says message.now));
         }) ∷ []) }
     ensures announced { OnOk result (announced.new.items ≡ announced.old.items
-        ++ payload_kept (Some (next_to numbers.old.items message.now.target.rank)) message.now.target.rank
-        (spelling (says message.now))) }
+        ++ payload_kept (Some transfer) message.now.target.rank (spelling (says message.now))) }
     ensures err { IfErr result (λ e. e ≡ Refusal.OutOfMemory) }
 {
     let rank = message.target.rank;
     let count = bytes.len() as u32;
-    let transfer = begin(numbers, rank);
     let payload = AnnouncedPayload::new(rank, transfer, bytes);
     if announced.push(payload).is_err() {
         return Err(Refusal::OutOfMemory);
@@ -172,30 +185,31 @@ fn add_announced(
     add_frame(frames, message, count, FrameContent::Announced(transfer))
 }
 
-/// Adds one more message to those of a step that are written out: its bytes, or their announcement. It fails where the
-/// message can't go, and for want of memory.
+/// Adds one more message to those of a step that are written out: its bytes, or their announcement, which is counted
+/// behind those before it. It fails where the message can't go, and for want of memory.
 fn add_message(
     alloc: Global,
     place: Place,
+    transfers: &Transfers,
+    lesson: Option<u16>,
     message: &CollectiveMessage,
-    numbers: &mut Vec<Numbers>,
     frames: &mut Vec<Written>,
     announced: &mut Vec<AnnouncedPayload>,
 ) -> Result<(), Refusal>
-    requires { IsFitting message.now }
+    requires fits { IsFitting message.now }
+    requires left { AreLeft (with_lesson lesson transfers.now.state.numbers) announced.old.items }
     ensures ok { OnOk result
-        (IsAdded place numbers.old.items message.now (map written frames.old.items) (map written frames.new.items)
-        announced.old.items announced.new.items numbers.new.items) }
-    ensures err { IfErr result (IsLeftOut (can_go place numbers.old.items message.now)) }
+        (IsAdded place (counted (with_lesson lesson transfers.now.state.numbers) announced.old.items) message.now
+        (map written frames.old.items) (map written frames.new.items) announced.old.items announced.new.items
+        (counted (with_lesson lesson transfers.now.state.numbers) announced.new.items)) }
+    ensures err { IfErr result (IsLeftOut
+        (can_go place (counted (with_lesson lesson transfers.now.state.numbers) announced.old.items) message.now)) }
 {
     let bytes = write(alloc, message)?;
-    if !can_go(place, numbers, message, bytes.len()) {
-        return Err(Refusal::Limit);
-    }
-    if bytes.len() <= EAGER_LIMIT {
-        add_whole(message, bytes, frames)
-    } else {
-        add_announced(message, bytes, numbers, frames, announced)
+    match transfer_of(place, transfers, lesson, announced, message, bytes.len()) {
+        Ok(None) => add_whole(message, bytes, frames),
+        Ok(Some(transfer)) => add_announced(message, bytes, transfer, frames, announced),
+        Err(refused) => Err(refused),
     }
 }
 
@@ -208,25 +222,66 @@ pub struct WrittenStep {
     pub announced: Vec<AnnouncedPayload>,
 }
 
-/// Writes each message of a step, where these are the numbers of the sessions' transfers; they count on.
+/// Writes each message of a step; those that are announced are counted behind the transfers that began before. With a
+/// lesson of a rank its session starts anew before them.
 fn write_each(
     alloc: Global,
     place: Place,
+    transfers: &Transfers,
+    lesson: Option<u16>,
     messages: &[CollectiveMessage],
-    numbers: &mut Vec<Numbers>,
 ) -> Result<WrittenStep, Refusal>
     requires { All IsFitting messages.now }
     ensures ok { IfOk result
-        (λ step. AreReady place numbers.old.items messages.now (map written step.frames.items) step.announced.items
-        numbers.new.items) }
-    ensures err { IfErr result (IsLeftOut (all_can_go place numbers.old.items messages.now)) }
+        (λ step. AreReady place (with_lesson lesson transfers.now.state.numbers) messages.now
+        (map written step.frames.items) step.announced.items
+        (counted (with_lesson lesson transfers.now.state.numbers) step.announced.items)) }
+    ensures err { IfErr result
+        (IsLeftOut (all_can_go place (with_lesson lesson transfers.now.state.numbers) messages.now)) }
 {
     let mut frames = Vec::new(alloc);
     let mut announced = Vec::new(alloc);
     for message in messages {
-        add_message(alloc, place, message, numbers, &mut frames, &mut announced)?;
+        add_message(
+            alloc,
+            place,
+            transfers,
+            lesson,
+            message,
+            &mut frames,
+            &mut announced,
+        )?;
     }
     Ok(WrittenStep { frames, announced })
+}
+
+/// The rank that is known at a new incarnation by what is heard, if there is one.
+fn lesson_in(heard: &Option<Heard<'_>>) -> Option<u16>
+    ensures { result ≡ lesson_in (heard_option heard.now) }
+{
+    match heard {
+        Some(heard) if heard.lesson => Some(heard.source.rank),
+        _ => None,
+    }
+}
+
+/// Writes each message of a step behind the transfers of a core, once what was heard is learnt.
+fn write_step(
+    alloc: Global,
+    place: Place,
+    core: &Core,
+    heard: &Option<Heard<'_>>,
+    messages: &[CollectiveMessage],
+) -> Result<WrittenStep, Refusal>
+    requires { All IsFitting messages.now }
+    ensures ok { IfOk result (λ step.
+        AreReady place (numbers_heard core.now.state.transfers.numbers (heard_option heard.now)) messages.now
+        (map written step.frames.items) step.announced.items
+        (counted (numbers_heard core.now.state.transfers.numbers (heard_option heard.now)) step.announced.items)) }
+    ensures err { IfErr result (IsLeftOut (all_can_go place
+        (numbers_heard core.now.state.transfers.numbers (heard_option heard.now)) messages.now)) }
+{
+    write_each(alloc, place, core.transfers(), lesson_in(heard), messages)
 }
 
 /// The frame of a message that was written out.
@@ -392,44 +447,50 @@ fn send_written(
     }
 }
 
-/// The sessions take in what was heard, if anything was, and send a step of a collective in the order of the ranks;
-/// there is room for the payloads that are announced by it, which are answered. The numbers of the sessions' transfers
-/// count on.
+/// The sessions take in what was heard, if anything was, and send a step of a collective in the order of the ranks; the
+/// payloads that are announced by it are answered, and there is room for them. They are counted behind the transfers that
+/// began before; where what is heard is a lesson, its session starts anew before that.
 ///
-/// Refused is 13 where one of its messages can't go, or the sessions meet their limit, and 14; then nothing changes but
-/// the numbers that were handed in.
+/// Refused is 13 where one of its messages can't go, or the sessions meet their limit, and 14; then nothing changes.
 pub fn send_step(
     alloc: Global,
-    payloads: &mut CollectiveTransfers,
+    core: &mut Core,
     sessions: &mut Sessions,
     heard: Option<Heard<'_>>,
     messages: &[CollectiveMessage],
-    numbers: &mut Vec<Numbers>,
 ) -> Result<Vec<AnnouncedPayload>, Refusal>
     requires can { CanHear sessions.old (heard_option heard) }
     requires fits { All IsFitting messages.now }
     ensures whole { OnOk result (AreWhole messages.now) }
-    ensures goes { OnOk result (step_limit sessions.old numbers.old.items (heard_option heard.entry) messages.now ≡ None) }
+    ensures goes { OnOk result
+        (step_limit sessions.old (numbers_heard core.old.state.transfers.numbers (heard_option heard.entry))
+        (heard_option heard.entry) messages.now ≡ None) }
     ensures sent { OnOk result
         (sessions.new ≡
         after_event sessions.old (heard_option heard.entry)
-        (step_sendings sessions.old.place numbers.old.items messages.now)) }
-    ensures numbers { OnOk result (numbers.new.items ≡ step_numbers numbers.old.items messages.now) }
-    ensures width { OnOk result (length numbers.new.items ≡ length numbers.old.items) }
-    ensures announced { IfOk result (λ announced. announced.items ≡ step_payloads numbers.old.items messages.now) }
-    ensures room { IfOk result (λ announced. length announced.items ≤ payloads.new.more_announced) }
-    ensures payloads { payloads.new.state ≡ payloads.old.state }
-    ensures coming { payloads.new.more_coming ≡ payloads.old.more_coming }
-    ensures why { IfErr result (StepStops (step_limit sessions.old numbers.old.items (heard_option heard.entry) messages.now)) }
+        (step_sendings sessions.old.place
+        (numbers_heard core.old.state.transfers.numbers (heard_option heard.entry)) messages.now)) }
+    ensures announced { IfOk result (λ announced. announced.items ≡
+        step_payloads (numbers_heard core.old.state.transfers.numbers (heard_option heard.entry)) messages.now) }
+    ensures counted { IfOk result (λ announced.
+        counted (numbers_heard core.old.state.transfers.numbers (heard_option heard.entry)) announced.items ≡
+        step_numbers (numbers_heard core.old.state.transfers.numbers (heard_option heard.entry)) messages.now) }
+    ensures left { IfOk result (λ announced.
+        AreLeft (numbers_heard core.old.state.transfers.numbers (heard_option heard.entry)) announced.items) }
+    ensures room { IfOk result (λ announced. length announced.items ≤ core.new.payloads.more_announced) }
+    ensures kept { core.new ≡ record core.old {
+      payloads = record core.old.payloads { more_announced = core.new.payloads.more_announced };
+    } }
+    ensures why { IfErr result (StepStops
+        (step_limit sessions.old (numbers_heard core.old.state.transfers.numbers (heard_option heard.entry))
+        (heard_option heard.entry) messages.now)) }
     ensures unchanged { OnErr result (sessions.new ≡ sessions.old) }
     ensures within { OnOk result (StaysWithin (heard_option heard.entry) sessions.old sessions.new) }
     ensures placed { sessions.new.place ≡ sessions.old.place }
 {
     let place = sessions.place();
-    let step = write_each(alloc, place, messages, numbers)?;
-    let Ok(()) = payloads.reserve_announced(step.announced.len()) else {
-        return Err(Refusal::OutOfMemory);
-    };
+    let step = write_step(alloc, place, core, &heard, messages)?;
+    core.reserve_announced(step.announced.len())?;
     send_written(alloc, sessions, heard, &step.frames)?;
     Ok(step.announced)
 }

@@ -95,6 +95,7 @@ fn make_way(
         CanCollect (collection_on_message core.new.state receive.now.message receive.now.into) core.new collection) }
     ensures err { IfErr result (λ e. e ≡ Refusal.OutOfMemory) }
     ensures kept { core.new.state ≡ core.old.state }
+    ensures payloads { core.new.payloads ≡ core.old.payloads }
 {
     let collection = core.prepare_message(receive.message, &receive.into)?;
     match send_frame(sessions, receive.answer) {
@@ -108,10 +109,11 @@ fn start_receive(core: &mut Core, sessions: &mut Sessions, receive: MessageRecei
     requires answering { IsAnswering core.old.state receive }
     requires clear { IsClear core.old.state sessions.old (core_calls.Mrecv receive.message receive.into) }
     requires place { core.old.state.place ≡ sessions.old.place }
-    ensures { (g : GroupsState) (rest : Rest) (call : engine_calls.Call) →
+    ensures exact { (g : GroupsState) (rest : Rest) (call : engine_calls.Call) →
         IsAsked (engine_of core.old.state g rest sessions.old) call (core_calls.Mrecv receive.message receive.into) →
         CoreGives (engine_of core.old.state g rest sessions.old) call result
         (engine_of core.new.state g rest sessions.new) }
+    ensures payloads { core.new.payloads ≡ core.old.payloads }
 {
     match make_way(core, sessions, &receive) {
         Ok(collection) => {
@@ -130,9 +132,10 @@ pub fn mrecv(
     into: Region,
 ) -> Reply
     requires place { core.old.state.place ≡ sessions.old.place }
-    ensures { (rest : Rest) →
+    ensures exact { (rest : Rest) →
         CoreGives (engine_of core.old.state (groups_of communicators.now) rest sessions.old) (calls.Mrecv message into)
         result (engine_of core.new.state (groups_of communicators.now) rest sessions.new) }
+    ensures payloads { core.new.payloads ≡ core.old.payloads }
 {
     match judge_message(core, communicators, sessions, message, into) {
         Ok(receive) => start_receive(core, sessions, receive),

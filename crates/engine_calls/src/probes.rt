@@ -153,10 +153,11 @@ fn take_out(alloc: Global, core: &mut Core, judged: JudgedProbe<'_>) -> Reply
     requires sought { IsSoughtProbe core.old judged.sought }
     requires group { group_limit (probe_group judged) ≡ None }
     requires limit { search_limit judged.sought.routed.route.named core.old.state judged.sought.routed ≡ None }
-    ensures { (g : GroupsState) (rest : Rest) (s : SessionsState) (call : engine_calls.Call) →
+    ensures exact { (g : GroupsState) (rest : Rest) (s : SessionsState) (call : engine_calls.Call) →
         group_of g (core_calls.Improbe judged.entry.sought.routed) ≡ probe_group judged.entry →
         IsAsked (engine_of core.old.state g rest s) call (core_calls.Improbe judged.entry.sought.routed) →
         CoreGives (engine_of core.old.state g rest s) call result (engine_of core.new.state g rest s) }
+    ensures payloads { core.new.payloads ≡ core.old.payloads }
 {
     let JudgedProbe { sought, group } = judged;
     let probe = sought.routed.probe;
@@ -177,9 +178,10 @@ pub fn improbe(
     sessions: &Sessions,
     probe: Probe,
 ) -> Reply
-    ensures { (rest : Rest) →
+    ensures exact { (rest : Rest) →
         CoreGives (engine_of core.old.state (groups_of communicators.now) rest sessions.now) (calls.Improbe probe) result
         (engine_of core.new.state (groups_of communicators.now) rest sessions.now) }
+    ensures payloads { core.new.payloads ≡ core.old.payloads }
 {
     match judge_search(core, communicators, sessions, probe) {
         Ok(judged) => take_out(alloc, core, judged),

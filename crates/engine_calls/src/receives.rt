@@ -113,6 +113,7 @@ fn make_way(
     ensures sought { IsSought core.new sought.now }
     ensures err { IfErr result (λ e. e ≡ Refusal.OutOfMemory) }
     ensures kept { core.new.state ≡ core.old.state }
+    ensures payloads { core.new.payloads ≡ core.old.payloads }
 {
     let collection = core.prepare_receive(sought)?;
     match send_frame(sessions, sought.answer) {
@@ -132,11 +133,12 @@ fn start_receive(
     requires group { group_limit (receive_group judged) ≡ None }
     requires clear { IsClear core.old.state sessions.old (core_calls.Irecv judged.sought.routed) }
     requires place { core.old.state.place ≡ sessions.old.place }
-    ensures { (g : GroupsState) (rest : Rest) (call : engine_calls.Call) →
+    ensures exact { (g : GroupsState) (rest : Rest) (call : engine_calls.Call) →
         group_of g (core_calls.Irecv judged.entry.sought.routed) ≡ receive_group judged.entry →
         IsAsked (engine_of core.old.state g rest sessions.old) call (core_calls.Irecv judged.entry.sought.routed) →
         CoreGives (engine_of core.old.state g rest sessions.old) call result
         (engine_of core.new.state g rest sessions.new) }
+    ensures payloads { core.new.payloads ≡ core.old.payloads }
 {
     let JudgedReceive { sought, group } = judged;
     let Ok(group) = shared(alloc, group) else {
@@ -161,9 +163,10 @@ pub fn irecv(
     receive: Receive,
 ) -> Reply
     requires place { core.old.state.place ≡ sessions.old.place }
-    ensures { (rest : Rest) →
+    ensures exact { (rest : Rest) →
         CoreGives (engine_of core.old.state (groups_of communicators.now) rest sessions.old) (calls.Irecv receive) result
         (engine_of core.new.state (groups_of communicators.now) rest sessions.new) }
+    ensures payloads { core.new.payloads ≡ core.old.payloads }
 {
     match judge_receive(core, communicators, sessions, receive) {
         Ok(judged) => start_receive(alloc, core, sessions, judged),

@@ -110,6 +110,7 @@ fn make_way(
     ensures room { IfOk result (λ packed. CanSend core.new send.now.routed packed) }
     ensures err { IfErr result (λ e. e ≡ Refusal.OutOfMemory) }
     ensures kept { core.new.state ≡ core.old.state }
+    ensures payloads { core.new.payloads ≡ core.old.payloads }
 {
     let packed = core.prepare_send(send)?;
     match send_frame(sessions, core.frame_of_send(send, &packed)) {
@@ -123,10 +124,11 @@ fn start_send(core: &mut Core, sessions: &mut Sessions, send: AddressedSend) -> 
     requires addressed { IsAddressed core.old.state.place send }
     requires clear { IsClear core.old.state sessions.old (core_calls.Isend send.routed) }
     requires place { core.old.state.place ≡ sessions.old.place }
-    ensures { (g : GroupsState) (rest : Rest) (call : engine_calls.Call) →
+    ensures exact { (g : GroupsState) (rest : Rest) (call : engine_calls.Call) →
         IsAsked (engine_of core.old.state g rest sessions.old) call (core_calls.Isend send.routed) →
         CoreGives (engine_of core.old.state g rest sessions.old) call result
         (engine_of core.new.state g rest sessions.new) }
+    ensures payloads { core.new.payloads ≡ core.old.payloads }
 {
     match make_way(core, sessions, &send) {
         Ok(packed) => Reply::Started(core.send(send, packed)),
@@ -142,9 +144,10 @@ pub fn isend(
     send: Send,
 ) -> Reply
     requires place { core.old.state.place ≡ sessions.old.place }
-    ensures { (rest : Rest) →
+    ensures exact { (rest : Rest) →
         CoreGives (engine_of core.old.state (groups_of communicators.now) rest sessions.old) (calls.Isend send) result
         (engine_of core.new.state (groups_of communicators.now) rest sessions.new) }
+    ensures payloads { core.new.payloads ≡ core.old.payloads }
 {
     match judge_send(core, communicators, sessions, send) {
         Ok(addressed) => start_send(core, sessions, addressed),

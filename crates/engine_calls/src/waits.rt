@@ -93,9 +93,10 @@ pub fn fault_of_cancel(
 
 /// Answers a wait for a request: with its outcome, or by being blocked; or it is refused.
 pub fn wait(core: &mut Core, communicators: &Communicators, request: Option<Request>) -> Reply
-    ensures { (rest : Rest) (s : SessionsState) →
+    ensures exact { (rest : Rest) (s : SessionsState) →
         CoreGives (engine_of core.old.state (groups_of communicators.now) rest s) (calls.Wait request) result
         (engine_of core.new.state (groups_of communicators.now) rest s) }
+    ensures payloads { core.new.payloads ≡ core.old.payloads }
 {
     match fault_of_wait(core, communicators, request) {
         None => reply_of_wait(core.wait(Awaited::One(request))),
@@ -105,9 +106,10 @@ pub fn wait(core: &mut Core, communicators: &Communicators, request: Option<Requ
 
 /// Answers a test of a request: with its outcome, or that it is unfinished; or it is refused.
 pub fn test(core: &mut Core, communicators: &Communicators, request: Option<Request>) -> Reply
-    ensures { (rest : Rest) (s : SessionsState) →
+    ensures exact { (rest : Rest) (s : SessionsState) →
         CoreGives (engine_of core.old.state (groups_of communicators.now) rest s) (calls.Test request) result
         (engine_of core.new.state (groups_of communicators.now) rest s) }
+    ensures payloads { core.new.payloads ≡ core.old.payloads }
 {
     match fault_of_wait(core, communicators, request) {
         None => reply_of_test(core.test(request)),
@@ -118,9 +120,10 @@ pub fn test(core: &mut Core, communicators: &Communicators, request: Option<Requ
 /// Answers a wait for any request of a list: with the outcome of the first that is finished, or by being blocked; or it
 /// is refused.
 pub fn waitany(core: &mut Core, communicators: &Communicators, list: RequestList) -> Reply
-    ensures { (rest : Rest) (s : SessionsState) →
+    ensures exact { (rest : Rest) (s : SessionsState) →
         CoreGives (engine_of core.old.state (groups_of communicators.now) rest s) (calls.Waitany list) result
         (engine_of core.new.state (groups_of communicators.now) rest s) }
+    ensures payloads { core.new.payloads ≡ core.old.payloads }
 {
     match fault_of_list(core, communicators, &list) {
         None => reply_of_wait(core.wait(Awaited::AnyOf(list))),
@@ -132,10 +135,11 @@ pub fn waitany(core: &mut Core, communicators: &Communicators, list: RequestList
 fn wait_for_all(alloc: Global, core: &mut Core, list: RequestList) -> Reply
     requires free { core.old.state.blocked ≡ None }
     requires once { is_twice (named list) ≡ false }
-    ensures { (g : GroupsState) →
+    ensures exact { (g : GroupsState) →
         ((rest : Rest) (s : SessionsState) → fault_of (engine_of core.old.state g rest s) (calls.Waitall list) ≡ None) →
         (rest : Rest) (s : SessionsState) →
         CoreGives (engine_of core.old.state g rest s) (calls.Waitall list) result (engine_of core.new.state g rest s) }
+    ensures payloads { core.new.payloads ≡ core.old.payloads }
 {
     match OutcomeRoom::new(alloc, list.len()) {
         Ok(room) => reply_of_wait(core.wait(Awaited::AllOf(AwaitedAll::new(list, room)))),
@@ -151,9 +155,10 @@ pub fn waitall(
     communicators: &Communicators,
     list: RequestList,
 ) -> Reply
-    ensures { (rest : Rest) (s : SessionsState) →
+    ensures exact { (rest : Rest) (s : SessionsState) →
         CoreGives (engine_of core.old.state (groups_of communicators.now) rest s) (calls.Waitall list) result
         (engine_of core.new.state (groups_of communicators.now) rest s) }
+    ensures payloads { core.new.payloads ≡ core.old.payloads }
 {
     match fault_of_list(core, communicators, &list) {
         None => wait_for_all(alloc, core, list),
@@ -163,9 +168,10 @@ pub fn waitall(
 
 /// Answers a cancel: it is taken, or refused.
 pub fn cancel(core: &mut Core, communicators: &Communicators, request: Option<Request>) -> Reply
-    ensures { (rest : Rest) (s : SessionsState) →
+    ensures exact { (rest : Rest) (s : SessionsState) →
         CoreGives (engine_of core.old.state (groups_of communicators.now) rest s) (calls.Cancel request) result
         (engine_of core.new.state (groups_of communicators.now) rest s) }
+    ensures payloads { core.new.payloads ≡ core.old.payloads }
 {
     match fault_of_cancel(core, communicators, request) {
         None => {

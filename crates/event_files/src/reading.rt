@@ -1,6 +1,6 @@
 //! What a line asks for, by its words.
 
-ghost use Rattle.std.specs.Prelude.{◌≡◌, ◌≤◌, IfOk};
+ghost use Rattle.std.specs.Prelude.{◌≡◌, ◌≤◌};
 ghost use Rattle.tokens.specs.Results.{Gives};
 ghost use Rattle.event_files.specs.LineWords.{delivery_of, tick_of, stray_of, restart_of, act_of, statement_of, size_of};
 

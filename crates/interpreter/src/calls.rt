@@ -8,7 +8,7 @@ ghost use Rattle.interpreter.specs.Faults.{FaultyWhere};
 ghost use Rattle.interpreter.specs.NamesState.{here, holdings, message_at, place_named};
 ghost use Rattle.interpreter.specs.StatementCalls.{acts_on, AreListed, asked_by, asks_group, asks_rank, cancels_for, compares};
 ghost use Rattle.interpreter.specs.StatementCalls.{count_of, IsTogether, LendGives, LendsFor, listed_named, looks, old_layout};
-ghost use Rattle.interpreter.specs.StatementCalls.{places_named, probe_in, receives, receives_by, receives_ended};
+ghost use Rattle.interpreter.specs.StatementCalls.{places_named, probe_in, receives, receives_ended};
 ghost use Rattle.interpreter.specs.StatementCalls.{receives_message, receives_taken, receives_to_wait, request_named};
 ghost use Rattle.interpreter.specs.StatementCalls.{requests_named, searches, send_call, sends, sends_to_wait, sets};
 ghost use Rattle.interpreter.specs.StatementCalls.{sets_layout, sets_layout_unless, tests_for, waits_for, waits_for_several};

@@ -1,6 +1,6 @@
 //! The commands of programs and of keepers.
 
-ghost use Rattle.std.specs.Prelude.{◌≡◌, ◌∷◌, ◌≤◌, map, length, IfOk, MatchOption};
+ghost use Rattle.std.specs.Prelude.{◌≡◌, ◌∷◌, ◌≤◌, IfOk};
 ghost use Rattle.launch_keeper.specs.Roles.{keeper_words};
 ghost use Rattle.process_commands.specs.Commands.{IsCommandOf};
 ghost use Rattle.launch_decisions.specs.Starts.{IsStarted, ArePrograms};

@@ -1,6 +1,6 @@
 //! What the launcher's words ask for beside a launch.
 
-ghost use Rattle.std.specs.Prelude.{◌≡◌, ◌∷◌, ◌≢◌, codes};
+ghost use Rattle.std.specs.Prelude.{◌≡◌, ◌∷◌, ◌≢◌};
 ghost use Rattle.launch_decisions.specs.Requests.{IsRequest, is_abort};
 
 use launch_keeper::Word;

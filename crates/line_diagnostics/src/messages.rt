@@ -1,6 +1,6 @@
 //! The messages, byte by byte.
 
-ghost use Rattle.std.specs.Prelude.{◌≡◌, ◌++◌, codes, IfOk};
+ghost use Rattle.std.specs.Prelude.{◌≡◌, ◌++◌, IfOk};
 ghost use Rattle.line_diagnostics.specs.Messages.{explanation, gave_up, gave_up_at, gave_up_behind, reason};
 
 use crate::fault::LineFault;

@@ -1,6 +1,6 @@
 //! Why a line isn't in its language.
 
-ghost use Rattle.std.specs.Prelude.{◌≡◌, ◌-◌, IfOk, option_map, slice_get};
+ghost use Rattle.std.specs.Prelude.{◌≡◌, ◌-◌, IfOk, option_map};
 ghost use Rattle.std.specs.List.{position};
 ghost use Rattle.tokens.specs.Lines.{lines_of, said_in};
 ghost use Rattle.line_diagnostics.specs.Faults.{byte_fault, event_fault, event_words_fault, fits, is_odd};

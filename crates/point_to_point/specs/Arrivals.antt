@@ -9,6 +9,7 @@ use Rattle.match_queues.specs.Arrivals.{arrival_of}
 use Rattle.match_queues.specs.State as queues
 use Rattle.match_queues.specs.State.{keys_naming, receive_at, receive_for}
 use Rattle.rendezvous.specs.Collections.{Collecting}
+use Rattle.rendezvous.specs.PayloadState as payloads
 use Rattle.rendezvous.specs.State.{after_cts, after_data, after_drop, after_rts, given, keys_with, offered}
 use Rattle.requests.specs.Table.{after_replaces, keys_of_messages}
 use Rattle.point_to_point_calls.specs.Frames.{as_list}
@@ -52,6 +53,11 @@ replaced c s = record c {
   queues = queues.after_drop c.queues s.rank s.incarnation;
   transfers = after_drop c.transfers s.rank;
 }
+
+-- what is left of the payloads of collectives: with a lesson of a rank nothing that was announced to it or comes from it
+abbrev pub payloads_met : (lesson : Bool) → payloads.State → (rank : ℕ) → payloads.State
+payloads_met true p rank = payloads.after_drop p rank
+payloads_met false p rank = p
 
 -- so it is where the incarnation is new here
 abbrev pub after_lesson : Bool → CoreState → Endpoint → CoreState

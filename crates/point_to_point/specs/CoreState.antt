@@ -10,6 +10,7 @@ use Rattle.match_queues.specs.declared.envelope.Message.{Message}
 use Rattle.match_queues.specs.declared.envelope.Body.{Body}
 use Rattle.match_queues.specs.declared.envelope.Body.TheVariants.{Announced, Own, Whole}
 use Rattle.rendezvous.specs.declared.offer.Offer.{Offer}
+use Rattle.rendezvous.specs.PayloadState as payloads
 use Rattle.rendezvous.specs.State as transfers
 use Rattle.rendezvous.specs.declared.transfers.Numbers.{Numbers}
 use Rattle.requests.specs.declared.table.TableEntry.{TableEntry}
@@ -58,8 +59,7 @@ pub record IsKept (p : Place) (q : State) (t : transfers.State) (slots : List (O
 
 -- THE NUMBERS OF TRANSFERS
 
--- the same core, once its sessions' transfers have these numbers, by rank: transfers were counted whose data stand
--- elsewhere
+-- the same core, once its sessions' transfers have these numbers, by rank: those of payloads of collectives were counted
 abbrev pub with_numbers : CoreState → List Numbers → CoreState
 with_numbers c ns = record c { transfers = record c.transfers { numbers = ns } }
 
@@ -90,6 +90,8 @@ pub record Held : Type 0 where
   -- for how many more large messages that go and that come
   pub offers : ℕ
   pub collections : ℕ
+  -- the payloads of collectives that it announced, and those that come to it, and for how many more there is memory
+  pub payloads : payloads.Held
 
 -- one more request can be started without memory
 pub record CanStart (c : Held) : Type 0 where

@@ -11,7 +11,7 @@ ghost use Rattle.point_to_point.specs.Completions.{after_wake};
 ghost use Rattle.point_to_point_calls.specs.FrameNews.{news_text, frame_option, IsWhole, needs_message_room, heard_fault};
 ghost use Rattle.point_to_point_calls.specs.FrameNews.{message_from, announced_of};
 ghost use Rattle.point_to_point.specs.Arrivals.{news_fault, CanTake, KeysFit, after_any, collection_for, after_lesson};
-ghost use Rattle.point_to_point.specs.Arrivals.{after_announcement, after_answer, after_piece, after_news};
+ghost use Rattle.point_to_point.specs.Arrivals.{after_announcement, after_answer, after_piece, after_news, payloads_met};
 
 use crate::rank::Core;
 use datagram::{ClearToSend, Data, Frame, RequestToSend};
@@ -31,6 +31,7 @@ impl Core {
         requires place { is_some collection ≡ true → 0 < self.old.collections }
         ensures exact { self.new.state ≡ after_message self.old.state message }
         ensures placed { self.new.state.place ≡ self.old.state.place }
+        ensures payloads { self.new.payloads ≡ self.old.payloads }
     {
         let Arrival::Matched(receive, message) = self.queues.arrive(message) else {
             drop(collection);
@@ -64,6 +65,7 @@ impl Core {
         requires whole { IsWhole message.body }
         ensures exact { self.new.state ≡ after_message self.old.state message }
         ensures placed { self.new.state.place ≡ self.old.state.place }
+        ensures payloads { self.new.payloads ≡ self.old.payloads }
     {
         self.receive_or_keep(message, None);
     }
@@ -77,6 +79,7 @@ impl Core {
         requires place { is_some collection ≡ true → 0 < self.old.collections }
         ensures exact { self.new.state ≡ after_announcement self.old.state source (request_text request) }
         ensures placed { self.new.state.place ≡ self.old.state.place }
+        ensures payloads { self.new.payloads ≡ self.old.payloads }
     {
         self.transfers.on_rts(source.rank, request.transfer);
         self.receive_or_keep(announced_of(source, &request), collection);
@@ -86,6 +89,7 @@ impl Core {
     fn finish_offer(&mut self, rank: u16, answer: ClearToSend)
         ensures exact { self.new.state ≡ after_answer self.old.state rank answer.transfer }
         ensures placed { self.new.state.place ≡ self.old.state.place }
+        ensures payloads { self.new.payloads ≡ self.old.payloads }
     {
         if let Some(offer) = self.transfers.on_cts(rank, answer.transfer) {
             self.requests.finish_send(offer.request);
@@ -97,6 +101,7 @@ impl Core {
         requires { is_due self.old.state.transfers.collections rank piece.transfer piece.offset piece.bytes.now ≡ true }
         ensures exact { self.new.state ≡ after_piece self.old.state rank piece.entry.transfer piece.entry.bytes.now }
         ensures placed { self.new.state.place ≡ self.old.state.place }
+        ensures payloads { self.new.payloads ≡ self.old.payloads }
     {
         if let Some(collected) = self
             .transfers
@@ -112,6 +117,9 @@ impl Core {
         requires { KeysFit (is_some keys) keys self.old.state source }
         ensures state { self.new.state ≡ after_lesson (is_some keys) self.old.state source }
         ensures placed { self.new.state.place ≡ self.old.state.place }
+        ensures payloads { self.new.payloads.state ≡ payloads_met (is_some keys) self.old.payloads.state source.rank }
+        ensures announced { self.old.payloads.more_announced ≤ self.new.payloads.more_announced }
+        ensures coming { self.old.payloads.more_coming ≤ self.new.payloads.more_coming }
         ensures room { self.old.messages ≤ self.new.messages }
         ensures collections { self.old.collections ≤ self.new.collections }
     {
@@ -139,6 +147,7 @@ impl Core {
         requires place { is_some collection ≡ true → 0 < self.old.collections }
         ensures exact { self.new.state ≡ after_any self.old.state source (frame_option frame.entry) }
         ensures placed { self.new.state.place ≡ self.old.state.place }
+        ensures payloads { self.new.payloads ≡ self.old.payloads }
     {
         // What isn't used up is dropped by name: that is one step of the proof each, and not one for each variant.
         match frame {
@@ -175,13 +184,16 @@ impl Core {
     /// With a lesson the requests that wait for the rank end as replaced, with their buffers as they were: receives
     /// that name it or collect from it, and sends that wait for its answer. Messages from its former incarnations that
     /// were not received are dropped, and the receive of one that was taken out ends as replaced; the session's
-    /// transfers start anew.
+    /// transfers start anew, those of payloads of collectives among them.
     /// MPI 3.1 has no restarts of a rank: these rules are this project's own.
     pub fn take_news(&mut self, news: News<'_>, ready: PreparedNews)
         requires allowed { news_fault self.old.state (news_text news) ≡ None }
         requires can { CanTake self.old (news_text news) ready }
         ensures exact { self.new.state ≡ after_news self.old.state (news_text news.entry) }
         ensures placed { self.new.state.place ≡ self.old.state.place }
+        ensures payloads { self.new.payloads.state ≡ payloads_met news.entry.lesson self.old.payloads.state news.entry.source.rank }
+        ensures announced { self.old.payloads.more_announced ≤ self.new.payloads.more_announced }
+        ensures coming { self.old.payloads.more_coming ≤ self.new.payloads.more_coming }
     {
         let PreparedNews {
             keys,
@@ -199,6 +211,7 @@ impl Core {
     pub fn wake(&mut self)
         ensures exact { self.new.state ≡ after_wake self.old.state }
         ensures placed { self.new.state.place ≡ self.old.state.place }
+        ensures payloads { self.new.payloads ≡ self.old.payloads }
     {
         if let Some(awaited) = self.blocked.take() {
             match self.requests.complete(awaited) {

@@ -11,12 +11,12 @@ mod arrivals;
 mod looks;
 mod message_receives;
 mod news_preparation;
+mod payload_transfers;
 mod probes;
 mod rank;
 mod receives;
 mod rules;
 mod sends;
-mod transfer_numbers;
 mod waits;
 
 pub use point_to_point_calls::{

@@ -81,6 +81,7 @@ impl Core {
         ensures room { IfOk result (λ collection.
             CanCollect (collection_on_message self.new.state message into.now) self.new collection) }
         ensures kept { self.new.state ≡ self.old.state }
+        ensures payloads { self.new.payloads ≡ self.old.payloads }
         ensures err { IfErr result (λ e. e ≡ refusals.OutOfMemory) }
     {
         let collection = self.place_for_message(message, into)?;
@@ -101,6 +102,7 @@ impl Core {
         requires room { CanCollect (collection_on_message self.old.state message into) self.old collection }
         ensures exact { Receives self.old.state message into (waited result) self.new.state }
         ensures placed { self.new.state.place ≡ self.old.state.place }
+        ensures payloads { self.new.payloads ≡ self.old.payloads }
     {
         let Some(request) = message else {
             drop(collection);

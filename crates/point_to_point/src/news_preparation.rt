@@ -252,6 +252,7 @@ impl Core {
         requires { HeardFits (frame_option news.frame) }
         ensures can { IfOk result (λ ready. CanTake self.new (news_text news.entry) ready) }
         ensures kept { self.new.state ≡ self.old.state }
+        ensures payloads { self.new.payloads ≡ self.old.payloads }
         ensures err { IfErr result (λ e. e ≡ refusals.OutOfMemory) }
         ensures need { OnErr result (news_need_memory (news_text news.entry) ≡ true) }
     {

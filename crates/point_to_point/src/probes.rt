@@ -110,6 +110,7 @@ impl Core {
         ensures room { OnOk result (CanSearch sought.now.routed.route.named self.new sought.now.routed) }
         ensures sought { IsSoughtProbe self.new sought.now }
         ensures kept { self.new.state ≡ self.old.state }
+        ensures payloads { self.new.payloads ≡ self.old.payloads }
         ensures err { IfErr result (λ e. e ≡ refusals.OutOfMemory) }
     {
         match sought.routed.route.named {
@@ -138,6 +139,7 @@ impl Core {
             (found_for self.old.state routed.route.named routed.probe.tag routed.route.context) (replies.Matched result)
             self.new.state }
         ensures placed { self.new.state.place ≡ self.old.state.place }
+        ensures payloads { self.new.payloads ≡ self.old.payloads }
     {
         if self.probed_at(&routed, found).is_none() {
             return None;
@@ -165,6 +167,7 @@ impl Core {
         ensures exact { Searches self.old.state (record sought.routed { group = group }) (replies.Matched result)
             self.new.state }
         ensures placed { self.new.state.place ≡ self.old.state.place }
+        ensures payloads { self.new.payloads ≡ self.old.payloads }
     {
         let SoughtProbe { routed, found } = sought;
         match routed.route.named {

@@ -1,6 +1,7 @@
 //! The core of one rank.
 
 ghost use Rattle.std.specs.Prelude.{◌≡◌, IfErr, IfOk, None, is_some};
+ghost use Rattle.rendezvous.specs.PayloadState as payloads;
 ghost use Rattle.point_to_point.specs.CoreState.{opening};
 ghost use Rattle.point_to_point_calls.specs.declared.refusal.Refusal.TheVariants as refusals;
 
@@ -21,7 +22,7 @@ pub struct Core {
     pub(crate) place: Place,
     /// The receives that wait for a message, and the messages that wait for a receive.
     pub(crate) queues: Queues,
-    /// The large messages that go to other ranks and come from them.
+    /// The large messages that go to other ranks and come from them, and the large payloads of collectives.
     pub(crate) transfers: Transfers,
     /// The requests that were started and have not ended.
     pub(crate) requests: Requests,
@@ -53,6 +54,7 @@ impl Model for Core {
       messages = c.queues.messages;
       offers = c.transfers.sends;
       collections = c.transfers.receives;
+      payloads = c.transfers.payloads;
     } };
 
     ghost invariant = { λ c. IsKept c.place c.queues.state c.transfers.state c.requests.slots };
@@ -62,6 +64,7 @@ impl Core {
     /// The core of a rank at its start: nothing is pending. It fails for want of memory alone (14).
     pub fn new(alloc: Global, place: Place) -> Result<Core, Refusal>
         ensures ok { IfOk result (λ core. core.state ≡ opening place) }
+        ensures payloads { IfOk result (λ core. core.payloads.state ≡ payloads.opening) }
         ensures err { IfErr result (λ e. e ≡ refusals.OutOfMemory) }
     {
         let Ok(transfers) = Transfers::new(alloc, place.size) else {
@@ -97,6 +100,7 @@ impl Core {
     pub fn take_completion(&mut self) -> Option<Answer>
         ensures completion { result ≡ self.old.state.completion }
         ensures rest { self.new.state ≡ record self.old.state { completion = None } }
+        ensures payloads { self.new.payloads ≡ self.old.payloads }
     {
         // Mostly there is none, and a look is cheaper than a move.
         if self.completion.is_none() {

@@ -9,7 +9,7 @@ ghost use Rattle.point_to_point_calls.specs.Frames.{addressed};
 ghost use Rattle.point_to_point_calls.specs.ReceiveMatches.{collection_on_post, posted_by, transfers_with};
 ghost use Rattle.point_to_point_calls.specs.declared.refusal.Refusal.TheVariants as refusals;
 ghost use Rattle.point_to_point.specs.Calls.{CanPost, CanReceiveNow, IsSought, call_fault, collection_on_receive};
-ghost use Rattle.point_to_point.specs.Calls.{limit_fault, sought_at};
+ghost use Rattle.point_to_point.specs.Calls.{sought_at};
 ghost use Rattle.point_to_point.specs.CoreState.{CanStart};
 ghost use Rattle.point_to_point.specs.Messages.{own_key_sent, own_send_of};
 ghost use Rattle.point_to_point.specs.Receives.{IsPosting, IsReceiving, IsReceivingNothing, found_by, receive_frame};
@@ -168,6 +168,7 @@ impl Core {
         ensures room { IfOk result (λ collection. CanReceiveNow self.new sought.now.routed collection) }
         ensures sought { IsSought self.new sought.now }
         ensures kept { self.new.state ≡ self.old.state }
+        ensures payloads { self.new.payloads ≡ self.old.payloads }
         ensures err { IfErr result (λ e. e ≡ refusals.OutOfMemory) }
     {
         self.make_room_to_start()?;
@@ -182,6 +183,7 @@ impl Core {
         requires { CanStart self.old }
         ensures exact { IsReceivingNothing self.old.state routed result self.new.state }
         ensures placed { self.new.state.place ≡ self.old.state.place }
+        ensures payloads { self.new.payloads ≡ self.old.payloads }
     {
         let RoutedReceive { receive, .. } = routed;
         let Receive { into, .. } = receive;
@@ -217,6 +219,7 @@ impl Core {
         requires place { is_some collection ≡ true → 0 < self.old.collections }
         ensures exact { IsPosting self.old.state routed result self.new.state }
         ensures placed { self.new.state.place ≡ self.old.state.place }
+        ensures payloads { self.new.payloads ≡ self.old.payloads }
     {
         let posted = posted_by(self.requests.next_key(), &routed);
         self.collect(collection);
@@ -255,6 +258,7 @@ impl Core {
         requires room { CanReceiveNow self.old sought.routed collection }
         ensures exact { IsReceiving self.old.state (record sought.routed { group = group }) result self.new.state }
         ensures placed { self.new.state.place ≡ self.old.state.place }
+        ensures payloads { self.new.payloads ≡ self.old.payloads }
     {
         let SoughtReceive { routed, found, .. } = sought;
         let RoutedReceive { route, receive, .. } = routed;

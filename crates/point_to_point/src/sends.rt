@@ -91,6 +91,7 @@ impl Core {
         requires allowed { call_fault self.old.state (calls.Isend send.now.routed) ≡ None }
         ensures room { IfOk result (λ packed. CanSend self.new send.now.routed packed) }
         ensures kept { self.new.state ≡ self.old.state }
+        ensures payloads { self.new.payloads ≡ self.old.payloads }
         ensures err { IfErr result (λ e. e ≡ refusals.OutOfMemory) }
     {
         self.make_room_to_start()?;
@@ -133,6 +134,7 @@ impl Core {
         requires { is_own self.old.state.place destination ≡ true → 0 < self.old.messages }
         ensures exact { self.new.state ≡ arrived_at_itself self.old.state destination waiting elements }
         ensures placed { self.new.state.place ≡ self.old.state.place }
+        ensures payloads { self.new.payloads ≡ self.old.payloads }
     {
         if let Some(destination) = destination
             && destination.rank == self.place.endpoint.rank
@@ -156,6 +158,7 @@ impl Core {
         requires room { CanSend self.old send.routed packed }
         ensures exact { IsSending self.old.state send.routed result self.new.state }
         ensures placed { self.new.state.place ≡ self.old.state.place }
+        ensures payloads { self.new.payloads ≡ self.old.payloads }
     {
         let destination = send.destination;
         let announced = send.announced;
@@ -187,6 +190,7 @@ impl Core {
         requires limit { length elements.values * size_of elements.basic ≤ greatest_limit }
         ensures exact { IsOffering self.old.state rank elements result self.new.state }
         ensures placed { self.new.state.place ≡ self.old.state.place }
+        ensures payloads { self.new.payloads ≡ self.old.payloads }
     {
         let request = self.requests.start(RequestProgress::Offering);
         let _transfer = self.transfers.begin_send(rank, request.key, elements);

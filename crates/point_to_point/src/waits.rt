@@ -64,6 +64,7 @@ impl Core {
         requires { self.old.state.blocked ≡ None }
         ensures exact { Waits self.old.state awaited (waited result) self.new.state }
         ensures placed { self.new.state.place ≡ self.old.state.place }
+        ensures payloads { self.new.payloads ≡ self.old.payloads }
     {
         match self.requests.complete(awaited) {
             Ok(answer) => Some(answer),
@@ -78,6 +79,7 @@ impl Core {
     pub fn test(&mut self, request: Option<Request>) -> Option<Answer>
         ensures exact { Tests self.old.state request (tested result) self.new.state }
         ensures placed { self.new.state.place ≡ self.old.state.place }
+        ensures payloads { self.new.payloads ≡ self.old.payloads }
     {
         match self.requests.complete(Awaited::One(request)) {
             Ok(answer) => Some(answer),
@@ -89,6 +91,7 @@ impl Core {
     pub fn cancel(&mut self, request: Option<Request>)
         ensures exact { self.new.state ≡ cancelled self.old.state request }
         ensures placed { self.new.state.place ≡ self.old.state.place }
+        ensures payloads { self.new.payloads ≡ self.old.payloads }
     {
         if let Some(request) = request
             && self.requests.cancel(request)

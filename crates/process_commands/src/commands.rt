@@ -1,6 +1,6 @@
 //! Commands, as the words that start programs.
 
-ghost use Rattle.std.specs.Prelude.{◌≡◌, ◌∷◌, ◌++◌, [], ℕ, List, None, IfOk, OnOk};
+ghost use Rattle.std.specs.Prelude.{◌≡◌, ◌∷◌, ◌++◌, [], ℕ, List, IfOk, OnOk};
 ghost use Rattle.std.specs.Process.{command_args, command_program, command_var};
 ghost use Rattle.process_commands.specs.Commands.{IsCommandOf, SaysNothing};
 

@@ -1,10 +1,9 @@
 //! Commands and the environment of the programs that they start.
 
-ghost use Rattle.std.specs.Prelude.{◌≡◌, ◌∷◌, [], ℕ, List, map, OnOk};
-ghost use Rattle.std.specs.Fmt.{decimal};
-ghost use Rattle.std.specs.Process.{command_var, SameProgramAndArgs};
+ghost use Rattle.std.specs.Prelude.{◌≡◌, ◌∷◌, [], map, OnOk};
+ghost use Rattle.std.specs.Process.{SameProgramAndArgs};
 ghost use Rattle.rank_environment.specs.Variables.{variable_text};
-ghost use Rattle.process_commands.specs.Commands.{said_after, Sets};
+ghost use Rattle.process_commands.specs.Commands.{Sets};
 
 use crate::text::text_of;
 use launch_keeper::Word;

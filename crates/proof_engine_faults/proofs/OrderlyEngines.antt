@@ -6,9 +6,9 @@ use Rattle.std.proofs.lemmas.Bool.{eqb-false, true≢false}
 use Rattle.std.proofs.lemmas.List.{get_or-set_other, length-set}
 use Rattle.std.proofs.lemmas.Option.{same_Some}
 use Rattle.collective_messages.specs.declared.entry.Entry as collectives
-use Rattle.collective_transfers.specs.Payloads.{Whole}
-use Rattle.collective_transfers.specs.State as payloads
-use Rattle.collective_transfers.specs.State.{is_due, whole_with}
+use Rattle.rendezvous.specs.Payloads.{Whole}
+use Rattle.rendezvous.specs.PayloadState as payloads
+use Rattle.rendezvous.specs.PayloadState.{is_due, whole_with}
 use Rattle.collectives.specs.Calls.{inside_of, with_note}
 use Rattle.collectives.specs.State.{State}
 use Rattle.datagram.specs.ByteMeanings.{datagram_of, datagram_within}

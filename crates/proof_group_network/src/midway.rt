@@ -21,13 +21,3 @@ pub fn words_come_in_parts()
     ensures going_on { WordsGoOn }
     ensures standing { MidwayStands }
 {}
-
-#[cfg(test)]
-mod tests {
-    use super::*;
-
-    #[test]
-    fn law_returns() {
-        words_come_in_parts();
-    }
-}

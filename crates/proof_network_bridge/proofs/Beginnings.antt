@@ -4,7 +4,7 @@ use Rattle.std.proofs.Common.{arith, inl, inr}
 use Rattle.std.specs.Prelude.{slice_get, slice_set}
 use Rattle.std.proofs.lemmas.Bool.{ne_eqb}
 use Rattle.std.proofs.lemmas.Option.{same_Some}
-use Rattle.collective_transfers.specs.State as payloads
+use Rattle.rendezvous.specs.PayloadState as payloads
 use Rattle.engine_calls.specs.EngineState.{EngineState, opening}
 use Rattle.incarnation.specs.declared.place.Place.{Place}
 use Rattle.perfect_groups.specs.Events.{Entry, Restarted}

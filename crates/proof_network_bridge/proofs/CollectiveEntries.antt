@@ -13,7 +13,7 @@ use Rattle.collective_messages.specs.Notes.{member_at}
 use Rattle.collective_messages.specs.declared.entry.Entry.{Entry}
 use Rattle.collective_messages.specs.declared.message.CollectiveMessage.{CollectiveMessage}
 use Rattle.collective_messages.specs.declared.refusal.CollectiveRefusal as notes
-use Rattle.collective_transfers.specs.State as payloads
+use Rattle.rendezvous.specs.PayloadState as payloads
 use Rattle.collectives.specs.Calls.{context_of, entry_fault, inside_of, limit_at, or_limit}
 use Rattle.collectives.specs.State.{State, members_incarnation}
 use Rattle.collective_steps.specs.Steps.{ranks_at, ranks_of}

@@ -4,7 +4,7 @@ use Rattle.std.proofs.Common.{subst, ◌∙◌, append-nil, arith}
 use Rattle.std.specs.List.{AllByRecursion}
 use Rattle.std.proofs.lemmas.Option.{same_Some}
 use Rattle.collective_steps.specs.declared.step.Ending.{Ending}
-use Rattle.collective_transfers.specs.State as payloads
+use Rattle.rendezvous.specs.PayloadState as payloads
 use Rattle.communicators.specs.Routes.{RouteText, route_on}
 use Rattle.datagram.specs.Spellings.{FrameText, OutgoingText}
 use Rattle.engine_calls.specs.EngineState.{EngineState, GroupsState, completion_by, completion_of, member_of}

@@ -8,6 +8,7 @@ pub mod Probes
 pub mod Machine
 pub mod Members
 pub mod RoutedFaults
+pub mod RequestRefusals
 pub mod Refusals
 pub mod Reasons
 pub mod SessionOutput

@@ -10,8 +10,8 @@ use Rattle.collective_messages.specs.declared.entry.Inside.{Inside}
 use Rattle.collective_messages.specs.declared.message.CollectiveMessage.{CollectiveMessage}
 use Rattle.collective_messages.specs.declared.note.Note.{Note}
 use Rattle.collective_messages.specs.declared.refusal.CollectiveRefusal.{CollectiveRefusal}
-use Rattle.collective_transfers.specs.Payloads.{Whole}
-use Rattle.collective_transfers.specs.State as payloads
+use Rattle.rendezvous.specs.Payloads.{Whole}
+use Rattle.rendezvous.specs.PayloadState as payloads
 use Rattle.collectives.specs.Calls as collective_calls
 use Rattle.collectives.specs.Calls.{MessageGives, with_note}
 use Rattle.collectives.specs.State.{State, after_step}

@@ -4,8 +4,8 @@ use Rattle.std.proofs.Common.{arith}
 use Rattle.std.specs.Prelude.{slice_get}
 use Rattle.std.specs.List.{AllByRecursion}
 use Rattle.collective_messages.specs.declared.message.CollectiveMessage.{CollectiveMessage}
-use Rattle.collective_transfers.specs.Payloads.{Coming}
-use Rattle.collective_transfers.specs.State as payloads
+use Rattle.rendezvous.specs.Payloads.{Coming}
+use Rattle.rendezvous.specs.PayloadState as payloads
 use Rattle.datagram.specs.Spellings.{ClearFrame, FrameText, RequestFrame, RequestText}
 use Rattle.datagram.specs.declared.kinds.Clearance.TheVariants.{Send}
 use Rattle.datagram.specs.declared.kinds.Plane.TheVariants as planes

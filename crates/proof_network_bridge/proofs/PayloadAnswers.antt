@@ -6,9 +6,9 @@ use Rattle.std.specs.List.{AllByRecursion}
 use Rattle.std.proofs.lemmas.Bool.{and_parts, eqb-false, eqb-true}
 use Rattle.std.proofs.lemmas.Option.{same_Some, slice_get-map}
 use Rattle.collective_messages.specs.declared.message.CollectiveMessage.{CollectiveMessage}
-use Rattle.collective_transfers.specs.Payloads.{Announced, is_to}
-use Rattle.collective_transfers.specs.State as payloads
-use Rattle.collective_transfers.specs.State.{after_answer, announced_at, announced_to, place_to, without}
+use Rattle.rendezvous.specs.Payloads.{Announced, is_to}
+use Rattle.rendezvous.specs.PayloadState as payloads
+use Rattle.rendezvous.specs.PayloadState.{after_answer, announced_at, announced_to, place_to, without}
 use Rattle.datagram.specs.Spellings.{ClearFrame, ClearText, DataFrame, FrameText, OutgoingText}
 use Rattle.engine.specs.Datagrams.{AnswerGives, after_answered, answer_fault, data_for, data_of, data_sent, ended_by}
 use Rattle.engine.specs.Datagrams.{frame_in, groups_met, is_to_collective, payloads_met, unwanted}

@@ -6,8 +6,8 @@ use Rattle.std.specs.List.{AllByRecursion}
 use Rattle.std.proofs.lemmas.Bool.{eqb-false}
 use Rattle.std.proofs.lemmas.List.{get_or-set_other}
 use Rattle.collective_messages.specs.declared.message.CollectiveMessage.{CollectiveMessage}
-use Rattle.collective_transfers.specs.Payloads.{Announced, Coming}
-use Rattle.collective_transfers.specs.State as payloads
+use Rattle.rendezvous.specs.Payloads.{Announced, Coming}
+use Rattle.rendezvous.specs.PayloadState as payloads
 use Rattle.engine.specs.Datagrams.{payloads_met}
 use Rattle.proof_engine_view.specs.Frames.{endpoint_of, known_after}
 use Rattle.proof_group_network.specs.SessionContents.{Sessions}

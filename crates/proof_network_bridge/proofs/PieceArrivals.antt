@@ -7,9 +7,9 @@ use Rattle.std.proofs.lemmas.Bool.{eq-eqb, ne_eqb}
 use Rattle.std.proofs.lemmas.Option.{same_Some, slice_get-map}
 use Rattle.collective_messages.specs.declared.message.CollectiveMessage.{CollectiveMessage}
 use Rattle.collective_steps.specs.declared.step.Ending.{Ending}
-use Rattle.collective_transfers.specs.Payloads.{Coming, Whole, is_whole, whole_of, with_piece}
-use Rattle.collective_transfers.specs.State as payloads
-use Rattle.collective_transfers.specs.State.{is_due, put_back, whole_with}
+use Rattle.rendezvous.specs.Payloads.{Coming, Whole, is_whole, whole_of, with_piece}
+use Rattle.rendezvous.specs.PayloadState as payloads
+use Rattle.rendezvous.specs.PayloadState.{is_due, put_back, whole_with}
 use Rattle.datagram.specs.Spellings.{DataFrame, DataText, FrameText}
 use Rattle.engine.specs.Datagrams.{IsPieceTaken, PieceGives, PieceGivesBy, ended_by, frame_in, groups_met}
 use Rattle.engine.specs.Datagrams.{is_from_collective, payloads_grown, payloads_met}

@@ -8,10 +8,10 @@ use Rattle.std.proofs.Math.Seq.{take-add}
 use Rattle.std.proofs.lemmas.Bool.{and_parts, eqb-true}
 use Rattle.std.proofs.lemmas.List.{length-take, take_all, take_min}
 use Rattle.std.proofs.lemmas.Option.{get_or_from_slice_get, same_Some}
-use Rattle.collective_transfers.specs.Payloads.{Coming, is_from, is_whole, whole_of, with_piece}
-use Rattle.collective_transfers.specs.State as payloads
-use Rattle.collective_transfers.specs.State.{blank, coming_at, coming_from, handed_out, is_due, is_taken, place_from}
-use Rattle.collective_transfers.specs.State.{put_back, whole_by, whole_with, with_data_at}
+use Rattle.rendezvous.specs.Payloads.{Coming, is_from, is_whole, whole_of, with_piece}
+use Rattle.rendezvous.specs.PayloadState as payloads
+use Rattle.rendezvous.specs.PayloadState.{blank, coming_at, coming_from, handed_out, is_due, is_taken, place_from}
+use Rattle.rendezvous.specs.PayloadState.{put_back, whole_by, whole_with, with_data_at}
 use Rattle.proof_engine_steps.proofs.ListsApart.{Passes, position_passes}
 use Rattle.rendezvous.specs.Pieces.{due_of, first_piece, piece_bytes, piece_count}
 

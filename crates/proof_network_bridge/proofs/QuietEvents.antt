@@ -1,8 +1,8 @@
 -- A world follows the pure network through what is nothing to the network: ticks, and datagrams that are refused.
 use Rattle.std.proofs.Common.{◌≡◌, ◌++◌, Bool, true, false, Option, Some, None, refl, sym, ap, subst}
 use Rattle.std.specs.Prelude.{Result, Ok, Err, slice_set}
-use Rattle.collective_transfers.specs.Payloads.{Whole}
-use Rattle.collective_transfers.specs.State.{is_due, whole_with}
+use Rattle.rendezvous.specs.Payloads.{Whole}
+use Rattle.rendezvous.specs.PayloadState.{is_due, whole_with}
 use Rattle.datagram.specs.Spellings.{DataText}
 use Rattle.engine.specs.Datagrams.{HeardGivesBy, HearingGives, NoticeText, OfAnnouncement, OfAnswer, OfMessage, OfPiece}
 use Rattle.engine.specs.Datagrams.{PieceGivesBy, notice_in}

@@ -2,7 +2,7 @@
 use Rattle.std.proofs.Common.{◌≡◌, ℕ, ◌<◌, false, List, [], ◌∷◌, ◌++◌, Option, Some, None, refl, sym, ap, subst, ◌∙◌}
 use Rattle.std.proofs.Common.{inl, inr, append-nil}
 use Rattle.std.specs.Prelude.{slice_get, slice_set}
-use Rattle.collective_transfers.specs.State as payloads
+use Rattle.rendezvous.specs.PayloadState as payloads
 use Rattle.datagram.specs.Spellings.{FrameText}
 use Rattle.engine_calls.specs.EngineState.{EngineState, GroupsState, completion_by, completion_of, emptied}
 use Rattle.engine_calls.specs.declared.reply.Completion.{Completion}

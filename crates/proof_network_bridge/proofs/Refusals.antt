@@ -25,7 +25,7 @@ use Rattle.engine_calls.specs.declared.call.Call.TheVariants as calls
 use Rattle.point_to_point_calls.specs.declared.call.Probe.{Probe}
 use Rattle.point_to_point_calls.specs.declared.call.Receive.{Receive}
 use Rattle.point_to_point_calls.specs.declared.call.Send.{Send}
-use Rattle.perfect_groups.specs.Calls.{Call, Cancel, Enter, Improbe, Inquire, Iprobe, Irecv, Isend, Mrecv, Test, Wait}
+use Rattle.perfect_groups.specs.Calls.{Call, Enter, Improbe, Inquire, Irecv, Isend, Mrecv}
 use Rattle.perfect_groups.specs.Calls.{held_at, in_world, probe_on, queue_call, receive_on}
 use Rattle.perfect_groups.specs.Collectives.{CollectiveCall, part_of}
 use Rattle.perfect_groups.specs.Communicators.{Communicator}
@@ -37,7 +37,6 @@ use Rattle.perfect_groups.specs.Membership.{Membership}
 use Rattle.perfect_groups.specs.Operations.{is_undefined}
 use Rattle.perfect_queues.specs.Calls as queues
 use Rattle.perfect_queues.specs.Buffers.{Handed}
-use Rattle.perfect_queues.specs.Completions as completions
 use Rattle.perfect_queues.specs.Refusals as rules
 use Rattle.perfect_queues.specs.Refusals.{Standing, is_held, standing}
 use Rattle.perfect_queues.specs.State.{Local}
@@ -50,17 +49,13 @@ use Rattle.observation.specs.CoreCalls as in_queues
 use Rattle.proof_engine_view.specs.Transfers.{Announcements}
 use Rattle.proof_network_bridge.proofs.Halves.{neither_fault}
 use Rattle.proof_network_bridge.proofs.Members.{named_same}
-use Rattle.proof_network_bridge.proofs.RoutedFaults.{
-  IsFree,
-  fault_cut,
-  group_full,
-  group_routed_full,
-  or_fault,
-  routed_full,
-}
+use Rattle.proof_network_bridge.proofs.RequestRefusals.{as_call, cancel_found, held_alone, requests_faultless}
+use Rattle.proof_network_bridge.proofs.RequestRefusals.{requests_reason, test_found, wait_found}
+use Rattle.proof_network_bridge.proofs.RoutedFaults.{IsFree, fault_cut, group_full, group_routed_full, or_fault}
+use Rattle.proof_network_bridge.proofs.RoutedFaults.{routed_full}
 use Rattle.proof_network_bridge.proofs.RoutedFaults.{rule_broken, rule_kept}
 use Rattle.observation.specs.Faults.{IsFaultless}
-use Rattle.observation.specs.EngineCalls.{call_by, call_meant, call_seen}
+use Rattle.observation.specs.EngineCalls.{call_meant, call_seen}
 use Rattle.proof_pure_network.specs.Core.{Core, view}
 use Rattle.proof_pure_network.specs.WaitingMessages.{blank}
 use Rattle.point_to_point_calls.specs.Refusals.{number_of_refusal}
@@ -82,75 +77,6 @@ use Rattle.vocabulary.specs.MessageLimits.{limit_of}
 -- what the machine finds is the refusal's number
 pub by_rule : (found : Option ℕ) (x why : Refusal) → why ≡ x → found ≡ Some (number_of_refusal x) → IsReason found why
 by_rule found x why is h = MachinesFault (h ∙ ap (λ (y : Refusal). Some (number_of_refusal y)) (sym is))
-
--- ---- CALLS ON REQUESTS
-
-none_more : (a b : Bool) → b ≡ false → (a || b) ≡ a
-none_more true b is = refl
-none_more false b is = is
-
-held_alone : (l : Local) (m : Membership) → is_within m.present ≡ false → is_blocked l m ≡ is_held l.blocked
-held_alone l m apart = none_more (is_held l.blocked) (is_within m.present) apart
-
--- the machine finds what its queues find
-wait_found : (p : Place) (own : Endpoint) (l : Local) (m : Membership) (a : completions.Awaited) →
-    is_within m.present ≡ false → fault own l m (Wait a) ≡ queue_fault p l (queues.Wait a)
-wait_found p own l m a apart =
-    ap (λ (b : Bool). fault_by l.message_limit b (λ k. standing (slice_get l.requests k)) own l.known m (Wait a))
-    (held_alone l m apart)
-
-test_found : (p : Place) (own : Endpoint) (l : Local) (m : Membership) (r : Option ℕ) → is_within m.present ≡ false →
-    fault own l m (Test r) ≡ queue_fault p l (queues.Test r)
-test_found p own l m r apart =
-    ap (λ (b : Bool). fault_by l.message_limit b (λ k. standing (slice_get l.requests k)) own l.known m (Test r))
-    (held_alone l m apart)
-
-cancel_found : (p : Place) (own : Endpoint) (l : Local) (m : Membership) (r : Option ℕ) → is_within m.present ≡ false →
-    fault own l m (Cancel r) ≡ queue_fault p l (queues.Cancel r)
-cancel_found p own l m r apart =
-    ap (λ (b : Bool). fault_by l.message_limit b (λ k. standing (slice_get l.requests k)) own l.known m (Cancel r))
-    (held_alone l m apart)
-
--- so the refusal has a reason
-requests_reason : (a : Announcements) (e : EngineState) (core : Core) (m : Membership) (call : engine.Call)
-    (q : core_calls.RoutedCall) (found : Option ℕ) (why : Refusal) → IsFree a e core m →
-    call_fault e.core q ≡ free_fault e call →
-    found ≡ queue_fault e.core.place (view blank core) (in_queues.call_meant e.core q) →
-    (LacksRoom e call why → why ≡ refusals.OutOfMemory) →
-    WhyRefused (free_fault e call) e call why → IsReason found why
-requests_reason a e core m call q found why free is same lacks reason =
-    subst (λ (o : Option ℕ). IsReason o why) (sym same) (go (free_fault e call) is reason)
-  where
-    go : (o : Option Refusal) → call_fault e.core q ≡ o → WhyRefused o e call why → HasReason e.core core q why
-    go (Some x) at because =
-        faults_have_reasons a e.core e.sessions.known core q why free.shown (at ∙ ap Some (sym because))
-    go None at because = room_is_a_reason allowed_calls_are_faultless a e.core e.sessions.known core q why free.shown at
-        (inr (lacks because))
-
--- a call of the queues, as the machine's
-abbrev as_call : queues.Call → Call
-as_call (queues.Isend mode context to tag from) = Isend mode None to tag from
-as_call (queues.Irecv p) = Irecv None p.source p.tag p.into
-as_call (queues.Wait a) = Wait a
-as_call (queues.Test r) = Test r
-as_call (queues.Cancel r) = Cancel r
-as_call (queues.Iprobe q) = Iprobe None q.source q.tag
-as_call (queues.Improbe q) = Improbe None q.source q.tag
-as_call (queues.Mrecv message into) = Mrecv message into
-
--- and a call that is taken has no fault
-requests_faultless : (a : Announcements) (e : EngineState) (core : Core) (m : Membership) (call : engine.Call)
-    (q : core_calls.RoutedCall) (found : Option ℕ) → IsFree a e core m →
-    call_fault e.core q ≡ free_fault e call →
-    found ≡ queue_fault e.core.place (view blank core) (in_queues.call_seen q) →
-    ((f : Request → ℕ) → as_call (in_queues.call_by f q) ≡ call_by f call) → free_fault e call ≡ None →
-    IsFaultless found e.core call
-requests_faultless a e core m call q found free is same as_is allowed =
-    let fine = allowed_calls_are_faultless a e.core e.sessions.known core q free.shown (is ∙ allowed) in
-    record {
-      own = sym (as_is (in_queues.serial_meant e.core)) ∙ ap as_call fine.own ∙ as_is in_queues.own_serial;
-      none = same ∙ fine.none;
-    }
 
 -- ---- POINT TO POINT
 
@@ -558,7 +484,8 @@ message_faultless a own e core m q into free allowed =
     let asked : core_calls.RoutedCall = core_calls.Mrecv q into in
     let requests = neither_fault (free_request_fault e.core asked) _ allowed in
     let arguments = neither_fault (argument_fault e.core.place asked) (routed_limit e asked) requests.1 in
-    let fine = allowed_calls_are_faultless a e.core e.sessions.known core asked free.shown (message_cut a e core m q into None free requests.0 ∙ arguments.0) in
+    let fine = allowed_calls_are_faultless a e.core e.sessions.known core asked free.shown
+    (message_cut a e core m q into None free requests.0 ∙ arguments.0) in
     record {
       own = ap as_call fine.own;
       none = message_found e.core.place own (view blank core) m (in_queues.request_by in_queues.own_serial q)

@@ -6,9 +6,9 @@ use Rattle.std.specs.List.{AllByRecursion}
 use Rattle.std.proofs.lemmas.Bool.{and_parts, eqb-false, ltb-true}
 use Rattle.std.proofs.lemmas.List.{append_assoc, length-append, length-map, map-append}
 use Rattle.collective_messages.specs.declared.message.CollectiveMessage.{CollectiveMessage}
-use Rattle.collective_transfers.specs.Payloads.{Announced}
-use Rattle.collective_transfers.specs.State as payloads
-use Rattle.collective_transfers.specs.State.{after_announcing}
+use Rattle.rendezvous.specs.Payloads.{Announced}
+use Rattle.rendezvous.specs.PayloadState as payloads
+use Rattle.rendezvous.specs.PayloadState.{after_announcing}
 use Rattle.datagram.specs.Spellings.{FrameText}
 use Rattle.engine_calls.specs.Frames.{all_can_go, can_go, is_large, messages_sent, numbers_after, payload_frame}
 use Rattle.engine_calls.specs.Frames.{payload_kept, step_numbers, step_payloads, transfer_of}

@@ -2,8 +2,8 @@
 use Rattle.std.specs.Prelude.{◌≡◌, ℕ, ◌*◌, ◌<◌, ◌≤◌, List, Some, length, slice_get, take}
 use Rattle.std.specs.List.{AllByRecursion}
 use Rattle.collective_messages.specs.declared.message.CollectiveMessage.{CollectiveMessage}
-use Rattle.collective_transfers.specs.Payloads.{Announced, Coming}
-use Rattle.collective_transfers.specs.State as payloads
+use Rattle.rendezvous.specs.Payloads.{Announced, Coming}
+use Rattle.rendezvous.specs.PayloadState as payloads
 use Rattle.proof_engine_view.specs.Frames.{endpoint_of}
 use Rattle.proof_group_network.specs.SessionContents.{Sessions}
 use Rattle.proof_pure_network.specs.Announcements.{Begins}

@@ -6,9 +6,9 @@ use Rattle.std.specs.List.{list_any}
 use Rattle.std.proofs.lemmas.Bool.{eqb-true}
 use Rattle.std.proofs.lemmas.Option.{same_Some}
 use Rattle.collective_messages.specs.declared.entry.Entry as collectives
-use Rattle.collective_transfers.specs.Payloads.{Whole}
-use Rattle.collective_transfers.specs.State.{is_due, whole_with}
-use Rattle.collective_transfers.specs.State as payloads
+use Rattle.rendezvous.specs.Payloads.{Whole}
+use Rattle.rendezvous.specs.PayloadState.{is_due, whole_with}
+use Rattle.rendezvous.specs.PayloadState as payloads
 use Rattle.communicators.specs.declared.question.Question.{Question}
 use Rattle.datagram.specs.Spellings.{DataText}
 use Rattle.engine.specs.Datagrams.{FollowGives, FollowedBy, HasFollowed, HeardGives, HeardGivesBy, HearingGives}

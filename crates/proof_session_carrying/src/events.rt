@@ -23,13 +23,3 @@ pub fn collectives_are_carried()
     ensures answers { AnswersAreCarried }
     ensures parts { PartsAreCarried }
 {}
-
-#[cfg(test)]
-mod tests {
-    use super::*;
-
-    #[test]
-    fn laws_return() {
-        collectives_are_carried();
-    }
-}

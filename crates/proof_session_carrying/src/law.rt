@@ -24,13 +24,3 @@ pub fn sessions_carry()
     ensures messages { MessagesArrive }
     ensures arrive { NoticesArrive }
 {}
-
-#[cfg(test)]
-mod tests {
-    use super::*;
-
-    #[test]
-    fn laws_return() {
-        sessions_carry();
-    }
-}

@@ -15,13 +15,3 @@ pub fn messages_are_carried()
     ensures others { OthersAreCarried }
     ensures still { StillTextsAreQuiet }
 {}
-
-#[cfg(test)]
-mod tests {
-    use super::*;
-
-    #[test]
-    fn laws_return() {
-        messages_are_carried();
-    }
-}

@@ -1,6 +1,6 @@
 //! Settings whose place stands in the environment.
 
-ghost use Rattle.std.specs.Prelude.{◌≡◌, map, option_map};
+ghost use Rattle.std.specs.Prelude.{◌≡◌, map};
 ghost use Rattle.std.specs.Option.{option_copied};
 ghost use Rattle.rank_settings.specs.Places.{AnswersIn, bare_file, IsPlaced};
 

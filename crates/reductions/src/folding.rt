@@ -1,6 +1,6 @@
 //! The reduction of members' elements.
 
-ghost use Rattle.std.specs.Prelude.{◌≡◌, length, All, IfOk, IfErr};
+ghost use Rattle.std.specs.Prelude.{◌≡◌, All, IfOk, IfErr};
 ghost use Rattle.datatypes.specs.Combinations.{combined_values, IsLike};
 ghost use Rattle.reductions.specs.Folds.{folded_values};
 

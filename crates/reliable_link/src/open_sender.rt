@@ -1,6 +1,6 @@
 //! The sending end once a frame came.
 
-ghost use Rattle.std.specs.Prelude.{◌≡◌, ℕ, ◌<◌, ◌≤◌, ◌+◌, ◌^◌, ◌↔◌, ◌⊎◌, [], length, true, false, if◌then◌else◌, IfOk};
+ghost use Rattle.std.specs.Prelude.{◌≡◌, ℕ, ◌<◌, ◌≤◌, ◌+◌, ◌^◌, ◌↔◌, ◌⊎◌, [], length, false, if◌then◌else◌, IfOk};
 ghost use Rattle.std.specs.Prelude.{IsOk, OnOk, OnErr, IfErr, IsTrue, IsErrOf, IsOkUnless};
 ghost use Rattle.std.specs.Option.{option_copied};
 ghost use Rattle.reliable_link.specs.SenderState.{SenderState, next_number, out_count, out_end, after_accept};

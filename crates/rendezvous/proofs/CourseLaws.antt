@@ -11,8 +11,9 @@ use Rattle.rendezvous.specs.declared.collection.Collected.{Collected}
 use Rattle.rendezvous.specs.Collections.{Collecting, beginning, is_from, with_piece, is_whole}
 use Rattle.rendezvous.specs.WholeMessages.{collected_of}
 use Rattle.rendezvous.specs.State.{State, collection_for, with_data_at, given_at, put_back, handed_out, is_due}
-use Rattle.rendezvous.specs.State.{is_full_to, is_full_from, given, after_begin, after_rts, after_data, blank}
-use Rattle.rendezvous.specs.Events.{Event, Begins, Announces, Collects, Answers, Brings, Drops, after, handed_out_by}
+use Rattle.rendezvous.specs.State.{is_full_to, is_full_from, given, after_begin, after_payload, after_rts}
+use Rattle.rendezvous.specs.State.{after_data, blank}
+use Rattle.rendezvous.specs.Events.{Event, Begins, BeginsPayload, Announces, Collects, Answers, Brings, Drops, after, handed_out_by}
 use Rattle.rendezvous.specs.Events.{opening}
 use Rattle.rendezvous.specs.Courses.{Stage, Waiting, Given, Dropped, Course, is_waiting, bytes_so_far, waits_for}
 use Rattle.rendezvous.specs.Courses.{one_more, taken_by_first, dropped_with, Told, courses_after, told_after, told}
@@ -339,6 +340,7 @@ stays_by false old new c i h k = h
 stays : (t : Told) (e : Event) (c : Course) (i : ℕ) → slice_get t.courses i ≡ Some c → c.stage ≢ Waiting →
     slice_get (courses_after t e) i ≡ Some c
 stays t (Begins rank request elements) c i h n = h
+stays t (BeginsPayload rank) c i h n = h
 stays t (Announces rank) c i h n = h
 stays t (Collects source transfer request basic count) c i h n = stays_appended t.courses _ c i h
 stays t (Answers rank transfer) c i h n = h
@@ -430,6 +432,8 @@ mirrors : (t : Told) (e : Event) → waiting_among t.courses ≡ t.state.collect
     (after t.state e).collections
 mirrors t (Begins rank request elements) m =
     m ∙ either (is_full_to t.state.numbers rank) t.state (after_begin t.state rank request elements) refl
+mirrors t (BeginsPayload rank) m =
+    m ∙ either (is_full_to t.state.numbers rank) t.state (after_payload t.state rank) refl
 mirrors t (Announces rank) m = m ∙ either (is_full_from t.state.numbers rank) t.state (after_rts t.state rank) refl
 mirrors t (Collects source transfer request basic count) m =
     waiting_appended t.courses _ refl ∙
@@ -463,6 +467,7 @@ by_test false s source transfer piece cs m = tt
 all_handed : (t : Told) (e : Event) → waiting_among t.courses ≡ t.state.collections →
     IfSome (handed_out_by t.state e) (IsHandedOut t.courses (courses_after t e))
 all_handed t (Begins rank request elements) m = tt
+all_handed t (BeginsPayload rank) m = tt
 all_handed t (Announces rank) m = tt
 all_handed t (Collects source transfer request basic count) m = tt
 all_handed t (Answers rank transfer) m = tt

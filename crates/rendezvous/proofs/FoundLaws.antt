@@ -7,9 +7,9 @@ use Rattle.datatypes.specs.Contents.{Contents}
 use Rattle.rendezvous.specs.declared.transfers.Numbers.{Numbers}
 use Rattle.rendezvous.specs.declared.offer.Offer.{Offer}
 use Rattle.rendezvous.specs.Offers.{is_to, offer_for, offer_at, without_offer}
-use Rattle.rendezvous.specs.State.{State, is_full_to, is_full_from, is_due, next_to, after_begin, after_rts, after_data}
-use Rattle.rendezvous.specs.State.{offered, after_cts}
-use Rattle.rendezvous.specs.Events.{Event, Begins, Announces, Collects, Answers, Brings, Drops, after, opening}
+use Rattle.rendezvous.specs.State.{State, is_full_to, is_full_from, is_due, next_to, after_begin, after_payload}
+use Rattle.rendezvous.specs.State.{after_rts, after_data, offered, after_cts}
+use Rattle.rendezvous.specs.Events.{Event, Begins, BeginsPayload, Announces, Collects, Answers, Brings, Drops, after, opening}
 use Rattle.rendezvous.specs.OfferLaws.{after_all}
 use Rattle.rendezvous.specs.TransferCounts.{is_end_of, StaysOpen, AreFound}
 use Rattle.rendezvous.proofs.Firsts.{NonePass, first_or_none}
@@ -119,6 +119,11 @@ begins false s rank transfer r request elements o h =
     first_in_front (is_to rank transfer) s.offers
     ((record { target = r; transfer = next_to s.numbers r; request = request; elements = elements }) ∷ []) o h
 
+payload_begins : (full : Bool) (s : State) (rank transfer r : ℕ) →
+    the_offer (cond full s (after_payload s r)) rank transfer ≡ the_offer s rank transfer
+payload_begins true s rank transfer r = refl
+payload_begins false s rank transfer r = refl
+
 announces : (full : Bool) (s : State) (rank transfer r : ℕ) → the_offer (cond full s (after_rts s r)) rank transfer ≡
     the_offer s rank transfer
 announces true s rank transfer r = refl
@@ -166,6 +171,7 @@ stays : (s : State) (e : Event) (rank transfer : ℕ) (o : Offer) → is_end_of 
     the_offer s rank transfer ≡ Some o → the_offer (after s e) rank transfer ≡ Some o
 stays s (Begins r request elements) rank transfer o goes h =
     begins (is_full_to s.numbers r) s rank transfer r request elements o h
+stays s (BeginsPayload r) rank transfer o goes h = payload_begins (is_full_to s.numbers r) s rank transfer r ∙ h
 stays s (Announces r) rank transfer o goes h = announces (is_full_from s.numbers r) s rank transfer r ∙ h
 stays s (Collects source number request basic count) rank transfer o goes h = h
 stays s (Answers r number) rank transfer o goes h = answers s rank transfer r number goes ∙ h

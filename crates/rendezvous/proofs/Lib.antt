@@ -5,3 +5,4 @@ pub mod CourseLaws
 pub mod OfferLaws
 pub mod NumberLaws
 pub mod FoundLaws
+pub mod PayloadNumbers

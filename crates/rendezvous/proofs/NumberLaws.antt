@@ -5,11 +5,12 @@ use Rattle.std.specs.Prelude.{◌==◌, ◌&&◌}
 use Rattle.std.proofs.lemmas.Bool.{eqb-true, eqb-false, eq-eqb, and_parts}
 use Rattle.std.proofs.lemmas.List.{get_or-set_same, get_or-set_other, get_or-replicate, length-replicate, length-set}
 use Rattle.std.proofs.lemmas.Option.{slice_get-get_or}
+use Rattle.vocabulary.specs.declared.basic_type.BasicType.TheVariants.{Byte}
 use Rattle.datatypes.specs.Contents.{Contents}
 use Rattle.rendezvous.specs.declared.transfers.Numbers.{Numbers}
 use Rattle.rendezvous.specs.State.{State, fresh, most_transfers, has_none_to, has_none_from, is_due_number, is_full_to}
-use Rattle.rendezvous.specs.State.{is_full_from, is_due, after_begin, after_rts, after_data}
-use Rattle.rendezvous.specs.Events.{Event, Begins, Announces, Collects, Answers, Brings, Drops, after, opening}
+use Rattle.rendezvous.specs.State.{is_full_from, is_due, after_begin, after_payload, after_rts, after_data}
+use Rattle.rendezvous.specs.Events.{Event, Begins, BeginsPayload, Announces, Collects, Answers, Brings, Drops, after, opening}
 use Rattle.rendezvous.specs.OfferLaws.{after_all, is_drop_of}
 use Rattle.rendezvous.specs.TransferCounts.{is_begin_to, is_announcement_by, count_after, begun_with, announced_with}
 use Rattle.rendezvous.specs.TransferCounts.{transfers_to, announcements_by, IsCounted, AreAlike}
@@ -36,7 +37,7 @@ counting rank e n = record {
   announced = count_after (is_drop_of rank e) (is_announcement_by rank e) n.announced;
 }
 
-full_to : (ns : List Numbers) (rank : ℕ) → rank < length ns → is_full_to ns rank ≡
+pub full_to : (ns : List Numbers) (rank : ℕ) → rank < length ns → is_full_to ns rank ≡
     ((get_or ns rank fresh).begun == most_transfers)
 full_to ns rank lt = ap has_none_to (slice_get-get_or ns rank fresh lt)
 
@@ -74,6 +75,11 @@ begins true s r rank request elements lt e =
     subst (λ (x : ℕ). session (after s (Begins x request elements)) rank ≡
     record (session s rank) { begun = count_after false true (session s rank).begun }) (sym same)
     (begins_here (is_full_to s.numbers rank) s rank request elements lt (sym (full_to s.numbers rank lt)))
+
+payload_begins : (full : Bool) (s : State) (rank r request : ℕ) (elements : Contents) →
+    session (cond full s (after_payload s r)) rank ≡ session (cond full s (after_begin s r request elements)) rank
+payload_begins true s rank r request elements = refl
+payload_begins false s rank r request elements = refl
 
 announces_here : (full : Bool) (s : State) (rank : ℕ) → rank < length s.numbers →
     ((session s rank).announced == most_transfers) ≡ full → session (cond full s (after_rts s rank)) rank ≡
@@ -127,6 +133,9 @@ drops true s r rank lt e =
 counts : (s : State) (e : Event) (rank : ℕ) → rank < length s.numbers →
     session (after s e) rank ≡ counting rank e (session s rank)
 counts s (Begins r request elements) rank lt = begins (r == rank) s r rank request elements lt refl
+counts s (BeginsPayload r) rank lt =
+    let none : Contents = record { basic = Byte; values = [] } in
+    payload_begins (is_full_to s.numbers r) s rank r 0 none ∙ begins (r == rank) s r rank 0 none lt refl
 counts s (Announces r) rank lt = announces (r == rank) s r rank lt refl
 counts s (Collects source transfer request basic count) rank lt = refl
 counts s (Answers r transfer) rank lt = refl
@@ -144,6 +153,9 @@ either false n s t h k = k
 sizes : (s : State) (e : Event) → length (after s e).numbers ≡ length s.numbers
 sizes s (Begins r request elements) =
     either (is_full_to s.numbers r) (length s.numbers) s (after_begin s r request elements) refl
+    (length-set s.numbers r (record (session s r) { begun = (session s r).begun + 1 }))
+sizes s (BeginsPayload r) =
+    either (is_full_to s.numbers r) (length s.numbers) s (after_payload s r) refl
     (length-set s.numbers r (record (session s r) { begun = (session s r).begun + 1 }))
 sizes s (Announces r) =
     either (is_full_from s.numbers r) (length s.numbers) s (after_rts s r) refl

@@ -11,8 +11,9 @@ use Rattle.rendezvous.specs.declared.transfers.Numbers.{Numbers}
 use Rattle.rendezvous.specs.declared.offer.Offer.{Offer}
 use Rattle.rendezvous.specs.Offers.{is_to, offer_for, offer_at, without_offer}
 use Rattle.rendezvous.specs.State.{State, fresh, has_none_to, has_none_from, is_full_to, is_full_from, is_due, next_to}
-use Rattle.rendezvous.specs.State.{with_begun, with_announced, after_begin, after_rts, after_data, offered, after_cts}
-use Rattle.rendezvous.specs.Events.{Event, Begins, Announces, Collects, Answers, Brings, Drops, after, opening}
+use Rattle.rendezvous.specs.State.{with_begun, with_announced, after_begin, after_payload, after_rts, after_data, offered}
+use Rattle.rendezvous.specs.State.{after_cts}
+use Rattle.rendezvous.specs.Events.{Event, Begins, BeginsPayload, Announces, Collects, Answers, Brings, Drops, after, opening}
 use Rattle.rendezvous.specs.OfferLaws.{AreAnsweredOnce, after_all, is_drop_of, GoesOn}
 use Rattle.rendezvous.proofs.Firsts.{NonePass, first_or_none}
 
@@ -78,11 +79,11 @@ known_from ns rank h =
       | inr le ↦ absurd (both_ways (is_full_from ns rank) h (ap has_none_from (slice_get_past ns rank le)))
     ]
 
-next_same : (ns : List Numbers) (rank target : ℕ) (n : Numbers) → target ≢ rank → next_to (set ns rank n) target ≡
+pub next_same : (ns : List Numbers) (rank target : ℕ) (n : Numbers) → target ≢ rank → next_to (set ns rank n) target ≡
     next_to ns target
 next_same ns rank target n ne = ap (λ (m : Numbers). m.begun) (get_or-set_other ns rank target n fresh ne)
 
-next_here : (ns : List Numbers) (rank : ℕ) (n : Numbers) → rank < length ns → next_to (set ns rank n) rank ≡ n.begun
+pub next_here : (ns : List Numbers) (rank : ℕ) (n : Numbers) → rank < length ns → next_to (set ns rank n) rank ≡ n.begun
 next_here ns rank n lt = ap (λ (m : Numbers). m.begun) (get_or-set_same ns rank n fresh lt)
 
 -- a number that was given stays so once one more transfer has begun
@@ -203,6 +204,14 @@ begins false s rank request elements e h =
           own;
     }
 
+payload_begins : (b : Bool) (s : State) (rank : ℕ) → is_full_to s.numbers rank ≡ b → Holds s →
+    Holds (cond b s (after_payload s rank))
+payload_begins true s rank e h = h
+payload_begins false s rank e h = record {
+  distinct = h.distinct;
+  begun = all_still_begun s.numbers rank s.offers (known_to s.numbers rank e) h.begun;
+}
+
 announces : (b : Bool) (s : State) (rank : ℕ) → is_full_from s.numbers rank ≡ b → Holds s →
     Holds (cond b s (after_rts s rank))
 announces true s rank e h = h
@@ -234,6 +243,7 @@ answers s rank transfer h =
 
 holds_after : (s : State) (e : Event) → Holds s → Holds (after s e)
 holds_after s (Begins rank request elements) h = begins (is_full_to s.numbers rank) s rank request elements refl h
+holds_after s (BeginsPayload rank) h = payload_begins (is_full_to s.numbers rank) s rank refl h
 holds_after s (Announces rank) h = announces (is_full_from s.numbers rank) s rank refl h
 holds_after s (Collects source transfer request basic count) h = record { distinct = h.distinct; begun = h.begun }
 holds_after s (Answers rank transfer) h = answers s rank transfer h
@@ -326,6 +336,12 @@ gone_begins false s rank transfer r request elements e h =
       none = none_appended (is_to rank transfer) s.offers (o ∷ []) h.none (other, tt);
     }
 
+gone_payload_begins : (b : Bool) (s : State) (rank transfer r : ℕ) → is_full_to s.numbers r ≡ b →
+    IsGone rank transfer s → IsGone rank transfer (cond b s (after_payload s r))
+gone_payload_begins true s rank transfer r e h = h
+gone_payload_begins false s rank transfer r e h =
+    record { number = still_begun s.numbers r rank transfer (known_to s.numbers r e) h.number; none = h.none }
+
 gone_announces : (b : Bool) (s : State) (rank transfer r : ℕ) → is_full_from s.numbers r ≡ b → IsGone rank transfer s →
     IsGone rank transfer (cond b s (after_rts s r))
 gone_announces true s rank transfer r e h = h
@@ -360,6 +376,8 @@ gone_after : (s : State) (e : Event) (rank transfer : ℕ) → is_drop_of rank e
     IsGone rank transfer (after s e)
 gone_after s (Begins r request elements) rank transfer goes h =
     gone_begins (is_full_to s.numbers r) s rank transfer r request elements refl h
+gone_after s (BeginsPayload r) rank transfer goes h =
+    gone_payload_begins (is_full_to s.numbers r) s rank transfer r refl h
 gone_after s (Announces r) rank transfer goes h = gone_announces (is_full_from s.numbers r) s rank transfer r refl h
 gone_after s (Collects source number request basic count) rank transfer goes h =
     record { number = h.number; none = h.none }

@@ -8,7 +8,7 @@ use Rattle.datatypes.specs.Contents.{values_of}
 use Rattle.rendezvous.specs.declared.collection.Collected.{Collected}
 use Rattle.rendezvous.specs.Collections.{Collecting}
 use Rattle.rendezvous.specs.State.{State, is_due}
-use Rattle.rendezvous.specs.Events.{Event, Begins, Announces, Collects, Answers, Brings, Drops, after, handed_out_by}
+use Rattle.rendezvous.specs.Events.{Event, Begins, BeginsPayload, Announces, Collects, Answers, Brings, Drops, after, handed_out_by}
 use Rattle.rendezvous.specs.Events.{opening}
 
 -- how far a message is: its data are still to come; it was handed out; or its sender was started anew before
@@ -66,6 +66,7 @@ pub record Told : Type 0 where
 -- the courses after one more event
 abbrev pub courses_after : Told → Event → List Course
 courses_after t (Begins rank request elements) = t.courses
+courses_after t (BeginsPayload rank) = t.courses
 courses_after t (Announces rank) = t.courses
 courses_after t (Collects source transfer request basic count) = t.courses ++ (record {
   source = source;

@@ -2,7 +2,10 @@ pub mod Pieces
 pub mod Offers
 pub mod Collections
 pub mod WholeMessages
+pub mod Payloads
+pub mod PayloadState
 pub mod State
+pub mod PayloadNumbers
 pub mod WholePieces
 pub mod Events
 pub mod Courses

@@ -2,7 +2,7 @@
 use Rattle.std.specs.Prelude.{◌≡◌, ℕ, ◌==◌, Bool, false, Some, None, List, [], ◌∷◌}
 use Rattle.rendezvous.specs.declared.offer.Offer.{Offer}
 use Rattle.rendezvous.specs.State.{State, offered, after_cts}
-use Rattle.rendezvous.specs.Events.{Event, Begins, Announces, Collects, Answers, Brings, Drops, after}
+use Rattle.rendezvous.specs.Events.{Event, Begins, BeginsPayload, Announces, Collects, Answers, Brings, Drops, after}
 
 -- what a rank knows after a list of events
 abbrev pub after_all : State → List Event → State
@@ -12,6 +12,7 @@ after_all s (e ∷ es) = after_all (after s e) es
 -- whether the rank is known at a new incarnation by this event
 abbrev pub is_drop_of : (rank : ℕ) → Event → Bool
 is_drop_of rank (Begins r request elements) = false
+is_drop_of rank (BeginsPayload r) = false
 is_drop_of rank (Announces r) = false
 is_drop_of rank (Collects source transfer request basic count) = false
 is_drop_of rank (Answers r transfer) = false

@@ -8,6 +8,7 @@ use Rattle.rendezvous.specs.declared.offer.Offer.{Offer}
 use Rattle.rendezvous.specs.declared.collection.Collected.{Collected}
 use Rattle.rendezvous.specs.Offers.{offer_for, offer_at, without_offer}
 use Rattle.rendezvous.specs.Collections.{Collecting, is_from, is_next_data, with_piece, is_whole}
+use Rattle.rendezvous.specs.PayloadState as payloads
 use Rattle.rendezvous.specs.WholeMessages.{collected_of}
 
 -- by rank the numbers of its sessions; the messages that were announced to others, and those that come from others, the
@@ -17,11 +18,12 @@ pub record State : Type 0 where
   pub offers : List Offer
   pub collections : List Collecting
 
--- the same, and for how many more offers and collections there is memory
+-- the same, for how many more offers and collections there is memory, and the payloads of collectives
 pub record Held : Type 0 where
   pub state : State
   pub sends : ℕ
   pub receives : ℕ
+  pub payloads : payloads.Held
 
 -- NUMBERS
 
@@ -128,6 +130,10 @@ after_begin s rank request elements = record s {
   offers = s.offers ++
       (record { target = rank; transfer = next_to s.numbers rank; request = request; elements = elements }) ∷ [];
 }
+
+-- a transfer of a payload to a rank begins: it gets the next number
+abbrev pub after_payload : State → (rank : ℕ) → State
+after_payload s rank = record s { numbers = with_begun s.numbers rank }
 
 -- a transfer from a rank is announced
 abbrev pub after_rts : State → (rank : ℕ) → State

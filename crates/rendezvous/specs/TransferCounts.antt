@@ -1,14 +1,16 @@
--- Both sides of a session count its transfers alike, told from the events alone.
+-- Both sides of a session count its transfers alike, those of messages and of payloads together, told from the events
+-- alone.
 use Rattle.std.specs.Prelude.{◌≡◌, ℕ, ◌+◌, ◌==◌, ◌&&◌, not, Bool, true, false, Some, List, [], ◌∷◌, if◌then◌else◌}
 use Rattle.datatypes.specs.Contents.{Contents}
 use Rattle.rendezvous.specs.declared.offer.Offer.{Offer}
 use Rattle.rendezvous.specs.State.{State, most_transfers, is_full_to, is_full_from, is_next, next_to, offered}
-use Rattle.rendezvous.specs.Events.{Event, Begins, Announces, Collects, Answers, Brings, Drops, after}
+use Rattle.rendezvous.specs.Events.{Event, Begins, BeginsPayload, Announces, Collects, Answers, Brings, Drops, after}
 use Rattle.rendezvous.specs.OfferLaws.{after_all, is_drop_of}
 
 -- whether a transfer to the rank begins by this event
 abbrev pub is_begin_to : (rank : ℕ) → Event → Bool
 is_begin_to rank (Begins r request elements) = r == rank
+is_begin_to rank (BeginsPayload r) = r == rank
 is_begin_to rank (Announces r) = false
 is_begin_to rank (Collects source transfer request basic count) = false
 is_begin_to rank (Answers r transfer) = false
@@ -18,6 +20,7 @@ is_begin_to rank (Drops r) = false
 -- whether the rank announces a transfer by this event
 abbrev pub is_announcement_by : (rank : ℕ) → Event → Bool
 is_announcement_by rank (Begins r request elements) = false
+is_announcement_by rank (BeginsPayload r) = false
 is_announcement_by rank (Announces r) = r == rank
 is_announcement_by rank (Collects source transfer request basic count) = false
 is_announcement_by rank (Answers r transfer) = false
@@ -69,6 +72,7 @@ pub record AreAlike (source target : ℕ) (sender receiver : State) : Type 0 whe
 -- whether an offer ends by this event: it is answered, or its receiver is known at a new incarnation
 abbrev pub is_end_of : (rank transfer : ℕ) → Event → Bool
 is_end_of rank transfer (Begins r request elements) = false
+is_end_of rank transfer (BeginsPayload r) = false
 is_end_of rank transfer (Announces r) = false
 is_end_of rank transfer (Collects source number request basic count) = false
 is_end_of rank transfer (Answers r number) = (r == rank) && (number == transfer)

@@ -1,18 +1,22 @@
 //! What a rank knows of its transfers.
 
-ghost use Rattle.std.specs.Prelude.{◌≡◌, ℕ, ◌+◌, ◌≤◌, ◌<◌, ◌++◌, not, ◌==◌, false, true, filter, map, length, [], IfOk};
-ghost use Rattle.std.specs.Prelude.{OnOk, OnErr, position, replicate, slice_get, slice_set, slice_index_or, vec_len};
+ghost use Rattle.std.specs.Prelude.{◌≡◌, ◌+◌, ◌≤◌, ◌<◌, ◌++◌, not, ◌==◌, false, true, filter, map, length, [], IfOk};
+ghost use Rattle.std.specs.Prelude.{OnOk, OnErr, position, replicate, slice_set, vec_len};
 ghost use Rattle.std.specs.Prelude.{vec_capacity};
 ghost use Rattle.std.specs.Option.{option_copied};
 ghost use Rattle.rendezvous.specs.Offers.{offer_for, offer_at, without_offer};
-ghost use Rattle.rendezvous.specs.Collections.{Collecting, is_from, is_next_data, with_piece, is_whole};
+ghost use Rattle.rendezvous.specs.Collections.{is_from, is_next_data, is_whole};
 ghost use Rattle.rendezvous.specs.State.{State, fresh, is_full_to, is_next, next_to, with_begun, with_announced};
 ghost use Rattle.rendezvous.specs.State.{collection_for, collection_at, is_due, grown_at, with_data_at, given_at};
 ghost use Rattle.rendezvous.specs.State.{after_begin, after_rts, after_collect, offered, after_cts, after_data, given};
 ghost use Rattle.rendezvous.specs.State.{after_drop, keys_with};
+ghost use Rattle.rendezvous.specs.PayloadState as payloads;
+ghost use Rattle.rendezvous.specs.PayloadState.{opening};
 
 use crate::collection::{Collected, Collection};
 use crate::offer::Offer;
+use crate::payload_lists::{drop_announced, drop_coming};
+use crate::payloads::{AnnouncedPayload, ComingPayload};
 use datatypes::Buffer;
 use std::alloc::Global;
 use std::marker::Model;
@@ -27,19 +31,27 @@ pub struct Numbers {
     pub announced: u32,
 }
 
-/// What a rank knows of its transfers: their numbers, the messages that it announced and those that come to it.
+/// What a rank knows of its transfers: their numbers, the messages that it announced and those that come to it, and the
+/// payloads of collectives that it announced and those that come to it. Both kinds have one count.
 ///
 /// ```text
+///  messages
 ///  to a rank:   begin_send ─► offered ── on_cts: handed out, and gone
 ///  from a rank: on_rts: counted ── collect ─► comes ── on_data: the next piece ─► comes
 ///                                                  └── on_data: the last piece ─► handed out whole, and gone
-///  either way:  drop_from(rank), a lesson: what is offered or comes is gone, and numbers begin at 0
+///  payloads
+///  to a rank:   announce_payloads ─► kept ── on_payload_cts: gone
+///  from a rank: begin_payload: counted ─► comes ── on_payload_data: the next piece ─► comes, or gone with the last
+///                                              └── take_whole: the last piece ─► handed out whole ── put_back ─► comes
+///  either way:  drop_from(rank), a lesson: what is announced or comes is gone, and numbers begin at 0
 /// ```
 #[derive(Drop)]
 pub struct Transfers {
-    numbers: Vec<Numbers>,
+    pub(crate) numbers: Vec<Numbers>,
     offers: Vec<Offer>,
     collections: Vec<Collection>,
+    pub(crate) announced: Vec<AnnouncedPayload>,
+    pub(crate) coming: Vec<ComingPayload>,
 }
 
 impl Model for Transfers {
@@ -52,11 +64,16 @@ impl Model for Transfers {
       state = record { numbers = t.numbers.items; offers = t.offers.items; collections = t.collections.items };
       sends = vec_capacity t.offers - vec_len t.offers;
       receives = vec_capacity t.collections - vec_len t.collections;
+      payloads = record {
+        state = record { announced = t.announced.items; coming = t.coming.items };
+        more_announced = vec_capacity t.announced - vec_len t.announced;
+        more_coming = vec_capacity t.coming - vec_len t.coming;
+      };
     } };
 }
 
 /// Whether no number is left for a transfer to the rank, or there is no such rank.
-pub fn is_full_to(numbers: &[Numbers], rank: u16) -> bool
+fn is_full_to(numbers: &[Numbers], rank: u16) -> bool
     ensures { result ≡ is_full_to numbers.now rank }
 {
     match numbers.get(usize::from(rank)) {
@@ -66,7 +83,7 @@ pub fn is_full_to(numbers: &[Numbers], rank: u16) -> bool
 }
 
 /// One more transfer to the rank begins; its number is answered.
-pub fn begin(numbers: &mut Vec<Numbers>, rank: u16) -> u32
+pub(crate) fn begin(numbers: &mut Vec<Numbers>, rank: u16) -> u32
     requires { is_full_to numbers.old.items rank ≡ false }
     ensures number { result ≡ next_to numbers.old.items rank }
     ensures counted { numbers.new.items ≡ with_begun numbers.old.items rank }
@@ -78,7 +95,7 @@ pub fn begin(numbers: &mut Vec<Numbers>, rank: u16) -> u32
 }
 
 /// The transfer from the rank that has this number, which is its next one, is announced.
-pub fn announce(numbers: &mut Vec<Numbers>, rank: u16, transfer: u32)
+pub(crate) fn announce(numbers: &mut Vec<Numbers>, rank: u16, transfer: u32)
     requires { is_next numbers.old.items rank transfer ≡ true }
     ensures { numbers.new.items ≡ with_announced numbers.old.items rank }
 {
@@ -87,7 +104,7 @@ pub fn announce(numbers: &mut Vec<Numbers>, rank: u16, transfer: u32)
 }
 
 /// No transfer of the session with the rank has begun, in either direction.
-pub fn start_anew(numbers: &mut Vec<Numbers>, rank: u16)
+fn start_anew(numbers: &mut Vec<Numbers>, rank: u16)
     ensures { numbers.new.items ≡ slice_set numbers.old.items rank fresh }
 {
     if usize::from(rank) < numbers.len() {
@@ -238,8 +255,9 @@ fn keys_among(
 impl Transfers {
     /// No transfers, in a world of this many ranks; it fails for want of memory alone.
     pub fn new(alloc: Global, ranks: u16) -> Result<Self, OutOfMemory>
-        ensures { IfOk result (λ transfers. transfers.state
+        ensures messages { IfOk result (λ transfers. transfers.state
             ≡ record { numbers = replicate ranks fresh; offers = []; collections = [] }) }
+        ensures payloads { IfOk result (λ transfers. transfers.payloads.state ≡ opening) }
     {
         let Ok(numbers) = Vec::from_elem(alloc, Numbers::default(), usize::from(ranks)) else {
             return Err(OutOfMemory {});
@@ -248,6 +266,8 @@ impl Transfers {
             numbers,
             offers: Vec::new(alloc),
             collections: Vec::new(alloc),
+            announced: Vec::new(alloc),
+            coming: Vec::new(alloc),
         })
     }
 
@@ -257,21 +277,6 @@ impl Transfers {
         ensures { result ≡ is_full_to self.now.state.numbers rank }
     {
         is_full_to(&self.numbers, rank)
-    }
-
-    /// The numbers of the sessions, by rank.
-    pub fn numbers(&self) -> &[Numbers]
-        ensures { result.now ≡ self.now.state.numbers }
-    {
-        &self.numbers
-    }
-
-    /// The sessions have these numbers from now on, by rank: transfers were counted whose data stand elsewhere. Whoever
-    /// sets them answers for them: the laws on all calls in `laws` leave this one out.
-    pub fn set_numbers(&mut self, numbers: Vec<Numbers>)
-        ensures { self.new ≡ record self.old { state = record self.old.state { numbers = numbers.items } } }
-    {
-        self.numbers = numbers;
     }
 
     /// The number that the next transfer to the rank gets; 0 of a rank that isn't there.
@@ -301,6 +306,7 @@ impl Transfers {
         ensures number { result ≡ next_to self.old.state.numbers rank }
         ensures sends { self.new.sends + 1 ≡ self.old.sends }
         ensures receives { self.new.receives ≡ self.old.receives }
+        ensures payloads { self.new.payloads ≡ self.old.payloads }
     {
         let transfer = begin(&mut self.numbers, rank);
         self.offers.push_reserved(Offer {
@@ -345,6 +351,7 @@ impl Transfers {
         ensures state { self.new.state ≡ after_collect self.old.state collection }
         ensures sends { self.new.sends ≡ self.old.sends }
         ensures receives { self.new.receives + 1 ≡ self.old.receives }
+        ensures payloads { self.new.payloads ≡ self.old.payloads }
     {
         self.collections.push_reserved(collection);
     }
@@ -364,6 +371,7 @@ impl Transfers {
         ensures taken { result ≡ offered self.old.state rank transfer }
         ensures sends { self.old.sends ≤ self.new.sends }
         ensures receives { self.new.receives ≡ self.old.receives }
+        ensures payloads { self.new.payloads ≡ self.old.payloads }
     {
         take_offer(&mut self.offers, rank, transfer)
     }
@@ -393,6 +401,7 @@ impl Transfers {
         ensures given { result ≡ given self.old.state rank transfer bytes.now }
         ensures sends { self.new.sends ≡ self.old.sends }
         ensures receives { self.old.receives ≤ self.new.receives }
+        ensures payloads { self.new.payloads ≡ self.old.payloads }
     {
         take_piece(&mut self.collections, rank, transfer, offset, bytes)
     }
@@ -406,17 +415,21 @@ impl Transfers {
     }
 
     /// Starts both directions of the session with the rank anew, since it is known at a new incarnation: numbers count
-    /// from
-    /// 0, and what was offered to it or collected from it is gone. It takes no memory.
+    /// from 0, and what was offered or announced to it or comes from it is gone. It takes no memory.
     ///
     /// MPI 3.1 defines no restart of a rank; what becomes of these is this project's own.
     pub fn drop_from(&mut self, rank: u16)
         ensures state { self.new.state ≡ after_drop self.old.state rank }
         ensures sends { self.old.sends ≤ self.new.sends }
         ensures receives { self.old.receives ≤ self.new.receives }
+        ensures payloads { self.new.payloads.state ≡ payloads.after_drop self.old.payloads.state rank }
+        ensures announced { self.old.payloads.more_announced ≤ self.new.payloads.more_announced }
+        ensures coming { self.old.payloads.more_coming ≤ self.new.payloads.more_coming }
     {
         start_anew(&mut self.numbers, rank);
         drop_offers(&mut self.offers, rank);
         drop_collections(&mut self.collections, rank);
+        drop_announced(&mut self.announced, rank);
+        drop_coming(&mut self.coming, rank);
     }
 }

@@ -1,6 +1,6 @@
 //! The smoothed round trip time, its variation, and the time to send again (RFC 6298, section 2).
 
-ghost use Rattle.std.specs.Prelude.{◌≡◌, ◌*◌, ◌≤◌, ◌^◌, min, option_map};
+ghost use Rattle.std.specs.Prelude.{◌≡◌, ◌*◌, ◌≤◌, ◌^◌, min};
 ghost use Rattle.round_trips.specs.Estimates.{backed_off, distance, estimate_behind, estimate_with, first_estimate};
 ghost use Rattle.round_trips.specs.Estimates.{millis, timeout, wait_by};
 

@@ -3,7 +3,7 @@
 ghost use Rattle.std.specs.Prelude.{◌≡◌, ◌≤◌};
 ghost use Rattle.round_trips.specs.Trips.{after_acknowledgement, after_first, after_frame, after_number, after_repeat};
 ghost use Rattle.round_trips.specs.Trips.{begun, gap_by, gap_with, hasty, is_repeat, measured, repeated, tells_of};
-ghost use Rattle.round_trips.specs.Trips.{timed_from, timed_without, wait_now, wait_with, with_awaited};
+ghost use Rattle.round_trips.specs.Trips.{timed_from, timed_without, wait_now, with_awaited};
 ghost use Rattle.round_trips.specs.Trips.{with_incarnation, with_sample};
 
 use crate::estimate::{Estimate, backed_off, millis, wait_by};

@@ -1,6 +1,6 @@
 //! The round trips to all ranks of a job.
 
-ghost use Rattle.std.specs.Prelude.{◌≡◌, ◌≤◌, length, slice_get, IfOk, IfSome, IfNone, Some};
+ghost use Rattle.std.specs.Prelude.{◌≡◌, ◌≤◌, slice_get, IfOk, Some};
 ghost use Rattle.std.specs.Option.{option_map};
 ghost use Rattle.datagram.specs.ByteMeanings.{datagram_of};
 ghost use Rattle.round_trips.specs.Trips.{after_acknowledgement, after_came, after_frame, after_sent, changed, unknown};

@@ -163,6 +163,34 @@ fn lowest_of(audience: &Audience, size: u16) -> Option<u16> {
     }
 }
 
+/// The lines for this rank are followed by its party, as far as they set names; of those that are for other ranks too
+/// what they lack is noted where it is the lowest of them. Nothing is owned here, since what is would be dropped at each
+/// error.
+fn follow_own(
+    search: &mut Search,
+    party: &mut Party,
+    rank: u16,
+    size: u16,
+) -> Result<(), AllocError> {
+    let (mut here, mut tells) = (true, rank == 0);
+    for line in search.script.lines() {
+        match &line.item {
+            Item::On(audience) => {
+                here = audience.includes(rank, 0);
+                tells = lowest_of(audience, size) == Some(rank);
+            }
+            Item::Does(statement) => {
+                if here && tells {
+                    search.follow(line.number, party, statement)?;
+                } else if here {
+                    party.names.learn(statement)?;
+                }
+            }
+        }
+    }
+    Ok(())
+}
+
 /// The names that lines for this rank use, at its first incarnation, though no line before sets them; of lines that are
 /// for other ranks too those alone of which it is the lowest. So where each rank of a job tells its own, each is told
 /// once. The only error is want of memory.
@@ -182,22 +210,7 @@ pub fn unset_names_of(
         script,
         found: Vec::new(alloc),
     };
-    let (mut here, mut tells) = (true, rank == 0);
-    for line in script.lines() {
-        match &line.item {
-            Item::On(audience) => {
-                here = audience.includes(rank, 0);
-                tells = lowest_of(audience, size) == Some(rank);
-            }
-            Item::Does(statement) => {
-                if here && tells {
-                    search.follow(line.number, &mut party, statement)?;
-                } else if here {
-                    party.names.learn(statement)?;
-                }
-            }
-        }
-    }
+    follow_own(&mut search, &mut party, rank, size)?;
     Ok(search.found)
 }
 

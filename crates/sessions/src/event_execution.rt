@@ -7,7 +7,7 @@
 //! before an acknowledgement is heeded is kept as one that comes after it. Where a session starts anew, the former one
 //! is held until nothing fails any more.
 
-ghost use Rattle.std.specs.Prelude.{ℕ, ◌≡◌, ◌%◌, ◌≤◌, ◌<◌, ◌+◌, ◌++◌, [], ◌∷◌, All, IsTrue, false, IfOk, IfErr, OnOk};
+ghost use Rattle.std.specs.Prelude.{◌≡◌, ◌%◌, ◌≤◌, ◌<◌, ◌+◌, ◌++◌, [], ◌∷◌, All, IsTrue, false, IfOk, IfErr, OnOk};
 ghost use Rattle.std.specs.Prelude.{OnErr, length, nat_lt, take, slice_set, vec_len, None, Some};
 ghost use Rattle.datagram.specs.Spellings.{outgoing_text};
 ghost use Rattle.reliable_link.specs.SenderState.{out_end, entered_on_ack};
@@ -16,7 +16,7 @@ ghost use Rattle.sessions.specs.SessionsState.{GivesUnless, known_endpoint};
 ghost use Rattle.sessions.specs.Peers.{peer_at, with_new_session, frames_out};
 ghost use Rattle.sessions.specs.Spellings.{ack_bytes};
 ghost use Rattle.sessions.specs.HeardBytes.{word_text, heard_text, heard_option, CanHear};
-ghost use Rattle.sessions.specs.Events.{AreFor, CanSend, taught_known, heeded_by, sendings, sends_limit};
+ghost use Rattle.sessions.specs.Events.{CanSend, taught_known, heeded_by, sendings, sends_limit};
 ghost use Rattle.sessions.specs.Events.{after_event, event_limit, most_answers, TurnedAway};
 ghost use Rattle.sessions.specs.Windows.{StaysWithin};
 ghost use Rattle.sessions.specs.EventExecution.{CanSettleIn, CanSettle, known_after, answered, sender_after, bytes_ahead};

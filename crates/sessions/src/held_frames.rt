@@ -7,7 +7,7 @@
 ghost use Rattle.std.specs.Prelude.{◌≡◌, ◌≢◌, ◌<◌, false, length, IfOk, IfErr, slice_set};
 ghost use Rattle.reliable_link.specs.ReceiverState.{advanced};
 ghost use Rattle.sessions.specs.HeldFrames.{ready_from, turn_of, without_ready};
-ghost use Rattle.sessions.specs.HeardBytes.{heard_option, heard_text, word_text, CanHeed, WordFits};
+ghost use Rattle.sessions.specs.HeardBytes.{heard_option, word_text, CanHeed, WordFits};
 ghost use Rattle.sessions.specs.declared.peers.Peer.{Peer};
 ghost use Rattle.sessions.specs.Peers.{peer_at};
 ghost use Rattle.sessions.specs.Spellings.{ack_of};

@@ -1,7 +1,7 @@
 //! The session with each rank of the job.
 
 ghost use Rattle.std.specs.Prelude.{◌≡◌, ◌≢◌, ◌≤◌, ◌<◌, ◌+◌, ◌-◌, ◌*◌, ◌++◌, length, All, IsTrue, IfOk, OnOk, OnErr};
-ghost use Rattle.std.specs.Prelude.{IfErr, nat_lt, ◌^◌, [], ◌∷◌, if◌then◌else◌, slice_set, vec_len, vec_capacity};
+ghost use Rattle.std.specs.Prelude.{IfErr, ◌^◌, [], ◌∷◌, if◌then◌else◌, slice_set, vec_len};
 ghost use Rattle.reliable_link.specs.SenderState.{after_accept, after_ack, IsOfSent, entered_on_ack, due_at, out_end};
 ghost use Rattle.reliable_link.specs.SenderState.{IsSomeDue, StandsAt};
 ghost use Rattle.reliable_link.specs.Acceptance.{HasNumberLeft};

@@ -1,6 +1,6 @@
 //! What a step of the world prints.
 
-ghost use Rattle.std.specs.Prelude.{◌≡◌, ◌∷◌, ◌++◌, ◌+◌, ◌-◌, ◌≤◌, ◌^◌, min, [], Bool, IfErr, OnOk, slice_get, Some};
+ghost use Rattle.std.specs.Prelude.{◌≡◌, ◌∷◌, ◌++◌, ◌+◌, ◌-◌, ◌≤◌, ◌^◌, [], IfErr, OnOk, slice_get, Some};
 ghost use Rattle.simulation.specs.Output.{CutsOff, Prints};
 ghost use Rattle.simulation.specs.StepLines.{answered_line, completed_lines, emitted_lines, entry_lines, lines_at};
 ghost use Rattle.simulation.specs.StepLines.{lines_between, refused_lines, reset_lines, stepped_lines, told_lines};

@@ -1,7 +1,7 @@
 //! What a file of events prints.
 
 ghost use Rattle.std.specs.Prelude.{◌≡◌, ◌∷◌, [], map, IfErr, IfOk, OnOk};
-ghost use Rattle.printed_lines.specs.Answers.{answer_text, emission_text, outcome_text};
+ghost use Rattle.printed_lines.specs.Answers.{answer_text, outcome_text};
 ghost use Rattle.printed_lines.specs.CommunicatorTexts.{position_text};
 ghost use Rattle.datagram.specs.Spellings.{datagram_text};
 ghost use Rattle.simulation.specs.Lines.{answer_line, compared, completion_line, datagram_lines, emission_of};

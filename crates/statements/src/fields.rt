@@ -3,7 +3,7 @@
 ghost use Rattle.std.specs.Prelude.{◌≡◌};
 ghost use Rattle.statements.specs.LineWords.{communicator_of, communicator_and_buffer, target_of, source_of, tag_of};
 ghost use Rattle.statements.specs.LineWords.{requested_of, one_request, behind_as, through_of};
-ghost use Rattle.tokens.specs.Fields.{first, name_of, end_of_line, rank_of, large_of, each};
+ghost use Rattle.tokens.specs.Fields.{name_of, rank_of, large_of, each};
 ghost use Rattle.tokens.specs.Results.{Gives};
 
 use crate::action::{CommunicatorName, LayoutClause, RequestName, RequestNames};

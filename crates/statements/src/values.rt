@@ -5,7 +5,6 @@ ghost use Rattle.std.specs.List.{position};
 ghost use Rattle.datatypes.specs.Elements.{numbers_of};
 ghost use Rattle.statements.specs.LineWords.{value_of, is_star, copies_of, buffer_with, float_in, float_of, integer_of};
 ghost use Rattle.std.specs.Float.Ieee.{binary32, binary64};
-ghost use Rattle.tokens.specs.Numbers.{count_of};
 ghost use Rattle.tokens.specs.Results.{Gives};
 
 use datatypes::{Buffer, number_of};

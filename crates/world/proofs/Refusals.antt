@@ -6,8 +6,8 @@ use Rattle.std.proofs.lemmas.Bool.{both_ways}
 use Rattle.std.proofs.lemmas.Option.{same_Some}
 use Rattle.perfect_groups.specs.Events as machine
 use Rattle.vocabulary.specs.declared.endpoint.Endpoint.{Endpoint}
-use Rattle.collective_transfers.specs.Payloads.{Whole}
-use Rattle.collective_transfers.specs.State.{is_due, whole_with}
+use Rattle.rendezvous.specs.Payloads.{Whole}
+use Rattle.rendezvous.specs.PayloadState.{is_due, whole_with}
 use Rattle.engine.specs.Datagrams.{HeardGivesBy, HearingGives, NoticeText, OfAnnouncement, OfAnswer, OfMessage, OfPiece}
 use Rattle.engine.specs.Datagrams.{PieceGivesBy, notice_in}
 use Rattle.engine_calls.specs.EngineState.{EngineState, emptied, without_completion, without_out}

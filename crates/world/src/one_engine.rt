@@ -1,6 +1,6 @@
 //! What one event does to one engine.
 
-ghost use Rattle.std.specs.Prelude.{◌≡◌, ◌≤◌, ◌+◌, ◌*◌, [], length, is_some, IfOk, IfErr, IsTrue};
+ghost use Rattle.std.specs.Prelude.{◌≡◌, ◌≤◌, ◌+◌, ◌*◌, [], length, is_some, IsTrue};
 ghost use Rattle.engine_calls.specs.EngineState.{completion_of, emptied};
 ghost use Rattle.engine_calls.specs.Faults.{fault_of};
 ghost use Rattle.world.specs.Faults.{target_of};

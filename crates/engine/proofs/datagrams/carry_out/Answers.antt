@@ -4,7 +4,7 @@ use Rattle.std.specs.List.{AllByRecursion}
 use Rattle.datagram.specs.Spellings.{OutgoingText}
 use Rattle.point_to_point_calls.specs.FrameNews.{CanGo, NewsText}
 use Rattle.point_to_point.specs.Arrivals.{news_frames}
-use Rattle.sessions.specs.Events.{after_event, event_limit, sendings}
+use Rattle.sessions.specs.Events.{after_event, event_limit}
 use Rattle.sessions.specs.HeardBytes.{heard_text}
 use Rattle.engine.proofs.Replies.{outgoing_can_go, outgoing_says}
 use Rattle.engine.proofs.datagrams.carry_out.Goals as goal

@@ -1,5 +1,4 @@
 -- All data of a payload go to the rank that spoke.
-use Rattle.std.proofs.Common.{ap, ◌∙◌}
 use Rattle.engine.proofs.PayloadPieces.{data_go_to}
 use Rattle.engine.specs.Datagrams.{data_sent}
 use Rattle.engine.proofs.refused_turns.limit_of_data.Goals as goal

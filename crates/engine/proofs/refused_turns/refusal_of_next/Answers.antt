@@ -1,5 +1,5 @@
 -- What follows can be heard, and says something.
-use Rattle.std.proofs.Common.{◌<◌, length, arith, Some}
+use Rattle.std.proofs.Common.{arith, Some}
 use Rattle.sessions.specs.HeardBytes.{heard_text}
 use Rattle.engine.proofs.TurnLaws.{can_hear, of_bytes, says_something}
 use Rattle.engine.proofs.refused_turns.refusal_of_next.Goals as goal

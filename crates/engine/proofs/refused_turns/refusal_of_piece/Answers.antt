@@ -12,12 +12,12 @@ use Rattle.engine.proofs.refused_turns.refusal_of_piece.Goals as goal
 
 pub returns-then-not-is_due-clause-exact : goal.returns-then-not-is_due-clause-exact
 returns-then-not-is_due-clause-exact c = λ core groups ended.
-    not_due (engine_by core c.args.payloads.now.state c.args.sessions.now groups ended) (heard_text c.args.heard)
+    not_due (engine_by core c.args.core.now.payloads.state c.args.sessions.now groups ended) (heard_text c.args.heard)
     (data_text c.args.piece) (sym c.is_due.ensures ∙ c.if-not-is_due.true)
 
 pub returns-in_default-clause-exact : goal.returns-in_default-clause-exact
 returns-in_default-clause-exact c = λ core groups ended.
-    due (engine_by core c.args.payloads.now.state c.args.sessions.now groups ended) (heard_text c.args.heard)
+    due (engine_by core c.args.core.now.payloads.state c.args.sessions.now groups ended) (heard_text c.args.heard)
     (data_text c.args.piece) None c.or_memory.result (sym c.is_due.ensures ∙ c.if-not-is_due.false)
     c.in_default.ensures.whole
     (subst (λ (o : Option Refusal). IsRefusal o c.or_memory.result)
@@ -25,7 +25,7 @@ returns-in_default-clause-exact c = λ core groups ended.
 
 pub returns-clause-exact : goal.returns-clause-exact
 returns-clause-exact c = λ core groups ended.
-    let e = engine_by core c.args.payloads.now.state c.args.sessions.now groups ended in
+    let e = engine_by core c.args.core.now.payloads.state c.args.sessions.now groups ended in
     let h = heard_text c.args.heard in
     due e h (data_text c.args.piece) (Some c.in-Some.whole.whole) c.refusal_of_message-refusal.result
     (sym c.is_due.ensures ∙ c.if-not-is_due.false) c.in-Some.ensures.whole

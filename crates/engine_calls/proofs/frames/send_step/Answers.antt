@@ -1,17 +1,30 @@
 -- A step is sent.
-use Rattle.std.proofs.Common.{length, map, ap, ◌∙◌}
-use Rattle.engine_calls.proofs.StepFrames.{as_many, written_send}
+use Rattle.std.proofs.Common.{map, ap}
+use Rattle.rendezvous.specs.PayloadNumbers.{counted}
+use Rattle.sessions.specs.HeardBytes.{heard_option}
+use Rattle.engine_calls.proofs.StepFrames.{written_send}
+use Rattle.engine_calls.proofs.StepNumbers.{ready_left}
+use Rattle.engine_calls.specs.Frames.{numbers_heard}
 use Rattle.engine_calls.specs.Steps.{written}
 use Rattle.engine_calls.proofs.frames.send_step.Goals as goal
 
 pub send_written-requires-clause-go : goal.send_written-requires-clause-go
 send_written-requires-clause-go c =
-    written_send c.place-place.result c.args.sessions.now.place c.args.numbers.now.items c.write_each.new.numbers.items
+    let ns = numbers_heard c.args.core.now.state.transfers.numbers (heard_option c.args.heard) in
+    written_send c.place-place.result c.args.sessions.now.place ns (counted ns c.in_ok-step.step.announced.items)
     c.args.messages.now
     (map written c.in_ok-step.step.frames.items) (map written c.deref.result.now) c.in_ok-step.step.announced.items
     c.place-place.ensures.place
     (ap (map written) c.deref.ensures.value) c.in_ok-step.ensures.ok
 
-pub returns-clause-width : goal.returns-clause-width
-returns-clause-width c = ap length c.in_ok-step.ensures.ok.numbers ∙
-    as_many c.args.numbers.now.items c.args.messages.now
+pub returns-clause-left : goal.returns-clause-left
+returns-clause-left c =
+    let ns = numbers_heard c.args.core.now.state.transfers.numbers (heard_option c.args.heard) in
+    ready_left c.place-place.result ns (counted ns c.in_ok-step.step.announced.items) c.args.messages.now
+    (map written c.in_ok-step.step.frames.items) c.in_ok-step.step.announced.items c.in_ok-step.ensures.ok
+
+pub returns-clause-counted : goal.returns-clause-counted
+returns-clause-counted c = c.in_ok-step.ensures.ok.numbers
+
+pub returns-clause-announced : goal.returns-clause-announced
+returns-clause-announced c = c.in_ok-step.ensures.ok.kept

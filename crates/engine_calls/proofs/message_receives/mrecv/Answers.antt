@@ -12,14 +12,14 @@ start_receive-requires-clause-clear c =
     (message_of (engine_of c.args.core.now.state (groups_of c.args.communicators.now) blank c.args.sessions.now) c.args.message c.args.into
     c.judge_message.result c.in-Ok.receive c.in-Ok.is (c.judge_message.ensures.judged blank)).clear
 
-pub returns-in-Ok : goal.returns-in-Ok
-returns-in-Ok c = λ rest.
-    c.start_receive.ensures (groups_of c.args.communicators.now) rest (calls.Mrecv c.args.message c.args.into)
+pub returns-in-Ok-clause-exact : goal.returns-in-Ok-clause-exact
+returns-in-Ok-clause-exact c = λ rest.
+    c.start_receive.ensures.exact (groups_of c.args.communicators.now) rest (calls.Mrecv c.args.message c.args.into)
     (message_of (engine_of c.args.core.now.state (groups_of c.args.communicators.now) rest c.args.sessions.now) c.args.message c.args.into
     c.judge_message.result c.in-Ok.receive c.in-Ok.is (c.judge_message.ensures.judged rest))
 
-pub returns-in-Err : goal.returns-in-Err
-returns-in-Err c = λ rest.
+pub returns-in-Err-clause-exact : goal.returns-in-Err-clause-exact
+returns-in-Err-clause-exact c = λ rest.
     let e = (engine_of c.args.core.now.state (groups_of c.args.communicators.now) rest c.args.sessions.now) in
     let back = message_back e c.args.message c.args.into c.judge_message.result c.in-Err.handed c.in-Err.is
     (c.judge_message.ensures.judged rest) in

@@ -18,16 +18,16 @@ take_out-requires-clause-limit c =
     search_unlimited e c.args.probe c.in-Ok.judged
     (search_of e c.args.probe c.judge_search.result c.in-Ok.judged c.in-Ok.is (c.judge_search.ensures.judged blank)).0
 
-pub returns-in-Ok : goal.returns-in-Ok
-returns-in-Ok c = λ rest.
+pub returns-in-Ok-clause-exact : goal.returns-in-Ok-clause-exact
+returns-in-Ok-clause-exact c = λ rest.
     let e = engine_of c.args.core.now.state (groups_of c.args.communicators.now) rest c.args.sessions.now in
     let judged = search_of e c.args.probe c.judge_search.result c.in-Ok.judged c.in-Ok.is
     (c.judge_search.ensures.judged rest) in
-    c.take_out.ensures (groups_of c.args.communicators.now) rest c.args.sessions.now (calls.Improbe c.args.probe)
+    c.take_out.ensures.exact (groups_of c.args.communicators.now) rest c.args.sessions.now (calls.Improbe c.args.probe)
     judged.1 judged.0
 
-pub returns-in-Err : goal.returns-in-Err
-returns-in-Err c = λ rest.
+pub returns-in-Err-clause-exact : goal.returns-in-Err-clause-exact
+returns-in-Err-clause-exact c = λ rest.
     let e = engine_of c.args.core.now.state (groups_of c.args.communicators.now) rest c.args.sessions.now in
     fault_refused e (calls.Improbe c.args.probe) c.in-Err.refused (calls.Improbe c.args.probe)
     (search_back e c.args.probe c.judge_search.result c.in-Err.refused c.in-Err.is (c.judge_search.ensures.judged rest))

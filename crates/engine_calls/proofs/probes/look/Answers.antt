@@ -1,5 +1,4 @@
 -- What a probe finds on its route.
-use Rattle.std.proofs.Common.{sym}
 use Rattle.communicators.specs.Routes.{route_text}
 use Rattle.engine_calls.proofs.Looks.{look_shares, look_told}
 use Rattle.engine_calls.specs.Asks.{groups_of}

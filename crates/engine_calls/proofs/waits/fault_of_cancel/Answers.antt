@@ -1,6 +1,6 @@
 -- While no earlier call is blocked, its own rule is the fault of a call on requests.
 use Rattle.std.proofs.Common.{sym, ◌∙◌}
-use Rattle.engine_calls.proofs.Asks.{busy_is, free_is, none_blocked}
+use Rattle.engine_calls.proofs.Asks.{busy_is, free_is}
 use Rattle.engine_calls.specs.Asks.{engine_of, groups_of}
 use Rattle.engine_calls.specs.declared.call.Call.TheVariants as calls
 use Rattle.engine_calls.proofs.waits.fault_of_cancel.Goals as goal

@@ -7,13 +7,13 @@ use Rattle.point_to_point.specs.Completions.{tested}
 use Rattle.point_to_point_calls.specs.CoreCalls as core_calls
 use Rattle.engine_calls.proofs.waits.test.Goals as goal
 
-pub returns-in-None : goal.returns-in-None
-returns-in-None c =
+pub returns-in-None-clause-exact : goal.returns-in-None-clause-exact
+returns-in-None-clause-exact c =
     requests_answered c.args.core.now.state c.test.new.self.state (groups_of c.args.communicators.now)
     (core_calls.Test c.args.request) (tested c.test.result) c.reply_of_test.result tt
     (λ rest s. sym (c.fault_of_wait.ensures.test rest s) ∙ c.in-None.is) c.test.ensures.exact c.reply_of_test.ensures
 
-pub returns-in-Some : goal.returns-in-Some
-returns-in-Some c = λ rest s.
+pub returns-in-Some-clause-exact : goal.returns-in-Some-clause-exact
+returns-in-Some-clause-exact c = λ rest s.
     fault_refused (engine_of c.args.core.now.state (groups_of c.args.communicators.now) rest s) (calls.Test c.args.request)
     c.in-Some.refused (calls.Test c.args.request) (sym (c.fault_of_wait.ensures.test rest s) ∙ c.in-Some.is) refl

@@ -7,8 +7,8 @@ use Rattle.requests.specs.declared.awaited_requests.Awaited.TheVariants.{AllOf}
 use Rattle.requests.specs.declared.table.Request.{Request}
 use Rattle.engine_calls.proofs.waits.wait_for_all.Goals as goal
 
-pub returns-in-Ok : goal.returns-in-Ok
-returns-in-Ok c = λ g allowed.
+pub returns-in-Ok-clause-exact : goal.returns-in-Ok-clause-exact
+returns-in-Ok-clause-exact c = λ g allowed.
     requests_answered c.args.core.now.state c.wait.new.self.state g (core_calls.Waitall c.args.list)
     (waited c.wait.result) c.reply_of_wait.result tt allowed
     (subst
@@ -16,6 +16,6 @@ returns-in-Ok c = λ g allowed.
     c.new-in-Ok.ensures c.wait.ensures.exact)
     c.reply_of_wait.ensures
 
-pub returns-in-Err : goal.returns-in-Err
-returns-in-Err c = λ g allowed.
+pub returns-in-Err-clause-exact : goal.returns-in-Err-clause-exact
+returns-in-Err-clause-exact c = λ g allowed.
     requests_lacking c.args.core.now.state g (core_calls.Waitall c.args.list) tt tt allowed

@@ -1,5 +1,5 @@
 -- A turn that is taken in and those behind it; or what is held stays, or is taken out.
-use Rattle.std.proofs.Common.{◌≡◌, ◌<◌, ◌-◌, ◌∙◌, length, refl, sym, ap, subst, arith, inl, inr, Err, Ok, Some}
+use Rattle.std.proofs.Common.{◌≡◌, ◌<◌, ◌-◌, ◌∙◌, length, sym, ap, subst, arith, Err, Ok, Some}
 use Rattle.std.proofs.lemmas.Grind.{common_steps}
 use Rattle.std.proofs.lemmas.List.{length-set}
 use Rattle.std.specs.Option.{option_map}
@@ -8,7 +8,7 @@ use Rattle.sessions.specs.HeldFrames.{turn_of}
 use Rattle.sessions.specs.HeardBytes.{CanHear, HeardText, heard_text}
 use Rattle.sessions.specs.Windows.{StaysWithin, room}
 use Rattle.engine_calls.specs.EngineState.{EngineState}
-use Rattle.engine.specs.Datagrams.{HeardGives, notice_in, without_next}
+use Rattle.engine.specs.Datagrams.{HeardGives, notice_in}
 use Rattle.engine.specs.HeldFrameEnds.{FollowEnds}
 use Rattle.engine.proofs.DatagramLaws.{unheard_leaves}
 use Rattle.engine.proofs.TurnLaws.{can_hear, discard_within, longer, of_bytes, refused_turn, replaced, taken}

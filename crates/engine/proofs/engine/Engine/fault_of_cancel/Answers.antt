@@ -4,5 +4,5 @@ pub returns : goal.returns
 returns c =
     let i = c.self.inside in
     rw (← c.self.view_is)
-    (c.fault_of_cancel.ensures (record { ended = i.ended; payloads = i.parts.payloads.state })
+    (c.fault_of_cancel.ensures (record { ended = i.ended; payloads = i.parts.core.payloads.state })
     i.parts.sessions)

@@ -8,7 +8,7 @@ returns c =
     rw (← c.self.view_is)
     (elim c.match-judge_search.branch [
       | in-Ok w ↦ w.result-is
-          ∙ sym (w.in-Ok.ensures.judged (record { ended = i.ended; payloads = i.parts.payloads.state })).0.allowed
+          ∙ sym (w.in-Ok.ensures.judged (record { ended = i.ended; payloads = i.parts.core.payloads.state })).0.allowed
       | in-Err w ↦ w.result-is
-          ∙ sym (w.in-Err.ensures.judged (record { ended = i.ended; payloads = i.parts.payloads.state }))
+          ∙ sym (w.in-Err.ensures.judged (record { ended = i.ended; payloads = i.parts.core.payloads.state }))
     ])

@@ -7,7 +7,7 @@ returns-in-Ok c =
     let i = c.self.inside in
     rw (← c.self.view_is)
     (looking_gives (engine_with i.parts i.ended) c.args.probe c.in-Ok.found
-    (c.in-Ok.ensures (record { ended = i.ended; payloads = i.parts.payloads.state })))
+    (c.in-Ok.ensures (record { ended = i.ended; payloads = i.parts.core.payloads.state })))
 
 pub returns-in-Err : goal.returns-in-Err
 returns-in-Err c =
@@ -15,4 +15,4 @@ returns-in-Err c =
     rw (← c.self.view_is)
     (looking_refused (engine_with i.parts i.ended) c.args.probe
     c.in-Err.refused
-    (c.in-Err.ensures (record { ended = i.ended; payloads = i.parts.payloads.state })))
+    (c.in-Err.ensures (record { ended = i.ended; payloads = i.parts.core.payloads.state })))

@@ -1,6 +1,5 @@
 -- Without memory the next frame is discarded or kept by the rule that it breaks, if it breaks one.
-use Rattle.std.proofs.Common.{Some, ap, subst, ◌∙◌}
-use Rattle.point_to_point_calls.specs.declared.refusal.Refusal.{Refusal}
+use Rattle.std.proofs.Common.{Some, subst}
 use Rattle.engine_calls.specs.EngineState.{EngineState}
 use Rattle.engine.specs.Datagrams.{turn_from}
 use Rattle.engine.specs.HeldFrameEnds.{GoesOrStays, IsTurnRefusal}

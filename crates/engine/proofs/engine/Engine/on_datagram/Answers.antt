@@ -12,9 +12,9 @@ pub returns-in-Ok-clause-exact : goal.returns-in-Ok-clause-exact
 returns-in-Ok-clause-exact c =
     let h : HeardText = heard_text c.in-Ok.heard in
     rw (← c.self.view_is, c.in-Ok.ensures.exact)
-    (subst (λ (e : EngineState). HearingGives (Ok h) e c.take_in.result c.take_in.new.self) (sym c.self.view_is)
-    (hearing_is h c.args.self.now c.take_in.new.self c.take_in.result c.take_in.ensures.taken
-    c.take_in.ensures.refused))
+    (subst (λ (e : EngineState). HearingGives (Ok h) e c.take_in-taken.result c.take_in-taken.new.self) (sym c.self.view_is)
+    (hearing_is h c.args.self.now c.take_in-taken.new.self c.take_in-taken.result c.take_in-taken.ensures.taken
+    c.take_in-taken.ensures.refused))
 
 pub returns-in-Err-clause-exact : goal.returns-in-Err-clause-exact
 returns-in-Err-clause-exact c =
@@ -27,16 +27,16 @@ pub returns-in-Ok-clause-known : goal.returns-in-Ok-clause-known
 returns-in-Ok-clause-known c =
     let i = c.self.inside in
     let h : HeardText = heard_text c.in-Ok.heard in
-    heard_is_known (engine_with i.parts i.ended) c.take_in.new.self
-    c.args.bytes.now h c.take_in.result
+    heard_is_known (engine_with i.parts i.ended) c.take_in-taken.new.self
+    c.args.bytes.now h c.take_in-taken.result
     c.place-place.ensures.known c.in-Ok.ensures.exact
-    (subst (λ (e : EngineState). OnOk c.take_in.result (c.take_in.new.self.sessions.known ≡
+    (subst (λ (e : EngineState). OnOk c.take_in-taken.result (c.take_in-taken.new.self.sessions.known ≡
     taught_known h.lesson e.sessions.known h.source)) (sym c.self.view_is)
-    c.take_in.ensures.known)
+    c.take_in-taken.ensures.known)
 
 pub returns-in-Ok-clause-unchanged : goal.returns-in-Ok-clause-unchanged
 returns-in-Ok-clause-unchanged c =
-    refusal_leaves c.args.self.now _ c.args.bytes.now c.take_in.result (returns-in-Ok-clause-exact c)
+    refusal_leaves c.args.self.now _ c.args.bytes.now c.take_in-taken.result (returns-in-Ok-clause-exact c)
 
 pub returns-in-Err-clause-unchanged : goal.returns-in-Err-clause-unchanged
 returns-in-Err-clause-unchanged c =

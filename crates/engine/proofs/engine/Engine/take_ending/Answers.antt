@@ -17,9 +17,6 @@ take-requires c = search rules
 pub completion_by-requires : goal.completion_by-requires
 completion_by-requires c = search rules
 
-pub invariant_of-self : goal.invariant_of-self
-invariant_of-self c = search rules
-
 pub returns-clause-completion : goal.returns-clause-completion
 returns-clause-completion c = search rules
 

@@ -100,11 +100,3 @@ returns-clause-few c =
       few_within (Some h) old.sessions first.sessions old.sessions.place.size each (omega (arith, c.requires.there))
           c.in_ok-take_heard.ensures.within,
     )
-
-pub returns-clause-core_placed : goal.returns-clause-core_placed
-returns-clause-core_placed c =
-    let here : c.match-heard.self.core.place ≡ c.take_heard.new.self.core.place = elim c.match-heard.branch [
-      | in-Hands w ↦ ap (λ (e : EngineState). e.core.place) w.self-is ∙ w.take_following.ensures.core_placed
-      | in_default w ↦ ap (λ (e : EngineState). e.core.place) w.self-is
-    ] in
-    c.wake.ensures.core_placed ∙ here ∙ c.take_heard.ensures.core_placed

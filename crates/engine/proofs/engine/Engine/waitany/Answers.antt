@@ -1,18 +1,16 @@
 use Rattle.engine.proofs.CallLaws.{stays_placed}
-use Rattle.engine.specs.Parts.{engine_with}
 use Rattle.engine_calls.specs.declared.call.Call.TheVariants as calls
 use Rattle.engine.proofs.engine.Engine.waitany.Goals as goal
 
 pub returns : goal.returns
 returns c =
     let i = c.self.inside in
-    rw (← c.self.view_is)
-    (c.waitany.ensures (record { ended = i.ended; payloads = i.parts.payloads.state })
+    rw (← c.self.view_is, c.waitany.ensures.payloads)
+    (c.waitany.ensures.exact (record { ended = i.ended; payloads = i.parts.core.payloads.state })
     i.parts.sessions)
 
-pub invariant_of-self : goal.invariant_of-self
-invariant_of-self c =
-    let i = c.self.inside in
-    stays_placed (engine_with i.parts i.ended) _ (calls.Waitany c.args.list) c.waitany.result
-    (c.waitany.ensures (record { ended = i.ended; payloads = i.parts.payloads.state }) i.parts.sessions)
-    c.self.invariant
+pub invariant_of-self-inside : goal.invariant_of-self-inside
+invariant_of-self-inside c = record {
+  placed = stays_placed c.self.inside.parts _ _ (calls.Waitany c.args.list) c.waitany.result
+      (λ rest. c.waitany.ensures.exact rest c.self.inside.parts.sessions);
+}

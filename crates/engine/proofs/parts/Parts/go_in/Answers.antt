@@ -1,5 +1,5 @@
 -- An entry that was made ready, and whose frames were sent, has entered.
-use Rattle.std.proofs.Common.{arith, ◌≡◌, ℕ, List, None, Some, ap, subst, ◌∙◌, inr}
+use Rattle.std.proofs.Common.{arith, ◌≡◌, ℕ, List, None, Some, refl, sym, ap, subst, ◌∙◌, inr}
 use Rattle.collective_messages.specs.declared.entry.Inside.{Inside}
 use Rattle.collective_messages.specs.declared.message.CollectiveMessage.{CollectiveMessage}
 use Rattle.collective_messages.specs.declared.entry.Entry.{Entry}
@@ -8,10 +8,11 @@ use Rattle.collectives.specs.State.{State, after_step}
 use Rattle.collective_steps.specs.Steps.{IsPreparedEntry, Prepared, contexts_after, ending_of}
 use Rattle.context_agreement.specs.Communicators.{ContextsState}
 use Rattle.sessions.specs.Events.{after_event}
-use Rattle.collective_transfers.specs.Payloads.{Announced}
-use Rattle.collective_transfers.specs.State as payloads
-use Rattle.collective_transfers.specs.State.{after_announcing}
-use Rattle.point_to_point.specs.CoreState.{with_numbers}
+use Rattle.rendezvous.specs.Payloads.{Announced}
+use Rattle.rendezvous.specs.PayloadNumbers.{AreLeft, counted}
+use Rattle.rendezvous.specs.PayloadState.{after_announcing}
+use Rattle.point_to_point.specs.CoreState as cores
+use Rattle.point_to_point.specs.CoreState.{CoreState, with_numbers}
 use Rattle.rendezvous.specs.declared.transfers.Numbers.{Numbers}
 use Rattle.engine.specs.CollectiveEntries.{WhyNot}
 use Rattle.engine.specs.Parts.{PartsState, state_of}
@@ -25,46 +26,50 @@ use Rattle.engine.proofs.parts.Parts.go_in.Goals as goal
 
 pub returns-in-Ok-send_step-clause-exact : goal.returns-in-Ok-send_step-clause-exact
 returns-in-Ok-send_step-clause-exact c =
-    let step = c.in-Ok-prepare_entry.ready.step in
+    let step = c.in-Ok.ready.step in
     let kept = c.prepare_entry.ensures.kept in
-    let ns = c.in-Ok.numbers.items in
-    let first : ns ≡ c.args.self.now.core.state.transfers.numbers = c.in-Ok.ensures.ok in
+    let old = c.args.self.now in
+    let ns = old.core.state.transfers.numbers in
+    let same : c.send_step.new.core.state ≡ old.core.state =
+    ap (λ (x : cores.Held). x.state) c.send_step.ensures.kept in
     record {
       step = step;
       enters = (
-        c.in-Ok-prepare_entry.ensures.step,
+        c.in-Ok.ensures.step,
         c.enter.ensures.ending ∙ ap (λ (k : ContextsState). ending_of k step.outcome) kept.1,
         c.enter.ensures.collective
-            ∙ ap (λ (s : State). after_step (entered s c.in-Ok-prepare_entry.ready.inside) step.outcome) kept.0
-            ∙ ap (λ (i : Inside). after_step (entered c.args.self.now.communicators.collective.state i) step.outcome)
-            c.in-Ok-prepare_entry.ensures.inside,
+            ∙ ap (λ (s : State). after_step (entered s c.in-Ok.ready.inside) step.outcome) kept.0
+            ∙ ap (λ (i : Inside). after_step (entered old.communicators.collective.state i) step.outcome)
+            c.in-Ok.ensures.inside,
         c.enter.ensures.contexts ∙ ap (λ (k : ContextsState). contexts_after k step.drawn step.outcome) kept.1,
       );
       whole = subst AreWhole c.messages.ensures c.in-Ok-send_step.ensures.whole;
-      goes = subst (λ (n : List Numbers). step_limit c.args.self.now.sessions n None step.messages ≡ None) first
-          (subst (λ (ms : List CollectiveMessage). step_limit c.args.self.now.sessions ns None ms ≡ None)
-          c.messages.ensures
-          c.in-Ok-send_step.ensures.goes);
-      counted = c.set_numbers.ensures.exact
-          ∙ ap (λ (n : List Numbers). with_numbers c.args.self.now.core.state n)
-          (subst (λ (ms : List CollectiveMessage). c.send_step.new.numbers.items ≡ step_numbers ns ms)
-          c.messages.ensures c.in-Ok-send_step.ensures.numbers
-          ∙ ap (λ (n : List Numbers). step_numbers n step.messages) first);
-      kept = c.announce.ensures.state
-          ∙ ap (λ (q : payloads.State). after_announcing q c.in-Ok-send_step.announced.items)
-          c.send_step.ensures.payloads
-          ∙ ap (λ (l : List Announced). after_announcing c.args.self.now.payloads.state l)
+      goes = subst (λ (ms : List CollectiveMessage). step_limit old.sessions ns None ms ≡ None) c.messages.ensures
+          c.in-Ok-send_step.ensures.goes;
+      counted = c.announce_payloads.ensures.exact
+          ∙ ap (λ (x : CoreState). with_numbers x
+          (counted x.transfers.numbers c.in-Ok-send_step.announced.items)) same
+          ∙ ap (λ (n : List Numbers). with_numbers old.core.state n)
+          (subst (λ (ms : List CollectiveMessage).
+          counted ns c.in-Ok-send_step.announced.items ≡ step_numbers ns ms)
+          c.messages.ensures c.in-Ok-send_step.ensures.counted);
+      kept = c.announce_payloads.ensures.payloads
+          ∙ ap (λ (x : cores.Held). after_announcing x.payloads.state c.in-Ok-send_step.announced.items)
+          c.send_step.ensures.kept
+          ∙ ap (λ (l : List Announced). after_announcing old.core.payloads.state l)
           (subst (λ (ms : List CollectiveMessage). c.in-Ok-send_step.announced.items ≡ step_payloads ns ms)
-          c.messages.ensures c.in-Ok-send_step.ensures.announced
-          ∙ ap (λ (n : List Numbers). step_payloads n step.messages) first);
-      sent = subst (λ (n : List Numbers). c.send_step.new.sessions ≡
-          after_event c.args.self.now.sessions None (step_sendings c.args.self.now.sessions.place n step.messages))
-          first
-          (subst
+          c.messages.ensures c.in-Ok-send_step.ensures.announced);
+      sent = subst
           (λ (ms : List CollectiveMessage). c.send_step.new.sessions ≡
-          after_event c.args.self.now.sessions None (step_sendings c.args.self.now.sessions.place ns ms))
-          c.messages.ensures c.in-Ok-send_step.ensures.sent);
+          after_event old.sessions None (step_sendings old.sessions.place ns ms))
+          c.messages.ensures c.in-Ok-send_step.ensures.sent;
     }
+
+pub announce_payloads-requires-clause-left : goal.announce_payloads-requires-clause-left
+announce_payloads-requires-clause-left c =
+    subst (λ (n : List Numbers). AreLeft n c.in-Ok-send_step.announced.items)
+    (sym (ap (λ (x : cores.Held). x.state.transfers.numbers) c.send_step.ensures.kept))
+    c.in-Ok-send_step.ensures.left
 
 -- why what a rank would do of itself can't be sent, as its entry says it
 why_not : (s : PartsState) (ns : List Numbers) (place : ℕ) (x : Entry) (step : Prepared) (ms : List CollectiveMessage)
@@ -104,9 +109,9 @@ why_not s ns place x step ms refusals.ClockBack is same these stops = absurd sto
 
 pub returns-in-Err-send_step-clause-exact : goal.returns-in-Err-send_step-clause-exact
 returns-in-Err-send_step-clause-exact c =
-    why_not (state_of c.args.self.now) c.in-Ok.numbers.items c.args.place c.args.entry
-    c.in-Ok-prepare_entry.ready.step c.messages.result.now c.in-Err-send_step.refused
-    c.in-Ok-prepare_entry.ensures.step c.in-Ok.ensures.ok c.messages.ensures c.in-Err-send_step.ensures.why
+    why_not (state_of c.args.self.now) c.args.self.now.core.state.transfers.numbers c.args.place c.args.entry
+    c.in-Ok.ready.step c.messages.result.now c.in-Err-send_step.refused
+    c.in-Ok.ensures.step refl c.messages.ensures c.in-Err-send_step.ensures.why
 
 pub returns-in-Ok-send_step-clause-few : goal.returns-in-Ok-send_step-clause-few
 returns-in-Ok-send_step-clause-few c =

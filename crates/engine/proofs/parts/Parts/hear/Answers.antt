@@ -1,9 +1,9 @@
 -- What is heard is what its notice says.
-use Rattle.std.proofs.Common.{Err, None, Ok, Option, Some, sym, ap, ◌∙◌}
+use Rattle.std.proofs.Common.{Err, None, Ok, Some, sym, ap, ◌∙◌}
 use Rattle.datagram.specs.Spellings.{clear_text, data_text, eager_text, request_text}
 use Rattle.sessions.specs.HeardBytes.{heard_text}
 use Rattle.engine.proofs.DatagramLaws.{as_heard, as_message}
-use Rattle.engine.specs.Datagrams.{NoticeText, OfAnnouncement, OfAnswer, OfMessage, OfPiece, notice_text, received}
+use Rattle.engine.specs.Datagrams.{OfAnnouncement, OfAnswer, OfMessage, OfPiece, notice_text, received}
 use Rattle.engine.specs.declared.notice_kinds.Notice.{Notice}
 use Rattle.engine.proofs.parts.Parts.hear.Goals as goal
 

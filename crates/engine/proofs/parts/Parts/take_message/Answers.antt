@@ -77,15 +77,15 @@ returns-in-Ok-carry_out_notices-clause-exact c =
     c.on_message-left.new.self.collective.state
     told.communicators.contexts.state c.learn-replaced.new.communicators.contexts.state
     c.on_message-left.new.self.contexts.state
-    c.learn-replaced.result c.on_message-left.result c.ending_or.result told.core.state told.payloads.state
+    c.learn-replaced.result c.on_message-left.result c.ending_or.result told.core.state told.core.payloads.state
     told.sessions
     c.lesson_in-lesson.ensures
     (subst (λ (p : Place). payload_in p.size c.args.message.bytes.now ≡ Some (payload_text c.in_ok-payload.payload))
     c.place.ensures.place c.in_ok-payload.ensures.ok)
     c.in-Ok.ensures.ready
     (subst
-    (λ (ms : List CollectiveMessage). IsTold old.core.state old.payloads.state old.sessions h ms told.core.state
-    told.payloads.state told.sessions)
+    (λ (ms : List CollectiveMessage). IsTold old.core.state old.core.payloads.state old.sessions h ms told.core.state
+    told.core.payloads.state told.sessions)
     c.messages.ensures c.in-Ok-carry_out_notices.ensures.exact)
     (record {
       kept = ap (λ (g : members.Held). g.collective.state) same ∙ c.prepare_message.ensures.kept.0;

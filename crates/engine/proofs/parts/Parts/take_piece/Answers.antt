@@ -9,7 +9,8 @@ pub returns-in-Some-clause-exact : goal.returns-in-Some-clause-exact
 returns-in-Some-clause-exact c =
     last_given (heard_text c.args.heard) (data_text c.args.piece) c.in-Some.whole c.args.self.now
     c.take_whole.new.self c.take_last.new.self c.take_last.result
-    (sym c.is_due.ensures ∙ c.if-not-is_due.false) c.in-Some.ensures.whole c.in-Some.ensures.state
+    (sym c.is_due.ensures ∙ c.if-not-is_due.false) c.in-Some.ensures.whole
+    c.take_whole.ensures.others c.in-Some.ensures.state
     c.in-Some.ensures.back c.requires.lesson c.take_last.ensures.exact
 
 pub returns-in-Ok-clause-exact : goal.returns-in-Ok-clause-exact

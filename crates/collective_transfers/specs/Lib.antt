@@ -1,2 +1,0 @@
-pub mod Payloads
-pub mod State
