@@ -325,7 +325,7 @@ def main(words):
         print(__doc__, end="")
         return 0
     if words == ["--version"]:
-        print("run (Kombazily) in work")
+        print("run (Kombazily) %s" % programs.version())
         return 0
     signal.signal(signal.SIGTERM, lambda *_: sys.exit(128 + signal.SIGTERM))
     try:

@@ -180,7 +180,7 @@ int MPI_Get_version(int *version, int *subversion) {
 }
 
 int MPI_Get_library_version(char *version, int *resultlen) {
-    *resultlen = snprintf(version, MPI_MAX_LIBRARY_VERSION_STRING, "Kombazily, a part of MPI %d.%d", MPI_VERSION,
+    *resultlen = snprintf(version, MPI_MAX_LIBRARY_VERSION_STRING, "Kombazily 0.1.0, a part of MPI %d.%d", MPI_VERSION,
                           MPI_SUBVERSION);
     return MPI_SUCCESS;
 }

@@ -203,7 +203,7 @@ fn run_settings<R: Files + Print + Eprint + AllocGlobal + Clock>(
 
 /// Prints which program it is, and answers the status.
 fn print_version<R: Print + Eprint>(rt: &R) -> u8 {
-    match print(rt, b"mpiexplore (Kombazily) in work\n") {
+    match print(rt, b"mpiexplore (Kombazily) 0.1.0\n") {
         Ok(()) => 0,
         Err(status) => status,
     }

@@ -6,7 +6,7 @@ use script_pictures::Shown;
 use std::alloc::{AllocError, Global};
 
 /// Which program it is.
-const VERSION: &str = "mpidraw (Kombazily) in work";
+const VERSION: &str = "mpidraw (Kombazily) 0.1.0";
 
 /// How many characters a row has where the words don't say it.
 const USUAL_WIDTH: usize = 80;

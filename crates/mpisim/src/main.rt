@@ -24,7 +24,7 @@ usage: mpisim FILE
         `tick R NOW`, `restart R` or `stray R HEX`. What each line answers is printed.";
 
 /// Which program it is.
-const VERSION: &str = "mpisim (Kombazily) in work";
+const VERSION: &str = "mpisim (Kombazily) 0.1.0";
 
 /// Says why nothing more runs, and answers the status.
 fn tell_refusal(rt: &impl Eprint, number: u8, line: Option<usize>) -> u8 {

@@ -17,7 +17,7 @@ const USAGE: &str =
 const JUDGE_USAGE: &str = "       rank_main --judge N FILE";
 
 /// Which program it is.
-const VERSION: &str = "rank_main (Kombazily) in work";
+const VERSION: &str = "rank_main (Kombazily) 0.1.0";
 
 /// What the words of the program mean.
 const MEANINGS: &str = "  --rank R       the rank, from 0 to N - 1

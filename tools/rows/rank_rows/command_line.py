@@ -5,7 +5,7 @@ import tempfile
 
 import ports
 from bounds import MOST_RANKS
-from programs import TOP
+from programs import TOP, version
 from starting import OUTSIDE, UNFIT, begun, compare, place, ran, refused, script_in
 
 USAGE = "usage: rank_main --rank R --size N --inc I --job J --port P [--patience MS] [--hosts A,B,..] FILE"
@@ -70,7 +70,7 @@ def judgements(room):
 def help_and_version():
     status, output, said = ran(["--help"])
     compare("help", (status, output.partition("\n")[0], said), (0, USAGE, []))
-    compare("version", ran(["--version"]), (0, "rank_main (Kombazily) in work\n", []))
+    compare("version", ran(["--version"]), (0, "rank_main (Kombazily) %s\n" % version(), []))
 
 
 def refused_words(fault, command):
