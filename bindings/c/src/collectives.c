@@ -75,6 +75,7 @@ static int check_apart(MPI_Comm comm, const char *call, const void *sendbuf, con
 }
 
 int MPI_Barrier(MPI_Comm comm) {
+    NOTE_CALLER();
     struct communicator *own;
     check_running("MPI_Barrier");
     int class = check_comm(comm, "MPI_Barrier", &own);
@@ -85,6 +86,7 @@ int MPI_Barrier(MPI_Comm comm) {
 }
 
 int MPI_Bcast(void *buffer, int count, MPI_Datatype datatype, int root, MPI_Comm comm) {
+    NOTE_CALLER();
     const char *call = "MPI_Bcast";
     struct communicator *own;
     struct items items;
@@ -121,6 +123,7 @@ static int gather_items(MPI_Comm comm, const struct communicator *own, int root,
 
 int MPI_Gather(const void *sendbuf, int sendcount, MPI_Datatype sendtype, void *recvbuf, int recvcount,
                MPI_Datatype recvtype, int root, MPI_Comm comm) {
+    NOTE_CALLER();
     const char *call = "MPI_Gather";
     struct communicator *own;
     struct items sent, received;
@@ -165,6 +168,7 @@ static int scatter_items(MPI_Comm comm, const struct communicator *own, int root
 
 int MPI_Scatter(const void *sendbuf, int sendcount, MPI_Datatype sendtype, void *recvbuf, int recvcount,
                 MPI_Datatype recvtype, int root, MPI_Comm comm) {
+    NOTE_CALLER();
     const char *call = "MPI_Scatter";
     struct communicator *own;
     struct items sent = {0}, received;

@@ -17,6 +17,14 @@ struct communicator *communicator_of(MPI_Comm handle) {
     return table_find(&communicators, (int)(intptr_t)handle);
 }
 
+struct communicator *communicator_at(uint32_t place) {
+    for (int at = 0; at < communicators.count; at++) {
+        struct communicator *it = communicators.places[at].object;
+        if (it != NULL && it->place == place) return it;
+    }
+    return NULL;
+}
+
 /* What the engine tells of a communicator by a number. */
 static int fact_of(uint32_t place, enum engine_call_kind question) {
     struct engine_answer answer;
@@ -141,6 +149,7 @@ static int make_communicator(MPI_Comm comm, const char *call, struct engine_call
 }
 
 int MPI_Comm_dup(MPI_Comm comm, MPI_Comm *newcomm) {
+    NOTE_CALLER();
     struct communicator *own;
     check_running("MPI_Comm_dup");
     int class = check_comm(comm, "MPI_Comm_dup", &own);
@@ -150,6 +159,7 @@ int MPI_Comm_dup(MPI_Comm comm, MPI_Comm *newcomm) {
 }
 
 int MPI_Comm_split(MPI_Comm comm, int color, int key, MPI_Comm *newcomm) {
+    NOTE_CALLER();
     struct communicator *own;
     check_running("MPI_Comm_split");
     int class = check_comm(comm, "MPI_Comm_split", &own);

@@ -18,6 +18,8 @@ struct communicator {
 
 /* The communicator of a handle, or NULL: there is none. */
 struct communicator *communicator_of(MPI_Comm handle);
+/* The one that the engine names so, or NULL. */
+struct communicator *communicator_at(uint32_t place);
 
 /* Makes MPI_COMM_WORLD and MPI_COMM_SELF, as the engine has them: 0, or the class of an error. */
 int open_communicators(void);

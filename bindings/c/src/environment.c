@@ -2,10 +2,13 @@
  */
 #define _GNU_SOURCE
 #include "device.h"
+#include "ends.h"
 #include "errors.h"
 #include "internal.h"
 #include "place.h"
+#include "standstill.h"
 #include "types.h"
+#include "wait_lines.h"
 
 #include <errno.h>
 #include <stdarg.h>
@@ -93,6 +96,10 @@ static void open_device(void) {
 static int begin(const char *call, int *argc, char ***argv, int required) {
     if (process.phase != BEFORE_INIT) return raise_on(MPI_COMM_WORLD, call, MPI_ERR_OTHER, "it was called before");
     find_place(argc, argv);
+    print_by_lines();
+    if (process.size > 1) watch_end();
+    watch_signals();
+    standstill_open();
     open_engine();
     open_device();
     progress_open();
@@ -123,18 +130,24 @@ int MPI_Initialized(int *flag) {
 static void leave_job(void) {
     const struct engine_call barrier = {.kind = ENGINE_BARRIER, .communicator = ENGINE_WORLD};
     struct engine_answer answer;
+    begin_wait(&(struct wait){.kind = WAIT_SENT});
     progress_until_idle();
     progress_say_often();
     call_engine(&barrier, NULL, 0, &answer);
+    begin_wait(&(struct wait){.kind = WAIT_COLLECTIVE, .place = ENGINE_WORLD, .root = -1});
     await_finish(&answer);
+    begin_wait(&(struct wait){.kind = WAIT_SENT});
     progress_last_words();
+    end_wait();
 }
 
 int MPI_Finalize(void) {
+    NOTE_CALLER();
     check_running("MPI_Finalize");
     cancel_requests();
     settle_freed();
     if (device_is_open()) leave_job();
+    standstill_close();
     close_requests();
     close_messages();
     close_communicators();

@@ -25,9 +25,12 @@ struct process {
     uint64_t job;
     long patience; /* milliseconds; 0: there is no time after which a rank gives up */
     int thread_level;
-    const char *call; /* the call of MPI that the program made last */
+    const char *call;   /* the call of MPI that the program made last */
+    const void *caller; /* where in the program the last call stands that may wait */
 };
 extern struct process process;
+/* To stand first in each call that may wait. */
+#define NOTE_CALLER() (process.caller = __builtin_return_address(0))
 
 /* The engine of this rank. */
 extern struct engine_rank engine;
@@ -79,8 +82,9 @@ struct request {
     MPI_Status end;
     struct datatype *type; /* of what is received, and where it goes */
     void *buf;
-    size_t room;           /* so many bytes of data it may be */
+    size_t room;           /* so many bytes of data it may be, or are sent */
     MPI_Comm comm;         /* whose error handler is told */
+    int peer, tag;         /* as the program named them */
     struct request *other; /* the send that ends together with this receive, or NULL */
     struct request *next;  /* among those that the program let go */
 };

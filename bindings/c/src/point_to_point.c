@@ -27,11 +27,12 @@ struct found {
 
 uint32_t begin_send(struct request *request, uint32_t place, bool is_synchronous, const void *buf, int count,
                     const struct datatype *type, int target, int tag) {
-    *request = (struct request){.kind = REQUEST_SEND, .comm = MPI_COMM_WORLD};
+    *request = (struct request){.kind = REQUEST_SEND, .comm = MPI_COMM_WORLD, .peer = target, .tag = tag};
     if (target == MPI_PROC_NULL) count = 0; /* its data go nowhere (3.11) */
     size_t len = data_size(&type->layout, (size_t)count);
     /* The engine refuses it, too, but behind a copy. */
     if (len > ENGINE_GREATEST_LIMIT) return NUMBER_COUNT;
+    request->room = len;
     void *room = NULL;
     const void *row = data_row(&type->layout, buf, (size_t)count, &room);
     if (row == NULL && len > 0) return NUMBER_NO_MEMORY;
@@ -51,7 +52,8 @@ uint32_t begin_send(struct request *request, uint32_t place, bool is_synchronous
 
 uint32_t begin_receive(struct request *request, uint32_t place, void *buf, int count, struct datatype *type, int source,
                        int tag) {
-    *request = (struct request){.kind = REQUEST_RECEIVE, .comm = MPI_COMM_WORLD, .type = type, .buf = buf};
+    *request = (struct request){
+        .kind = REQUEST_RECEIVE, .comm = MPI_COMM_WORLD, .peer = source, .tag = tag, .type = type, .buf = buf};
     request->room = data_size(&type->layout, (size_t)count);
     const struct engine_call receive = {.kind = ENGINE_IRECV,
                                         .communicator = place,
@@ -129,17 +131,20 @@ static int send_later(const struct argument *it, bool is_synchronous, MPI_Reques
 }
 
 int MPI_Send(const void *buf, int count, MPI_Datatype datatype, int dest, int tag, MPI_Comm comm) {
+    NOTE_CALLER();
     const struct argument it = {"MPI_Send", (void *)buf, count, datatype, dest, tag, comm};
     return send_and_wait(&it, false);
 }
 
 int MPI_Ssend(const void *buf, int count, MPI_Datatype datatype, int dest, int tag, MPI_Comm comm) {
+    NOTE_CALLER();
     const struct argument it = {"MPI_Ssend", (void *)buf, count, datatype, dest, tag, comm};
     return send_and_wait(&it, true);
 }
 
 /* A ready send may do what a standard one does (3.4). */
 int MPI_Rsend(const void *buf, int count, MPI_Datatype datatype, int dest, int tag, MPI_Comm comm) {
+    NOTE_CALLER();
     const struct argument it = {"MPI_Rsend", (void *)buf, count, datatype, dest, tag, comm};
     return send_and_wait(&it, false);
 }
@@ -163,6 +168,7 @@ int MPI_Irsend(const void *buf, int count, MPI_Datatype datatype, int dest, int 
 }
 
 int MPI_Recv(void *buf, int count, MPI_Datatype datatype, int source, int tag, MPI_Comm comm, MPI_Status *status) {
+    NOTE_CALLER();
     const struct argument it = {"MPI_Recv", buf, count, datatype, source, tag, comm};
     struct request request;
     int class = start_receive(&it, &request);
@@ -218,6 +224,7 @@ static int exchange_later(const struct argument *out, const struct argument *in,
 
 int MPI_Sendrecv(const void *sendbuf, int sendcount, MPI_Datatype sendtype, int dest, int sendtag, void *recvbuf,
                  int recvcount, MPI_Datatype recvtype, int source, int recvtag, MPI_Comm comm, MPI_Status *status) {
+    NOTE_CALLER();
     static const char call[] = "MPI_Sendrecv";
     const struct argument out = {call, (void *)sendbuf, sendcount, sendtype, dest, sendtag, comm};
     const struct argument in = {call, recvbuf, recvcount, recvtype, source, recvtag, comm};
@@ -226,6 +233,7 @@ int MPI_Sendrecv(const void *sendbuf, int sendcount, MPI_Datatype sendtype, int 
 
 int MPI_Sendrecv_replace(void *buf, int count, MPI_Datatype datatype, int dest, int sendtag, int source, int recvtag,
                          MPI_Comm comm, MPI_Status *status) {
+    NOTE_CALLER();
     static const char call[] = "MPI_Sendrecv_replace";
     const struct argument out = {call, buf, count, datatype, dest, sendtag, comm};
     const struct argument in = {call, buf, count, datatype, source, recvtag, comm};

@@ -3,6 +3,7 @@
 #include "internal.h"
 #include "table.h"
 #include "types.h"
+#include "wait_lines.h"
 
 #include <stdlib.h>
 
@@ -48,14 +49,17 @@ static int look(const struct look *it, bool waits, struct engine_answer *answer)
     struct communicator *comm;
     int class = check_look(it, &comm);
     if (class != 0) return class;
-    progress_begin_wait();
     progress();
-    for (;;) {
-        look_once(it, comm, answer);
-        if (answer->kind == ENGINE_REFUSED) return raise_number(it->comm, it->call, answer->number);
-        if (!waits || answer->kind != ENGINE_NOTHING) break;
-        progress_wait();
+    look_once(it, comm, answer);
+    if (waits && answer->kind == ENGINE_NOTHING) {
+        begin_wait(&(struct wait){.kind = WAIT_MESSAGE, .comm = it->comm, .rank = it->source, .tag = it->tag});
+        do {
+            progress_wait();
+            look_once(it, comm, answer);
+        } while (answer->kind == ENGINE_NOTHING);
+        end_wait();
     }
+    if (answer->kind == ENGINE_REFUSED) return raise_number(it->comm, it->call, answer->number);
     if (has_freed()) settle_freed();
     return MPI_SUCCESS;
 }
@@ -85,6 +89,7 @@ static int hand_message(const struct look *it, const struct engine_answer *answe
 }
 
 int MPI_Probe(int source, int tag, MPI_Comm comm, MPI_Status *status) {
+    NOTE_CALLER();
     const struct look it = {"MPI_Probe", source, tag, comm, false};
     struct engine_answer answer;
     int flag, class = look(&it, true, &answer);
@@ -101,6 +106,7 @@ int MPI_Iprobe(int source, int tag, MPI_Comm comm, int *flag, MPI_Status *status
 }
 
 int MPI_Mprobe(int source, int tag, MPI_Comm comm, MPI_Message *message, MPI_Status *status) {
+    NOTE_CALLER();
     const struct look it = {"MPI_Mprobe", source, tag, comm, true};
     struct engine_answer answer;
     int flag, class = look(&it, true, &answer);
@@ -160,7 +166,9 @@ static int receive_message(const char *call, MPI_Message *message, const struct 
                                             .count = engine_room(type, (size_t)room->count)};
         free(own);
         call_engine(&receive, NULL, 0, &answer);
+        begin_wait(&(struct wait){.kind = WAIT_DATA});
         await_finish(&answer);
+        end_wait();
     }
     hold_type(type);
     end_request(request, &answer);
@@ -169,6 +177,7 @@ static int receive_message(const char *call, MPI_Message *message, const struct 
 }
 
 int MPI_Mrecv(void *buf, int count, MPI_Datatype datatype, MPI_Message *message, MPI_Status *status) {
+    NOTE_CALLER();
     static const char call[] = "MPI_Mrecv";
     const struct room room = {buf, count, datatype};
     struct request request;
@@ -181,6 +190,7 @@ int MPI_Mrecv(void *buf, int count, MPI_Datatype datatype, MPI_Message *message,
 /* The request is at its end when the call returns: the sender has announced the message, and its data come by the
  * progress of the two ranks alone. */
 int MPI_Imrecv(void *buf, int count, MPI_Datatype datatype, MPI_Message *message, MPI_Request *request) {
+    NOTE_CALLER();
     static const char call[] = "MPI_Imrecv";
     const struct room room = {buf, count, datatype};
     struct request ended;

@@ -2,6 +2,8 @@
 #include "device.h"
 #include "errors.h"
 #include "internal.h"
+#include "standstill.h"
+#include "wait_lines.h"
 
 #include <stdio.h>
 #include <string.h>
@@ -116,9 +118,11 @@ static void learn(uint64_t waited) {
 
 /* A rank that was told a patience gives up where nothing came for so long. */
 static void lose_patience(void) {
-    if (process.patience == 0 || (told - heard) / MILLISECOND < (uint64_t)process.patience) return;
-    fflush(stdout);
-    fprintf(stderr, "rank %d: %s: gave up: nothing came for %ld ms\n", process.rank, process.call, process.patience);
+    uint64_t quiet = (told - heard) / MILLISECOND;
+    if (process.patience == 0 || !is_standstill(quiet) || quiet < (uint64_t)process.patience) return;
+    char behind[80];
+    snprintf(behind, sizeof behind, "; nothing came for %ld ms: it gives up", process.patience);
+    tell_wait(behind);
     end_job(STATUS_PATIENCE);
 }
 
@@ -130,6 +134,7 @@ void progress_wait(void) {
         progress();
         lose_patience();
     }
+    heed_signals();
     learn(device_nanoseconds() - begun);
 }
 

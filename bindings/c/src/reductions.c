@@ -57,6 +57,7 @@ static bool is_folded_here(const struct datatype *type) {
 
 int MPI_Reduce(const void *sendbuf, void *recvbuf, int count, MPI_Datatype datatype, MPI_Op op, int root,
                MPI_Comm comm) {
+    NOTE_CALLER();
     const char *call = "MPI_Reduce";
     struct reduction of;
     const void *row = sendbuf;
@@ -76,6 +77,7 @@ int MPI_Reduce(const void *sendbuf, void *recvbuf, int count, MPI_Datatype datat
 }
 
 int MPI_Allreduce(const void *sendbuf, void *recvbuf, int count, MPI_Datatype datatype, MPI_Op op, MPI_Comm comm) {
+    NOTE_CALLER();
     const char *call = "MPI_Allreduce";
     struct reduction of;
     const void *row;

@@ -3,6 +3,7 @@
 #include "internal.h"
 #include "table.h"
 #include "types.h"
+#include "wait_lines.h"
 
 #include <stdlib.h>
 
@@ -102,9 +103,10 @@ bool is_at_end(struct request *request) {
 
 uint32_t await_request(struct request *request) {
     if (!is_at_end(request)) {
-        progress_begin_wait();
+        begin_wait(&(struct wait){.kind = WAIT_REQUEST, .request = request});
         do progress_wait();
         while (!is_at_end(request));
+        end_wait();
         progress_out();
     }
     /* By this end the program may know of the end of a receive that it let go. */

@@ -3,6 +3,7 @@
 
 #include "folds.h"
 #include "internal.h"
+#include "wait_lines.h"
 
 #include <stdlib.h>
 #include <string.h>
@@ -11,8 +12,12 @@
 enum { NO_MEMORY = 14 };
 
 uint32_t enter_engine(const struct engine_call *entry, const void *data, size_t length, struct engine_answer *answer) {
+    const bool is_rooted = entry->kind >= ENGINE_BCAST && entry->kind <= ENGINE_REDUCE;
     call_engine(entry, data, length, answer);
+    begin_wait(
+        &(struct wait){.kind = WAIT_COLLECTIVE, .place = entry->communicator, .root = is_rooted ? entry->peer : -1});
     await_finish(answer);
+    end_wait();
     return answer->number;
 }
 

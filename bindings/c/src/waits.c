@@ -1,6 +1,7 @@
 /* Calls that end requests: one, any, all or some of a list (MPI 3.1, 3.7.3 and 3.7.5). */
 #include "errors.h"
 #include "internal.h"
+#include "wait_lines.h"
 
 #include <stdlib.h>
 
@@ -18,6 +19,7 @@ static void put_empty(MPI_Status *status) {
 }
 
 int MPI_Wait(MPI_Request *request, MPI_Status *status) {
+    NOTE_CALLER();
     static const char call[] = "MPI_Wait";
     struct request *found;
     check_running(call);
@@ -93,12 +95,14 @@ static int finish_any(const char *call, int place, MPI_Request list[], int *inde
 }
 
 int MPI_Waitany(int count, MPI_Request array_of_requests[], int *index, MPI_Status *status) {
+    NOTE_CALLER();
     static const char call[] = "MPI_Waitany";
     int class = check_list(call, count, array_of_requests);
     if (class != 0) return class;
     int place;
-    progress_begin_wait();
+    begin_wait(&(struct wait){.kind = WAIT_ANY, .list = array_of_requests, .count = count});
     while ((place = first_at_end(count, array_of_requests)) == -1) progress_wait();
+    end_wait();
     return finish_any(call, place, array_of_requests, index, status);
 }
 
@@ -140,12 +144,25 @@ static int finish_list(const char *call, int count, MPI_Request list[], int indi
     return raise_on(told.comm, call, MPI_ERR_IN_STATUS, "request %d of %d: %s", failed, count, cause_of(told.number));
 }
 
+/* Waits until all of a list are at their ends. */
+static void await_all(int count, const MPI_Request list[]) {
+    for (int i = 0; i < count; i++) {
+        struct request *it = request_of(list[i]);
+        if (it == NULL || is_at_end(it)) continue;
+        begin_wait(&(struct wait){.kind = WAIT_ALL, .list = list, .count = count});
+        do progress_wait();
+        while (!is_at_end(it));
+        end_wait();
+    }
+    progress_out();
+}
+
 int MPI_Waitall(int count, MPI_Request array_of_requests[], MPI_Status array_of_statuses[]) {
+    NOTE_CALLER();
     static const char call[] = "MPI_Waitall";
     int class = check_list(call, count, array_of_requests);
     if (class != 0) return class;
-    for (int i = 0; i < count; i++)
-        if (array_of_requests[i] != MPI_REQUEST_NULL) await_request(request_of(array_of_requests[i]));
+    await_all(count, array_of_requests);
     return finish_list(call, count, array_of_requests, NULL, array_of_statuses);
 }
 
@@ -160,14 +177,16 @@ int MPI_Testall(int count, MPI_Request array_of_requests[], int *flag, MPI_Statu
 
 int MPI_Waitsome(int incount, MPI_Request array_of_requests[], int *outcount, int array_of_indices[],
                  MPI_Status array_of_statuses[]) {
+    NOTE_CALLER();
     static const char call[] = "MPI_Waitsome";
     int class = check_list(call, incount, array_of_requests);
     if (class != 0) return class;
     *outcount = MPI_UNDEFINED;
     if (are_all_null(incount, array_of_requests)) return MPI_SUCCESS;
-    progress_begin_wait();
+    begin_wait(&(struct wait){.kind = WAIT_ANY, .list = array_of_requests, .count = incount});
     progress();
     while ((*outcount = count_at_end(incount, array_of_requests, false)) == 0) progress_wait();
+    end_wait();
     return finish_list(call, incount, array_of_requests, array_of_indices, array_of_statuses);
 }
 

@@ -1,0 +1,47 @@
+/* What a rank waits for. Where a wait doesn't end the rank says so in one line, which names ranks by their numbers in
+ * MPI_COMM_WORLD:
+ *
+ *   rank 0: MPI_Recv waits for a message of rank 1 with tag 5 in MPI_COMM_WORLD
+ *
+ * It does at SIGTERM and SIGINT, and where it loses its patience. docs/C.md has all forms of the line. */
+#ifndef KOMBAZILY_WAIT_LINES_H
+#define KOMBAZILY_WAIT_LINES_H
+
+#include "internal.h"
+
+enum wait_kind {
+    WAIT_REQUEST,    /* `request` */
+    WAIT_ALL,        /* all of `list` */
+    WAIT_ANY,        /* one of `list` */
+    WAIT_MESSAGE,    /* a message of `rank` with `tag` in `comm`: a probe */
+    WAIT_DATA,       /* the data of a message that was matched */
+    WAIT_COLLECTIVE, /* the other members of the communicator at `place`; `root` is there or -1 */
+    WAIT_SENT        /* all that it sent is to be received: at its end */
+};
+
+struct wait {
+    enum wait_kind kind;
+    struct request *request;
+    const MPI_Request *list;
+    int count; /* of the list */
+    MPI_Comm comm;
+    int rank, tag, root;
+    uint32_t place;
+};
+
+/* From now on the rank waits, and its patience begins anew. What the wait names stays until its end. */
+void begin_wait(const struct wait *it);
+void end_wait(void);
+
+/* To be called again and again by whoever waits, outside of signal handlers: ends the process, behind the line of its
+ * wait, where a signal asked for it. */
+void heed_signals(void);
+
+/* Writes the line of the wait that lasts, and what stands behind it. */
+void tell_wait(const char *behind);
+
+/* From now on SIGTERM and SIGINT end a rank that waits behind that line, and every other one at once. A program that
+ * treats one of them by itself keeps that. */
+void watch_signals(void);
+
+#endif

@@ -1,0 +1,62 @@
+/* Waits that never end, of two ranks or more: each is to say what it waits for. Its word says which. */
+#include <mpi.h>
+
+#include <stdio.h>
+#include <stdlib.h>
+#include <string.h>
+#include <unistd.h>
+
+static int rank, size, other;
+static int row[1000];
+static const MPI_Comm world_of_none = MPI_COMM_NULL;
+
+static void begin_lists(const char *what) {
+    MPI_Request requests[6];
+    for (int i = 0; i < 6; i++) MPI_Irecv(&row[i], 1, MPI_INT, other, i, MPI_COMM_WORLD, &requests[i]);
+    if (strcmp(what, "all") == 0) {
+        MPI_Send(&row[0], 1, MPI_INT, other, 1, MPI_COMM_WORLD);
+        MPI_Waitall(6, requests, MPI_STATUSES_IGNORE);
+    }
+    int index;
+    if (strcmp(what, "any") == 0) MPI_Waitany(2, requests, &index, MPI_STATUS_IGNORE);
+    if (strcmp(what, "one") == 0) MPI_Wait(&requests[3], MPI_STATUS_IGNORE);
+}
+
+/* The ranks in the opposite order: the other one has another number here. */
+static void begin_in_part(const char *what) {
+    MPI_Comm turned = world_of_none;
+    MPI_Comm_split(MPI_COMM_WORLD, 0, size - rank, &turned);
+    if (strcmp(what, "named") == 0) MPI_Comm_set_name(turned, "turned\n");
+    MPI_Recv(row, 1, MPI_INT, rank == 0 ? 0 : size - 1, MPI_ANY_TAG, turned, MPI_STATUS_IGNORE);
+}
+
+static void wait_for_ever(const char *what) {
+    MPI_Status status;
+    MPI_Message message;
+    if (strcmp(what, "receive") == 0) MPI_Recv(row, 1, MPI_INT, other, 5, MPI_COMM_WORLD, &status);
+    if (strcmp(what, "any_source") == 0) MPI_Recv(row, 1, MPI_INT, MPI_ANY_SOURCE, 5, MPI_COMM_WORLD, &status);
+    if (strcmp(what, "send") == 0) MPI_Send(row, 1000, MPI_INT, other, 0, MPI_COMM_WORLD);
+    if (strcmp(what, "synchronous") == 0) MPI_Ssend(row, 1, MPI_INT, other, 0, MPI_COMM_WORLD);
+    if (strcmp(what, "probe") == 0) MPI_Probe(other, 5, MPI_COMM_WORLD, &status);
+    if (strcmp(what, "matched_probe") == 0) MPI_Mprobe(other, 5, MPI_COMM_WORLD, &message, &status);
+    if (strcmp(what, "barrier") == 0 && rank == 0) MPI_Barrier(MPI_COMM_WORLD);
+    if (strcmp(what, "broadcast") == 0 && rank == 0) MPI_Bcast(row, 1, MPI_INT, 1, MPI_COMM_WORLD);
+    if (strcmp(what, "split") == 0 && rank == 0) MPI_Comm_dup(MPI_COMM_WORLD, &(MPI_Comm){MPI_COMM_NULL});
+    if (strcmp(what, "computes") == 0 && rank == 1) pause();
+}
+
+int main(int argc, char **argv) {
+    const char *what = argc > 1 ? argv[1] : "";
+    MPI_Init(&argc, &argv);
+    MPI_Comm_rank(MPI_COMM_WORLD, &rank);
+    MPI_Comm_size(MPI_COMM_WORLD, &size);
+    other = (rank + 1) % size;
+    printf("rank %d begins\n", rank);
+    if (strcmp(what, "all") == 0 || strcmp(what, "any") == 0 || strcmp(what, "one") == 0) begin_lists(what);
+    else if (strcmp(what, "part") == 0 || strcmp(what, "named") == 0) begin_in_part(what);
+    else wait_for_ever(what);
+    if (strcmp(what, "barrier") == 0 || strcmp(what, "broadcast") == 0 || strcmp(what, "split") == 0)
+        MPI_Recv(row, 1, MPI_INT, 0, 1, MPI_COMM_WORLD, MPI_STATUS_IGNORE);
+    MPI_Finalize();
+    return 0;
+}

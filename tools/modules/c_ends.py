@@ -1,0 +1,148 @@
+"""What people see of C programs under mpirun: lines as they are printed, ends, waits that never end. Rows of tools/rows/c_tests, over the
+programs in bindings/c/tests/ends.
+"""
+
+import re
+import signal
+import subprocess
+import time
+
+LONGEST = 60
+BEGUN = 0.5    # so long behind their first lines the ranks wait for one another
+WORLD = "in MPI_COMM_WORLD"
+# Programs that wait for ever, by their word: what ranks 0 and 1 of two say.
+STUCK = {
+    "receive": ["MPI_Recv waits for a message of rank %d with tag 5 " + WORLD] * 2,
+    "any_source": ["MPI_Recv waits for a message of any rank with tag 5 " + WORLD] * 2,
+    "send": ["MPI_Send waits for rank %d to receive 4000 bytes with tag 0 " + WORLD] * 2,
+    "synchronous": ["MPI_Ssend waits for rank %d to receive 4 bytes with tag 0 " + WORLD] * 2,
+    "probe": ["MPI_Probe waits for a message of rank %d with tag 5 " + WORLD] * 2,
+    "matched_probe": ["MPI_Mprobe waits for a message of rank %d with tag 5 " + WORLD] * 2,
+    "one": ["MPI_Wait waits for a message of rank %d with tag 3 " + WORLD] * 2,
+    "any": ["MPI_Waitany waits for any of 2 requests: a message of rank %d with tag 0 " + WORLD + "; a message of rank %d with tag 1 "
+            + WORLD] * 2,
+    "all": ["MPI_Waitall waits for all of 5 requests: " + "; ".join("a message of rank %%d with tag %d %s" % (it, WORLD)
+                                                                    for it in (0, 2, 3, 4)) + "; and 1 more"] * 2,
+    "barrier": ["MPI_Barrier waits for the other ranks of MPI_COMM_WORLD", "MPI_Recv waits for a message of rank 0 with tag 1 " + WORLD],
+    "broadcast": ["MPI_Bcast waits for the other ranks of MPI_COMM_WORLD (root 1)",
+                  "MPI_Recv waits for a message of rank 0 with tag 1 " + WORLD],
+    "split": ["MPI_Comm_dup waits for the other ranks of MPI_COMM_WORLD", "MPI_Recv waits for a message of rank 0 with tag 1 " + WORLD],
+    "part": ["MPI_Recv waits for a message of rank %d with any tag in a communicator of 2 without a name, where it is rank 0",
+             "MPI_Recv waits for a message of rank %d with any tag in a communicator of 2 without a name, where it is rank 1"],
+    "named": ["MPI_Recv waits for a message of rank %d with any tag in 'turned?', where it is rank 0",
+              "MPI_Recv waits for a message of rank %d with any tag in 'turned?', where it is rank 1"],
+    # A rank that computes is ended at once, and says nothing.
+    "computes": ["MPI_Finalize waits for the other ranks of MPI_COMM_WORLD", None],
+}
+# How rank 1 of three leaves, by the word: the status, and what is said.
+WITHOUT = "rank 1: the program ended without MPI_Finalize"
+LEAVING = {
+    "return": (16, [WITHOUT, "mpirun: rank 1 ended with status 16; the other ranks are ended"]),
+    "exit": (16, [WITHOUT, "mpirun: rank 1 ended with status 16; the other ranks are ended"]),
+    "seven": (7, ["mpirun: rank 1 ended with status 7; the other ranks are ended"]),
+    "abort": (134, ["mpirun: rank 1 was ended by signal 6; the other ranks are ended"]),
+    "MPI_Abort": (5, ["rank 1: MPI_Abort: code 5", "mpirun: rank 1 ended with status 5; the other ranks are ended"]),
+}
+KEPT = ("crash", "kill", "abort", "error")
+
+
+def is_wait(line):
+    """Whether a rank says by this line what it waits for."""
+    return re.match(r"rank \d+: MPI_\w+ waits for ", line) is not None
+
+
+def without_source(line):
+    """The same without the line of the source, which is there where it could be found within a moment."""
+    return re.sub(r" \(\w+\.c:\d+\)", "", line)
+
+
+def wanted_lines(lines):
+    """What the ranks say, each of the other one."""
+    return ["rank %d: %s" % (rank, it.replace("%d", str(1 - rank))) for rank, it in enumerate(lines) if it]
+
+
+class Ends:
+    """The rows, with the programs of a library."""
+
+    def __init__(self, mode, library, mpirun, verdict):
+        self.mode, self.library, self.mpirun, self.verdict = mode, library, mpirun, verdict
+
+    def add(self, name, is_so, found):
+        self.verdict.add("%s: %s" % (self.mode, name), None if is_so else str(found)[-900:])
+
+    def words(self, size, program, *words, options=()):
+        return [str(it) for it in (self.mpirun, *options, "-n", size, self.library.program(program), *words)]
+
+    def run(self, size, program, *words, options=()):
+        """Status, and the lines of both streams."""
+        told = subprocess.run(self.words(size, program, *words, options=options), stdin=subprocess.DEVNULL, capture_output=True, text=True,
+                              timeout=LONGEST)
+        return told.returncode, told.stdout.splitlines(), told.stderr.splitlines()
+
+    def lines(self):
+        """Each line is seen when it is printed: the times are those behind it until the end."""
+        for size, word, wanted in ((2, "lines", ["one 1", "two", "three"]), (1, "before", ["before", "one 1", "two", "three"])):
+            with subprocess.Popen(self.words(size, "speaks", word), stdout=subprocess.PIPE, text=True) as ran:
+                seen = [(it.strip(), time.monotonic()) for it in ran.stdout]
+            left = [time.monotonic() - at for _, at in seen][-3:]
+            is_live = [it for it, _ in seen] == wanted and left[0] > 2.4 and left[1] > 1.4 and left[2] > 0.4
+            self.add("%s are seen as they are printed" % word, is_live, (seen, left))
+
+    def prompts(self):
+        """The beginning of a line is there before its answer is given; and what the program said of its room holds."""
+        for word in ("prompt", "quiet_prompt"):
+            with subprocess.Popen([str(self.library.program("speaks")), word], stdin=subprocess.PIPE, stdout=subprocess.PIPE) as ran:
+                prompt = ran.stdout.read(3)
+                rest = ran.communicate(b"42\n", LONGEST)[0]
+            self.add("a %s is seen before its answer" % word, (prompt, rest) == (b"n: ", b"rank 0 has 42\n"), (prompt, rest))
+        with subprocess.Popen([str(self.library.program("speaks")), "dots"], stdout=subprocess.PIPE) as ran:
+            began = (ran.stdout.read(2), time.monotonic())
+            rest = ran.communicate(timeout=LONGEST)[0]
+            took = time.monotonic() - began[1]
+        self.add("dots are seen that the program lets out at once", (began[0], rest) == (b"..", b"done\n") and took > 0.7, (began, rest))
+
+    def kept(self):
+        """What was printed isn't lost where a rank is ended."""
+        for word in KEPT:
+            _, output, errors = self.run(3, "speaks", word)
+            self.add("lines stay behind %s" % word, sorted(output) == ["line of %d" % it for it in range(3)], (output, errors))
+
+    def leaving(self):
+        for word, (status, said) in LEAVING.items():
+            found = self.run(3, "leaves", word)
+            others = [it for it in found[2] if not is_wait(it)]
+            is_so = (found[0], found[1], sorted(others)) == (status, ["rank 1 leaves"], sorted(said))
+            self.add("rank 1 leaves by %s" % word, is_so, found)
+        found = self.run(2, "leaves", "child")
+        self.add("a child isn't the rank", found == (0, ["rank 1 leaves", "the child's status is 0"], []), found)
+        found = self.run(1, "leaves", "return")
+        self.add("a job of one rank leaves nobody waiting", found == (0, ["rank 1 leaves"], []), found)
+
+    def interrupted(self, word, options=()):
+        """What the ranks of a program say that is interrupted once they wait."""
+        with subprocess.Popen(self.words(2, "stuck", word, options=options), stdin=subprocess.DEVNULL, stdout=subprocess.PIPE,
+                              stderr=subprocess.PIPE, text=True) as ran:
+            begun = sorted(ran.stdout.readline() for _ in range(2))
+            time.sleep(BEGUN)
+            ran.send_signal(signal.SIGINT)
+            output, errors = ran.communicate(timeout=LONGEST)
+        return begun == ["rank 0 begins\n", "rank 1 begins\n"] and not output, errors.splitlines()
+
+    def stuck(self, name):
+        """At an interrupt each rank that waits says what for."""
+        is_so, errors = self.interrupted(name)
+        waits = sorted(without_source(it) for it in errors if is_wait(it))
+        self.add("a wait is told: " + name, is_so and waits == wanted_lines(STUCK[name]), errors)
+
+    def patience(self):
+        """Who loses patience first says so, and the others what they wait for."""
+        status, _, errors = self.run(2, "stuck", "receive", options=("-patience", "700"))
+        waits = sorted(without_source(it) for it in errors if is_wait(it))
+        gave_up = [it.replace("; nothing came for 700 ms: it gives up", "") for it in waits]
+        self.add("patience", status == 4 and gave_up != waits and gave_up == wanted_lines(STUCK["receive"]), (status, errors))
+
+
+def all_rows(mode, library, mpirun, verdict, side_by_side):
+    it = Ends(mode, library, mpirun, verdict)
+    side_by_side(lambda row: row(), [it.lines, it.prompts, it.kept, it.leaving, it.patience])
+    side_by_side(it.stuck, list(STUCK))
