@@ -15,14 +15,15 @@ enum {
     LONG_WAIT = 20000,       /* behind a wait of so long it looks whether others had the processor */
     MODEST_WAITS = 100,      /* for so many waits it then asks but once */
     CROWDED_SPIN = 12000,    /* the longest where there are more ranks than processors */
-    LONGEST_SLEEP = 5,       /* milliseconds; the engine sends again what it sent 20 ms ago */
+    SHORT_SLEEP = 5,         /* milliseconds, where something is to go again if it isn't acknowledged */
+    LONG_SLEEP = 100,        /* the same where nothing is: a datagram that comes wakes a rank in any case */
     LAST_WORDS = 2000000000, /* so long a rank that ends waits for the last acknowledgements at most */
     COPIES_OF_LAST = 3       /* so often a rank that ends says what it says: it may be gone before it is asked again */
 };
 
 /* What the engine was told last, in nanoseconds, and until when it keeps an acknowledgement back (0: none is kept). */
 static uint64_t told, kept_until;
-/* When a datagram was taken in last. */
+/* When the engine took a datagram last. */
 static uint64_t heard;
 /* So long it asks again and again before it sleeps. */
 static uint64_t spin_time, longest_spin;
@@ -37,7 +38,8 @@ void progress_open(void) {
     kept_until = 0;
 }
 
-/* The engine is told the time each millisecond, and when what it keeps back is to go: whether it was. */
+/* The engine is told the time, each millisecond once, and when what it keeps back is to go: whether it was. It is told
+ * before whatever may make it send, and before datagrams that came: by that it measures round trips. */
 static bool tell_time(void) {
     uint64_t now = device_nanoseconds();
     bool is_due = kept_until != 0 && now >= kept_until;
@@ -76,19 +78,17 @@ void progress_out(void) { send_out(false); }
 /* Takes in some datagrams of a rank. One that names another rank is dropped; so is one that the engine refuses: it is
  * none of this job's, or comes again. */
 static void hear(int source, const unsigned char *bytes, size_t len, size_t each) {
+    tell_time();
     for (size_t at = 0; at < len; at += each) {
         size_t rest = len - at, own = rest < each ? rest : each;
-        if (sender_of(bytes + at, own) == source) (void)kombazily_datagram(&engine, bytes + at, own);
+        if (sender_of(bytes + at, own) != source) continue;
+        if (kombazily_datagram(&engine, bytes + at, own) == 0) heard = told;
     }
     send_out(false);
 }
 
-/* Whether something came in, which the engine then has. */
-static bool take_in(void) {
-    if (!device_is_open() || !device_hear(hear)) return false;
-    heard = told;
-    return true;
-}
+/* Whether something came in, which was handed to the engine. */
+static bool take_in(void) { return device_is_open() && device_hear(hear); }
 
 void progress(void) {
     tell_time();
@@ -99,8 +99,8 @@ void progress(void) {
 /* Asks until some time whether something came: whether it did. */
 static bool spin(uint64_t until) {
     do {
-        if (take_in()) return true;
         if (tell_time()) send_out(false);
+        if (take_in()) return true;
     } while (device_nanoseconds() < until);
     return false;
 }
@@ -116,32 +116,45 @@ static void learn(uint64_t waited) {
     if (modest > 0) modest--, spin_time = 0;
 }
 
-/* A rank that was told a patience gives up where nothing came for so long. */
+/* Sleeps until a datagram comes, or something may be due. */
+static void sleep_on(void) {
+    bool is_idle = kombazily_is_idle(&engine);
+    device_sleep(is_idle ? LONG_SLEEP : SHORT_SLEEP);
+    if (!is_idle) tell_time();
+    take_in();
+    send_out(false);
+}
+
+/* A rank that was told a patience gives up where the engine took no datagram for so long. */
 static void lose_patience(void) {
-    uint64_t quiet = (told - heard) / MILLISECOND;
-    if (process.patience == 0 || !is_standstill(quiet) || quiet < (uint64_t)process.patience) return;
+    if (process.patience == 0) return;
+    uint64_t quiet = (device_nanoseconds() - heard) / MILLISECOND;
+    if (!is_standstill(quiet) || quiet < (uint64_t)process.patience) return;
     char behind[80];
     snprintf(behind, sizeof behind, "; nothing came for %ld ms: it gives up", process.patience);
     tell_wait(behind);
     end_job(STATUS_PATIENCE);
 }
 
-void progress_wait(void) {
+/* Waits a while for a datagram. */
+static void wait_a_while(void) {
     uint64_t begun = device_nanoseconds();
     if (!spin(begun + spin_time)) {
         send_out(true);
-        device_sleep(LONGEST_SLEEP);
-        progress();
-        lose_patience();
+        sleep_on();
     }
     heed_signals();
     learn(device_nanoseconds() - begun);
 }
 
+void progress_wait(void) {
+    wait_a_while();
+    lose_patience();
+}
+
 void progress_begin_wait(void) {
     /* The program may have computed for long: that isn't waiting. */
-    tell_time();
-    heard = told;
+    heard = device_nanoseconds();
 }
 
 void progress_until_idle(void) {
@@ -153,7 +166,8 @@ void progress_say_often(void) { copies = COPIES_OF_LAST; }
 
 void progress_last_words(void) {
     uint64_t until = device_nanoseconds() + LAST_WORDS;
-    while (!kombazily_is_idle(&engine) && device_nanoseconds() < until) progress_wait();
+    /* Who has left can't acknowledge any more: that is no failure, whatever the patience is. */
+    while (!kombazily_is_idle(&engine) && device_nanoseconds() < until) wait_a_while();
     send_out(true);
 }
 
@@ -170,7 +184,27 @@ void await_finish(struct engine_answer *answer) {
     if (answer->bytes == 0 && has_freed()) settle_freed();
 }
 
+/* Whether the engine may send something at such a call. */
+static bool may_send(enum engine_call_kind kind) {
+    switch (kind) {
+    case ENGINE_TEST:
+    case ENGINE_LOOK:
+    case ENGINE_CANCEL:
+    case ENGINE_IPROBE:
+    case ENGINE_IMPROBE:
+    case ENGINE_FINISH:
+    case ENGINE_RANK:
+    case ENGINE_SIZE:
+    case ENGINE_MEMBERS:
+    case ENGINE_COMPARE:
+        return false;
+    default:
+        return true;
+    }
+}
+
 void call_engine(const struct engine_call *call, const void *data, size_t len, struct engine_answer *answer) {
     static const unsigned char nothing[1];
+    if (may_send(call->kind)) tell_time();
     kombazily_call(&engine, call, data == NULL || len == 0 ? nothing : data, len, answer);
 }
