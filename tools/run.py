@@ -9,27 +9,30 @@ usage: ./run                            two ranks play ping-pong
        ./run --svg PICTURE.svg ..       the same, written as an SVG
        ./run --explore [-n N] SCRIPT    all schedules of a script that can matter: what may go wrong
        ./run .. -                       what stands on the standard input, in place of a file
-       ./run [-n N] FILE.c [WORD ..]    compiles a C program (tools/mpicc) and runs it with these words; without -n 2 ranks
+       ./run [-n N] FILE.c [WORD ..]    compiles a C program (tools/mpicc) and runs it with these words; without -n 2 ranks.
+                                        Lines come as they are printed; rank 0 has the standard input
        ./run build                      builds the programs, and runs nothing
        ./run --proved [..]              as above, by proved programs alone; proves them first
        ./run --help, ./run --version
 
-options, as mpiexec has them:
+options, as mpiexec and mpirun have them:
        -restart K      how often a rank may be started again (0)
-       -patience MS    how long nothing may move until a rank gives up (10000)
+       -patience MS    how long nothing may move until a rank gives up (10000); of a C program: until all ranks wait for so long
        -job J          the job's number (one at random)
        -baseport P     the port of rank 0; the others have the ports behind it (free ones)
+       -v              says which programs are taken, and the command that is run
 
 Options stand in any order, in front of the file or behind it. Those of mpiexplore (--most K, --seed S, ..) may
 stand beside --explore, and those of mpidraw (--width W, --datagrams) beside --picture and --svg.
 
 A script is judged before ranks are started: what is wrong with it is told once, and the status is 1. Scripts are
-run by mpiexec and rank_main and explored by mpiexplore, files of events are run by mpisim and drawn by mpidraw. The
+run by mpiexec and rank_main and explored by mpiexplore, files of events are run by mpisim and drawn by mpidraw, C programs are
+run by mpirun. The
 proved programs are taken where `rt ci` or `./run --proved` has left them and no source has changed since. Else programs of
 the same sources are taken, of which nothing is proved: they are built once, in two to three minutes,
 and kept in out/unproved. RUN_PROGRAMS may name a folder whose programs are taken as they are.
 
-What `run` itself says stands on standard error behind 'run:'. The status is that of mpiexec,
+What `run` itself says stands on standard error behind 'run:'. The status is that of mpiexec, mpirun,
 mpisim, mpidraw or mpiexplore; 125 where `run` itself fails. Begin with docs/TUTORIAL.md.
 """
 
@@ -60,6 +63,8 @@ SHOWING = {
     "--svg": {"--datagrams": 0},
 }
 OPTIONS_OF_C = ("-n", "-np")
+# Milliseconds for which all ranks of a C program may wait for one another.
+PATIENCE_OF_C = 10000
 
 
 class Fault(Exception):
@@ -75,7 +80,7 @@ class Request:
 
     def __init__(self, words):
         self.ranks, self.options, self.shown, self.words, self.is_proved = None, {}, [], [], False
-        self.svg = None
+        self.svg, self.is_verbose = None, False
         words, files = list(words), []
         own = next((place for place, it in enumerate(words) if it.endswith(".c")), len(words))
         self.view = next((it for it in words[:own] if it in VIEWS), None)
@@ -94,6 +99,11 @@ class Request:
         if self.view and not files:
             raise Fault("beside '%s' a file is missing" % self.view)
         self.file = Path(files[0]) if files else PINGPONG
+
+    def mention(self, text):
+        """Says what only some want to know."""
+        if self.is_verbose:
+            say(text)
 
     def is_c(self, words):
         """Whether a C program is named; behind it stand its own words, among which `-n N` may stand first."""
@@ -116,6 +126,8 @@ class Request:
         shown = SHOWING.get(self.view, {})
         if option == "--proved":
             self.is_proved = True
+        elif option == "-v":
+            self.is_verbose = True
         elif option in VIEWS:
             if option != self.view:
                 raise Fault("'%s' and '%s': one of them at a time" % (self.view, option))
@@ -182,10 +194,11 @@ def free_ports(count):
     raise Fault("no %d ports in a row are free from %d to %d: give -baseport" % (count, ports.LOWEST, ports.BEHIND - 1))
 
 
-def find(names, is_proved):
+def find(names, request):
     """These programs: proved ones where all of them are there, else, unless proved ones are asked for, unproved ones."""
+    is_proved = request.is_proved
     if given := os.environ.get("RUN_PROGRAMS"):
-        say("the programs in %s" % given)
+        request.mention("the programs in %s" % given)
         return {it: Path(given) / it for it in names}
     found = programs.proved_folders(names)
     if found is None and is_proved:
@@ -198,7 +211,7 @@ def find(names, is_proved):
         if found is None:
             raise Fault("a source changed while the programs were proved: run it again")
     if found is not None:
-        say("the proved programs")
+        request.mention("the proved programs")
         return found
     if programs.unproved_folders(names) is None:
         say("nothing is proved of the programs that are built now ('./run --proved' proves them first)")
@@ -239,7 +252,7 @@ def command(request):
             raise Fault("%s is a file of events, which takes no options: its first line says how many ranks there are" % request.file)
         if request.view in PICTURES:
             return [*drawing(request), short(request.file)]
-        return [short(find(["mpisim"], request.is_proved)["mpisim"]), short(request.file)]
+        return [short(find(["mpisim"], request)["mpisim"]), short(request.file)]
     if request.view == "--lines":
         raise Fault("%s is no file of events" % request.file)
     if request.view and request.options:
@@ -257,8 +270,8 @@ def command(request):
     if request.view:
         # Unless other sends or one result are asked for, the script is explored as it is and with synchronous sends.
         both = [] if {"--synchronous", "--both", "--events"} & set(request.shown) else ["--both"]
-        return [short(find(["mpiexplore"], request.is_proved)["mpiexplore"]), *request.shown, "-n", str(ranks), *both, short(request.file)]
-    found = find(["mpiexec", "rank_main"], request.is_proved)
+        return [short(find(["mpiexplore"], request)["mpiexplore"]), *request.shown, "-n", str(ranks), *both, short(request.file)]
+    found = find(["mpiexec", "rank_main"], request)
     judge(found["rank_main"], ranks, request.file)
     return [*launch(found["mpiexec"], request, ranks), short(found["rank_main"]), short(request.file)]
 
@@ -266,7 +279,7 @@ def command(request):
 def drawing(request):
     """The words that draw, up to what is drawn."""
     form = "--svg" if request.svg else "--text"
-    return [short(find(["mpidraw"], request.is_proved)["mpidraw"]), form, *request.shown]
+    return [short(find(["mpidraw"], request)["mpidraw"]), form, *request.shown]
 
 
 def launch(mpiexec, request, ranks):
@@ -289,12 +302,13 @@ def command_of_c(request):
     if not request.file.is_file():
         raise Fault("%s can't be read" % request.file)
     if not request.is_proved and not {"RUN_PROGRAMS", "RUN_ENGINE"} & set(os.environ):
-        c_programs.build_with(say, ["mpiexec"])
-    mpiexec = find(["mpiexec"], request.is_proved)["mpiexec"]
+        c_programs.build_with(say, ["mpirun"])
+    mpirun = find(["mpirun"], request)["mpirun"]
     program = c_programs.compiled(say, request.file, request.is_proved)
-    words = launch(mpiexec, request, request.ranks or 2)
-    # A rank that fails ends the others: a fatal error and MPI_Abort mean the job.
-    return [words[0], "-abort", *words[1:], short(program), *request.words]
+    os.environ["KOMBAZILY_STANDSTILL"] = "/proc/%d/fd/%d" % (os.getpid(), os.memfd_create("standstill", 0))
+    options = {"-patience": PATIENCE_OF_C, **request.options}
+    told = [str(it) for option in options.items() for it in option]
+    return [short(mpirun), "-prefix", *told, "-n", str(request.ranks or 2), short(program), *request.words]
 
 
 def show(program, file):
@@ -331,7 +345,7 @@ def main(words):
     try:
         request = Request(words)
         if request.builds_only:
-            found = find(programs.NAMES, request.is_proved)
+            found = find(programs.NAMES, request)
             folders = sorted({str(it.parent) for it in found.values()})
             say("they stand in %s (a shell finds them after: export PATH=%s:$PATH)" % (", ".join(folders), ":".join(folders)))
             return 0
@@ -343,7 +357,7 @@ def main(words):
         return 1
     except KeyboardInterrupt:
         return 128 + signal.SIGINT
-    say(shlex.join(chosen))
+    request.mention(shlex.join(chosen))
     program = chosen[0] if os.sep in chosen[0] else os.path.join(".", chosen[0])
     if request.view == "--lines":
         return show(program, request.file)

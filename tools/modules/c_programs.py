@@ -95,42 +95,40 @@ def prove(say):
         raise Fault("the engine isn't proved")
 
 
-def take_proved():
+def take_proved(say):
     """The proved engine, with the kit's piece by which it takes its memory from C."""
     with tempfile.TemporaryDirectory() as room:
         made = Path(room) / "libengine.a"
         shutil.copy(PROVED, made)
         subprocess.run(["ar", "x", need_kit() / "c" / "liblibc_c.a", "heap.pic.o"], cwd=room, check=True)
         subprocess.run(["ar", "rs", made, Path(room) / "heap.pic.o"], check=True, stderr=subprocess.DEVNULL)
-        put_engine(made)
+        put_engine(made, say, "libmpi.a is made of the proved engine, under a library in C")
 
 
-def put_engine(made):
-    """Puts an engine where the library is made of it, unless the same one is there."""
+def put_engine(made, say, what):
+    """Puts an engine where the library is made of it, and says which one, unless the same one is there."""
     OUT.mkdir(parents=True, exist_ok=True)
     if ENGINE.is_file() and ENGINE.read_bytes() == made.read_bytes():
         return
     shutil.copy(made, ENGINE.with_suffix(".new"))
     os.replace(ENGINE.with_suffix(".new"), ENGINE)
+    say(what)
 
 
 def make_library(say, wants_proved=False):
-    """Makes libmpi.a current; says whether its engine is proved. Returns whether it is."""
+    """Makes libmpi.a current; says whether its engine is proved where that is another one than before. Returns whether it is."""
     if given := os.environ.get("RUN_ENGINE"):
-        say("the engine %s" % given)
-        put_engine(Path(given))
+        put_engine(Path(given), say, "libmpi.a is made of the engine %s" % given)
         proved = False
     else:
         if wants_proved:
             prove(say)
         proved = is_proved()
         if proved:
-            take_proved()
-            say("the proved engine, under a library in C")
+            take_proved(say)
         else:
             build_unproved(say)
-            put_engine(UNPROVED)
-            say("nothing is proved of this engine: it was built before any proof ('./run --proved' proves it first)")
+            put_engine(UNPROVED, say, "libmpi.a is made of an engine that was built before any proof ('./run --proved' proves it first)")
     made = subprocess.run(["make", "-s", "-C", BINDING, "OUT=%s" % OUT], stdin=subprocess.DEVNULL, stdout=subprocess.PIPE,
                           stderr=subprocess.STDOUT)
     if made.returncode != 0:
@@ -144,7 +142,7 @@ def compiled(say, source, wants_proved=False):
     make_library(say, wants_proved)
     program = OUT / "programs" / source.stem
     program.parent.mkdir(parents=True, exist_ok=True)
-    made = subprocess.run([TOP / "tools" / "mpicc", "-O2", "-Wall", source, "-o", program, "-lm"], stdout=subprocess.DEVNULL)
+    made = subprocess.run([TOP / "tools" / "mpicc", "-O2", "-g", "-Wall", source, "-o", program, "-lm"], stdout=subprocess.DEVNULL)
     if made.returncode != 0:
         raise Fault("%s wasn't compiled" % source)
     return program
