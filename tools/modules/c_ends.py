@@ -2,9 +2,12 @@
 programs in bindings/c/tests/ends.
 """
 
+import os
 import re
+import shutil
 import signal
 import subprocess
+import tempfile
 import time
 
 LONGEST = 60
@@ -43,6 +46,15 @@ LEAVING = {
     "abort": (134, ["mpirun: rank 1 was ended by signal 6; the other ranks are ended"]),
     "MPI_Abort": (5, ["rank 1: MPI_Abort: code 5", "mpirun: rank 1 ended with status 5; the other ranks are ended"]),
 }
+# What two ranks leave undone, beside two messages of twelve that aren't told one by one.
+SELF = "rank 0: MPI_Finalize: nobody received a message of rank 0 with tag 4 in MPI_COMM_SELF, where it is rank 0: 1 bytes"
+LEFT = ["rank 0: MPI_Finalize: 2 more messages"] + 10 * [SELF] + [
+    "rank 0: MPI_Finalize: no call ended this receive: a message of any rank with tag 3 in 'part'",
+    "rank 0: MPI_Finalize: no call ended this send: 40 bytes to rank 1 with tag 1 in MPI_COMM_WORLD",
+    "rank 0: MPI_Finalize: no call ended this send: 4000 bytes to rank 1 with tag 2 in 'part', where it is rank 0",
+    "rank 1: MPI_Finalize: nobody received a message of rank 0 with tag 1 in MPI_COMM_WORLD: 40 bytes",
+    "rank 1: MPI_Finalize: nobody received a message of rank 0 with tag 2 in 'part', where it is rank 1: 4000 bytes",
+]
 KEPT = ("crash", "kill", "abort", "error")
 
 
@@ -73,10 +85,10 @@ class Ends:
     def words(self, size, program, *words, options=()):
         return [str(it) for it in (self.mpirun, *options, "-n", size, self.library.program(program), *words)]
 
-    def run(self, size, program, *words, options=()):
+    def run(self, size, program, *words, options=(), **variables):
         """Status, and the lines of both streams."""
         told = subprocess.run(self.words(size, program, *words, options=options), stdin=subprocess.DEVNULL, capture_output=True, text=True,
-                              timeout=LONGEST)
+                              timeout=LONGEST, env={**os.environ, **variables})
         return told.returncode, told.stdout.splitlines(), told.stderr.splitlines()
 
     def lines(self):
@@ -142,7 +154,33 @@ class Ends:
         self.add("patience", status == 4 and gave_up != waits and gave_up == wanted_lines(STUCK["receive"]), (status, errors))
 
 
+    def left(self):
+        """What is left undone is told where that is asked for; the status is that of the program."""
+        for wanted, said in (("1", sorted(LEFT)), ("0", [])):
+            status, _, errors = self.run(2, "leaks", KOMBAZILY_CHECK=wanted)
+            found = sorted(map(without_source, errors))
+            self.add("what is left with KOMBAZILY_CHECK=%s" % wanted, (status, found) == (0, said), (status, errors))
+
+    def standstill(self):
+        """With a file in which ranks say that they wait: rank 0 tells it once, and they give up; while one computes nobody does."""
+        with tempfile.NamedTemporaryFile() as file:
+            status, _, errors = self.run(2, "stuck", "receive", options=("-patience", "1500"), KOMBAZILY_STANDSTILL=file.name)
+        told = "rank 0: all ranks wait, and nothing has moved for 1 s: after 1500 ms they give up (-patience MS)"
+        waits = sorted(without_source(it).split(";")[0] for it in errors if is_wait(it))
+        is_so = status == 4 and errors.count(told) == 1 and waits == wanted_lines(STUCK["receive"])
+        self.add("a standstill", is_so, (status, errors))
+        with tempfile.NamedTemporaryFile() as file:
+            found = self.run(3, "speaks", "lines", options=("-patience", "700"), KOMBAZILY_STANDSTILL=file.name)
+        self.add("no standstill while a rank computes", found == (0, ["one 1", "two", "three"], []), found)
+
+    def source(self):
+        """The line of the source is told, where addr2line is there: on a busy machine at some time."""
+        tries = range(5 if shutil.which("addr2line") else 0)
+        found = next((it for it in tries if any(" (stuck.c:" in line for line in self.interrupted("receive")[1])), None)
+        self.add("a wait is told with its line", found is not None or not tries, "five times without")
+
+
 def all_rows(mode, library, mpirun, verdict, side_by_side):
     it = Ends(mode, library, mpirun, verdict)
-    side_by_side(lambda row: row(), [it.lines, it.prompts, it.kept, it.leaving, it.patience])
+    side_by_side(lambda row: row(), [it.lines, it.standstill, it.prompts, it.kept, it.leaving, it.patience, it.left, it.source])
     side_by_side(it.stuck, list(STUCK))

@@ -25,6 +25,11 @@ struct communicator *communicator_at(uint32_t place) {
     return NULL;
 }
 
+void each_communicator(void (*visit)(const struct communicator *)) {
+    for (int at = 0; at < communicators.count; at++)
+        if (communicators.places[at].object != NULL) visit(communicators.places[at].object);
+}
+
 /* What the engine tells of a communicator by a number. */
 static int fact_of(uint32_t place, enum engine_call_kind question) {
     struct engine_answer answer;

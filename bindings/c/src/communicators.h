@@ -21,6 +21,9 @@ struct communicator *communicator_of(MPI_Comm handle);
 /* The one that the engine names so, or NULL. */
 struct communicator *communicator_at(uint32_t place);
 
+/* Calls a function of each. */
+void each_communicator(void (*visit)(const struct communicator *));
+
 /* Makes MPI_COMM_WORLD and MPI_COMM_SELF, as the engine has them: 0, or the class of an error. */
 int open_communicators(void);
 /* Gives all communicators back, and all groups. */

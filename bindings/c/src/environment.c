@@ -5,6 +5,7 @@
 #include "ends.h"
 #include "errors.h"
 #include "internal.h"
+#include "leftovers.h"
 #include "place.h"
 #include "standstill.h"
 #include "types.h"
@@ -144,9 +145,11 @@ static void leave_job(void) {
 int MPI_Finalize(void) {
     NOTE_CALLER();
     check_running("MPI_Finalize");
+    tell_requests();
     cancel_requests();
     settle_freed();
     if (device_is_open()) leave_job();
+    tell_messages();
     standstill_close();
     close_requests();
     close_messages();

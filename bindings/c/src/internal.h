@@ -26,10 +26,10 @@ struct process {
     long patience; /* milliseconds; 0: there is no time after which a rank gives up */
     int thread_level;
     const char *call;   /* the call of MPI that the program made last */
-    const void *caller; /* where in the program the last call stands that may wait */
+    const void *caller; /* where in the program the last call stands that notes it */
 };
 extern struct process process;
-/* To stand first in each call that may wait. */
+/* To stand first in each call that may wait, or that begins what may be waited for. */
 #define NOTE_CALLER() (process.caller = __builtin_return_address(0))
 
 /* The engine of this rank. */
@@ -85,6 +85,7 @@ struct request {
     size_t room;           /* so many bytes of data it may be, or are sent */
     MPI_Comm comm;         /* whose error handler is told */
     int peer, tag;         /* as the program named them */
+    const void *caller;    /* where in the program it was begun */
     struct request *other; /* the send that ends together with this receive, or NULL */
     struct request *next;  /* among those that the program let go */
 };
@@ -105,6 +106,9 @@ MPI_Request publish_request(const struct request *request);
 /* The request of a handle, or NULL; and the check: 0 and NULL of MPI_REQUEST_NULL, an error of what is no request. */
 struct request *request_of(MPI_Request handle);
 int check_request(const char *call, MPI_Request handle, struct request **found);
+/* The requests that have handles: how many places there are, and what is at one of them, or NULL. */
+int request_places(void);
+struct request *request_at(int place);
 /* Ends a handle and its request. */
 void unpublish_request(MPI_Request *handle);
 

@@ -28,6 +28,7 @@ struct found {
 uint32_t begin_send(struct request *request, uint32_t place, bool is_synchronous, const void *buf, int count,
                     const struct datatype *type, int target, int tag) {
     *request = (struct request){.kind = REQUEST_SEND, .comm = MPI_COMM_WORLD, .peer = target, .tag = tag};
+    request->caller = process.caller;
     if (target == MPI_PROC_NULL) count = 0; /* its data go nowhere (3.11) */
     size_t len = data_size(&type->layout, (size_t)count);
     /* The engine refuses it, too, but behind a copy. */
@@ -54,6 +55,7 @@ uint32_t begin_receive(struct request *request, uint32_t place, void *buf, int c
                        int tag) {
     *request = (struct request){
         .kind = REQUEST_RECEIVE, .comm = MPI_COMM_WORLD, .peer = source, .tag = tag, .type = type, .buf = buf};
+    request->caller = process.caller;
     request->room = data_size(&type->layout, (size_t)count);
     const struct engine_call receive = {.kind = ENGINE_IRECV,
                                         .communicator = place,
@@ -151,18 +153,21 @@ int MPI_Rsend(const void *buf, int count, MPI_Datatype datatype, int dest, int t
 
 int MPI_Isend(const void *buf, int count, MPI_Datatype datatype, int dest, int tag, MPI_Comm comm,
               MPI_Request *request) {
+    NOTE_CALLER();
     const struct argument it = {"MPI_Isend", (void *)buf, count, datatype, dest, tag, comm};
     return send_later(&it, false, request);
 }
 
 int MPI_Issend(const void *buf, int count, MPI_Datatype datatype, int dest, int tag, MPI_Comm comm,
                MPI_Request *request) {
+    NOTE_CALLER();
     const struct argument it = {"MPI_Issend", (void *)buf, count, datatype, dest, tag, comm};
     return send_later(&it, true, request);
 }
 
 int MPI_Irsend(const void *buf, int count, MPI_Datatype datatype, int dest, int tag, MPI_Comm comm,
                MPI_Request *request) {
+    NOTE_CALLER();
     const struct argument it = {"MPI_Irsend", (void *)buf, count, datatype, dest, tag, comm};
     return send_later(&it, false, request);
 }
@@ -179,6 +184,7 @@ int MPI_Recv(void *buf, int count, MPI_Datatype datatype, int source, int tag, M
 }
 
 int MPI_Irecv(void *buf, int count, MPI_Datatype datatype, int source, int tag, MPI_Comm comm, MPI_Request *request) {
+    NOTE_CALLER();
     const struct argument it = {"MPI_Irecv", buf, count, datatype, source, tag, comm};
     struct request begun;
     int class = start_receive(&it, &begun);
@@ -242,6 +248,7 @@ int MPI_Sendrecv_replace(void *buf, int count, MPI_Datatype datatype, int dest, 
 
 int MPI_Isendrecv(const void *sendbuf, int sendcount, MPI_Datatype sendtype, int dest, int sendtag, void *recvbuf,
                   int recvcount, MPI_Datatype recvtype, int source, int recvtag, MPI_Comm comm, MPI_Request *request) {
+    NOTE_CALLER();
     static const char call[] = "MPI_Isendrecv";
     const struct argument out = {call, (void *)sendbuf, sendcount, sendtype, dest, sendtag, comm};
     const struct argument in = {call, recvbuf, recvcount, recvtype, source, recvtag, comm};
@@ -250,6 +257,7 @@ int MPI_Isendrecv(const void *sendbuf, int sendcount, MPI_Datatype sendtype, int
 
 int MPI_Isendrecv_replace(void *buf, int count, MPI_Datatype datatype, int dest, int sendtag, int source, int recvtag,
                           MPI_Comm comm, MPI_Request *request) {
+    NOTE_CALLER();
     static const char call[] = "MPI_Isendrecv_replace";
     const struct argument out = {call, buf, count, datatype, dest, sendtag, comm};
     const struct argument in = {call, buf, count, datatype, source, recvtag, comm};

@@ -166,6 +166,12 @@ void unpublish_request(MPI_Request *handle) {
     if (request != NULL) forget_request(request);
 }
 
+int request_places(void) { return requests.count; }
+
+struct request *request_at(int place) {
+    return requests.places[place].object;
+}
+
 int check_request(const char *call, MPI_Request handle, struct request **found) {
     *found = request_of(handle);
     if (*found != NULL || handle == MPI_REQUEST_NULL) return MPI_SUCCESS;

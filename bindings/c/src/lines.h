@@ -1,0 +1,37 @@
+/* Lines that the library writes of messages, requests and communicators. They name ranks by their numbers in
+ * MPI_COMM_WORLD, and a communicator by its name. Not for signal handlers. */
+#ifndef KOMBAZILY_LINES_H
+#define KOMBAZILY_LINES_H
+
+#include "communicators.h"
+#include "internal.h"
+
+enum { LONGEST_LINE = 1000, LONGEST_SOURCE = 300 };
+
+/* A line, at first {.length = 0}; what is too long for it is cut. */
+struct line {
+    char text[LONGEST_LINE];
+    size_t length;
+};
+
+void add_text(struct line *line, const char *form, ...) __attribute__((format(printf, 2, 3)));
+
+/* `MPI_COMM_WORLD`, `'row'`, `a communicator of 4 without a name`. */
+void add_comm(struct line *line, const struct communicator *comm);
+
+/* `a message of rank 1 with tag 5 in MPI_COMM_WORLD`: the source and the tag as a receive names them. */
+void add_message(struct line *line, const struct communicator *comm, int source, int tag);
+
+/* What a request is for: a message, or `rank 1 to receive 40 bytes with tag 5 in MPI_COMM_WORLD`. */
+void add_request(struct line *line, struct request *request);
+
+/* What a send sends: `40 bytes to rank 1 with tag 5 in MPI_COMM_WORLD`. */
+void add_send(struct line *line, const struct request *request);
+
+/* ` (ring.c:14)`, of the call of MPI that returns there, where that can be told. */
+void add_source(struct line *line, const void *caller);
+
+/* Writes it on standard error, behind what the program has printed. */
+void write_line(const struct line *line);
+
+#endif
