@@ -173,6 +173,22 @@ class Ends:
             found = self.run(3, "speaks", "lines", options=("-patience", "700"), KOMBAZILY_STANDSTILL=file.name)
         self.add("no standstill while a rank computes", found == (0, ["one 1", "two", "three"], []), found)
 
+    def synchronous(self):
+        """With every send synchronous two that send first wait for one another, which else go on."""
+        found = self.run(2, "stuck", "small_send", options=("-patience", "700"))
+        self.add("small sends go on", (found[0], found[2]) == (0, []), found)
+        status, _, errors = self.run(2, "stuck", "small_send", options=("-patience", "700"), KOMBAZILY_SYNCHRONOUS="1")
+        waits = sorted(without_source(it).split(";")[0] for it in errors if is_wait(it))
+        wanted = wanted_lines(["MPI_Send waits for rank %d to receive 4 bytes with tag 0 " + WORLD] * 2)
+        self.add("with every send synchronous they wait", (status, waits) == (4, wanted), (status, errors))
+
+    def too_early(self):
+        """A call before MPI_Init names the rank that made it."""
+        found = self.run(2, "leaves", "early", options=("-keep-going",))
+        said = sorted(it for it in found[2] if not it.startswith("mpirun: "))
+        wanted = ["rank %d: MPI_Comm_rank: called before MPI_Init" % it for it in range(2)]
+        self.add("a call that comes too early", (found[0], said) == (16, wanted), found)
+
     def source(self):
         """The line of the source is told, where addr2line is there: on a busy machine at some time."""
         tries = range(5 if shutil.which("addr2line") else 0)
@@ -182,5 +198,5 @@ class Ends:
 
 def all_rows(mode, library, mpirun, verdict, side_by_side):
     it = Ends(mode, library, mpirun, verdict)
-    side_by_side(lambda row: row(), [it.lines, it.standstill, it.prompts, it.kept, it.leaving, it.patience, it.left, it.source])
+    side_by_side(lambda row: row(), [it.lines, it.standstill, it.prompts, it.kept, it.leaving, it.patience, it.left, it.synchronous, it.too_early, it.source])
     side_by_side(it.stuck, list(STUCK))

@@ -8,8 +8,9 @@ void check_running(const char *call) {
     process.call = call;
     if (process.phase == RUNNING) return;
     fflush(stdout);
-    fprintf(stderr, "rank %d: %s: called %s\n", process.rank, call,
-            process.phase == FINALIZED ? "after MPI_Finalize" : "before MPI_Init");
+    bool is_over = process.phase == FINALIZED;
+    fprintf(stderr, "rank %d: %s: called %s\n", is_over ? process.rank : rank_in_environment(), call,
+            is_over ? "after MPI_Finalize" : "before MPI_Init");
     end_job(MPI_ERR_OTHER);
 }
 

@@ -40,6 +40,12 @@ static _Noreturn void refuse_start(int status, const char *cause, const char *de
     end_job(status);
 }
 
+/* Whether a variable of the environment is 1. */
+static bool is_wanted(const char *variable) {
+    const char *value = getenv(variable);
+    return value != NULL && strcmp(value, "1") == 0;
+}
+
 /* Takes words of the launcher out of the program's. */
 static void drop_words(int taken, int *argc, char ***argv) {
     memmove(*argv + 1, *argv + 1 + taken, (size_t)(*argc - taken) * sizeof **argv);
@@ -54,6 +60,12 @@ static void find_addresses(const struct place *place) {
     put_loopback(&addresses);
     if (hosts != NULL && !read_addresses(hosts, &addresses))
         refuse_start(STATUS_PLACE, "its place is told wrongly: ", "KOMBAZILY_HOSTS");
+}
+
+int rank_in_environment(void) {
+    struct place place;
+    const char *fault;
+    return place_in_environment(getenv, &place, &fault) == PLACE_TOLD ? (int)place.rank : 0;
 }
 
 /* The place of this process: from words, else from the environment, else a job of it alone. */
@@ -101,6 +113,8 @@ static int begin(const char *call, int *argc, char ***argv, int required) {
     if (process.size > 1) watch_end();
     watch_signals();
     standstill_open();
+    process.sends_wait = is_wanted("KOMBAZILY_SYNCHRONOUS");
+    process.checks = is_wanted("KOMBAZILY_CHECK");
     open_engine();
     open_device();
     progress_open();
@@ -145,11 +159,11 @@ static void leave_job(void) {
 int MPI_Finalize(void) {
     NOTE_CALLER();
     check_running("MPI_Finalize");
-    tell_requests();
+    if (process.checks) tell_requests();
     cancel_requests();
     settle_freed();
     if (device_is_open()) leave_job();
-    tell_messages();
+    if (process.checks) tell_messages();
     standstill_close();
     close_requests();
     close_messages();

@@ -25,6 +25,8 @@ struct process {
     uint64_t job;
     long patience; /* milliseconds; 0: there is no time after which a rank gives up */
     int thread_level;
+    bool checks;     /* what is left undone at the end is told */
+    bool sends_wait; /* each standard or ready send is at its end once a receive has its message, as synchronous ones */
     const char *call;   /* the call of MPI that the program made last */
     const void *caller; /* where in the program the last call stands that notes it */
 };
@@ -37,6 +39,9 @@ extern struct engine_rank engine;
 
 /* The statuses of a rank whose socket fails, and of one that gave up, as of every program here. */
 enum { STATUS_SOCKET = 3, STATUS_PATIENCE = 4 };
+
+/* The rank that the environment tells, before MPI_Init; 0 where it tells none. */
+int rank_in_environment(void);
 
 /* Ends this process with this status, and so the job: the launcher ends the others. */
 _Noreturn void end_job(int status);

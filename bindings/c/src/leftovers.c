@@ -3,16 +3,8 @@
 
 #include "lines.h"
 
-#include <stdlib.h>
-#include <string.h>
-
 /* So many requests, and messages of a communicator, are told one by one. */
 enum { MOST_TOLD = 10 };
-
-static bool is_wanted(void) {
-    const char *value = getenv("KOMBAZILY_CHECK");
-    return value != NULL && strcmp(value, "1") == 0;
-}
 
 static struct line begun_line(void) {
     struct line line = {.length = 0};
@@ -43,7 +35,6 @@ static void tell_request(struct request *request) {
 
 void tell_requests(void) {
     int found = 0;
-    if (!is_wanted()) return;
     for (int at = 0; at < request_places(); at++) {
         struct request *it = request_at(at);
         if (it != NULL && ++found <= MOST_TOLD) tell_request(it);
@@ -73,6 +64,4 @@ static void tell_messages_of(const struct communicator *comm) {
     tell_others(found, "messages");
 }
 
-void tell_messages(void) {
-    if (is_wanted()) each_communicator(tell_messages_of);
-}
+void tell_messages(void) { each_communicator(tell_messages_of); }

@@ -1,4 +1,4 @@
-/* What a program leaves undone at MPI_Finalize: told where KOMBAZILY_CHECK is 1, a line for each thing. */
+/* What a program leaves undone at MPI_Finalize: told where that is wanted, a line for each thing. */
 #ifndef KOMBAZILY_LEFTOVERS_H
 #define KOMBAZILY_LEFTOVERS_H
 

@@ -93,8 +93,8 @@ static int start_send(const struct argument *it, bool is_synchronous, struct req
     if (class == 0) class = check_target(it->comm, it->call, found.comm, it->rank);
     if (class == 0) class = check_tag(it->comm, it->call, it->tag);
     if (class != 0) return class;
-    uint32_t number =
-        begin_send(request, found.comm->place, is_synchronous, it->buf, it->count, found.type, it->rank, it->tag);
+    uint32_t number = begin_send(request, found.comm->place, is_synchronous || process.sends_wait, it->buf, it->count,
+                                 found.type, it->rank, it->tag);
     request->comm = it->comm;
     return number == 0 ? MPI_SUCCESS : raise_number(it->comm, it->call, number);
 }

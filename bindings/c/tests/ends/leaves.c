@@ -27,7 +27,8 @@ static void leave(const char *how) {
 }
 
 int main(int argc, char **argv) {
-    int rank, size;
+    int rank = -1, size;
+    if (argc > 1 && strcmp(argv[1], "early") == 0) MPI_Comm_rank(MPI_COMM_WORLD, &rank);
     MPI_Init(&argc, &argv);
     MPI_Comm_rank(MPI_COMM_WORLD, &rank);
     MPI_Comm_size(MPI_COMM_WORLD, &size);

@@ -36,6 +36,7 @@ static void wait_for_ever(const char *what) {
     if (strcmp(what, "receive") == 0) MPI_Recv(row, 1, MPI_INT, other, 5, MPI_COMM_WORLD, &status);
     if (strcmp(what, "any_source") == 0) MPI_Recv(row, 1, MPI_INT, MPI_ANY_SOURCE, 5, MPI_COMM_WORLD, &status);
     if (strcmp(what, "send") == 0) MPI_Send(row, 1000, MPI_INT, other, 0, MPI_COMM_WORLD);
+    if (strcmp(what, "small_send") == 0) MPI_Send(row, 1, MPI_INT, other, 0, MPI_COMM_WORLD);
     if (strcmp(what, "synchronous") == 0) MPI_Ssend(row, 1, MPI_INT, other, 0, MPI_COMM_WORLD);
     if (strcmp(what, "probe") == 0) MPI_Probe(other, 5, MPI_COMM_WORLD, &status);
     if (strcmp(what, "matched_probe") == 0) MPI_Mprobe(other, 5, MPI_COMM_WORLD, &message, &status);
@@ -55,6 +56,7 @@ int main(int argc, char **argv) {
     if (strcmp(what, "all") == 0 || strcmp(what, "any") == 0 || strcmp(what, "one") == 0) begin_lists(what);
     else if (strcmp(what, "part") == 0 || strcmp(what, "named") == 0) begin_in_part(what);
     else wait_for_ever(what);
+    if (strcmp(what, "small_send") == 0) MPI_Recv(row, 1, MPI_INT, other, 0, MPI_COMM_WORLD, MPI_STATUS_IGNORE);
     if (strcmp(what, "barrier") == 0 || strcmp(what, "broadcast") == 0 || strcmp(what, "split") == 0)
         MPI_Recv(row, 1, MPI_INT, 0, 1, MPI_COMM_WORLD, MPI_STATUS_IGNORE);
     MPI_Finalize();
