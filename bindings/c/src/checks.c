@@ -4,13 +4,21 @@
 
 #include <stdio.h>
 
+/* Before MPI_Init a rank is known where the environment tells it. */
+static _Noreturn void end_before_init(const char *call) {
+    const int rank = rank_in_environment();
+    char whose[24] = "";
+    if (rank >= 0) snprintf(whose, sizeof whose, "rank %d: ", rank);
+    fprintf(stderr, "%s%s: called before MPI_Init\n", whose, call);
+    end_job(MPI_ERR_OTHER);
+}
+
 void check_running(const char *call) {
     process.call = call;
     if (process.phase == RUNNING) return;
     fflush(stdout);
-    bool is_over = process.phase == FINALIZED;
-    fprintf(stderr, "rank %d: %s: called %s\n", is_over ? process.rank : rank_in_environment(), call,
-            is_over ? "after MPI_Finalize" : "before MPI_Init");
+    if (process.phase == BEFORE_INIT) end_before_init(call);
+    fprintf(stderr, "rank %d: %s: called after MPI_Finalize\n", process.rank, call);
     end_job(MPI_ERR_OTHER);
 }
 

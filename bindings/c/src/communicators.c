@@ -14,7 +14,7 @@
 static struct table communicators = TABLE_OF(KIND_COMMUNICATOR);
 
 struct communicator *communicator_of(MPI_Comm handle) {
-    return table_find(&communicators, (int)(intptr_t)handle);
+    return table_find(&communicators, (intptr_t)handle);
 }
 
 struct communicator *communicator_at(uint32_t place) {
@@ -40,16 +40,28 @@ static int fact_of(uint32_t place, enum engine_call_kind question) {
 /* Makes room for a communicator, which isn't one yet; NULL: there is no memory. */
 static struct communicator *new_communicator(MPI_Comm *handle) {
     struct communicator *made = calloc(1, sizeof *made);
-    int number = made == NULL ? 0 : table_add(&communicators, made);
+    int64_t number = made == NULL ? 0 : table_add(&communicators, made);
     if (number == 0) {
         free(made);
         return NULL;
     }
+    made->uses = 1;
     *handle = (MPI_Comm)(intptr_t)number;
     return made;
 }
 
-static void remove_communicator(MPI_Comm handle) { free(table_remove(&communicators, (int)(intptr_t)handle)); }
+struct communicator *hold_communicator(struct communicator *comm) {
+    comm->uses++;
+    return comm;
+}
+
+void release_communicator(struct communicator *comm) {
+    if (--comm->uses == 0) free(comm);
+}
+
+static void remove_communicator(MPI_Comm handle) {
+    release_communicator(table_remove(&communicators, (intptr_t)handle));
+}
 
 /* Says which communicator of the engine it is. */
 static void place_communicator(struct communicator *made, uint32_t place, MPI_Errhandler errhandler) {
@@ -72,8 +84,7 @@ int open_communicators(void) {
 }
 
 void close_communicators(void) {
-    for (int place = 0; place < communicators.count; place++)
-        free(table_remove(&communicators, HANDLE(KIND_COMMUNICATOR, place)));
+    for (int place = 0; place < communicators.count; place++) free(communicators.places[place].object);
     table_free(&communicators);
     close_groups();
 }
@@ -97,6 +108,7 @@ int MPI_Comm_rank(MPI_Comm comm, int *rank) {
 }
 
 int MPI_Comm_compare(MPI_Comm comm1, MPI_Comm comm2, int *result) {
+    NOTE_CALLER();
     const char *call = "MPI_Comm_compare";
     struct communicator *first, *second;
     check_running(call);
@@ -117,6 +129,7 @@ int MPI_Comm_compare(MPI_Comm comm1, MPI_Comm comm2, int *result) {
 }
 
 int MPI_Comm_group(MPI_Comm comm, MPI_Group *group) {
+    NOTE_CALLER();
     const char *call = "MPI_Comm_group";
     struct communicator *own;
     check_running(call);
@@ -146,7 +159,8 @@ static int make_communicator(MPI_Comm comm, const char *call, struct engine_call
     uint32_t number = enter_engine(entry, NULL, 0, &answer);
     if (number != 0 || answer.communicator == ENGINE_NO_COMMUNICATOR) {
         remove_communicator(handle);
-        return number == 0 ? MPI_SUCCESS : raise_number(comm, call, number);
+        if (number == 0) return MPI_SUCCESS;
+        return raise_limited(comm, call, number, "4,094 communicators were made, or no number is left for another one");
     }
     place_communicator(made, answer.communicator, own->errhandler);
     *newcomm = handle;
@@ -217,6 +231,9 @@ int MPI_Comm_set_name(MPI_Comm comm, const char *comm_name) {
     return class;
 }
 
-/* Handles as Fortran has them (17.2.4): their numbers. */
+/* Handles as Fortran has them (17.2.4): the low halves of their numbers, which name what lives now. */
 MPI_Fint MPI_Comm_c2f(MPI_Comm comm) { return (MPI_Fint)(intptr_t)comm; }
-MPI_Comm MPI_Comm_f2c(MPI_Fint comm) { return (MPI_Comm)(intptr_t)comm; }
+MPI_Comm MPI_Comm_f2c(MPI_Fint comm) {
+    int64_t number = table_number(&communicators, (uint32_t)comm);
+    return (MPI_Comm)(intptr_t)(number == 0 ? comm : number);
+}

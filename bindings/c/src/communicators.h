@@ -13,6 +13,7 @@ struct communicator {
     int rank;       /* the own rank in it */
     int size;
     MPI_Errhandler errhandler;
+    int uses; /* by the program's handle, and by operations that aren't at their end */
     char name[MPI_MAX_OBJECT_NAME];
 };
 
@@ -23,6 +24,11 @@ struct communicator *communicator_at(uint32_t place);
 
 /* Calls a function of each. */
 void each_communicator(void (*visit)(const struct communicator *));
+
+/* A communicator stays as long as it is held, even where the program frees it (6.4.3): the errors of its operations are
+ * told to its own handler. */
+struct communicator *hold_communicator(struct communicator *comm);
+void release_communicator(struct communicator *comm);
 
 /* Makes MPI_COMM_WORLD and MPI_COMM_SELF, as the engine has them: 0, or the class of an error. */
 int open_communicators(void);

@@ -1,6 +1,7 @@
 /* The beginning and the end of MPI in a process, and what a program may ask of its surroundings (MPI 3.1, 8 and 12.4).
  */
 #define _GNU_SOURCE
+#include "agreement.h"
 #include "device.h"
 #include "ends.h"
 #include "errors.h"
@@ -65,7 +66,7 @@ static void find_addresses(const struct place *place) {
 int rank_in_environment(void) {
     struct place place;
     const char *fault;
-    return place_in_environment(getenv, &place, &fault) == PLACE_TOLD ? (int)place.rank : 0;
+    return place_in_environment(getenv, &place, &fault) == PLACE_TOLD ? (int)place.rank : -1;
 }
 
 /* The place of this process: from words, else from the environment, else a job of it alone. */
@@ -157,12 +158,18 @@ static void leave_job(void) {
 }
 
 int MPI_Finalize(void) {
+    static const char call[] = "MPI_Finalize";
     NOTE_CALLER();
-    check_running("MPI_Finalize");
+    check_running(call);
     if (process.checks) tell_requests();
     cancel_requests();
     settle_freed();
-    if (device_is_open()) leave_job();
+    int class = MPI_SUCCESS;
+    if (device_is_open()) {
+        class = compare_entries(call);
+        leave_job();
+        if (class == MPI_SUCCESS) class = tell_disagreement(call);
+    }
     if (process.checks) tell_messages();
     standstill_close();
     close_requests();
@@ -172,7 +179,7 @@ int MPI_Finalize(void) {
     device_close();
     kombazily_free(&engine);
     process.phase = FINALIZED;
-    return MPI_SUCCESS;
+    return class;
 }
 
 int MPI_Finalized(int *flag) {

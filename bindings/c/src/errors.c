@@ -90,7 +90,7 @@ static const struct {
     [13] = {MPI_ERR_OTHER, "a limit of the library is reached"},
     [14] = {MPI_ERR_NO_MEM, "no memory"},
 };
-enum { ENGINE_NUMBERS = sizeof engine_numbers / sizeof *engine_numbers, LONGEST_CAUSE = 400 };
+enum { ENGINE_NUMBERS = sizeof engine_numbers / sizeof *engine_numbers };
 
 int class_of(uint32_t number) {
     if (number == 0) return MPI_SUCCESS;
@@ -119,8 +119,20 @@ int raise_on(MPI_Comm comm, const char *call, int class, const char *cause, ...)
     end_by_error(call, class, cause, arguments);
 }
 
+int raise_in(const struct communicator *comm, const char *call, int class, const char *cause, ...) {
+    if (comm->errhandler == MPI_ERRORS_RETURN) return class;
+    va_list arguments;
+    va_start(arguments, cause);
+    end_by_error(call, class, cause, arguments);
+}
+
 int raise_number(MPI_Comm comm, const char *call, uint32_t number) {
     return raise_on(comm, call, class_of(number), "%s (%u)", cause_of(number), (unsigned)number);
+}
+
+int raise_limited(MPI_Comm comm, const char *call, uint32_t number, const char *limit) {
+    if (number != NUMBER_LIMIT) return raise_number(comm, call, number);
+    return raise_on(comm, call, class_of(number), "%s (%u)", limit, (unsigned)number);
 }
 
 int MPI_Error_class(int errorcode, int *errorclass) {

@@ -13,8 +13,16 @@
  * and ends the job with the class as its status. The cause is a format as for printf. */
 int raise_on(MPI_Comm comm, const char *call, int class, const char *cause, ...) __attribute__((format(printf, 4, 5)));
 
-/* The same of a number of the engine that isn't 0. */
+/* The same of a communicator itself, which the program may have freed. */
+int raise_in(const struct communicator *comm, const char *call, int class, const char *cause, ...)
+    __attribute__((format(printf, 4, 5)));
+
+/* The same of a number of the engine that isn't 0; and where it may be that of a limit, by the name of this limit. */
 int raise_number(MPI_Comm comm, const char *call, uint32_t number);
+int raise_limited(MPI_Comm comm, const char *call, uint32_t number, const char *limit);
+
+/* The limit of calls that open a request or take a message out. */
+#define LIMIT_OF_REQUESTS "65,536 requests are open, or no number is left for another one"
 
 /* The class of a number of the engine, and what it means, in words. */
 int class_of(uint32_t number);

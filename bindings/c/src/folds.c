@@ -22,6 +22,9 @@ static long double chosen(long double a, long double b, bool wants_second) {
     return isnan(b) || wants_second ? b : a;
 }
 
+/* A NaN that is made is the quiet one without a sign, as the engine's own floats have it. */
+static long double made(long double result) { return isnan(result) ? (long double)NAN : result; }
+
 static long double combine(enum engine_operation operation, long double a, long double b) {
     switch (operation) {
     case ENGINE_MAX:
@@ -29,9 +32,9 @@ static long double combine(enum engine_operation operation, long double a, long 
     case ENGINE_MIN:
         return chosen(a, b, is_below(b, a));
     case ENGINE_SUM:
-        return a + b;
+        return made(a + b);
     case ENGINE_PROD:
-        return a * b;
+        return made(a * b);
     default:
         return a;
     }

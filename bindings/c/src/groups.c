@@ -21,7 +21,7 @@ static struct table groups = TABLE_OF(KIND_GROUP);
 
 static struct group *group_of(MPI_Group handle) {
     if (handle == MPI_GROUP_EMPTY) return &empty;
-    return table_find(&groups, (int)(intptr_t)handle);
+    return table_find(&groups, (intptr_t)handle);
 }
 
 static struct members members_of(const struct group *group) { return (struct members){group->list, group->size}; }
@@ -33,7 +33,7 @@ static int own_place(const struct group *group) {
 }
 
 void close_groups(void) {
-    for (int place = 1; place < groups.count; place++) free(table_remove(&groups, HANDLE(KIND_GROUP, place)));
+    for (int place = 1; place < groups.count; place++) free(groups.places[place].object);
     table_free(&groups);
 }
 
@@ -41,7 +41,7 @@ int add_group(MPI_Comm comm, const char *call, const uint16_t *members, int size
     *group = MPI_GROUP_EMPTY;
     if (size == 0) return MPI_SUCCESS;
     struct group *made = malloc(sizeof *made + (size_t)size * sizeof *members);
-    int number = 0;
+    int64_t number = 0;
     if (made != NULL && (groups.count > 0 || table_add(&groups, &empty) != 0)) number = table_add(&groups, made);
     if (number == 0) {
         free(made);
@@ -177,7 +177,7 @@ int MPI_Group_free(MPI_Group *group) {
     if (class == MPI_SUCCESS) class = check_group(call, *group, &own);
     if (class != MPI_SUCCESS) return class;
     /* MPI_GROUP_EMPTY may be what a call answered, so it may be freed; it stays. */
-    if (own != &empty) free(table_remove(&groups, (int)(intptr_t)*group));
+    if (own != &empty) free(table_remove(&groups, (intptr_t)*group));
     *group = MPI_GROUP_NULL;
     return MPI_SUCCESS;
 }

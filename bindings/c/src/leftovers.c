@@ -22,9 +22,12 @@ static void tell_others(int found, const char *what) {
 
 static void tell_request(struct request *request) {
     struct line line = begun_line();
-    if (request->kind == REQUEST_RECEIVE) {
+    if (request->kind == REQUEST_MATCHED) {
+        add_text(&line, "no call ended this receive: a message that was taken out in ");
+        add_comm(&line, request->comm);
+    } else if (request->kind == REQUEST_RECEIVE) {
         add_text(&line, "no call ended this receive: ");
-        add_message(&line, communicator_of(request->comm), request->peer, request->tag);
+        add_message(&line, request->comm, request->peer, request->tag);
     } else {
         add_text(&line, "no call ended this send: ");
         add_send(&line, request);

@@ -35,7 +35,7 @@ static int rank_in_world(const struct communicator *comm, int member) {
     if (comm == NULL || comm->place == ENGINE_WORLD || member < 0) return member;
     struct engine_answer answer;
     uint16_t rank = 0;
-    call_engine(&(struct engine_call){.kind = ENGINE_MEMBERS, .communicator = comm->place}, NULL, 0, &answer);
+    ask_engine(&(struct engine_call){.kind = ENGINE_MEMBERS, .communicator = comm->place}, NULL, 0, &answer);
     if (answer.kind != ENGINE_FACT) return member;
     kombazily_take(&engine, (uint64_t)member, (uint8_t *)&rank, sizeof rank);
     return rank;
@@ -65,21 +65,23 @@ void add_message(struct line *line, const struct communicator *comm, int source,
 
 void add_request(struct line *line, struct request *request) {
     if (request->other != NULL && request->is_ended) request = request->other;
-    const struct communicator *comm = communicator_of(request->comm);
-    if (request->kind == REQUEST_RECEIVE) {
-        add_message(line, comm, request->peer, request->tag);
+    if (request->kind == REQUEST_MATCHED) {
+        add_text(line, "the data of its message");
         return;
     }
-    add_rank(line, comm, request->peer);
+    if (request->kind == REQUEST_RECEIVE) {
+        add_message(line, request->comm, request->peer, request->tag);
+        return;
+    }
+    add_rank(line, request->comm, request->peer);
     add_text(line, " to receive %zu bytes", request->room);
-    add_place(line, comm, request->peer, request->tag);
+    add_place(line, request->comm, request->peer, request->tag);
 }
 
 void add_send(struct line *line, const struct request *request) {
-    const struct communicator *comm = communicator_of(request->comm);
     add_text(line, "%zu bytes to ", request->room);
-    add_rank(line, comm, request->peer);
-    add_place(line, comm, request->peer, request->tag);
+    add_rank(line, request->comm, request->peer);
+    add_place(line, request->comm, request->peer, request->tag);
 }
 
 void add_source(struct line *line, const void *caller) {

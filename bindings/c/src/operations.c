@@ -4,8 +4,8 @@
 #include "table.h"
 
 int operation_of(MPI_Op op) {
-    int number = (int)(intptr_t)op - HANDLE(KIND_OPERATION, 0);
-    return number >= ENGINE_MAX && number <= ENGINE_BXOR ? number : 0;
+    int64_t number = (intptr_t)op - HANDLE(KIND_OPERATION, 0);
+    return number >= ENGINE_MAX && number <= ENGINE_BXOR ? (int)number : 0;
 }
 
 const char *operation_name(enum engine_operation operation) {

@@ -25,9 +25,9 @@ struct found {
 
 /* ---- beginning ---- */
 
-uint32_t begin_send(struct request *request, uint32_t place, bool is_synchronous, const void *buf, int count,
+uint32_t begin_send(struct request *request, struct communicator *comm, bool is_synchronous, const void *buf, int count,
                     const struct datatype *type, int target, int tag) {
-    *request = (struct request){.kind = REQUEST_SEND, .comm = MPI_COMM_WORLD, .peer = target, .tag = tag};
+    *request = (struct request){.kind = REQUEST_SEND, .comm = comm, .peer = target, .tag = tag};
     request->caller = process.caller;
     if (target == MPI_PROC_NULL) count = 0; /* its data go nowhere (3.11) */
     size_t len = data_size(&type->layout, (size_t)count);
@@ -38,7 +38,7 @@ uint32_t begin_send(struct request *request, uint32_t place, bool is_synchronous
     const void *row = data_row(&type->layout, buf, (size_t)count, &room);
     if (row == NULL && len > 0) return NUMBER_NO_MEMORY;
     const struct engine_call send = {.kind = is_synchronous ? ENGINE_ISSEND : ENGINE_ISEND,
-                                     .communicator = place,
+                                     .communicator = comm->place,
                                      .peer = target == MPI_PROC_NULL ? ENGINE_NULL : target,
                                      .tag = tag,
                                      .basic = type->basic};
@@ -51,24 +51,25 @@ uint32_t begin_send(struct request *request, uint32_t place, bool is_synchronous
     return 0;
 }
 
-uint32_t begin_receive(struct request *request, uint32_t place, void *buf, int count, struct datatype *type, int source,
-                       int tag) {
+uint32_t begin_receive(struct request *request, struct communicator *comm, void *buf, int count, struct datatype *type,
+                       int source, int tag) {
     *request = (struct request){
-        .kind = REQUEST_RECEIVE, .comm = MPI_COMM_WORLD, .peer = source, .tag = tag, .type = type, .buf = buf};
+        .kind = REQUEST_RECEIVE, .comm = comm, .peer = source, .tag = tag, .buf = buf, .element = type->of};
     request->caller = process.caller;
     request->room = data_size(&type->layout, (size_t)count);
     const struct engine_call receive = {.kind = ENGINE_IRECV,
-                                        .communicator = place,
+                                        .communicator = comm->place,
                                         .peer = source == MPI_PROC_NULL    ? ENGINE_NULL
                                                 : source == MPI_ANY_SOURCE ? ENGINE_ANY
                                                                            : source,
                                         .tag = tag == MPI_ANY_TAG ? ENGINE_ANY : tag,
                                         .basic = type->basic,
-                                        .count = engine_room(type, (size_t)count)};
+                                        .count = engine_elements(type, request->room)};
     struct engine_answer answer;
     call_engine(&receive, NULL, 0, &answer);
     request->own = answer.request;
     if (answer.kind != ENGINE_STARTED) return answer.number;
+    request->type = type;
     hold_type(type);
     progress_out();
     return 0;
@@ -93,10 +94,9 @@ static int start_send(const struct argument *it, bool is_synchronous, struct req
     if (class == 0) class = check_target(it->comm, it->call, found.comm, it->rank);
     if (class == 0) class = check_tag(it->comm, it->call, it->tag);
     if (class != 0) return class;
-    uint32_t number = begin_send(request, found.comm->place, is_synchronous || process.sends_wait, it->buf, it->count,
+    uint32_t number = begin_send(request, found.comm, is_synchronous || process.sends_wait, it->buf, it->count,
                                  found.type, it->rank, it->tag);
-    request->comm = it->comm;
-    return number == 0 ? MPI_SUCCESS : raise_number(it->comm, it->call, number);
+    return number == 0 ? MPI_SUCCESS : raise_limited(it->comm, it->call, number, LIMIT_OF_REQUESTS);
 }
 
 /* Begins a receive of a program. */
@@ -106,9 +106,8 @@ static int start_receive(const struct argument *it, struct request *request) {
     if (class == 0) class = check_source(it->comm, it->call, found.comm, it->rank);
     if (class == 0) class = check_receive_tag(it->comm, it->call, it->tag);
     if (class != 0) return class;
-    uint32_t number = begin_receive(request, found.comm->place, it->buf, it->count, found.type, it->rank, it->tag);
-    request->comm = it->comm;
-    return number == 0 ? MPI_SUCCESS : raise_number(it->comm, it->call, number);
+    uint32_t number = begin_receive(request, found.comm, it->buf, it->count, found.type, it->rank, it->tag);
+    return number == 0 ? MPI_SUCCESS : raise_limited(it->comm, it->call, number, LIMIT_OF_REQUESTS);
 }
 
 /* ---- one send, one receive ---- */
@@ -120,16 +119,32 @@ static int send_and_wait(const struct argument *it, bool is_synchronous) {
     return await_request(&request) == 0 ? MPI_SUCCESS : raise_end(it->call, &request);
 }
 
-/* Hands a request to the program. */
-static int hand_over(const struct argument *it, const struct request *begun, MPI_Request *request) {
-    *request = publish_request(begun);
-    return *request != MPI_REQUEST_NULL ? MPI_SUCCESS : raise_number(it->comm, it->call, NUMBER_NO_MEMORY);
+/* Makes the request that such a call answers with, before its operation begins. */
+static int open_handle(const struct argument *it, const MPI_Request *request, MPI_Request *own) {
+    check_running(it->call);
+    int class = check_result(it->comm, it->call, request, "request");
+    if (class != 0) return class;
+    *own = open_request();
+    return *own != MPI_REQUEST_NULL ? MPI_SUCCESS : raise_number(it->comm, it->call, NUMBER_NO_MEMORY);
+}
+
+/* Hands it to the program, if the operation has begun. */
+static int hand_over(int class, MPI_Request own, MPI_Request *request) {
+    struct request *begun = request_of(own);
+    if (class != 0) {
+        begun->comm = NULL;
+        close_request(&own);
+        return class;
+    }
+    hold_communicator(begun->comm);
+    *request = own;
+    return MPI_SUCCESS;
 }
 
 static int send_later(const struct argument *it, bool is_synchronous, MPI_Request *request) {
-    struct request begun;
-    int class = start_send(it, is_synchronous, &begun);
-    return class != 0 ? class : hand_over(it, &begun, request);
+    MPI_Request own;
+    int class = open_handle(it, request, &own);
+    return class != 0 ? class : hand_over(start_send(it, is_synchronous, request_of(own)), own, request);
 }
 
 int MPI_Send(const void *buf, int count, MPI_Datatype datatype, int dest, int tag, MPI_Comm comm) {
@@ -186,14 +201,15 @@ int MPI_Recv(void *buf, int count, MPI_Datatype datatype, int source, int tag, M
 int MPI_Irecv(void *buf, int count, MPI_Datatype datatype, int source, int tag, MPI_Comm comm, MPI_Request *request) {
     NOTE_CALLER();
     const struct argument it = {"MPI_Irecv", buf, count, datatype, source, tag, comm};
-    struct request begun;
-    int class = start_receive(&it, &begun);
-    return class != 0 ? class : hand_over(&it, &begun, request);
+    MPI_Request own;
+    int class = open_handle(&it, request, &own);
+    return class != 0 ? class : hand_over(start_receive(&it, request_of(own)), own, request);
 }
 
 /* ---- a send and a receive together (3.10) ---- */
 
-/* Begins both. The data of the send are taken before anything is received, so the two may name the same memory. */
+/* Begins both. The data of the send are taken before anything is received, so the two may name the same memory. A send
+ * that has begun goes on where the receive can't begin, and is ended by whatever ends requests next. */
 static int start_both(const struct argument *out, const struct argument *in, struct request *send,
                       struct request *receive) {
     struct found found;
@@ -202,7 +218,9 @@ static int start_both(const struct argument *out, const struct argument *in, str
     if (class == 0) class = check_source(in->comm, in->call, found.comm, in->rank);
     if (class == 0) class = check_receive_tag(in->comm, in->call, in->tag);
     if (class == 0) class = start_send(out, false, send);
-    if (class == 0) class = start_receive(in, receive);
+    if (class != 0) return class;
+    class = start_receive(in, receive);
+    if (class != 0) (void)let_go(send);
     return class;
 }
 
@@ -219,13 +237,15 @@ static int exchange(const struct argument *out, const struct argument *in, MPI_S
 
 /* The two end together, as one request. */
 static int exchange_later(const struct argument *out, const struct argument *in, MPI_Request *request) {
-    struct request send, receive;
-    int class = start_both(out, in, &send, &receive);
+    MPI_Request own;
+    int class = open_handle(in, request, &own);
     if (class != 0) return class;
-    receive.other = malloc(sizeof send);
-    if (receive.other == NULL) return raise_number(in->comm, in->call, NUMBER_NO_MEMORY);
-    *receive.other = send;
-    return hand_over(in, &receive, request);
+    struct request *send = malloc(sizeof *send), *receive = request_of(own);
+    if (send == NULL) class = raise_number(in->comm, in->call, NUMBER_NO_MEMORY);
+    else class = start_both(out, in, send, receive);
+    if (class != 0) free(send);
+    else receive->other = send;
+    return hand_over(class, own, request);
 }
 
 int MPI_Sendrecv(const void *sendbuf, int sendcount, MPI_Datatype sendtype, int dest, int sendtag, void *recvbuf,

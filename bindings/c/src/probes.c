@@ -7,28 +7,35 @@
 
 #include <stdlib.h>
 
-/* A message that was taken out: what the engine knows it by, and the communicator whose error handler is told. */
+/* A message that was taken out: what the engine knows it by, and the communicator whose error handler is told, of its
+ * receive also where the program has freed it. */
 struct message {
     struct engine_request own;
-    MPI_Comm comm;
+    MPI_Comm handle;
+    struct communicator *comm;
 };
 
 static struct table messages = TABLE_OF(KIND_MESSAGE);
 
 /* ---- looking ---- */
 
-/* What a probe asks for. */
+/* What a probe asks for, and where it tells of what it found: `flag` of those that don't wait, `message` of those that
+ * take it out. */
 struct look {
     const char *call;
     int source;
     int tag;
     MPI_Comm comm;
-    bool takes_out;
+    bool takes_out, waits;
+    int *flag;
+    MPI_Message *message;
 };
 
 static int check_look(const struct look *it, struct communicator **comm) {
     check_running(it->call);
     int class = check_comm(it->comm, it->call, comm);
+    if (class == 0 && !it->waits) class = check_result(it->comm, it->call, it->flag, "flag");
+    if (class == 0 && it->takes_out) class = check_result(it->comm, it->call, it->message, "message");
     if (class == 0) class = check_source(it->comm, it->call, *comm, it->source);
     if (class == 0) class = check_receive_tag(it->comm, it->call, it->tag);
     return class;
@@ -45,13 +52,13 @@ static void look_once(const struct look *it, const struct communicator *comm, st
 }
 
 /* Looks once, or until something is found: 0, or the class of an error, of which was told. */
-static int look(const struct look *it, bool waits, struct engine_answer *answer) {
+static int look(const struct look *it, struct engine_answer *answer) {
     struct communicator *comm;
     int class = check_look(it, &comm);
     if (class != 0) return class;
     progress();
     look_once(it, comm, answer);
-    if (waits && answer->kind == ENGINE_NOTHING) {
+    if (it->waits && answer->kind == ENGINE_NOTHING) {
         begin_wait(&(struct wait){.kind = WAIT_MESSAGE, .comm = it->comm, .rank = it->source, .tag = it->tag});
         do {
             progress_wait();
@@ -59,69 +66,62 @@ static int look(const struct look *it, bool waits, struct engine_answer *answer)
         } while (answer->kind == ENGINE_NOTHING);
         end_wait();
     }
-    if (answer->kind == ENGINE_REFUSED) return raise_number(it->comm, it->call, answer->number);
+    if (answer->kind == ENGINE_REFUSED) return raise_limited(it->comm, it->call, answer->number, LIMIT_OF_REQUESTS);
     if (has_freed()) settle_freed();
     return MPI_SUCCESS;
 }
 
-/* Tells of what was found. */
-static void tell(const struct engine_answer *answer, int *flag, MPI_Status *status) {
-    const MPI_Status found = status_of(answer);
-    *flag = answer->kind != ENGINE_NOTHING;
-    if (*flag) put_status(status, &found);
-}
-
 /* Hands a message that was taken out to the program. */
-static int hand_message(const struct look *it, const struct engine_answer *answer, MPI_Message *message) {
-    *message = MPI_MESSAGE_NULL;
+static int hand_message(const struct look *it, const struct engine_answer *answer) {
+    *it->message = MPI_MESSAGE_NULL;
     if (answer->kind != ENGINE_MATCHED) return MPI_SUCCESS;
-    *message = MPI_MESSAGE_NO_PROC;
+    *it->message = MPI_MESSAGE_NO_PROC;
     if (answer->source == ENGINE_NULL) return MPI_SUCCESS;
     struct message *own = malloc(sizeof *own);
-    int handle = own == NULL ? 0 : table_add(&messages, own);
+    int64_t handle = own == NULL ? 0 : table_add(&messages, own);
     if (handle == 0) {
         free(own);
         return raise_number(it->comm, it->call, NUMBER_NO_MEMORY);
     }
-    *own = (struct message){.own = answer->request, .comm = it->comm};
-    *message = (MPI_Message)(intptr_t)handle;
+    *own = (struct message){answer->request, it->comm, hold_communicator(communicator_of(it->comm))};
+    *it->message = (MPI_Message)(intptr_t)handle;
     return MPI_SUCCESS;
+}
+
+/* Looks, and tells of what was found. */
+static int probe(const struct look *it, MPI_Status *status) {
+    struct engine_answer answer;
+    int class = look(it, &answer);
+    if (class != 0) return class;
+    bool is_found = answer.kind != ENGINE_NOTHING;
+    const MPI_Status found = status_of(&answer);
+    if (is_found) put_status(status, &found);
+    if (it->flag != NULL) *it->flag = is_found;
+    return it->takes_out ? hand_message(it, &answer) : MPI_SUCCESS;
 }
 
 int MPI_Probe(int source, int tag, MPI_Comm comm, MPI_Status *status) {
     NOTE_CALLER();
-    const struct look it = {"MPI_Probe", source, tag, comm, false};
-    struct engine_answer answer;
-    int flag, class = look(&it, true, &answer);
-    if (class == 0) tell(&answer, &flag, status);
-    return class;
+    const struct look it = {"MPI_Probe", source, tag, comm, .waits = true};
+    return probe(&it, status);
 }
 
 int MPI_Iprobe(int source, int tag, MPI_Comm comm, int *flag, MPI_Status *status) {
-    const struct look it = {"MPI_Iprobe", source, tag, comm, false};
-    struct engine_answer answer;
-    int class = look(&it, false, &answer);
-    if (class == 0) tell(&answer, flag, status);
-    return class;
+    NOTE_CALLER();
+    const struct look it = {"MPI_Iprobe", source, tag, comm, .flag = flag};
+    return probe(&it, status);
 }
 
 int MPI_Mprobe(int source, int tag, MPI_Comm comm, MPI_Message *message, MPI_Status *status) {
     NOTE_CALLER();
-    const struct look it = {"MPI_Mprobe", source, tag, comm, true};
-    struct engine_answer answer;
-    int flag, class = look(&it, true, &answer);
-    if (class != 0) return class;
-    tell(&answer, &flag, status);
-    return hand_message(&it, &answer, message);
+    const struct look it = {"MPI_Mprobe", source, tag, comm, .takes_out = true, .waits = true, .message = message};
+    return probe(&it, status);
 }
 
 int MPI_Improbe(int source, int tag, MPI_Comm comm, int *flag, MPI_Message *message, MPI_Status *status) {
-    const struct look it = {"MPI_Improbe", source, tag, comm, true};
-    struct engine_answer answer;
-    int class = look(&it, false, &answer);
-    if (class != 0) return class;
-    tell(&answer, flag, status);
-    return hand_message(&it, &answer, message);
+    NOTE_CALLER();
+    const struct look it = {"MPI_Improbe", source, tag, comm, .takes_out = true, .flag = flag, .message = message};
+    return probe(&it, status);
 }
 
 /* ---- receiving what was taken out ---- */
@@ -133,74 +133,80 @@ struct room {
     MPI_Datatype type;
 };
 
-/* That there is such a message and such a room, and whose error handler is told. */
+/* That there is such a message and such a room. No message is found of no process. */
 static int check_message(const char *call, const MPI_Message *message, const struct room *room, struct datatype **type,
-                         MPI_Comm *comm) {
+                         struct message **found) {
     check_running(call);
-    struct message *found = table_find(&messages, (int)(intptr_t)*message);
-    *comm = found == NULL ? MPI_COMM_WORLD : found->comm;
-    if (found == NULL && *message != MPI_MESSAGE_NO_PROC)
-        return raise_on(*comm, call, MPI_ERR_REQUEST, "a handle that is no message");
-    int class = check_count(*comm, call, room->count);
-    if (class == 0) class = check_type(*comm, call, room->type, type);
-    if (class == 0) class = check_buffer(*comm, call, room->buf, room->count, *type);
+    int class = check_result(MPI_COMM_WORLD, call, message, "message");
+    if (class != 0) return class;
+    *found = table_find(&messages, (intptr_t)*message);
+    if (*found == NULL && *message != MPI_MESSAGE_NO_PROC)
+        return raise_on(MPI_COMM_WORLD, call, MPI_ERR_REQUEST, "a handle that is no message");
+    MPI_Comm comm = *found == NULL ? MPI_COMM_WORLD : (*found)->handle;
+    class = check_count(comm, call, room->count);
+    if (class == 0) class = check_type(comm, call, room->type, type);
+    if (class == 0) class = check_buffer(comm, call, room->buf, room->count, *type);
     return class;
 }
 
-/* Receives a message to its end. Its sender has announced it, so it comes without any further call of the program. */
-static int receive_message(const char *call, MPI_Message *message, const struct room *room, struct request *request) {
-    struct datatype *type;
-    MPI_Comm comm;
-    int class = check_message(call, message, room, &type, &comm);
-    if (class != 0) return class;
-    *request = (struct request){.kind = REQUEST_RECEIVE, .comm = comm, .type = type, .buf = room->buf};
-    request->room = data_size(&type->layout, (size_t)room->count);
-    struct engine_answer answer = {
+/* Begins to receive a message, which is the program's no more. */
+static void start_message(MPI_Message *message, const struct message *own, const struct room *room,
+                          struct datatype *type, struct request *request) {
+    static const struct engine_answer of_no_process = {
         .kind = ENGINE_DONE, .outcome = ENGINE_RECEIVED, .source = ENGINE_NULL, .tag = ENGINE_ANY};
-    struct message *own = table_remove(&messages, (int)(intptr_t)*message);
-    *message = MPI_MESSAGE_NULL;
-    if (own != NULL) {
-        const struct engine_call receive = {.kind = ENGINE_MRECV,
-                                            .request = own->own,
-                                            .basic = type->basic,
-                                            .count = engine_room(type, (size_t)room->count)};
-        free(own);
-        call_engine(&receive, NULL, 0, &answer);
-        begin_wait(&(struct wait){.kind = WAIT_DATA});
-        await_finish(&answer);
-        end_wait();
-    }
+    *request = (struct request){.kind = REQUEST_MATCHED, .type = type, .buf = room->buf, .element = type->of};
+    request->caller = process.caller;
+    request->room = data_size(&type->layout, (size_t)room->count);
+    request->comm = own == NULL ? hold_communicator(communicator_of(MPI_COMM_WORLD)) : own->comm;
     hold_type(type);
-    end_request(request, &answer);
-    if (has_freed()) settle_freed();
-    return MPI_SUCCESS;
+    if (own == NULL) {
+        end_request(request, &of_no_process);
+    } else {
+        request->own = own->own;
+        begin_matched(request);
+        free(table_remove(&messages, (intptr_t)*message));
+    }
+    *message = MPI_MESSAGE_NULL;
 }
 
 int MPI_Mrecv(void *buf, int count, MPI_Datatype datatype, MPI_Message *message, MPI_Status *status) {
     NOTE_CALLER();
     static const char call[] = "MPI_Mrecv";
     const struct room room = {buf, count, datatype};
+    struct datatype *type;
+    struct message *own;
     struct request request;
-    int class = receive_message(call, message, &room, &request);
+    int class = check_message(call, message, &room, &type, &own);
     if (class != 0) return class;
+    start_message(message, own, &room, type, &request);
+    await_request(&request);
     put_status(status, &request.end);
-    return request.number == 0 ? MPI_SUCCESS : raise_end(call, &request);
+    class = request.number == 0 ? MPI_SUCCESS : raise_end(call, &request);
+    release_communicator(request.comm);
+    return class;
 }
 
-/* The request is at its end when the call returns: the sender has announced the message, and its data come by the
- * progress of the two ranks alone. */
 int MPI_Imrecv(void *buf, int count, MPI_Datatype datatype, MPI_Message *message, MPI_Request *request) {
     NOTE_CALLER();
     static const char call[] = "MPI_Imrecv";
     const struct room room = {buf, count, datatype};
-    struct request ended;
-    int class = receive_message(call, message, &room, &ended);
+    struct datatype *type;
+    struct message *own;
+    int class = check_message(call, message, &room, &type, &own);
+    if (class == 0) class = check_result(MPI_COMM_WORLD, call, request, "request");
     if (class != 0) return class;
-    *request = publish_request(&ended);
-    return *request != MPI_REQUEST_NULL ? MPI_SUCCESS : raise_number(ended.comm, call, NUMBER_NO_MEMORY);
+    MPI_Request begun = open_request();
+    if (begun == MPI_REQUEST_NULL) return raise_number(MPI_COMM_WORLD, call, NUMBER_NO_MEMORY);
+    start_message(message, own, &room, type, request_of(begun));
+    *request = begun;
+    return MPI_SUCCESS;
 }
 
 void close_messages(void) {
-    for (int place = 0; place < messages.count; place++) free(messages.places[place].object);
+    for (int place = 0; place < messages.count; place++) {
+        struct message *own = messages.places[place].object;
+        if (own != NULL) release_communicator(own->comm);
+        free(own);
+    }
     table_free(&messages);
 }

@@ -171,19 +171,6 @@ void progress_last_words(void) {
     send_out(true);
 }
 
-void await_finish(struct engine_answer *answer) {
-    const struct engine_call finish = {.kind = ENGINE_FINISH};
-    progress_out();
-    progress_begin_wait();
-    while (answer->kind == ENGINE_BLOCKED || answer->kind == ENGINE_PENDING) {
-        progress_wait();
-        call_engine(&finish, NULL, 0, answer);
-    }
-    progress_out();
-    /* The program may know by this end of the end of a receive that it let go. Data of the answer are taken first. */
-    if (answer->bytes == 0 && has_freed()) settle_freed();
-}
-
 /* Whether the engine may send something at such a call. */
 static bool may_send(enum engine_call_kind kind) {
     switch (kind) {
@@ -203,8 +190,26 @@ static bool may_send(enum engine_call_kind kind) {
     }
 }
 
-void call_engine(const struct engine_call *call, const void *data, size_t len, struct engine_answer *answer) {
+void ask_engine(const struct engine_call *call, const void *data, size_t len, struct engine_answer *answer) {
     static const unsigned char nothing[1];
     if (may_send(call->kind)) tell_time();
     kombazily_call(&engine, call, data == NULL || len == 0 ? nothing : data, len, answer);
+}
+
+void await_finish(struct engine_answer *answer) {
+    const struct engine_call finish = {.kind = ENGINE_FINISH};
+    progress_out();
+    progress_begin_wait();
+    while (answer->kind == ENGINE_BLOCKED || answer->kind == ENGINE_PENDING) {
+        progress_wait();
+        ask_engine(&finish, NULL, 0, answer);
+    }
+    progress_out();
+    /* The program may know by this end of the end of a receive that it let go. Data of the answer are taken first. */
+    if (answer->bytes == 0 && has_freed()) settle_freed();
+}
+
+void call_engine(const struct engine_call *call, const void *data, size_t len, struct engine_answer *answer) {
+    free_engine();
+    ask_engine(call, data, len, answer);
 }

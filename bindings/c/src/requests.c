@@ -5,6 +5,7 @@
 #include "types.h"
 #include "wait_lines.h"
 
+#include <stdio.h>
 #include <stdlib.h>
 
 static struct table requests = TABLE_OF(KIND_REQUEST);
@@ -30,6 +31,10 @@ MPI_Status status_of(const struct engine_answer *answer) {
     status.MPI_TAG = answer->tag == ENGINE_ANY ? MPI_ANY_TAG : answer->tag;
     status.reserved_bytes = (MPI_Count)answer->count * size_of_basic(answer->basic);
     return status;
+}
+
+void put_empty(MPI_Status *status) {
+    if (status != MPI_STATUS_IGNORE) *status = empty_status();
 }
 
 void put_status(MPI_Status *status, const MPI_Status *of) {
@@ -73,6 +78,7 @@ static void note_end(struct request *request, const struct engine_answer *answer
         request->end.reserved_bytes = (MPI_Count)(answer->count * request->type->unit);
     /* A message of no elements fits a receive of any type (3.3.1). */
     if (answer->outcome == ENGINE_FAILED && answer->count != 0) request->number = answer->number;
+    if (request->number == NUMBER_TYPE) request->elements = answer->count;
     if (answer->outcome == ENGINE_RECEIVED) request->number = take_data(request, answer->bytes);
 }
 
@@ -84,6 +90,7 @@ void end_request(struct request *request, const struct engine_answer *answer) {
 
 /* Asks the engine whether a request is at its end, and then how: looking takes a twentieth of the time of a test. */
 static void ask_end(struct request *request) {
+    if (!is_engine_free() || request->kind == REQUEST_MATCHED) return;
     struct engine_call call = {.kind = ENGINE_LOOK, .request = request->own};
     struct engine_answer answer;
     call_engine(&call, NULL, 0, &answer);
@@ -114,15 +121,36 @@ uint32_t await_request(struct request *request) {
     return request->number;
 }
 
-int raise_end(const char *call, const struct request *request) {
+/* A message of another type than its receive: the engine says how many elements it has, and not of which type. */
+static void say_other_type(const struct request *request, char *text) {
     const MPI_Status *end = &request->end;
-    if (request->number != NUMBER_TRUNCATED) return raise_number(request->comm, call, request->number);
-    return raise_on(request->comm, call, MPI_ERR_TRUNCATE,
-                    "a message of %lld bytes from rank %d with tag %d is longer than its receive of %zu bytes",
-                    end->reserved_bytes, end->MPI_SOURCE, end->MPI_TAG, request->room);
+    snprintf(text, LONGEST_CAUSE,
+             "a message of %llu element%s of another type from rank %d with tag %d doesn't fit its receive of %s (%d)",
+             (unsigned long long)request->elements, request->elements == 1 ? "" : "s", end->MPI_SOURCE, end->MPI_TAG,
+             request->element, NUMBER_TYPE);
 }
 
-void forget_request(struct request *request) {
+void say_end(const struct request *request, char *text) {
+    const MPI_Status *end = &request->end;
+    if (request->number == NUMBER_TYPE && request->elements != 0) say_other_type(request, text);
+    else if (request->number == NUMBER_TRUNCATED)
+        snprintf(text, LONGEST_CAUSE,
+                 "a message of %lld bytes from rank %d with tag %d is longer than its receive of %zu bytes",
+                 end->reserved_bytes, end->MPI_SOURCE, end->MPI_TAG, request->room);
+    else snprintf(text, LONGEST_CAUSE, "%s (%u)", cause_of(request->number), (unsigned)request->number);
+}
+
+int raise_end(const char *call, const struct request *request) {
+    char text[LONGEST_CAUSE];
+    say_end(request, text);
+    return raise_in(request->comm, call, class_of(request->number), "%s", text);
+}
+
+/* Gives the memory of a request back, and what it holds where its operation never ended. */
+static void forget_request(struct request *request) {
+    if (request->type != NULL) release_type(request->type);
+    if (request->other != NULL && request->other->type != NULL) release_type(request->other->type);
+    if (request->comm != NULL) release_communicator(request->comm);
     free(request->other);
     free(request);
 }
@@ -130,6 +158,17 @@ void forget_request(struct request *request) {
 /* ---- requests that the program let go ---- */
 
 static struct request *freed;
+
+bool let_go(const struct request *request) {
+    struct request *own = malloc(sizeof *own);
+    if (own == NULL) return false;
+    *own = *request;
+    own->comm = NULL;
+    own->next = freed;
+    freed = own;
+    settle_freed();
+    return true;
+}
 
 void settle_freed(void) {
     for (struct request **at = &freed; *at != NULL;) {
@@ -147,21 +186,19 @@ bool has_freed(void) { return freed != NULL; }
 
 /* ---- handles ---- */
 
-MPI_Request publish_request(const struct request *request) {
-    struct request *own = malloc(sizeof *own);
-    if (own == NULL) return MPI_REQUEST_NULL;
-    *own = *request;
-    int handle = table_add(&requests, own);
+MPI_Request open_request(void) {
+    struct request *own = calloc(1, sizeof *own);
+    int64_t handle = own == NULL ? 0 : table_add(&requests, own);
     if (handle == 0) free(own);
     return (MPI_Request)(intptr_t)handle;
 }
 
 struct request *request_of(MPI_Request handle) {
-    return table_find(&requests, (int)(intptr_t)handle);
+    return table_find(&requests, (intptr_t)handle);
 }
 
-void unpublish_request(MPI_Request *handle) {
-    struct request *request = table_remove(&requests, (int)(intptr_t)*handle);
+void close_request(MPI_Request *handle) {
+    struct request *request = table_remove(&requests, (intptr_t)*handle);
     *handle = MPI_REQUEST_NULL;
     if (request != NULL) forget_request(request);
 }
@@ -172,9 +209,11 @@ struct request *request_at(int place) {
     return requests.places[place].object;
 }
 
-int check_request(const char *call, MPI_Request handle, struct request **found) {
-    *found = request_of(handle);
-    if (*found != NULL || handle == MPI_REQUEST_NULL) return MPI_SUCCESS;
+int check_request(const char *call, const MPI_Request *handle, struct request **found) {
+    int class = check_result(MPI_COMM_WORLD, call, handle, "request");
+    if (class != MPI_SUCCESS) return class;
+    *found = request_of(*handle);
+    if (*found != NULL || *handle == MPI_REQUEST_NULL) return MPI_SUCCESS;
     return raise_on(MPI_COMM_WORLD, call, MPI_ERR_REQUEST, "a handle that is no request");
 }
 
@@ -182,10 +221,10 @@ int MPI_Request_free(MPI_Request *request) {
     static const char call[] = "MPI_Request_free";
     struct request *found;
     check_running(call);
-    int class = check_request(call, *request, &found);
+    int class = check_request(call, request, &found);
     if (class != 0) return class;
     if (found == NULL) return raise_on(MPI_COMM_WORLD, call, MPI_ERR_REQUEST, "the request is MPI_REQUEST_NULL");
-    table_remove(&requests, (int)(intptr_t)*request);
+    table_remove(&requests, (intptr_t)*request);
     *request = MPI_REQUEST_NULL;
     found->next = freed;
     freed = found;
@@ -195,40 +234,48 @@ int MPI_Request_free(MPI_Request *request) {
 }
 
 int MPI_Cancel(MPI_Request *request) {
+    NOTE_CALLER();
     static const char call[] = "MPI_Cancel";
     struct request *found;
     check_running(call);
-    int class = check_request(call, *request, &found);
+    int class = check_request(call, request, &found);
     if (class != 0) return class;
     if (found == NULL) return raise_on(MPI_COMM_WORLD, call, MPI_ERR_REQUEST, "the request is MPI_REQUEST_NULL");
-    /* A send isn't cancelled: it goes on as if nothing was said (3.8.4). */
-    if (found->is_ended || found->kind == REQUEST_SEND) return MPI_SUCCESS;
+    /* A send and the receive of a message that was taken out go on as if nothing was said (3.8.4). */
+    if (found->is_ended || found->kind != REQUEST_RECEIVE) return MPI_SUCCESS;
     const struct engine_call cancel = {.kind = ENGINE_CANCEL, .request = found->own};
     struct engine_answer answer;
     call_engine(&cancel, NULL, 0, &answer);
     progress_out();
-    return answer.kind == ENGINE_REFUSED ? raise_number(found->comm, call, answer.number) : MPI_SUCCESS;
+    if (answer.kind != ENGINE_REFUSED) return MPI_SUCCESS;
+    return raise_in(found->comm, call, class_of(answer.number), "%s (%u)", cause_of(answer.number), answer.number);
 }
 
 int MPI_Test_cancelled(const MPI_Status *status, int *flag) {
-    *flag = status->reserved_cancelled;
-    return MPI_SUCCESS;
+    static const char call[] = "MPI_Test_cancelled";
+    check_running(call);
+    int class = check_result(MPI_COMM_WORLD, call, status, "status");
+    if (class == 0) class = check_result(MPI_COMM_WORLD, call, flag, "flag");
+    if (class == 0) *flag = status->reserved_cancelled;
+    return class;
 }
 
 int MPI_Request_get_status(MPI_Request request, int *flag, MPI_Status *status) {
     static const char call[] = "MPI_Request_get_status";
     struct request *found;
     check_running(call);
-    int class = check_request(call, request, &found);
+    int class = check_request(call, &request, &found);
+    if (class == 0) class = check_result(MPI_COMM_WORLD, call, flag, "flag");
     if (class != 0) return class;
     progress();
-    const MPI_Status none = empty_status();
     *flag = found == NULL || is_at_end(found);
-    if (*flag) put_status(status, found == NULL ? &none : &found->end);
+    if (found == NULL) put_empty(status);
+    else if (*flag) put_status(status, &found->end);
     return MPI_SUCCESS;
 }
 
 void cancel_requests(void) {
+    free_engine();
     for (int place = 0; place < requests.count; place++) {
         struct request *it = requests.places[place].object;
         if (it == NULL) continue;
@@ -245,20 +292,13 @@ void cancel_requests(void) {
     }
 }
 
-/* Gives back what an operation holds that never ended. */
-static void drop_request(struct request *request) {
-    if (request->type != NULL) release_type(request->type);
-    if (request->other != NULL && request->other->type != NULL) release_type(request->other->type);
-    forget_request(request);
-}
-
 void close_requests(void) {
     for (int place = 0; place < requests.count; place++)
-        if (requests.places[place].object != NULL) drop_request(requests.places[place].object);
+        if (requests.places[place].object != NULL) forget_request(requests.places[place].object);
     table_free(&requests);
     while (freed != NULL) {
         struct request *it = freed;
         freed = it->next;
-        drop_request(it);
+        forget_request(it);
     }
 }

@@ -1,6 +1,7 @@
 /* Collectives over rows of elements: see rows.h. */
 #include "rows.h"
 
+#include "agreement.h"
 #include "folds.h"
 #include "internal.h"
 #include "wait_lines.h"
@@ -8,11 +9,9 @@
 #include <stdlib.h>
 #include <string.h>
 
-/* What the engine answers for want of memory; the number is told as one of its own. */
-enum { NO_MEMORY = 14 };
-
 uint32_t enter_engine(const struct engine_call *entry, const void *data, size_t length, struct engine_answer *answer) {
     const bool is_rooted = entry->kind >= ENGINE_BCAST && entry->kind <= ENGINE_REDUCE;
+    note_entry(entry);
     call_engine(entry, data, length, answer);
     begin_wait(
         &(struct wait){.kind = WAIT_COLLECTIVE, .place = entry->communicator, .root = is_rooted ? entry->peer : -1});
@@ -103,7 +102,8 @@ uint32_t scatter_rows(struct collective of, const unsigned char *all, size_t len
     const size_t members = of.comm->rank == of.root ? (size_t)of.comm->size : 0;
     struct part part = first_part(length, longest);
     unsigned char *room = NULL;
-    if (members != 0 && part.length != length && (room = malloc(members * part.length)) == NULL) return NO_MEMORY;
+    if (members != 0 && part.length != length && (room = malloc(members * part.length)) == NULL)
+        return NUMBER_NO_MEMORY;
     uint32_t number = 0;
     do {
         struct engine_call entry = entry_of(ENGINE_SCATTER, of, part.length);
@@ -162,12 +162,14 @@ uint32_t fold_rows(struct collective of, enum engine_operation operation, const 
     const bool is_root = of.comm->rank == of.root;
     struct part part = first_part(length, longest);
     unsigned char *room = NULL;
-    if (is_root && length != 0 && (room = malloc(part.length)) == NULL) return NO_MEMORY;
+    if (is_root && length != 0 && (room = malloc(part.length)) == NULL) return NUMBER_NO_MEMORY;
     uint32_t number = 0;
     do {
         struct engine_call entry = entry_of(ENGINE_GATHER, of, part.length);
         struct engine_answer answer;
         const char *own = length == 0 ? NULL : (const char *)row + part.from;
+        /* The engine doesn't read it here: it is for what agreement.h compares. */
+        entry.operation = operation;
         number = enter_engine(&entry, own, part.length, &answer);
         if (number == 0 && room != NULL)
             fold_parts(of, operation, part.length, (unsigned char *)result + part.from, room);

@@ -14,23 +14,38 @@ static bool table_grow(struct table *table) {
     return true;
 }
 
-int table_add(struct table *table, void *object) {
+/* The number of what stands at a place. */
+static int64_t number_at(const struct table *table, int place) {
+    return (int64_t)table->places[place].generation << GENERATION_SHIFT | HANDLE(table->kind, place);
+}
+
+int64_t table_add(struct table *table, void *object) {
     int place = table->first_free;
     if (place >= 0) {
         table->first_free = table->places[place].next_free;
     } else {
         if (table->count == table->room && !table_grow(table)) return 0;
         place = table->count++;
+        table->places[place].generation = 0;
     }
-    table->places[place] = (struct table_place){.object = object, .next_free = -1};
-    return HANDLE(table->kind, place);
+    table->places[place].object = object;
+    table->places[place].next_free = -1;
+    return number_at(table, place);
 }
 
-void *table_remove(struct table *table, int handle) {
+int64_t table_number(const struct table *table, uint32_t low) {
+    uint32_t place = low & PLACE_MASK;
+    if (low >> KIND_SHIFT != (uint32_t)table->kind || place >= (uint32_t)table->count) return 0;
+    return table->places[place].object == NULL ? 0 : number_at(table, (int)place);
+}
+
+void *table_remove(struct table *table, int64_t handle) {
     void *object = table_find(table, handle);
     if (object == NULL) return NULL;
-    int place = handle & PLACE_MASK;
-    table->places[place] = (struct table_place){.object = NULL, .next_free = table->first_free};
+    int place = (int)(handle & PLACE_MASK);
+    struct table_place *own = &table->places[place];
+    uint32_t next = own->generation == LAST_GENERATION ? 0 : own->generation + 1;
+    *own = (struct table_place){.object = NULL, .next_free = table->first_free, .generation = next};
     table->first_free = place;
     return object;
 }

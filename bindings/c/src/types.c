@@ -22,14 +22,16 @@
 #define BASIC(of_name, c_type, of_family, of_basic, of_unit)                                                           \
     {                                                                                                                  \
         .basic = (of_basic), .unit = (of_unit), .family = FAMILY_##of_family, .element = sizeof(c_type),               \
-        .layout = LAYOUT_OF(c_type), .is_committed = true, .is_predefined = true, .uses = 1, .name = "MPI_" #of_name   \
+        .of = "MPI_" #of_name, .layout = LAYOUT_OF(c_type), .is_committed = true, .is_predefined = true, .uses = 1,    \
+        .name = "MPI_" #of_name                                                                                        \
     }
 #define INTEGER(of_name, c_type, of_family) BASIC(of_name, c_type, of_family, CARRIED_OF(c_type), sizeof(c_type))
 
-/* The basic types, in the order of their handles in mpi.h. A LONG DOUBLE goes as its bytes. */
+/* The basic types, in the order of their handles in mpi.h. A LONG DOUBLE goes as its bytes. A CHAR counts as an integer
+ * in reductions: 5.9.2 doesn't say so, but programs expect it. */
 static struct datatype basic_types[] = {
     BASIC(BYTE, unsigned char, BYTE, ENGINE_BYTE, 1),
-    INTEGER(CHAR, char, CHARACTER),
+    INTEGER(CHAR, char, INTEGER),
     INTEGER(SIGNED_CHAR, signed char, INTEGER),
     INTEGER(UNSIGNED_CHAR, unsigned char, INTEGER),
     INTEGER(WCHAR, wchar_t, CHARACTER),
@@ -62,10 +64,10 @@ enum { BASIC_COUNT = sizeof basic_types / sizeof *basic_types };
 /* All types. The basic ones have the first places, from when the first other one is made. */
 static struct table types = TABLE_OF(KIND_DATATYPE);
 
-static int number_of(MPI_Datatype handle) { return (int)(intptr_t)handle; }
+static int64_t number_of(MPI_Datatype handle) { return (intptr_t)handle; }
 
 struct datatype *datatype_of(MPI_Datatype handle) {
-    int place = number_of(handle) - HANDLE(KIND_DATATYPE, 0);
+    int64_t place = number_of(handle) - HANDLE(KIND_DATATYPE, 0);
     if (place >= 0 && place < BASIC_COUNT) return &basic_types[place];
     return table_find(&types, number_of(handle));
 }
@@ -81,14 +83,14 @@ void release_type(const struct datatype *type) {
 
 void close_types(void) {
     for (int place = BASIC_COUNT; place < types.count; place++) {
-        struct datatype *own = table_remove(&types, HANDLE(KIND_DATATYPE, place));
+        struct datatype *own = types.places[place].object;
         if (own != NULL) release_type(own);
     }
     table_free(&types);
 }
 
 /* Gives a new type a handle; 0 where there is no memory. */
-static int add_type(struct datatype *made) {
+static int64_t add_type(struct datatype *made) {
     while (types.count < BASIC_COUNT)
         if (table_add(&types, &basic_types[types.count]) == 0) return 0;
     return table_add(&types, made);
@@ -104,7 +106,7 @@ static int make_type(const char *call, const struct datatype *old, const struct 
     made->uses = 1;
     made->name[0] = '\0';
     enum layout_end end = layout_of_blocks(&old->layout, blocks, count, &made->layout);
-    int number = end == LAYOUT_MADE ? add_type(made) : 0;
+    int64_t number = end == LAYOUT_MADE ? add_type(made) : 0;
     if (number != 0) {
         *handle = (MPI_Datatype)(intptr_t)number;
         return MPI_SUCCESS;
@@ -175,6 +177,7 @@ static int check_any_type(const char *call, MPI_Datatype handle, struct datatype
 
 int MPI_Type_commit(MPI_Datatype *datatype) {
     struct datatype *own;
+    check_running("MPI_Type_commit");
     int class = check_result(MPI_COMM_WORLD, "MPI_Type_commit", datatype, "datatype");
     if (class == MPI_SUCCESS) class = check_any_type("MPI_Type_commit", *datatype, &own);
     if (class == MPI_SUCCESS) own->is_committed = true;
@@ -183,6 +186,7 @@ int MPI_Type_commit(MPI_Datatype *datatype) {
 
 int MPI_Type_free(MPI_Datatype *datatype) {
     struct datatype *own;
+    check_running("MPI_Type_free");
     int class = check_result(MPI_COMM_WORLD, "MPI_Type_free", datatype, "datatype");
     if (class == MPI_SUCCESS) class = check_any_type("MPI_Type_free", *datatype, &own);
     if (class != MPI_SUCCESS) return class;

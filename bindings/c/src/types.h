@@ -19,6 +19,7 @@ struct datatype {
     size_t unit;        /* bytes of one element of the engine */
     enum family family; /* of its basic type */
     size_t element;     /* bytes of one element of its basic type, as C has it */
+    const char *of;     /* the name of its basic type */
     struct layout layout;
     bool is_committed;
     bool is_predefined;
@@ -33,9 +34,8 @@ struct datatype *datatype_of(MPI_Datatype handle);
 void hold_type(const struct datatype *type);
 void release_type(const struct datatype *type);
 
-/* The elements of the engine that a receive of so many items has room for: as many at most as a message may have. */
-static inline uint64_t engine_room(const struct datatype *type, size_t items) {
-    size_t bytes = data_size(&type->layout, items);
+/* The elements of the engine that a receive of so many bytes has room for: as many at most as a message may have. */
+static inline uint64_t engine_elements(const struct datatype *type, size_t bytes) {
     return (bytes < ENGINE_GREATEST_LIMIT ? bytes : ENGINE_GREATEST_LIMIT) / type->unit;
 }
 

@@ -9,21 +9,21 @@
 static int finish_request(const char *call, MPI_Request *handle, struct request *request, MPI_Status *status) {
     put_status(status, &request->end);
     int class = request->number == 0 ? MPI_SUCCESS : raise_end(call, request);
-    unpublish_request(handle);
+    close_request(handle);
     if (has_freed()) settle_freed();
     return class;
 }
 
-static void put_empty(MPI_Status *status) {
-    if (status != MPI_STATUS_IGNORE) *status = empty_status();
-}
+/* ---- one request ---- */
+
+static int check_flag(const char *call, const int *flag) { return check_result(MPI_COMM_WORLD, call, flag, "flag"); }
 
 int MPI_Wait(MPI_Request *request, MPI_Status *status) {
     NOTE_CALLER();
     static const char call[] = "MPI_Wait";
     struct request *found;
     check_running(call);
-    int class = check_request(call, *request, &found);
+    int class = check_request(call, request, &found);
     if (class != 0) return class;
     if (found == NULL) {
         put_empty(status);
@@ -37,7 +37,8 @@ int MPI_Test(MPI_Request *request, int *flag, MPI_Status *status) {
     static const char call[] = "MPI_Test";
     struct request *found;
     check_running(call);
-    int class = check_request(call, *request, &found);
+    int class = check_request(call, request, &found);
+    if (class == 0) class = check_flag(call, flag);
     if (class != 0) return class;
     progress();
     *flag = found == NULL || is_at_end(found);
@@ -55,10 +56,21 @@ static int check_list(const char *call, int count, const MPI_Request list[]) {
     if (count > 0 && list == NULL) return raise_on(MPI_COMM_WORLD, call, MPI_ERR_ARG, "the list of requests is NULL");
     for (int i = 0; i < count; i++) {
         struct request *found;
-        int class = check_request(call, list[i], &found);
+        int class = check_request(call, &list[i], &found);
         if (class != 0) return class;
     }
     return MPI_SUCCESS;
+}
+
+/* That such a list has somewhere to put the place of what is at its end; how many are, and their places. */
+static int check_index(const char *call, int count, const MPI_Request list[], const int *index) {
+    int class = check_list(call, count, list);
+    return class == 0 ? check_result(MPI_COMM_WORLD, call, index, "index") : class;
+}
+static int check_some(const char *call, int count, const MPI_Request list[], const int *outcount, const int *indices) {
+    int class = check_list(call, count, list);
+    if (class == 0) class = check_result(MPI_COMM_WORLD, call, outcount, "outcount");
+    return class == 0 && count > 0 ? check_result(MPI_COMM_WORLD, call, indices, "array_of_indices") : class;
 }
 
 /* The place of the first of a list that is at its end, -1 where none is, or MPI_UNDEFINED where all are null. */
@@ -97,7 +109,7 @@ static int finish_any(const char *call, int place, MPI_Request list[], int *inde
 int MPI_Waitany(int count, MPI_Request array_of_requests[], int *index, MPI_Status *status) {
     NOTE_CALLER();
     static const char call[] = "MPI_Waitany";
-    int class = check_list(call, count, array_of_requests);
+    int class = check_index(call, count, array_of_requests, index);
     if (class != 0) return class;
     int place;
     begin_wait(&(struct wait){.kind = WAIT_ANY, .list = array_of_requests, .count = count});
@@ -108,7 +120,8 @@ int MPI_Waitany(int count, MPI_Request array_of_requests[], int *index, MPI_Stat
 
 int MPI_Testany(int count, MPI_Request array_of_requests[], int *index, int *flag, MPI_Status *status) {
     static const char call[] = "MPI_Testany";
-    int class = check_list(call, count, array_of_requests);
+    int class = check_index(call, count, array_of_requests, index);
+    if (class == 0) class = check_flag(call, flag);
     if (class != 0) return class;
     progress();
     int place = first_at_end(count, array_of_requests);
@@ -126,7 +139,12 @@ static int finish_list(const char *call, int count, MPI_Request list[], int indi
         struct request *it = request_of(list[i]);
         if (it != NULL && is_at_end(it) && it->number != 0 && failed < 0) failed = i;
     }
-    struct request told = failed < 0 ? (struct request){0} : *request_of(list[failed]);
+    char cause[LONGEST_CAUSE];
+    struct communicator *told = NULL;
+    if (failed >= 0) {
+        say_end(request_of(list[failed]), cause);
+        told = hold_communicator(request_of(list[failed])->comm);
+    }
     for (int i = 0; i < count; i++) {
         struct request *it = request_of(list[i]);
         if (indices != NULL && (it == NULL || !is_at_end(it))) continue;
@@ -137,11 +155,13 @@ static int finish_list(const char *call, int count, MPI_Request list[], int indi
         if (it == NULL) put_empty(status);
         else put_status(status, &it->end);
         if (failed >= 0 && status != MPI_STATUS_IGNORE) status->MPI_ERROR = it == NULL ? 0 : class_of(it->number);
-        if (it != NULL) unpublish_request(&list[i]);
+        if (it != NULL) close_request(&list[i]);
     }
     if (has_freed()) settle_freed();
     if (failed < 0) return MPI_SUCCESS;
-    return raise_on(told.comm, call, MPI_ERR_IN_STATUS, "request %d of %d: %s", failed, count, cause_of(told.number));
+    int class = raise_in(told, call, MPI_ERR_IN_STATUS, "request %d of %d: %s", failed, count, cause);
+    release_communicator(told);
+    return class;
 }
 
 /* Waits until all of a list are at their ends. */
@@ -169,6 +189,7 @@ int MPI_Waitall(int count, MPI_Request array_of_requests[], MPI_Status array_of_
 int MPI_Testall(int count, MPI_Request array_of_requests[], int *flag, MPI_Status array_of_statuses[]) {
     static const char call[] = "MPI_Testall";
     int class = check_list(call, count, array_of_requests);
+    if (class == 0) class = check_flag(call, flag);
     if (class != 0) return class;
     progress();
     *flag = count_at_end(count, array_of_requests, true) == count;
@@ -179,7 +200,7 @@ int MPI_Waitsome(int incount, MPI_Request array_of_requests[], int *outcount, in
                  MPI_Status array_of_statuses[]) {
     NOTE_CALLER();
     static const char call[] = "MPI_Waitsome";
-    int class = check_list(call, incount, array_of_requests);
+    int class = check_some(call, incount, array_of_requests, outcount, array_of_indices);
     if (class != 0) return class;
     *outcount = MPI_UNDEFINED;
     if (are_all_null(incount, array_of_requests)) return MPI_SUCCESS;
@@ -193,7 +214,7 @@ int MPI_Waitsome(int incount, MPI_Request array_of_requests[], int *outcount, in
 int MPI_Testsome(int incount, MPI_Request array_of_requests[], int *outcount, int array_of_indices[],
                  MPI_Status array_of_statuses[]) {
     static const char call[] = "MPI_Testsome";
-    int class = check_list(call, incount, array_of_requests);
+    int class = check_some(call, incount, array_of_requests, outcount, array_of_indices);
     if (class != 0) return class;
     *outcount = MPI_UNDEFINED;
     if (are_all_null(incount, array_of_requests)) return MPI_SUCCESS;

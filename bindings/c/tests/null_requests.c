@@ -7,6 +7,7 @@ static void check_empty(const MPI_Status *status) {
     int count = -1, cancelled = -1;
     CHECK(status->MPI_SOURCE == MPI_ANY_SOURCE);
     CHECK(status->MPI_TAG == MPI_ANY_TAG);
+    CHECK(status->MPI_ERROR == MPI_SUCCESS);
     MPI_Get_count(status, MPI_INT, &count);
     CHECK(count == 0);
     MPI_Test_cancelled(status, &cancelled);
@@ -29,6 +30,8 @@ static void check_one(void) {
     MPI_Request_get_status(request, &flag, &status);
     CHECK(flag);
     check_empty(&status);
+    MPI_Request_get_status(request, &flag, MPI_STATUS_IGNORE);
+    CHECK(flag);
 }
 
 static void check_lists(void) {

@@ -76,16 +76,15 @@ struct named_type {
 #define NAMED(of_name, c_type)                                                                                         \
     { MPI_##of_name, "MPI_" #of_name, (int)sizeof(c_type) }
 #define INTEGER_TYPES                                                                                                  \
-    NAMED(SIGNED_CHAR, signed char), NAMED(UNSIGNED_CHAR, unsigned char), NAMED(SHORT, short),                         \
+    NAMED(CHAR, char), NAMED(SIGNED_CHAR, signed char), NAMED(UNSIGNED_CHAR, unsigned char), NAMED(SHORT, short),      \
         NAMED(UNSIGNED_SHORT, unsigned short), NAMED(INT, int), NAMED(UNSIGNED, unsigned), NAMED(LONG, long),          \
         NAMED(UNSIGNED_LONG, unsigned long), NAMED(LONG_LONG_INT, long long),                                          \
         NAMED(UNSIGNED_LONG_LONG, unsigned long long), NAMED(INT8_T, signed char), NAMED(INT16_T, short),              \
         NAMED(INT32_T, int), NAMED(INT64_T, long), NAMED(UINT8_T, unsigned char), NAMED(UINT16_T, unsigned short),     \
         NAMED(UINT32_T, unsigned), NAMED(UINT64_T, unsigned long)
 #define OTHER_TYPES                                                                                                    \
-    NAMED(BYTE, char), NAMED(CHAR, char), NAMED(WCHAR, int), NAMED(FLOAT, float), NAMED(DOUBLE, double),               \
-        NAMED(LONG_DOUBLE, long double), NAMED(C_BOOL, bool), NAMED(AINT, MPI_Aint), NAMED(COUNT, MPI_Count),          \
-        NAMED(OFFSET, MPI_Offset)
+    NAMED(BYTE, char), NAMED(WCHAR, int), NAMED(FLOAT, float), NAMED(DOUBLE, double), NAMED(LONG_DOUBLE, long double), \
+        NAMED(C_BOOL, bool), NAMED(AINT, MPI_Aint), NAMED(COUNT, MPI_Count), NAMED(OFFSET, MPI_Offset)
 
 /* Errors are answered, not fatal. */
 static inline void return_errors(void) { MPI_Comm_set_errhandler(MPI_COMM_WORLD, MPI_ERRORS_RETURN); }

@@ -45,6 +45,20 @@ static void check_no_numbers(void) {
     }
 }
 
+/* What a sum or a product makes that is no number is the quiet one without a sign, whatever it was made of. */
+static void check_made(void) {
+    const long double infinity = (long double)INFINITY, none = (long double)NAN;
+    check(ENGINE_SUM, infinity, -infinity, none);
+    check(ENGINE_SUM, -infinity, infinity, none);
+    check(ENGINE_PROD, 0, infinity, none);
+    check(ENGINE_PROD, -infinity, 0, none);
+    for (enum engine_operation it = ENGINE_SUM; it <= ENGINE_PROD; it++) {
+        check(it, -none, 1, none);
+        check(it, 1, -none, none);
+        check(it, -none, -none, none);
+    }
+}
+
 /* Whole lists; what lies behind stays. */
 static void check_lists(void) {
     long double all[3] = {1, 2, 99}, next[3] = {LDBL_EPSILON, 4, 7};
@@ -73,6 +87,7 @@ static void check_padding(void) {
 int main(void) {
     check_numbers();
     check_no_numbers();
+    check_made();
     check_lists();
     check_padding();
     return unit_end();

@@ -1,0 +1,15 @@
+/* Two ranks that broadcast from themselves are both done before they could know of it: the one that isn't rank 0 is
+ * told at the end. The handler returns, so that all is closed. */
+#include "test.h"
+
+int main(int argc, char **argv) {
+    test_begin(&argc, &argv);
+    int own = test_rank, number = -1;
+    return_errors();
+    MPI_Bcast(&number, 1, MPI_INT, 0, MPI_COMM_WORLD);
+    CHECK(MPI_Bcast(&own, 1, MPI_INT, test_rank, MPI_COMM_WORLD) == MPI_SUCCESS && own == test_rank);
+    int class = MPI_Finalize();
+    if (test_rank == 0 && class == MPI_SUCCESS && test_errors == 0) printf("No Errors\n");
+    if (test_rank == 1 && class != MPI_ERR_NOT_SAME) fprintf(stderr, "rank 1: MPI_Finalize answered %d\n", class);
+    return 0;
+}
