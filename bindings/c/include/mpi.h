@@ -1,4 +1,4 @@
-/* MPI for C: the part of MPI 3.1 that the library has. What isn't declared here doesn't exist (docs/C.md has the list).
+/* MPI for C: the part of MPI 3.1 that the library has (docs/C.md has the list); mpi_absent.h declares what it lacks.
  * The numbers are this library's own; a program is compiled and linked with the same version of it. */
 #ifndef MPI_H
 #define MPI_H
@@ -326,6 +326,9 @@ MPI_Fint MPI_Comm_c2f(MPI_Comm comm);
 MPI_Comm MPI_Comm_f2c(MPI_Fint comm);
 
 #include "mpi_profiling.h"
+#ifndef KOMBAZILY_WITHOUT_ABSENT
+#include "mpi_absent.h"
+#endif
 
 #ifdef __cplusplus
 }

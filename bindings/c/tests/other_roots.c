@@ -7,8 +7,9 @@ int main(int argc, char **argv) {
     int own = test_rank, number = -1;
     return_errors();
     MPI_Bcast(&number, 1, MPI_INT, 0, MPI_COMM_WORLD);
-    CHECK(MPI_Bcast(&own, 1, MPI_INT, test_rank, MPI_COMM_WORLD) == MPI_SUCCESS && own == test_rank);
-    int class = MPI_Finalize();
+    int class = class_of(MPI_Bcast(&own, 1, MPI_INT, test_rank, MPI_COMM_WORLD));
+    CHECK((class == MPI_SUCCESS || class == MPI_ERR_NOT_SAME) && own == test_rank);
+    class = MPI_Finalize();
     if (test_rank == 0 && class == MPI_SUCCESS && test_errors == 0) printf("No Errors\n");
     if (test_rank == 1 && class != MPI_ERR_NOT_SAME) fprintf(stderr, "rank 1: MPI_Finalize answered %d\n", class);
     return 0;
