@@ -27,17 +27,60 @@ fn waits_follow_round_trips(rt: HostRuntime) {
 }
 
 #[test]
-fn a_frame_that_goes_again_doubles_the_wait_and_is_not_measured(rt: HostRuntime) {
-    let again = measured(40_000)
+fn a_frame_that_goes_thrice_again_doubles_the_wait_and_is_not_measured(rt: HostRuntime) {
+    let twice = measured(40_000)
         .after_frame(0, 1, 100_000)
-        .after_frame(0, 1, 220_000);
-    let over = again.after_acknowledgement(0, 2, 0, 221_000);
+        .after_frame(0, 1, 220_000)
+        .after_frame(0, 1, 340_000);
+    let thrice = twice.after_frame(0, 1, 460_000);
+    let over = thrice.after_acknowledgement(0, 2, 0, 461_000);
     let next = over
-        .after_frame(0, 2, 300_000)
-        .after_acknowledgement(0, 3, 0, 340_000);
+        .after_frame(0, 2, 500_000)
+        .after_acknowledgement(0, 3, 0, 540_000);
+    let waits = (twice.wait_now(), thrice.wait_now(), over.wait_now());
+    assert_eq!(rt; (waits, next.wait_now()), ((120, 240, 240), 100));
+}
+
+/// Which of the frames from 0 to 7 may go again.
+fn may_go(trip: RoundTrip) -> [bool; 8] {
+    let mut may = [false; 8];
+    for number in 0..8 {
+        may[number as usize] = trip.lets_go(0, number);
+    }
+    may
+}
+
+#[test]
+fn late_frames_go_again_one_by_one(rt: HostRuntime) {
+    let mut late = RoundTrip::begun(0, None, 0);
+    for number in 0..8 {
+        late = late.after_frame(0, number, 1_000);
+    }
+    let one = late.after_frame(0, 0, 200_000);
+    // The one that went again came, so the next one was lost, too; or frames came that didn't go again.
+    let two = one.after_acknowledgement(0, 1, 0, 240_000);
+    let back = one.after_acknowledgement(0, 5, 0, 240_000);
+    // Of two that are missing below one that came both go.
+    let missing = late.after_acknowledgement(0, 1, 0b100, 240_000);
     assert_eq!(rt;
-        (again.wait_now(), over.wait_now(), next.wait_now()),
-        (240, 240, 100)
+        (late.lets_go(0, 8), two.gap, back.gap),
+        (true, Gap::Seen, Gap::Unseen)
+    );
+    assert_eq!(rt;
+        may_go(one),
+        [true, false, false, false, false, false, false, false]
+    );
+    assert_eq!(rt;
+        may_go(two),
+        [true, true, true, false, false, false, false, false]
+    );
+    assert_eq!(rt;
+        may_go(back),
+        [true, true, true, true, true, true, false, false]
+    );
+    assert_eq!(rt;
+        may_go(missing),
+        [true, true, true, true, false, false, false, false]
     );
 }
 
@@ -88,5 +131,6 @@ fn wait_by_datagrams(alloc: Global) -> Option<(u64, Option<u64>)> {
 #[test]
 fn datagrams_tell_of_round_trips(rt: HostRuntime) {
     assert_eq!(rt; wait_by_datagrams(rt.alloc()), Some((120, None)));
-    assert_eq!(rt; (stay_for(20), stay_for(120)), (640, 3_840));
+    let stays = (stay_for(20), stay_for(120), stay_near(20), stay_near(600));
+    assert_eq!(rt; stays, (640, 3_840, 160, 4_000));
 }

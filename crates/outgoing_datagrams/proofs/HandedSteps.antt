@@ -458,6 +458,7 @@ kept_stays s kept_too o into not_all early none each =
           (hands_none s.kept s.waiting);
       all = λ e. absurd (false≢true (sym not_all ∙ e));
       waiting = refl;
+      time = refl;
     }
 
 -- nothing is kept back
@@ -475,6 +476,7 @@ kept_none s t kept_too o into is after none each =
           (hands_none s.kept s.waiting)));
       all = λ e. ap (λ (x : SendingState). x.kept) after;
       waiting = waiting;
+      time = ap (λ (x : SendingState). x.time) after;
     }
 
 first_same : (e p : Parcel) (list rest : List Parcel) → e ∷ list ≡ p ∷ rest → e ≡ p

@@ -84,3 +84,4 @@ pub record HandsOutKept (old : SendingState) (kept_too : Bool) (len : ℕ) (o : 
   pub hands : HandsOn old.kept old.waiting (kept_going kept_too old) new.kept new.waiting
   pub all : kept_too ≡ true → new.kept ≡ None
   pub waiting : new.waiting ≡ old.waiting
+  pub time : new.time ≡ old.time

@@ -1,6 +1,6 @@
 //! What a rank sends: the datagrams that its engine emitted, of which an acknowledgement may be kept back.
 
-ghost use Rattle.std.specs.Prelude.{◌≡◌, ◌≤◌, ◌<◌, ◌⊎◌, ◌↔◌, ◌∷◌, ◌-◌, ◌^◌, [], None, Some, IfSome, IsTrue, List};
+ghost use Rattle.std.specs.Prelude.{◌≡◌, ◌≤◌, ◌<◌, ◌⊎◌, ◌↔◌, ◌∷◌, ◌-◌, ◌/◌, ◌^◌, [], None, Some, IfSome, IsTrue, List};
 ghost use Rattle.std.specs.Prelude.{drop, false, length, max, min, slice_get};
 ghost use Rattle.delayed_acknowledgements.specs.Acknowledgements.{Covers};
 ghost use Rattle.port_transport.specs.Ports.{IsAcknowledgement, is_short};
@@ -144,6 +144,13 @@ impl Sending {
         ensures { self.new ≡ record self.old { time = now } }
     {
         self.time = now;
+    }
+
+    /// The time, in whole microseconds.
+    pub fn micros(&self) -> u64
+        ensures { result ≡ self.now.time / 1000 }
+    {
+        self.time / 1000
     }
 
     /// When the acknowledgement is late that is kept back; 0 where none is.

@@ -7,6 +7,10 @@ use Rattle.round_trips.specs.declared.estimate.Estimate.{Estimate}
 abbrev pub distance : ℕ → ℕ → ℕ
 distance a b = (a - b) + (b - a)
 
+-- round trips take no time
+abbrev pub no_time : Estimate
+no_time = record { smoothed = 0; variation = 0 }
+
 -- after the first round trip SRTT is that, and RTTVAR half of it (2.2)
 abbrev pub first_estimate : ℕ → Estimate
 first_estimate r = record { smoothed = r; variation = r / 2 }
@@ -42,6 +46,6 @@ abbrev pub wait_by : Option Estimate → ℕ
 wait_by None = 200
 wait_by (Some e) = max (min (millis (timeout e)) 1000) 20
 
--- so long where that was doubled so often (5.5), up to a second
+-- so long behind so many repeats: twice as long behind each but the first two (5.5 has each), up to a second
 abbrev pub backed_off : (wait repeats : ℕ) → ℕ
-backed_off wait repeats = min (wait * 2 ^ repeats) 1000
+backed_off wait repeats = min (wait * 2 ^ (repeats - 2)) 1000

@@ -1,11 +1,12 @@
 -- What datagrams that go out and come tell of round trips.
-use Rattle.std.specs.Prelude.{ℕ, ◌+◌, ◌-◌, ◌/◌, ◌%◌, ◌^◌, min, max, ◌==◌, nat_le, nat_lt, count_ones, ◌&&◌, ◌||◌, Bool}
+use Rattle.std.specs.Prelude.{ℕ, ◌+◌, ◌-◌, ◌*◌, ◌/◌, ◌%◌, ◌^◌, min, max, ◌==◌, nat_le, nat_lt, count_ones, ◌&&◌, ◌||◌, Bool}
 use Rattle.std.specs.Prelude.{true, false, if◌then◌else◌, List, slice_get, slice_set, replicate, Option, Some, None}
 use Rattle.std.specs.Prelude.{is_none, Result, Ok, Err}
+use Rattle.std.specs.Int.{leading_zeros, w64}
 use Rattle.datagram.specs.declared.datagram.Header.{Header}
 use Rattle.datagram.specs.declared.refusal.DatagramRefusal.{DatagramRefusal}
 use Rattle.datagram.specs.Spellings.{DatagramText, BodyText, FrameBody, AckBody, ResetBody}
-use Rattle.round_trips.specs.Estimates.{backed_off, estimate_behind, millis, wait_by}
+use Rattle.round_trips.specs.Estimates.{backed_off, estimate_behind, millis, no_time, wait_by}
 use Rattle.round_trips.specs.declared.estimate.Estimate.{Estimate}
 use Rattle.round_trips.specs.declared.round_trip.TimedFrame.{TimedFrame}
 use Rattle.round_trips.specs.declared.round_trip.RoundTrip.{RoundTrip}
@@ -24,6 +25,10 @@ begun incarnation estimate repeats = record {
   newest = None;
   awaited = 0;
   gap = Unseen;
+  resent = 0;
+  doubtful = 0;
+  allowance = 1;
+  seen = 0;
 }
 
 -- what is known where a frame goes to this incarnation: a session with another one has ended
@@ -47,17 +52,25 @@ abbrev pub timed_without : Option TimedFrame → (number : ℕ) → Option Timed
 timed_without None number = None
 timed_without (Some f) number = if f.number == number then None else Some f
 
--- the frame that the rank waits for goes again: soon, since later ones came, or since its time was over: then that is
--- doubled (RFC 6298, 5.5)
+-- behind the highest number that went out, as far as 64 bits hold it
+abbrev pub behind : Option ℕ → ℕ
+behind None = 0
+behind (Some newest) = min (newest + 1) 18446744073709551615
+
+-- the frame that the rank waits for goes again, so that all that went out are doubtful: soon, since it is known to be
+-- missing, or since its time was over: then that is doubled (RFC 6298, 5.5)
 abbrev pub repeated : RoundTrip → Gap → RoundTrip
-repeated t Seen = record t { gap = Mended }
-repeated t Unseen = record t { repeats = min (t.repeats + 1) 4294967295 }
-repeated t Mended = record t { repeats = min (t.repeats + 1) 4294967295 }
+repeated t Seen = record t { gap = Mended; doubtful = behind t.newest }
+repeated t Unseen = record t { repeats = min (t.repeats + 1) 4294967295; doubtful = behind t.newest }
+repeated t Mended = record t { repeats = min (t.repeats + 1) 4294967295; doubtful = behind t.newest }
 
 -- a frame goes again
 abbrev pub after_repeat : RoundTrip → (number : ℕ) → RoundTrip
 after_repeat t number =
-    let unmeasured : RoundTrip = record t { timed = timed_without t.timed number } in
+    let unmeasured : RoundTrip = record t {
+      timed = timed_without t.timed number;
+      resent = max t.resent (min (number + 1) 18446744073709551615);
+    } in
     if t.awaited == number then repeated unmeasured t.gap else unmeasured
 
 -- a frame goes the first time
@@ -102,16 +115,44 @@ gap_with Unseen held = gap_by held
 gap_with Seen held = Seen
 gap_with Mended held = Mended
 
+-- The rank waits for this frame, a later one than before. Just behind those that went again, among those that went out
+-- before, it is lost, too, and twice as many may go again; further behind, frames came that didn't go again.
+abbrev pub moved_on : RoundTrip → (next held : ℕ) → RoundTrip
+moved_on t next held =
+    if nat_lt t.resent next || nat_le t.doubtful next
+    then record t { awaited = next; gap = gap_by held; allowance = 1 } else
+    (if nat_lt next t.resent
+    then record t { awaited = next; gap = gap_by held }
+    else record t { awaited = next; gap = Seen; allowance = min (t.allowance * 2) 18446744073709551615 })
+
 -- the rank waits for this frame, unless it is known to wait for a later one
 abbrev pub with_awaited : RoundTrip → (next held : ℕ) → RoundTrip
 with_awaited t next held =
-    if nat_lt t.awaited next then record t { awaited = next; gap = gap_by held } else
+    if nat_lt t.awaited next then moved_on t next held else
     (if t.awaited == next then record t { gap = gap_with t.gap held } else t)
+
+-- behind the highest frame that an acknowledgement tells of
+abbrev pub held_end : (next held : ℕ) → ℕ
+held_end next held = min (next + (64 - leading_zeros w64 held)) 18446744073709551615
+
+-- the rank is known to hold the frame below this number
+abbrev pub with_seen : RoundTrip → (next held : ℕ) → RoundTrip
+with_seen t next held = record t { seen = max t.seen (held_end next held) }
 
 -- an acknowledgement of this incarnation comes; one of another incarnation says nothing of this session
 abbrev pub after_acknowledgement : RoundTrip → (incarnation next held now : ℕ) → RoundTrip
 after_acknowledgement t incarnation next held now =
-    if t.incarnation == incarnation then with_awaited (with_sample t t.timed next held now) next held else t
+    if t.incarnation == incarnation
+    then with_seen (with_awaited (with_sample t t.timed next held now) next held) next held else t
+
+-- ---- frames that may go
+
+-- a frame may go the first time; again where it is missing below one that came, and so may as many as are allowed from
+-- the one on that the rank waits for
+abbrev pub lets_go : RoundTrip → (incarnation number : ℕ) → Bool
+lets_go t incarnation number =
+    if (t.incarnation == incarnation) && is_repeat t.newest number
+    then nat_lt number t.seen || nat_lt number (min (t.awaited + t.allowance) 18446744073709551615) else true
 
 -- ---- how long frames wait
 
@@ -129,6 +170,11 @@ wait_with wait Mended estimate = wait
 abbrev pub wait_now : RoundTrip → ℕ
 wait_now t = wait_with (backed_off (wait_by t.estimate) t.repeats) t.gap t.estimate
 
+-- frames were late or lost: they wait longer than the least by what was measured, or the one that the rank waited for
+-- went again behind the first one
+abbrev pub is_troubled : RoundTrip → Bool
+is_troubled t = nat_lt 1 t.doubtful || nat_lt 20 (wait_by t.estimate)
+
 -- ---- all ranks
 
 -- one rank's round trips change so, if there is such a rank
@@ -143,6 +189,11 @@ changed trips rank f = changed_at trips rank f (slice_get trips rank)
 abbrev pub measured_wait : Option RoundTrip → Option ℕ
 measured_wait None = None
 measured_wait (Some t) = if is_none t.estimate then None else Some (wait_now t)
+
+-- how long frames to a rank wait, if there is one and they were late or lost
+abbrev pub troubled_wait : Option RoundTrip → Option ℕ
+troubled_wait None = None
+troubled_wait (Some t) = if is_troubled t then Some (wait_now t) else None
 
 -- a datagram goes out: a frame alone tells something
 abbrev pub sent_with : List RoundTrip → Header → BodyText → (now : ℕ) → List RoundTrip
@@ -166,6 +217,24 @@ abbrev pub after_came : List RoundTrip → Result DatagramText DatagramRefusal �
 after_came trips (Ok d) now = came_with trips d.header d.body now
 after_came trips (Err e) now = trips
 
+-- a datagram may go; a frame alone may not, and of a rank of the job
+abbrev pub goes_to : Option RoundTrip → (incarnation number : ℕ) → Bool
+goes_to None incarnation number = true
+goes_to (Some t) incarnation number = lets_go t incarnation number
+
+abbrev pub goes_with : List RoundTrip → Header → BodyText → Bool
+goes_with trips h (FrameBody f) = goes_to (slice_get trips h.target.rank) h.target.incarnation h.sequence
+goes_with trips h (AckBody held) = true
+goes_with trips h ResetBody = true
+
+abbrev pub may_go : List RoundTrip → Result DatagramText DatagramRefusal → Bool
+may_go trips (Ok d) = goes_with trips d.header d.body
+may_go trips (Err e) = true
+
 -- at first nothing is known of so many ranks
 abbrev pub unknown : (size : ℕ) → List RoundTrip
 unknown size = replicate size (begun 0 None 0)
+
+-- of ranks that are near it is thought at first that round trips take no time
+abbrev pub near : (size : ℕ) → List RoundTrip
+near size = replicate size (begun 0 (Some no_time) 0)

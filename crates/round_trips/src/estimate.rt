@@ -1,7 +1,7 @@
 //! The smoothed round trip time, its variation, and the time to send again (RFC 6298, section 2).
 
 ghost use Rattle.std.specs.Prelude.{◌≡◌, ◌*◌, ◌≤◌, ◌^◌, min};
-ghost use Rattle.round_trips.specs.Estimates.{backed_off, distance, estimate_behind, estimate_with, first_estimate};
+ghost use Rattle.round_trips.specs.Estimates.{backed_off, distance, estimate_behind, estimate_with, first_estimate, no_time};
 ghost use Rattle.round_trips.specs.Estimates.{millis, timeout, wait_by};
 
 /// So many milliseconds a frame waits for its acknowledgement as long as no round trip was measured (2.1 has a second,
@@ -19,8 +19,11 @@ pub const MOST_WAIT: u64 = 1_000;
 /// up to one, and waits for its turn while other processes run.
 const GRANULARITY: u64 = 20_000;
 
+/// So many repeats of a frame double nothing: mostly the frame or its acknowledgement was lost.
+const FREE_REPEATS: u32 = 2;
+
 /// Doubled so often each wait is beyond the longest.
-const FULL_REPEATS: u32 = 6;
+const FULL_DOUBLINGS: u32 = 6;
 
 /// A rank whose program has ended stays for no more milliseconds than so many.
 const MOST_STAY: u64 = 4_000;
@@ -42,6 +45,16 @@ fn distance(a: u64, b: u64) -> u64
 }
 
 impl Estimate {
+    /// Round trips take no time: so ranks of one machine begin, until one is measured.
+    pub fn none() -> Estimate
+        ensures { result ≡ no_time }
+    {
+        Estimate {
+            smoothed: 0,
+            variation: 0,
+        }
+    }
+
     /// After the first round trip, of so many microseconds (2.2): SRTT is that, and RTTVAR half of it.
     pub fn first(round_trip: u64) -> Estimate
         ensures { result ≡ first_estimate round_trip }
@@ -104,24 +117,34 @@ pub fn wait_by(estimate: Option<Estimate>) -> u64
     }
 }
 
-/// So long a frame waits where the time to send again was doubled so often (5.5), up to a second.
+/// So long a frame waits behind so many repeats: twice as long behind each but the first two (5.5 has each), up to a
+/// second.
 #[tactic(auto, using(crate::proofs::WaitBounds::beyond, crate::proofs::WaitBounds::below))]
 pub(crate) fn backed_off(wait: u64, repeats: u32) -> u64
     requires least { 20 ≤ wait }
     requires most { wait ≤ 1000 }
     ensures { result ≡ backed_off wait repeats }
 {
-    if repeats >= FULL_REPEATS {
+    let doublings = repeats.saturating_sub(FREE_REPEATS);
+    if doublings >= FULL_DOUBLINGS {
         return MOST_WAIT;
     }
-    let factor = 1u64 << repeats;
+    let factor = 1u64 << doublings;
     (wait * factor).min(MOST_WAIT)
 }
 
 /// How many milliseconds a rank whose program has ended stays on behind the last datagram that came, where frames to it
-/// wait so long: so that of a frame whose acknowledgement was lost the next four repeats may come, up to 4,000.
+/// wait so long: so that of a frame whose acknowledgement was lost the next six repeats may come, up to 4,000.
 pub fn stay_for(wait: u64) -> u64
     ensures { result ≡ min (32 * wait) 4000 }
 {
     wait.saturating_mul(32).min(MOST_STAY)
+}
+
+/// The same of a rank on the same machine to which frames went again, or wait longer than the least: so that the next
+/// four repeats may come, up to 4,000.
+pub fn stay_near(wait: u64) -> u64
+    ensures { result ≡ min (8 * wait) 4000 }
+{
+    wait.saturating_mul(8).min(MOST_STAY)
 }

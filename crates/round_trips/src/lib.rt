@@ -6,6 +6,8 @@ mod estimate;
 mod round_trip;
 mod round_trips;
 
-pub use crate::estimate::{Estimate, FIRST_WAIT, LEAST_WAIT, MOST_WAIT, stay_for, wait_by};
+pub use crate::estimate::{
+    Estimate, FIRST_WAIT, LEAST_WAIT, MOST_WAIT, stay_for, stay_near, wait_by,
+};
 pub use crate::round_trip::{Gap, RoundTrip, TimedFrame};
 pub use crate::round_trips::RoundTrips;

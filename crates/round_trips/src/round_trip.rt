@@ -2,11 +2,12 @@
 
 ghost use Rattle.std.specs.Prelude.{◌≡◌, ◌≤◌};
 ghost use Rattle.round_trips.specs.Trips.{after_acknowledgement, after_first, after_frame, after_number, after_repeat};
-ghost use Rattle.round_trips.specs.Trips.{begun, gap_by, gap_with, hasty, is_repeat, measured, repeated, tells_of};
-ghost use Rattle.round_trips.specs.Trips.{timed_from, timed_without, wait_now, with_awaited};
-ghost use Rattle.round_trips.specs.Trips.{with_incarnation, with_sample};
+ghost use Rattle.round_trips.specs.Trips.{begun, behind, gap_by, gap_with, hasty, held_end, is_repeat, is_troubled};
+ghost use Rattle.round_trips.specs.Trips.{lets_go, measured};
+ghost use Rattle.round_trips.specs.Trips.{moved_on, repeated, tells_of, timed_from, timed_without, wait_now, with_awaited};
+ghost use Rattle.round_trips.specs.Trips.{with_incarnation, with_sample, with_seen};
 
-use crate::estimate::{Estimate, backed_off, millis, wait_by};
+use crate::estimate::{Estimate, LEAST_WAIT, backed_off, millis, wait_by};
 
 /// A frame whose round trip is being measured.
 #[derive(Clone, Copy, Debug, PartialEq, Eq)]
@@ -22,7 +23,8 @@ pub struct TimedFrame {
 pub enum Gap {
     /// No.
     Unseen,
-    /// Three frames behind the one that the rank waits for came: it is to go again soon.
+    /// Yes: three frames behind the one that the rank waits for came, or those before it came that went again. It is to go
+    /// again soon.
     Seen,
     /// It went again since.
     Mended,
@@ -47,6 +49,14 @@ pub struct RoundTrip {
     pub awaited: u64,
     /// Whether that frame is known to be missing.
     pub gap: Gap,
+    /// Frames went again up to the one below this number.
+    pub resent: u64,
+    /// The frames below this number went out before the one that the rank waited for went again.
+    pub doubtful: u64,
+    /// So many frames from the one on that the rank waits for may go again.
+    pub allowance: u64,
+    /// The rank is known to hold the frame below this number: those before it that it doesn't hold are missing.
+    pub seen: u64,
 }
 
 /// Whether a frame of this number went out before, where `newest` is the highest number of one that did.
@@ -90,6 +100,23 @@ fn tells_of(number: u64, next: u64, held: u64) -> bool
     }
     let place = number - next;
     place < 64 && (held >> place) % 2 == 1
+}
+
+/// Behind the highest frame that an acknowledgement of all frames below `next` tells of, as far as 64 bits hold it.
+fn held_end(next: u64, held: u64) -> u64
+    ensures { result ≡ held_end next held }
+{
+    next.saturating_add(64 - u64::from(held.leading_zeros()))
+}
+
+/// Behind the highest number of a frame that went out.
+fn behind(newest: Option<u64>) -> u64
+    ensures { result ≡ behind newest }
+{
+    match newest {
+        Some(number) => number.saturating_add(1),
+        None => 0,
+    }
 }
 
 /// Whether three frames behind the one that a rank waits for came.
@@ -137,6 +164,10 @@ impl RoundTrip {
             newest: None,
             awaited: 0,
             gap: Gap::Unseen,
+            resent: 0,
+            doubtful: 0,
+            allowance: 1,
+            seen: 0,
         }
     }
 
@@ -158,10 +189,12 @@ impl RoundTrip {
         match gap {
             Gap::Seen => RoundTrip {
                 gap: Gap::Mended,
+                doubtful: behind(self.newest),
                 ..self
             },
             Gap::Unseen | Gap::Mended => RoundTrip {
                 repeats: self.repeats.saturating_add(1),
+                doubtful: behind(self.newest),
                 ..self
             },
         }
@@ -172,6 +205,7 @@ impl RoundTrip {
     {
         let unmeasured = RoundTrip {
             timed: timed_without(self.timed, number),
+            resent: self.resent.max(number.saturating_add(1)),
             ..self
         };
         if self.awaited == number {
@@ -233,15 +267,40 @@ impl RoundTrip {
         }
     }
 
-    fn with_awaited(self, next: u64, held: u64) -> RoundTrip
-        ensures { result ≡ with_awaited self next held }
+    /// The rank tells that it waits for a later frame than before. If that stands just behind those that went again, and
+    /// went out before, it is lost, too: it is to go soon, and twice as many with it. If it stands further behind, frames
+    /// came that didn't go again, and all is as at first.
+    fn moved_on(self, next: u64, held: u64) -> RoundTrip
+        ensures { result ≡ moved_on self next held }
     {
-        if self.awaited < next {
+        if self.resent < next || self.doubtful <= next {
+            return RoundTrip {
+                awaited: next,
+                gap: gap_by(held),
+                allowance: 1,
+                ..self
+            };
+        }
+        if next < self.resent {
             return RoundTrip {
                 awaited: next,
                 gap: gap_by(held),
                 ..self
             };
+        }
+        RoundTrip {
+            awaited: next,
+            gap: Gap::Seen,
+            allowance: self.allowance.saturating_mul(2),
+            ..self
+        }
+    }
+
+    fn with_awaited(self, next: u64, held: u64) -> RoundTrip
+        ensures { result ≡ with_awaited self next held }
+    {
+        if self.awaited < next {
+            return self.moved_on(next, held);
         }
         if self.awaited == next {
             return RoundTrip {
@@ -250,6 +309,16 @@ impl RoundTrip {
             };
         }
         self
+    }
+
+    /// The frames that the rank is known to hold.
+    fn with_seen(self, next: u64, held: u64) -> RoundTrip
+        ensures { result ≡ with_seen self next held }
+    {
+        RoundTrip {
+            seen: self.seen.max(held_end(next, held)),
+            ..self
+        }
     }
 
     /// After an acknowledgement of all frames below `next` came from this incarnation, at this time in microseconds;
@@ -269,6 +338,27 @@ impl RoundTrip {
         }
         self.with_sample(self.timed, next, held, now)
             .with_awaited(next, held)
+            .with_seen(next, held)
+    }
+
+    /// Whether the frame of this number may go to this incarnation now. One that goes the first time may; so may one that
+    /// is missing below another one that came, and those from the one on that the rank waits for, as many as are allowed:
+    /// one, and twice as many each time the rank tells that what went again came. Others may be on their way.
+    pub fn lets_go(self, incarnation: u16, number: u64) -> bool
+        ensures { result ≡ lets_go self incarnation number }
+    {
+        if self.incarnation != incarnation || !is_repeat(self.newest, number) {
+            return true;
+        }
+        number < self.seen || number < self.awaited.saturating_add(self.allowance)
+    }
+
+    /// Whether frames to the rank were late or lost: they wait longer than the least by what was measured, or the one that
+    /// the rank waited for went again. The first frame alone doesn't count: its rank may have begun later.
+    pub fn is_troubled(self) -> bool
+        ensures { result ≡ is_troubled self }
+    {
+        self.doubtful > 1 || wait_by(self.estimate) > LEAST_WAIT
     }
 
     /// How many milliseconds frames wait for their acknowledgements now: the time to send again, doubled as often as it

@@ -3,9 +3,11 @@
 ghost use Rattle.std.specs.Prelude.{◌≡◌, ◌≤◌, slice_get, IfOk, Some};
 ghost use Rattle.std.specs.Option.{option_map};
 ghost use Rattle.datagram.specs.ByteMeanings.{datagram_of};
-ghost use Rattle.round_trips.specs.Trips.{after_acknowledgement, after_came, after_frame, after_sent, changed, unknown};
-ghost use Rattle.round_trips.specs.Trips.{measured_wait, wait_now};
+ghost use Rattle.round_trips.specs.Trips.{after_acknowledgement, after_came, after_frame, after_sent, changed, goes_to};
+ghost use Rattle.round_trips.specs.Trips.{may_go, measured_wait, near, troubled_wait, unknown};
+ghost use Rattle.round_trips.specs.Trips.{wait_now};
 
+use crate::estimate::Estimate;
 use crate::round_trip::RoundTrip;
 use datagram::{Content, Datagram, read_form};
 use std::alloc::{AllocError, Global};
@@ -34,6 +36,18 @@ impl RoundTrips {
     {
         let mut trips = Vec::new(alloc);
         trips.resize(usize::from(size), RoundTrip::begun(0, None, 0))?;
+        Ok(RoundTrips { trips })
+    }
+
+    /// The same of a job whose ranks are near: round trips take no time, until one is measured.
+    pub fn near(alloc: Global, size: u16) -> Result<RoundTrips, AllocError>
+        ensures { IfOk result (λ trips. trips ≡ near size) }
+    {
+        let mut trips = Vec::new(alloc);
+        trips.resize(
+            usize::from(size),
+            RoundTrip::begun(0, Some(Estimate::none()), 0),
+        )?;
         Ok(RoundTrips { trips })
     }
 
@@ -97,11 +111,52 @@ impl RoundTrips {
         }
     }
 
+    /// Whether the frame of this number may go to this incarnation of a rank now.
+    fn lets_go(&self, rank: u16, incarnation: u16, number: u64) -> bool
+        ensures { result ≡ goes_to (slice_get self.now rank) incarnation number }
+    {
+        match self.trips.get(usize::from(rank)) {
+            Some(trip) => trip.lets_go(incarnation, number),
+            None => true,
+        }
+    }
+
+    /// Whether a datagram is to go out now (`RoundTrip::lets_go`). Only frames that went before may be held back; a
+    /// later tick brings them again.
+    pub fn may_go(&self, bytes: &[u8]) -> bool
+        ensures { result ≡ may_go self.now (datagram_of bytes.now) }
+    {
+        match read_form(bytes) {
+            Ok(
+                Datagram {
+                    header,
+                    content: Content::Frame(_),
+                },
+            ) => self.lets_go(
+                header.target.rank,
+                header.target.incarnation,
+                header.sequence,
+            ),
+            _ => true,
+        }
+    }
+
     /// How many milliseconds frames to a rank of the job wait for their acknowledgements now.
     pub fn wait_of(&self, rank: u16) -> Option<u64>
         ensures { result ≡ option_map wait_now (slice_get self.now rank) }
     {
         let trip = self.trips.get(usize::from(rank))?;
+        Some(trip.wait_now())
+    }
+
+    /// The same of a rank to which frames were late or lost (`RoundTrip::is_troubled`).
+    pub fn troubled_wait(&self, rank: u16) -> Option<u64>
+        ensures { result ≡ troubled_wait (slice_get self.now rank) }
+    {
+        let trip = self.trips.get(usize::from(rank))?;
+        if !trip.is_troubled() {
+            return None;
+        }
         Some(trip.wait_now())
     }
 
