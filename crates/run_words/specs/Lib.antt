@@ -1,0 +1,5 @@
+pub mod Symbols
+pub mod Texts
+pub mod Steps
+pub mod Pieces
+pub mod Readings
