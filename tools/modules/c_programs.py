@@ -29,7 +29,8 @@ def sources():
     """All files that the library is made of."""
     own = [it for part in ("src", "include") for it in sorted((BINDING / part).iterdir())]
     crates = programs.crates_of(CRATE) if CRATE in programs.dependencies() else []
-    return [*own, BINDING / "Makefile", *programs.files_of(crates, ("src",))]
+    made_by = [BINDING / it for it in ("Makefile", "exported.map", "kombazily.pc.in")]
+    return [*own, *made_by, TOP / "VERSION", *programs.files_of(crates, ("src",))]
 
 
 def may_be_old():
@@ -78,7 +79,9 @@ def build_unproved(say, names=()):
 
 
 def build_with(say, names):
-    """Builds these programs and the engine side by side, where neither proved nor unproved ones are current."""
+    """Builds these programs and the engine side by side, where neither proved nor unproved ones are current; a release has them."""
+    if programs.RELEASED:
+        return
     lacking = [it for it in names if not programs.is_proved(it)]
     if not is_proved() and (lacking and programs.unproved_folders(lacking) is None or not is_built()):
         build_unproved(say, lacking)
@@ -129,8 +132,9 @@ def make_library(say, wants_proved=False):
         else:
             build_unproved(say)
             put_engine(UNPROVED, say, "libmpi.a is made of an engine that was built before any proof ('./run --proved' proves it first)")
-    made = subprocess.run(["make", "-s", "-C", BINDING, "OUT=%s" % OUT], stdin=subprocess.DEVNULL, stdout=subprocess.PIPE,
-                          stderr=subprocess.STDOUT)
+    # Named from there, since make takes no name with a blank.
+    out = "OUT=%s" % os.path.relpath(OUT, BINDING)
+    made = subprocess.run(["make", "-s", "-C", BINDING, out], stdin=subprocess.DEVNULL, stdout=subprocess.PIPE, stderr=subprocess.STDOUT)
     if made.returncode != 0:
         raise Fault("libmpi.a wasn't made:\n%s" % made.stdout.decode(errors="replace"))
     os.utime(LIBRARY)
@@ -139,10 +143,14 @@ def make_library(say, wants_proved=False):
 
 def compiled(say, source, wants_proved=False):
     """Compiles a C program, and returns where it stands."""
-    make_library(say, wants_proved)
-    program = OUT / "programs" / source.stem
-    program.parent.mkdir(parents=True, exist_ok=True)
-    made = subprocess.run([TOP / "tools" / "mpicc", "-O2", "-g", "-Wall", source, "-o", program, "-lm"], stdout=subprocess.DEVNULL)
+    if programs.RELEASED:
+        compiler, folder = programs.RELEASED / "mpicc", Path(os.environ.get("XDG_CACHE_HOME") or Path.home() / ".cache") / "kombazily"
+    else:
+        make_library(say, wants_proved)
+        compiler, folder = TOP / "tools" / "mpicc", OUT / "programs"
+    program = folder / source.stem
+    folder.mkdir(parents=True, exist_ok=True)
+    made = subprocess.run([compiler, "-O2", "-g", "-Wall", source, "-o", program, "-lm"], stdout=subprocess.DEVNULL)
     if made.returncode != 0:
         raise Fault("%s wasn't compiled" % source)
     return program
