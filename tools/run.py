@@ -11,8 +11,8 @@ usage: ./run                            two ranks play ping-pong
        ./run .. -                       what stands on the standard input, in place of a file
        ./run [-n N] FILE.c [WORD ..]    compiles a C program (tools/mpicc) and runs it with these words; without -n 2 ranks.
                                         Lines come as they are printed; rank 0 has the standard input
-       ./run build                      builds the programs, and runs nothing
-       ./run --proved [..]              as above, by proved programs alone; proves them first
+       ./run build                      builds the programs, and runs nothing: in the repository alone
+       ./run --proved [..]              as above, by proved programs alone; proves them first: there, too
        ./run --help, ./run --version
 
 options, as mpiexec and mpirun have them:
@@ -26,11 +26,11 @@ Options stand in any order, in front of the file or behind it. Those of mpiexplo
 stand beside --explore, and those of mpidraw (--width W, --datagrams) beside --picture and --svg.
 
 A script is judged before ranks are started: what is wrong with it is told once, and the status is 1. Scripts are
-run by mpiexec and rank_main and explored by mpiexplore, files of events are run by mpisim and drawn by mpidraw, C programs are
-run by mpirun. The
-proved programs are taken where `rt ci` or `./run --proved` has left them and no source has changed since. Else programs of
-the same sources are taken, of which nothing is proved: they are built once, in two to three minutes,
-and kept in out/unproved. RUN_PROGRAMS may name a folder whose programs are taken as they are.
+run by mpiexec and rank_main and explored by mpiexplore, files of events are run by mpisim and drawn by mpidraw, C programs
+are run by mpirun. A release has them. In the repository the proved programs are taken where `rt ci` or `./run --proved` has
+left them and no source has changed since. Else programs of the same sources are taken, of which nothing is proved: they are
+built once, in two to three minutes, and kept in out/unproved. RUN_PROGRAMS may name a folder whose programs are taken as
+they are.
 
 What `run` itself says stands on standard error behind 'run:'. The status is that of mpiexec, mpirun,
 mpisim, mpidraw or mpiexplore; 125 where `run` itself fails. Begin with docs/TUTORIAL.md.
@@ -65,6 +65,9 @@ SHOWING = {
 OPTIONS_OF_C = ("-n", "-np")
 # Milliseconds for which all ranks of a C program may wait for one another.
 PATIENCE_OF_C = 10000
+# How this is called.
+CALLED = "kombazily" if programs.RELEASED else "./run"
+HELP = "(%s --help)" % CALLED
 
 
 class Fault(Exception):
@@ -72,7 +75,7 @@ class Fault(Exception):
 
 
 def say(text):
-    print("\n".join("run: " + it for it in str(text).splitlines()), file=sys.stderr, flush=True)
+    print("\n".join("%s: %s" % (CALLED.removeprefix("./"), it) for it in str(text).splitlines()), file=sys.stderr, flush=True)
 
 
 class Request:
@@ -95,7 +98,7 @@ class Request:
         if self.builds_only:
             return
         if len(files) > 1:
-            raise Fault("'%s': one file is run, and '%s' is named too (./run --help)" % (files[1], files[0]))
+            raise Fault("'%s': one file is run, and '%s' is named too %s" % (files[1], files[0], HELP))
         if self.view and not files:
             raise Fault("beside '%s' a file is missing" % self.view)
         self.file = Path(files[0]) if files else PINGPONG
@@ -134,7 +137,7 @@ class Request:
             if option == "--svg":
                 self.svg = self.svg_in(words)
         elif option not in ("-n", "-np", *PASSED_ON, *shown):
-            raise Fault("'%s': no such option%s (./run --help)" % (option, " beside '%s'" % self.view if self.view else ""))
+            raise Fault("'%s': no such option%s %s" % (option, " beside '%s'" % self.view if self.view else "", HELP))
         elif shown.get(option) == 0:
             self.shown.append(option)
         elif not words:
@@ -200,6 +203,8 @@ def find(names, request):
     if given := os.environ.get("RUN_PROGRAMS"):
         request.mention("the programs in %s" % given)
         return {it: Path(given) / it for it in names}
+    if programs.RELEASED:
+        return programs.released(names)
     found = programs.proved_folders(names)
     if found is None and is_proved:
         if programs.kit() is None:
@@ -257,7 +262,7 @@ def command(request):
         raise Fault("%s is no file of events" % request.file)
     if request.view and request.options:
         option = next(iter(request.options))
-        raise Fault("'%s': a script is explored and drawn without processes (./run --help)" % option)
+        raise Fault("'%s': a script is explored and drawn without processes %s" % (option, HELP))
     ranks = request.ranks or ranks_named(lines)
     if ranks is None:
         say("the script names no rank, so one runs it: '-n N' for more")
@@ -336,14 +341,16 @@ def write(chosen, file):
 
 def main(words):
     if words[:1] in (["-h"], ["--help"], ["help"]):
-        print(__doc__, end="")
+        print(__doc__.replace("./run", CALLED), end="")
         return 0
     if words == ["--version"]:
-        print("run (Kombazily) %s" % programs.version())
+        print("%s (Kombazily) %s" % (CALLED.removeprefix("./"), programs.version()))
         return 0
     signal.signal(signal.SIGTERM, lambda *_: sys.exit(128 + signal.SIGTERM))
     try:
         request = Request(words)
+        if programs.RELEASED and (request.builds_only or request.is_proved):
+            raise Fault("a release has its programs, and the file BUILT says which of them are proved")
         if request.builds_only:
             found = find(programs.NAMES, request)
             folders = sorted({str(it.parent) for it in found.values()})
