@@ -3,14 +3,16 @@
  * A rank knows no socket, no clock, no thread and no file. C tells it calls, datagrams and the time, and gets answers,
  * data and datagrams. It never waits: what isn't ready is answered ENGINE_PENDING or ENGINE_BLOCKED, and C asks again
  * once it has carried datagrams and told the time. All that MPI means is decided behind this border and proved: which
- * message a receive takes, order, collectives, communicators, resending, every refusal. (MPI 3.1 is the standard.)
+ * message a receive takes, order, collectives, communicators, resending, what is refused of what it is asked. (MPI 3.1
+ * is the standard. What a program asks wrongly C tells, mostly, before it asks: checks.c.)
  *
  * What crosses is numbers, records of fixed size and slices of bytes. No record holds a pointer, and the rank keeps no
  * pointer to what is C's: a send's data are copied in by the call, and what came is copied out by `kombazily_take`.
  *
- * What C owes: it gives a handle to one call at a time, and only to the thread that made it; a slice's bytes are there,
- * and its pointer isn't null, even where its length is 0; slices and records that are written to overlap nothing else
- * that the call is given. The numbers themselves may be anything.
+ * What C owes: it gives a handle to one call at a time, of whichever thread, where each call is behind the one before
+ * it (the engine keeps nothing of a thread, and has its memory by malloc); a slice's bytes are there, and its pointer
+ * isn't null, even where its length is 0; slices and records that are written to overlap nothing else that the call is
+ * given. The numbers themselves may be anything. That these records are the engine's is told by engine_records.c.
  */
 #ifndef KOMBAZILY_ENGINE_H
 #define KOMBAZILY_ENGINE_H
@@ -209,7 +211,8 @@ void kombazily_call(struct engine_rank *rank, const struct engine_call *call, co
  * until an answer brings others, and may be taken in parts and as often as one likes. */
 size_t kombazily_take(struct engine_rank *rank, uint64_t first, uint8_t *into, size_t length);
 
-/* Takes in a datagram; its bytes may be anything. 0, or the number of the refusal: then nothing changed. */
+/* Takes in a datagram; its bytes may be anything. 0, or the number of the refusal: then nothing changed, but that 29
+ * (it was for a former incarnation of this rank) has a RESET go out. */
 uint32_t kombazily_datagram(struct engine_rank *rank, const uint8_t *bytes, size_t length);
 
 /* The clock says `now`, in nanoseconds; its start is C's choice. The engine is told whole milliseconds. What was sent

@@ -1,0 +1,154 @@
+/* What engine.h has to be so that C and the engine speak of the same bytes: records, numbers, functions. It compiles
+ * where that is so. Made by tools/c_records of the sources of c_exports, c_rank, outgoing_datagrams and vocabulary. */
+/* clang-format off */
+#include "engine.h"
+
+#define RECORD(name, bytes, alignment)                                                                                 \
+    _Static_assert(sizeof(struct name) == (bytes) && _Alignof(struct name) == (alignment), #name)
+#define FIELD(name, field, place, bytes)                                                                               \
+    _Static_assert(offsetof(struct name, field) == (place) && sizeof(((struct name *)0)->field) == (bytes),            \
+                   #name ": " #field)
+#define NUMBER(name, value) _Static_assert(name == (value), #name)
+
+RECORD(engine_request, 16, 8);
+FIELD(engine_request, key, 0, 8);
+FIELD(engine_request, serial, 8, 8);
+
+RECORD(engine_place, 24, 8);
+FIELD(engine_place, job, 0, 8);
+FIELD(engine_place, message_limit, 8, 8);
+FIELD(engine_place, rank, 16, 2);
+FIELD(engine_place, size, 18, 2);
+FIELD(engine_place, incarnation, 20, 2);
+
+RECORD(engine_call, 64, 8);
+FIELD(engine_call, kind, 0, 4);
+FIELD(engine_call, communicator, 4, 4);
+FIELD(engine_call, peer, 8, 4);
+FIELD(engine_call, tag, 12, 4);
+FIELD(engine_call, basic, 16, 4);
+FIELD(engine_call, operation, 20, 4);
+FIELD(engine_call, count, 24, 8);
+FIELD(engine_call, request, 32, 16);
+FIELD(engine_call, other, 48, 4);
+FIELD(engine_call, colour, 52, 4);
+FIELD(engine_call, order, 56, 4);
+FIELD(engine_call, has_data, 60, 4);
+
+RECORD(engine_answer, 72, 8);
+FIELD(engine_answer, kind, 0, 4);
+FIELD(engine_answer, number, 4, 4);
+FIELD(engine_answer, outcome, 8, 4);
+FIELD(engine_answer, basic, 12, 4);
+FIELD(engine_answer, request, 16, 16);
+FIELD(engine_answer, source, 32, 4);
+FIELD(engine_answer, tag, 36, 4);
+FIELD(engine_answer, count, 40, 8);
+FIELD(engine_answer, bytes, 48, 8);
+FIELD(engine_answer, fact, 56, 8);
+FIELD(engine_answer, communicator, 64, 4);
+
+RECORD(engine_outgoing, 24, 8);
+FIELD(engine_outgoing, kept_until, 0, 8);
+FIELD(engine_outgoing, each, 8, 4);
+FIELD(engine_outgoing, count, 12, 4);
+FIELD(engine_outgoing, target, 16, 2);
+
+RECORD(engine_rank, 16, 8);
+FIELD(engine_rank, at, 0, 8);
+FIELD(engine_rank, is_held, 8, 1);
+
+/* The kinds of calls. */
+NUMBER(ENGINE_ISEND, 1);
+NUMBER(ENGINE_ISSEND, 2);
+NUMBER(ENGINE_IRECV, 3);
+NUMBER(ENGINE_TEST, 4);
+NUMBER(ENGINE_LOOK, 5);
+NUMBER(ENGINE_CANCEL, 6);
+NUMBER(ENGINE_IPROBE, 7);
+NUMBER(ENGINE_IMPROBE, 8);
+NUMBER(ENGINE_MRECV, 9);
+NUMBER(ENGINE_FINISH, 10);
+NUMBER(ENGINE_BARRIER, 11);
+NUMBER(ENGINE_BCAST, 12);
+NUMBER(ENGINE_GATHER, 13);
+NUMBER(ENGINE_SCATTER, 14);
+NUMBER(ENGINE_REDUCE, 15);
+NUMBER(ENGINE_ALLREDUCE, 16);
+NUMBER(ENGINE_DUP, 17);
+NUMBER(ENGINE_SPLIT, 18);
+NUMBER(ENGINE_RANK, 19);
+NUMBER(ENGINE_SIZE, 20);
+NUMBER(ENGINE_MEMBERS, 21);
+NUMBER(ENGINE_COMPARE, 22);
+
+/* The kinds of answers, and how operations end. */
+NUMBER(ENGINE_REFUSED, 0);
+NUMBER(ENGINE_STARTED, 1);
+NUMBER(ENGINE_DONE, 2);
+NUMBER(ENGINE_PENDING, 3);
+NUMBER(ENGINE_ACCEPTED, 4);
+NUMBER(ENGINE_BLOCKED, 5);
+NUMBER(ENGINE_LEFT, 6);
+NUMBER(ENGINE_FACT, 7);
+NUMBER(ENGINE_PROBED, 8);
+NUMBER(ENGINE_MATCHED, 9);
+NUMBER(ENGINE_NOTHING, 10);
+NUMBER(ENGINE_SENT, 1);
+NUMBER(ENGINE_RECEIVED, 2);
+NUMBER(ENGINE_FAILED, 3);
+NUMBER(ENGINE_REPLACED, 4);
+NUMBER(ENGINE_CANCELLED, 5);
+NUMBER(ENGINE_EMPTY, 6);
+
+/* Basic types. */
+NUMBER(ENGINE_INT8, 1);
+NUMBER(ENGINE_INT16, 2);
+NUMBER(ENGINE_INT32, 3);
+NUMBER(ENGINE_INT64, 4);
+NUMBER(ENGINE_UINT8, 5);
+NUMBER(ENGINE_UINT16, 6);
+NUMBER(ENGINE_UINT32, 7);
+NUMBER(ENGINE_UINT64, 8);
+NUMBER(ENGINE_BYTE, 9);
+NUMBER(ENGINE_FLOAT32, 10);
+NUMBER(ENGINE_FLOAT64, 11);
+
+/* Operations. */
+NUMBER(ENGINE_MAX, 1);
+NUMBER(ENGINE_MIN, 2);
+NUMBER(ENGINE_SUM, 3);
+NUMBER(ENGINE_PROD, 4);
+NUMBER(ENGINE_LAND, 5);
+NUMBER(ENGINE_LOR, 6);
+NUMBER(ENGINE_LXOR, 7);
+NUMBER(ENGINE_BAND, 8);
+NUMBER(ENGINE_BOR, 9);
+NUMBER(ENGINE_BXOR, 10);
+
+/* How communicators compare. */
+NUMBER(ENGINE_IDENT, 0);
+NUMBER(ENGINE_CONGRUENT, 1);
+NUMBER(ENGINE_SIMILAR, 2);
+NUMBER(ENGINE_UNEQUAL, 3);
+
+/* Refusals of the border's own. */
+NUMBER(ENGINE_NOTHING_HELD, 81);
+NUMBER(ENGINE_HELD_ALREADY, 82);
+
+/* That of a call. */
+NUMBER(ENGINE_NO_SUCH_CALL, 83);
+
+/* That of a limit, and the greatest one. */
+NUMBER(ENGINE_GREATEST_LIMIT, 2147483647);
+NUMBER(ENGINE_OTHER_LIMIT, 84);
+
+/* The functions. */
+uint32_t kombazily_new(struct engine_rank *, const struct engine_place *);
+void kombazily_free(struct engine_rank *);
+void kombazily_call(struct engine_rank *, const struct engine_call *, const uint8_t *, size_t, struct engine_answer *);
+size_t kombazily_take(struct engine_rank *, uint64_t, uint8_t *, size_t);
+uint32_t kombazily_datagram(struct engine_rank *, const uint8_t *, size_t);
+uint32_t kombazily_tick(struct engine_rank *, uint64_t);
+size_t kombazily_next(struct engine_rank *, uint32_t, bool, struct engine_outgoing *, uint8_t *, size_t);
+bool kombazily_is_idle(struct engine_rank *);
