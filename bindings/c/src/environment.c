@@ -126,18 +126,21 @@ static int begin(const char *call, int *argc, char ***argv, int required) {
     return open_communicators();
 }
 
+/* Answers a number, where there is somewhere to put it. */
+static int put_number(const char *call, const char *name, int *into, int number) {
+    int class = check_result(MPI_COMM_WORLD, call, into, name);
+    if (class == MPI_SUCCESS) *into = number;
+    return class;
+}
+
 int MPI_Init(int *argc, char ***argv) { return begin("MPI_Init", argc, argv, MPI_THREAD_SINGLE); }
 
 int MPI_Init_thread(int *argc, char ***argv, int required, int *provided) {
     int class = begin("MPI_Init_thread", argc, argv, required);
-    *provided = process.thread_level;
-    return class;
+    return class != MPI_SUCCESS ? class : put_number("MPI_Init_thread", "provided", provided, process.thread_level);
 }
 
-int MPI_Initialized(int *flag) {
-    *flag = process.phase != BEFORE_INIT;
-    return MPI_SUCCESS;
-}
+int MPI_Initialized(int *flag) { return put_number("MPI_Initialized", "flag", flag, process.phase != BEFORE_INIT); }
 
 /* ---- the end ---- */
 
@@ -182,10 +185,7 @@ int MPI_Finalize(void) {
     return class;
 }
 
-int MPI_Finalized(int *flag) {
-    *flag = process.phase == FINALIZED;
-    return MPI_SUCCESS;
-}
+int MPI_Finalized(int *flag) { return put_number("MPI_Finalized", "flag", flag, process.phase == FINALIZED); }
 
 int MPI_Abort(MPI_Comm comm, int errorcode) {
     (void)comm;
@@ -198,32 +198,37 @@ int MPI_Abort(MPI_Comm comm, int errorcode) {
 
 int MPI_Query_thread(int *provided) {
     check_running("MPI_Query_thread");
-    *provided = process.thread_level;
-    return MPI_SUCCESS;
+    return put_number("MPI_Query_thread", "provided", provided, process.thread_level);
 }
 
 int MPI_Is_thread_main(int *flag) {
     check_running("MPI_Is_thread_main");
-    *flag = thrd_equal(thrd_current(), main_thread) != 0;
-    return MPI_SUCCESS;
+    return put_number("MPI_Is_thread_main", "flag", flag, thrd_equal(thrd_current(), main_thread) != 0);
 }
 
 /* ---- surroundings ---- */
 
 int MPI_Get_version(int *version, int *subversion) {
-    *version = MPI_VERSION;
-    *subversion = MPI_SUBVERSION;
-    return MPI_SUCCESS;
+    int class = put_number("MPI_Get_version", "version", version, MPI_VERSION);
+    return class != MPI_SUCCESS ? class : put_number("MPI_Get_version", "subversion", subversion, MPI_SUBVERSION);
 }
 
 int MPI_Get_library_version(char *version, int *resultlen) {
+    static const char call[] = "MPI_Get_library_version";
+    int class = check_result(MPI_COMM_WORLD, call, version, "version");
+    if (class == MPI_SUCCESS) class = check_result(MPI_COMM_WORLD, call, resultlen, "resultlen");
+    if (class != MPI_SUCCESS) return class;
     *resultlen = snprintf(version, MPI_MAX_LIBRARY_VERSION_STRING, "Kombazily 0.1.0, a part of MPI %d.%d", MPI_VERSION,
                           MPI_SUBVERSION);
     return MPI_SUCCESS;
 }
 
 int MPI_Get_processor_name(char *name, int *resultlen) {
-    check_running("MPI_Get_processor_name");
+    static const char call[] = "MPI_Get_processor_name";
+    check_running(call);
+    int class = check_result(MPI_COMM_WORLD, call, name, "name");
+    if (class == MPI_SUCCESS) class = check_result(MPI_COMM_WORLD, call, resultlen, "resultlen");
+    if (class != MPI_SUCCESS) return class;
     if (gethostname(name, MPI_MAX_PROCESSOR_NAME) != 0) strcpy(name, "localhost");
     name[MPI_MAX_PROCESSOR_NAME - 1] = '\0';
     *resultlen = (int)strlen(name);
@@ -238,6 +243,8 @@ int MPI_Alloc_mem(MPI_Aint size, MPI_Info info, void *baseptr) {
     static const char call[] = "MPI_Alloc_mem";
     (void)info;
     check_running(call);
+    int class = check_result(MPI_COMM_WORLD, call, baseptr, "baseptr");
+    if (class != MPI_SUCCESS) return class;
     if (size < 0) return raise_on(MPI_COMM_WORLD, call, MPI_ERR_ARG, "a size of %td bytes", size);
     void *made = malloc(size > 0 ? (size_t)size : 1);
     if (made == NULL) return raise_on(MPI_COMM_WORLD, call, MPI_ERR_NO_MEM, "no memory of %td bytes", size);

@@ -58,6 +58,22 @@ static void check_statuses(void) {
     CHECK_ARG(MPI_Get_elements(NULL, MPI_INT, &number));
 }
 
+static void check_environment(void) {
+    int number;
+    char name[MPI_MAX_LIBRARY_VERSION_STRING];
+    CHECK_ARG(MPI_Initialized(NULL));
+    CHECK_ARG(MPI_Finalized(NULL));
+    CHECK_ARG(MPI_Query_thread(NULL));
+    CHECK_ARG(MPI_Is_thread_main(NULL));
+    CHECK_ARG(MPI_Get_version(NULL, &number));
+    CHECK_ARG(MPI_Get_version(&number, NULL));
+    CHECK_ARG(MPI_Get_library_version(NULL, &number));
+    CHECK_ARG(MPI_Get_library_version(name, NULL));
+    CHECK_ARG(MPI_Get_processor_name(NULL, &number));
+    CHECK_ARG(MPI_Get_processor_name(name, NULL));
+    CHECK_ARG(MPI_Alloc_mem(8, MPI_INFO_NULL, NULL));
+}
+
 int main(int argc, char **argv) {
     test_begin(&argc, &argv);
     return_errors();
@@ -65,5 +81,6 @@ int main(int argc, char **argv) {
     check_beginnings();
     check_ends();
     check_statuses();
+    check_environment();
     return test_end();
 }
