@@ -215,9 +215,11 @@ size_t kombazily_take(struct engine_rank *rank, uint64_t first, uint8_t *into, s
  * (it was for a former incarnation of this rank) has a RESET go out. */
 uint32_t kombazily_datagram(struct engine_rank *rank, const uint8_t *bytes, size_t length);
 
-/* The clock says `now`, in nanoseconds; its start is C's choice. The engine is told whole milliseconds. What was sent
- * 20 ms ago or earlier and isn't acknowledged goes out again, and an acknowledgement that was kept back for 1 ms goes.
- * 0, or 41 (an earlier call said more), 14, 81. */
+/* The clock says `now`, in nanoseconds; its start is C's choice. The engine is told whole milliseconds, each once;
+ * round trips are measured by it. So C tells the time before a call that may send something and before datagrams that
+ * came, and each few milliseconds as long as the rank isn't idle. What isn't acknowledged within the time of RFC 6298
+ * goes out again (20 ms to a second, by the round trips to its rank), and an acknowledgement that was kept back for 1
+ * ms goes. 0, or 41 (an earlier call said more), 14, 81. */
 uint32_t kombazily_tick(struct engine_rank *rank, uint64_t now);
 
 /* Hands out what is to be sent next: at most `most` datagrams (1 where the kernel doesn't cut them apart), as many as

@@ -2,3 +2,4 @@ pub mod ByteOrderLaws
 pub mod HandingSteps
 pub mod AnswerLaws
 pub mod MeaningSteps
+pub mod ClockSteps

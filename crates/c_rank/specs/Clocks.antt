@@ -1,17 +1,36 @@
--- What the engine of a rank is told of the time.
-use Rattle.std.specs.Prelude.{ℕ, ◌==◌, ◌-◌, ◌*◌, Bool, false, nat_lt, min, max, if◌then◌else◌}
-use Rattle.c_rank.specs.declared.clock.RankClock.{RankClock}
+-- What the engine of a rank is told of the time, and what goes out by the round trips that were measured.
+use Rattle.std.specs.Prelude.{◌≡◌, ◌/◌, ℕ, suc, List, [], ◌∷◌, filter, fold_left, map, take, Result, Ok, Err}
+use Rattle.datagram.specs.ByteMeanings.{datagram_of}
+use Rattle.engine.specs.Ticks.{after_wait}
+use Rattle.engine_calls.specs.EngineState.{EngineState}
+use Rattle.point_to_point_calls.specs.declared.refusal.Refusal.{Refusal}
+use Rattle.port_transport.specs.Wires.{Parcel}
+use Rattle.round_trips.specs.Trips.{after_came, after_sent, may_go, wait_now}
+use Rattle.round_trips.specs.declared.round_trip.RoundTrip.{RoundTrip}
 
--- the engine isn't told a millisecond that it was told already, nor, where nothing goes on, one within the pause
-abbrev pub waits : RankClock → (millisecond : ℕ) → Bool
-waits c millisecond =
-    if nat_lt millisecond c.told then false else
-    (if c.is_stirred then millisecond == c.told else nat_lt (millisecond - c.told) c.pause)
+-- how long frames to each rank wait for their acknowledgements, from rank 0 on
+abbrev pub waits_in : List RoundTrip → List ℕ
+waits_in trips = map wait_now trips
 
--- the pause behind it: 20 ms where something went on, and else twice the one before, 320 ms at most
-abbrev pub pause_behind : RankClock → ℕ
-pause_behind c = if c.is_stirred then 20 else min (max (c.pause * 2) 20) 320
+-- frames to the ranks from this one on wait so long
+abbrev pub with_waits : EngineState → (rank : ℕ) → List ℕ → EngineState
+with_waits e rank [] = e
+with_waits e rank (wait ∷ waits) = with_waits (after_wait e rank wait) (suc rank) waits
 
--- once it was told
-abbrev pub after_telling : RankClock → (millisecond : ℕ) → RankClock
-after_telling c millisecond = record { told = millisecond; pause = pause_behind c; is_stirred = false }
+-- frames to the ranks of the job wait so long
+abbrev pub told_waits : EngineState → List ℕ → EngineState
+told_waits e waits = with_waits e 0 (take e.sessions.place.size waits)
+
+-- the datagrams that may go now: all but frames that go again and are to wait
+abbrev pub going : List RoundTrip → List Parcel → List Parcel
+going trips out = filter (λ p. may_go trips (datagram_of p.1)) out
+
+-- what is known of round trips once these datagrams went out, at this time in microseconds
+abbrev pub after_all : List RoundTrip → List Parcel → (now : ℕ) → List RoundTrip
+after_all trips [] now = trips
+after_all trips (p ∷ out) now = after_all (after_sent trips (datagram_of p.1) now) out now
+
+-- what is known of them behind a datagram that the engine took or refused
+abbrev pub trips_behind : Result (Unit {0}) Refusal → List RoundTrip → (bytes : List ℕ) → (now : ℕ) → List RoundTrip
+trips_behind (Ok done) trips bytes now = after_came trips (datagram_of bytes) now
+trips_behind (Err refused) trips bytes now = trips

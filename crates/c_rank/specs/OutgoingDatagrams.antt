@@ -1,22 +1,35 @@
 -- What a rank hands out: the datagrams that its engine emitted, in order.
-use Rattle.std.specs.Prelude.{◌≡◌, ◌⊎◌, ◌≤◌, ◌<◌, ℕ, Bool, true, List, ◌++◌, length, max, None}
+use Rattle.std.specs.Prelude.{◌≡◌, ◌⊎◌, ◌≤◌, ◌<◌, ◌/◌, ℕ, Bool, true, List, ◌++◌, length, max, None}
 use Rattle.engine_calls.specs.EngineState.{without_out}
 use Rattle.port_transport.specs.Wires.{Parcel}
 use Rattle.outgoing_datagrams.specs.HandedDatagrams.{HandsOn, NoneFits, late_at}
 use Rattle.outgoing_datagrams.specs.Runs.{Stands}
 use Rattle.outgoing_datagrams.specs.declared.record.OutgoingRecord.{OutgoingRecord}
+use Rattle.round_trips.specs.declared.round_trip.RoundTrip.{RoundTrip}
+use Rattle.c_rank.specs.Clocks.{after_all, going}
 use Rattle.c_rank.specs.State.{RankState}
 
--- what was emitted and isn't handed out, but for what is kept back
+-- what was emitted and isn't handed out, but for what is kept back and for frames that may not go again now
 abbrev pub pending : RankState → List Parcel
-pending r = r.sending.waiting ++ r.engine.sessions.out
+pending r = r.sending.waiting ++ going r.trips r.engine.sessions.out
 
--- nothing changes but what is to be sent
+-- the round trips of frames begin that are handed out now
+abbrev pub trips_begun : RankState → List RoundTrip
+trips_begun r = after_all r.trips (going r.trips r.engine.sessions.out) (r.sending.time / 1000)
+
+-- what was emitted is taken over, or not
+abbrev pub TakesOver : RankState → RankState → Type 0
+TakesOver old new =
+    ((new.engine ≡ old.engine) × (new.trips ≡ old.trips))
+    ⊎ ((new.engine ≡ without_out old.engine) × (new.trips ≡ trips_begun old))
+
+-- nothing else changes but what is to be sent
 abbrev pub KeepsRest : RankState → RankState → Type 0
 KeepsRest old new =
-    ((new.engine ≡ old.engine) ⊎ (new.engine ≡ without_out old.engine))
+    TakesOver old new
     × (new.received ≡ old.received)
-    × (new.clock ≡ old.clock)
+    × (new.told ≡ old.told)
+    × (new.sending.time ≡ old.sending.time)
 
 -- These were handed out: they stand in the slice, `most` at most; none only where nothing is there that fits. Of what was
 -- kept back and pending they went in order: none but acknowledgements of which the next one says all stay out for good.

@@ -1,5 +1,5 @@
 -- What a rank is: its engine, the data of its last answer, and what it sends.
-use Rattle.std.specs.Prelude.{◌≡◌, ◌⊎◌, ◌/◌, ◌<◌, ℕ, [], Bool, true, false, Option, None, Result, Ok, Err}
+use Rattle.std.specs.Prelude.{◌≡◌, ◌⊎◌, ◌/◌, ◌<◌, ◌==◌, ℕ, List, [], Bool, true, false, Option, None, Result, Ok, Err}
 use Rattle.incarnation.specs.declared.place.Place.{Place}
 use Rattle.engine.specs.Places.{place_fault}
 use Rattle.engine.specs.Ticks.{TickGives}
@@ -9,8 +9,9 @@ use Rattle.point_to_point_calls.specs.declared.refusal.Refusal.{Refusal}
 use Rattle.vocabulary.specs.MessageLimits.{limit_of}
 use Rattle.vocabulary.specs.declared.message_limit.MessageLimit.{MessageLimit}
 use Rattle.outgoing_datagrams.specs.HandedDatagrams.{SendingState}
-use Rattle.c_rank.specs.Clocks.{after_telling, waits}
-use Rattle.c_rank.specs.declared.clock.RankClock.{RankClock}
+use Rattle.round_trips.specs.Trips.{near}
+use Rattle.round_trips.specs.declared.round_trip.RoundTrip.{RoundTrip}
+use Rattle.c_rank.specs.Clocks.{told_waits, waits_in}
 use Rattle.c_rank.specs.declared.rank.ReceivedData.{ReceivedData}
 use Rattle.c_rank.specs.declared.records.PlaceRecord.{PlaceRecord}
 
@@ -20,8 +21,10 @@ pub record RankState : Type 0 where
   pub received : Option ReceivedData
   -- what was emitted and isn't handed out, or is kept back
   pub sending : SendingState
-  -- what the engine was told of the time
-  pub clock : RankClock
+  -- what is known of round trips
+  pub trips : List RoundTrip
+  -- the millisecond that the engine was told last
+  pub told : ℕ
 
 -- ---- its place
 
@@ -38,7 +41,8 @@ place_said p limit = record {
   message_limit = limit;
 }
 
--- a rank at its start: its engine is at its start, no data are there, and nothing is to be sent
+-- a rank at its start: its engine is at its start, no data are there, nothing is to be sent, round trips are thought to
+-- take no time, and its clock is at 0
 pub record IsOpening (p : PlaceRecord) (r : RankState) : Type 0 where
   pub limit : MessageLimit
   pub bytes : limit_of limit ≡ p.message_limit
@@ -46,6 +50,8 @@ pub record IsOpening (p : PlaceRecord) (r : RankState) : Type 0 where
   pub received : r.received ≡ None
   pub waiting : r.sending.waiting ≡ []
   pub kept : r.sending.kept ≡ None
+  pub trips : r.trips ≡ near p.size
+  pub told : r.told ≡ 0
 
 -- the numbers by which it is told how an event of the engine went: 0, or that of the refusal
 abbrev pub number_of_result : Result (Unit {0}) Refusal → ℕ
@@ -61,25 +67,31 @@ IsNoPlace p n =
 
 -- ---- its clock
 
--- what was told of the time, behind an event of the engine that went so
-abbrev pub ClockBehind : Result (Unit {0}) Refusal → RankClock → (millisecond : ℕ) → RankClock → Type 0
-ClockBehind (Ok done) old millisecond new = new ≡ after_telling old millisecond
-ClockBehind (Err refused) old millisecond new = new ≡ old
+-- what goes out, what is known of round trips and the time that the engine was told are the same
+abbrev pub IsSameTime : RankState → RankState → Type 0
+IsSameTime old new = (new.sending ≡ old.sending) × (new.trips ≡ old.trips) × (new.told ≡ old.told)
 
--- the engine is told the time
+-- the millisecond that the engine was told last, behind a tick that went so
+abbrev pub told_behind : Result (Unit {0}) Refusal → (before millisecond : ℕ) → ℕ
+told_behind (Ok done) before millisecond = millisecond
+told_behind (Err refused) before millisecond = before
+
+-- the engine is told how long frames wait, and the time
 abbrev pub TellsTime : RankState → (millisecond : ℕ) → ℕ → RankState → Type 0
 TellsTime old millisecond n new =
-    (gone : Result (Unit {0}) Refusal) × (TickGives old.engine millisecond gone new.engine
-    × (n ≡ number_of_result gone) × ClockBehind gone old.clock millisecond new.clock)
+    (gone : Result (Unit {0}) Refusal)
+    × (TickGives (told_waits old.engine (waits_in old.trips)) millisecond gone new.engine
+    × (n ≡ number_of_result gone) × (new.told ≡ told_behind gone old.told millisecond))
 
--- unless it is to wait
-abbrev pub EngineTicks : (waits : Bool) → RankState → (millisecond : ℕ) → ℕ → RankState → Type 0
-EngineTicks true old millisecond n new = (n ≡ 0) × (new.engine ≡ old.engine) × (new.clock ≡ old.clock)
+-- unless it was told this millisecond
+abbrev pub EngineTicks : (is_told : Bool) → RankState → (millisecond : ℕ) → ℕ → RankState → Type 0
+EngineTicks true old millisecond n new = (n ≡ 0) × (new.engine ≡ old.engine) × (new.told ≡ old.told)
 EngineTicks false old millisecond n new = TellsTime old millisecond n new
 
 -- the clock says a time, in nanoseconds
 abbrev pub Ticks : RankState → (now : ℕ) → ℕ → RankState → Type 0
 Ticks old now n new =
-    EngineTicks (waits old.clock (now / 1000000)) old (now / 1000000) n new
+    EngineTicks (now / 1000000 == old.told) old (now / 1000000) n new
     × (new.received ≡ old.received)
+    × (new.trips ≡ old.trips)
     × (new.sending ≡ record old.sending { time = now })

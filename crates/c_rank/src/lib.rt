@@ -8,7 +8,6 @@
 
 mod answers;
 mod call_kind;
-mod clock;
 mod elements;
 mod meaning;
 mod rank;
@@ -16,7 +15,6 @@ mod records;
 
 pub use answers::{Told, refusal, reply_told, told_by_completion};
 pub use call_kind::CallKind;
-pub use clock::RankClock;
 pub use elements::{elements_in, turn_elements};
 pub use meaning::{Meant, meaning_of};
 pub use outgoing_datagrams::OutgoingRecord;

@@ -1,6 +1,6 @@
 //! One rank: its engine, the data of its last answer, and what it sends.
 
-ghost use Rattle.std.specs.Prelude.{◌≡◌, ◌≤◌, ◌<◌, ◌⊎◌, ◌↔◌, [], All, IfErr, IfNone, IfOk, IfSome, IsTrue, None, Result, length, true};
+ghost use Rattle.std.specs.Prelude.{◌≡◌, ◌≤◌, ◌<◌, ◌⊎◌, ◌↔◌, ◌/◌, [], All, IfErr, IfNone, IfOk, IfSome, IsTrue, None, Result, length, true};
 ghost use Rattle.engine.specs.Looks.{type_probed};
 ghost use Rattle.engine.specs.Datagrams.{DatagramGives};
 ghost use Rattle.engine_calls.specs.declared.call.Call.TheVariants as calls;
@@ -8,22 +8,24 @@ ghost use Rattle.engine_calls.specs.declared.reply.Reply.{Reply};
 ghost use Rattle.point_to_point_calls.specs.declared.refusal.Refusal.{Refusal};
 ghost use Rattle.requests.specs.Table.{finished_at};
 ghost use Rattle.sessions.specs.Peers.{IsIdlePeer};
+ghost use Rattle.c_rank.specs.Clocks.{after_all, going, told_waits, trips_behind, waits_in};
 ghost use Rattle.c_rank.specs.Calls.{Answers, AnswersMeant, Tells, TellsReply, look_told, type_out};
 ghost use Rattle.c_rank.specs.OutgoingDatagrams.{HandsFirst, HandsNext, KeepsRest, pending};
-ghost use Rattle.c_rank.specs.State.{IsNoLimit, IsNoPlace, IsOpening, TellsTime, Ticks, number_of_result, place_said};
+ghost use Rattle.c_rank.specs.State.{IsNoLimit, IsNoPlace, IsOpening, IsSameTime, TellsTime, Ticks, number_of_result};
+ghost use Rattle.c_rank.specs.State.{place_said};
 ghost use Rattle.c_rank.specs.AnswerCopies.{Takes, TakesOf};
 ghost use Rattle.vocabulary.specs.MessageLimits.{limit_of};
 ghost use Rattle.c_rank.specs.declared.meaning.Meant.TheVariants as meant;
 
 use crate::answers::{Told, answer_of_kind, fact_answer, refusal, reply_told, told_by_completion};
-use crate::clock::RankClock;
 use crate::elements::turn_elements;
 use crate::meaning::{Meant, meaning_of};
 use crate::records::{AnswerRecord, CallRecord, PlaceRecord};
-use datagram::LONGEST_DATAGRAM;
+use datagram::{Bytes, LONGEST_DATAGRAM};
 use datatypes::Buffer;
 use engine::{Call, Engine, Place, Probe, Refusal, Reply, Request};
 use outgoing_datagrams::{OutgoingRecord, Sending};
+use round_trips::RoundTrips;
 use std::alloc::Global;
 use std::marker::Model;
 use vocabulary::{BasicType, Endpoint, MessageLimit};
@@ -59,8 +61,10 @@ pub struct Rank {
     engine: Engine,
     received: Option<ReceivedData>,
     sending: Sending,
-    /// What the engine was told of the time.
-    clock: RankClock,
+    /// What is known of round trips.
+    trips: RoundTrips,
+    /// The millisecond that the engine was told last.
+    told: u64,
 }
 
 impl Model for Rank {
@@ -68,7 +72,7 @@ impl Model for Rank {
 
     ghost Value = { RankState };
 
-    ghost view = { λ r. record { engine = r.engine; received = r.received; sending = r.sending; clock = r.clock } };
+    ghost view = { λ r. record { engine = r.engine; received = r.received; sending = r.sending; trips = r.trips; told = r.told } };
 }
 
 impl ReceivedData {
@@ -118,20 +122,6 @@ fn place_of(told: &PlaceRecord) -> Result<Place, u8>
     })
 }
 
-/// Whether something began with this reply, or ended.
-fn is_beginning(reply: &Reply) -> bool {
-    match reply {
-        Reply::Started(_) | Reply::Blocked | Reply::Left(_) => true,
-        Reply::Done(_)
-        | Reply::Pending
-        | Reply::Accepted
-        | Reply::Fact(_)
-        | Reply::Probed(_)
-        | Reply::Matched(_)
-        | Reply::Refused(..) => false,
-    }
-}
-
 /// The number of how an event went: 0, or that of the refusal.
 fn number_of(gone: Result<(), Refusal>) -> u8
     ensures { result ≡ number_of_result gone }
@@ -139,6 +129,34 @@ fn number_of(gone: Result<(), Refusal>) -> u8
     match gone {
         Ok(()) => 0,
         Err(refused) => refused.number(),
+    }
+}
+
+/// The engine is told how long frames to the ranks of its job wait for their acknowledgements.
+fn tell_waits(engine: &mut Engine, trips: &RoundTrips)
+    ensures { engine.new ≡ told_waits engine.old (waits_in trips.now) }
+{
+    for rank in 0..engine.place().size {
+        let Some(wait) = trips.wait_of(rank) else {
+            return;
+        };
+        engine.set_wait(rank, wait);
+    }
+}
+
+/// Drops the frames that may not go again now.
+fn hold_back(trips: &RoundTrips, emitted: &mut Vec<(u16, Bytes)>)
+    ensures { emitted.new.items ≡ going trips.now emitted.old.items }
+{
+    emitted.retain(|datagram| trips.may_go(datagram.1.as_slice()));
+}
+
+/// These datagrams go out, at this time in microseconds.
+fn note_all(trips: &mut RoundTrips, list: &[(u16, Bytes)], now: u64)
+    ensures { trips.new ≡ after_all trips.old list.now now }
+{
+    for datagram in list {
+        trips.on_sent(datagram.1.as_slice(), now);
     }
 }
 
@@ -153,15 +171,20 @@ impl Rank {
             Ok(place) => place,
             Err(number) => return Err(number),
         };
-        match Engine::new(alloc, place) {
-            Ok(engine) => Ok(Rank {
+        let engine = match Engine::new(alloc, place) {
+            Ok(engine) => engine,
+            Err(refused) => return Err(refused.number()),
+        };
+        match RoundTrips::near(alloc, place.size) {
+            Ok(trips) => Ok(Rank {
                 alloc,
                 engine,
                 received: None,
                 sending: Sending::new(alloc),
-                clock: RankClock::new(),
+                trips,
+                told: 0,
             }),
-            Err(refused) => Err(refused.number()),
+            Err(_) => Err(Refusal::OutOfMemory.number()),
         }
     }
 
@@ -169,7 +192,7 @@ impl Rank {
     fn tell(&mut self, told: Told) -> AnswerRecord
         ensures tells { Tells self.old told result self.new }
         ensures engine { self.new.engine ≡ self.old.engine }
-        ensures sending { self.new.sending ≡ self.old.sending }
+        ensures times { IsSameTime self.old self.new }
     {
         let Told { answer, received } = told;
         if let Some(received) = received {
@@ -182,7 +205,7 @@ impl Rank {
     fn tell_reply(&mut self, reply: Reply, basic: Option<BasicType>) -> AnswerRecord
         ensures tells { TellsReply self.old reply basic result self.new }
         ensures engine { self.new.engine ≡ self.old.engine }
-        ensures sending { self.new.sending ≡ self.old.sending }
+        ensures times { IsSameTime self.old self.new }
     {
         match reply_told(self.alloc, reply, basic) {
             Ok(told) => self.tell(told),
@@ -207,24 +230,12 @@ impl Rank {
         self.engine.type_of_probed(probe)
     }
 
-    /// Where something began with a reply, or ended, the engine is told the time soon.
-    fn note(&mut self, reply: &Reply)
-        ensures engine { self.new.engine ≡ self.old.engine }
-        ensures received { self.new.received ≡ self.old.received }
-        ensures sending { self.new.sending ≡ self.old.sending }
-    {
-        if is_beginning(reply) {
-            self.clock.stir();
-        }
-    }
-
     /// The engine's answer to a call.
     fn answer(&mut self, call: Call) -> AnswerRecord
         ensures answers { AnswersMeant (meant.Call call) self.old result self.new }
-        ensures sending { self.new.sending ≡ self.old.sending }
+        ensures times { IsSameTime self.old self.new }
     {
         let reply = self.engine.call(call);
-        self.note(&reply);
         let basic = self.type_taken_out(&reply);
         self.tell_reply(reply, basic)
     }
@@ -232,10 +243,9 @@ impl Rank {
     /// The engine's answer to a probe.
     fn answer_probe(&mut self, probe: Probe) -> AnswerRecord
         ensures answers { AnswersMeant (meant.Probe probe) self.old result self.new }
-        ensures sending { self.new.sending ≡ self.old.sending }
+        ensures times { IsSameTime self.old self.new }
     {
         let reply = self.engine.call(Call::Iprobe(probe));
-        self.note(&reply);
         let basic = self.type_found(probe);
         self.tell_reply(reply, basic)
     }
@@ -254,7 +264,7 @@ impl Rank {
     /// The answer of the call that was blocked, if it is there.
     fn finish(&mut self) -> AnswerRecord
         ensures answers { AnswersMeant meant.Finish self.old result self.new }
-        ensures sending { self.new.sending ≡ self.old.sending }
+        ensures times { IsSameTime self.old self.new }
     {
         match self.engine.take_completion() {
             Some(completion) => self.tell(told_by_completion(completion)),
@@ -265,7 +275,7 @@ impl Rank {
     /// Answers the call that the numbers mean, and the data.
     pub fn call(&mut self, asked: &CallRecord, bytes: &[u8]) -> AnswerRecord
         ensures answers { Answers self.old asked.now bytes.now result self.new }
-        ensures sending { self.new.sending ≡ self.old.sending }
+        ensures times { IsSameTime self.old self.new }
     {
         match meaning_of(self.alloc, asked, bytes) {
             Ok(Meant::Call(call)) => self.answer(call),
@@ -286,49 +296,54 @@ impl Rank {
         }
     }
 
-    /// Takes a datagram in: 0, or the number of the refusal.
+    /// Takes a datagram in: 0, or the number of the refusal. One that the engine takes tells of round trips.
     pub fn on_datagram(&mut self, bytes: &[u8]) -> u8
         ensures takes { (gone : Result (Unit {0}) Refusal) ×
-            (DatagramGives self.old.engine bytes.now gone self.new.engine × (result ≡ number_of_result gone)) }
+            (DatagramGives self.old.engine bytes.now gone self.new.engine × (result ≡ number_of_result gone)
+            × (self.new.trips ≡ trips_behind gone self.old.trips bytes.now (self.old.sending.time / 1000))) }
         ensures received { self.new.received ≡ self.old.received }
         ensures sending { self.new.sending ≡ self.old.sending }
+        ensures told { self.new.told ≡ self.old.told }
     {
         let gone = self.engine.on_datagram(bytes);
         if gone.is_ok() {
-            self.clock.stir();
+            self.trips.on_came(bytes, self.sending.micros());
         }
         number_of(gone)
     }
 
-    /// Tells the engine the time.
+    /// Tells the engine how long frames wait, and the time.
     fn tell_time(&mut self, millisecond: u64) -> u8
         ensures tells { TellsTime self.old millisecond result self.new }
         ensures received { self.new.received ≡ self.old.received }
         ensures sending { self.new.sending ≡ self.old.sending }
+        ensures trips { self.new.trips ≡ self.old.trips }
     {
+        tell_waits(&mut self.engine, &self.trips);
         match self.engine.tick(millisecond) {
             Ok(()) => {
-                self.clock.tell(millisecond);
+                self.told = millisecond;
                 0
             }
             Err(refused) => refused.number(),
         }
     }
 
-    /// The clock says `now`, in nanoseconds. The engine is told it in milliseconds, unless it is to wait
-    /// (`RankClock::waits`): 0, or the number of its refusal (41 where the time is below what it was told, 14).
+    /// The clock says `now`, in nanoseconds. The engine is told it in milliseconds, each once: 0, or the number of its
+    /// refusal (41 where the time is below what it was told, 14).
     pub fn tick(&mut self, now: u64) -> u8
         ensures { Ticks self.old now result self.new }
     {
         self.sending.tick(now);
         let millisecond = now / MILLISECOND;
-        if self.clock.waits(millisecond) {
+        if millisecond == self.told {
             return 0;
         }
         self.tell_time(millisecond)
     }
 
-    /// Where all was handed out, what the engine emitted since waits from now on.
+    /// Where all was handed out, what the engine emitted since waits from now on, but for frames that may not go again
+    /// now. Round trips begin with it.
     fn refill(&mut self)
         ensures pending { pending self.new ≡ pending self.old }
         ensures kept { self.new.sending.kept ≡ self.old.sending.kept }
@@ -336,7 +351,9 @@ impl Rank {
         ensures rest { KeepsRest self.old self.new }
     {
         if self.sending.is_through() {
-            let emitted = self.engine.take_out();
+            let mut emitted = self.engine.take_out();
+            hold_back(&self.trips, &mut emitted);
+            note_all(&mut self.trips, &emitted, self.sending.micros());
             let former = self.sending.refill(emitted);
             self.engine.give_back(former);
         }
