@@ -2,12 +2,16 @@
 programs in bindings/c/tests/ends.
 """
 
+import fcntl
 import os
+import pty
 import re
+import select
 import shutil
 import signal
 import subprocess
 import tempfile
+import termios
 import time
 
 LONGEST = 60
@@ -71,6 +75,15 @@ def without_source(line):
 def wanted_lines(lines):
     """What the ranks say, each of the other one."""
     return ["rank %d: %s" % (rank, it.replace("%d", str(1 - rank))) for rank, it in enumerate(lines) if it]
+
+
+def read_until(file, is_enough):
+    """What comes from a terminal until it is enough, or for some seconds."""
+    found, until = b"", time.monotonic() + 20
+    while not is_enough(found) and time.monotonic() < until:
+        if select.select([file], [], [], 0.1)[0]:
+            found += file.read(4096)
+    return found
 
 
 class Ends:
@@ -140,6 +153,21 @@ class Ends:
             output, errors = ran.communicate(timeout=LONGEST)
         return begun == ["rank 0 begins\n", "rank 1 begins\n"] and not output, errors.splitlines()
 
+    def terminal(self):
+        """The same at Ctrl-C on a terminal; what was printed is there before."""
+        master, slave = pty.openpty()
+        ran = subprocess.Popen(self.words(2, "stuck", "receive"), stdin=slave, stdout=slave, stderr=slave, start_new_session=True,
+                               preexec_fn=lambda: fcntl.ioctl(0, termios.TIOCSCTTY, 0))
+        os.close(slave)
+        with open(master, "rb", buffering=0) as screen:
+            before = read_until(screen, lambda it: it.count(b"begins") == 2)
+            time.sleep(BEGUN)
+            os.write(master, b"\x03")
+            after = read_until(screen, lambda it: it.count(b" waits for ") == 2 and it.endswith(b"\n"))
+            ran.wait(LONGEST)
+        waits = sorted(without_source(it) for it in after.decode().splitlines() if is_wait(it))
+        self.add("Ctrl-C on a terminal", waits == wanted_lines(STUCK["receive"]), (before, after))
+
     def stuck(self, name):
         """At an interrupt each rank that waits says what for."""
         is_so, errors = self.interrupted(name)
@@ -196,7 +224,18 @@ class Ends:
         self.add("a wait is told with its line", found is not None or not tries, "five times without")
 
 
+    def under(self, checker):
+        """Under a checker, which has a status of its own where it finds something."""
+        for word, name in ((("leaks",), "leaks"), (("stuck", "all"), "a wait")):
+            words = [self.mpirun, "-patience", "3000", "-n", "2", *checker, self.library.program(word[0]), *word[1:]]
+            told = subprocess.run([str(it) for it in words], stdin=subprocess.DEVNULL, capture_output=True, text=True, timeout=3 * LONGEST,
+                                  env={**os.environ, "KOMBAZILY_CHECK": "1"})
+            self.add(name, told.returncode == (4 if word[1:] else 0) and "==" not in told.stderr, (told.returncode, told.stderr))
+
+
 def all_rows(mode, library, mpirun, verdict, side_by_side):
     it = Ends(mode, library, mpirun, verdict)
-    side_by_side(lambda row: row(), [it.lines, it.standstill, it.prompts, it.kept, it.leaving, it.patience, it.left, it.synchronous, it.too_early, it.source])
+    rows = [it.lines, it.standstill, it.prompts, it.kept, it.leaving, it.patience, it.left, it.synchronous, it.too_early, it.terminal,
+            it.source]
+    side_by_side(lambda row: row(), rows)
     side_by_side(it.stuck, list(STUCK))

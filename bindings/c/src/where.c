@@ -16,7 +16,7 @@
 extern char **environ;
 
 /* So many milliseconds the command has: whoever ends the process doesn't wait for long. */
-enum { MOMENT = 300, LONGEST_ANSWER = 400 };
+enum { MOMENT = 500, LONGEST_ANSWER = 400 };
 
 /* A place in a file that is loaded: the file, and the address in it. */
 struct place_in_file {
