@@ -9,7 +9,7 @@ use Rattle.rank_addresses.specs.declared.addresses.RankAddresses.{RankAddresses}
 use Rattle.incarnation.specs.declared.place.Place.{Place}
 use Rattle.vocabulary.specs.MessageLimits.{least}
 use Rattle.rank_settings.specs.declared.settings.Settings.{Settings}
-use Rattle.round_trips.specs.Trips.{unknown}
+use Rattle.round_trips.specs.Trips.{near, unknown}
 use Rattle.round_trips.specs.declared.round_trip.RoundTrip.{RoundTrip}
 
 -- where the rank stands in its job, whose messages have the limit of scripts
@@ -25,14 +25,14 @@ place_of s = record {
 abbrev pub first_port : Settings → ℕ
 first_port s = s.port - s.rank
 
--- what is known of round trips at the start: nothing of any rank, where the settings list hosts; else they aren't
--- measured
-abbrev pub KnowsTripsBy : Option (Bor (List ℕ)) → (size : ℕ) → Option (List RoundTrip) → Type 0
-KnowsTripsBy (Some text) size found = found ≡ Some (unknown size)
-KnowsTripsBy None size found = found ≡ None
+-- what is known of round trips at the start: nothing of any rank, where the settings list hosts; else that all ranks are
+-- near
+abbrev pub trips_by : Option (Bor (List ℕ)) → (size : ℕ) → List RoundTrip
+trips_by (Some text) size = unknown size
+trips_by None size = near size
 
-abbrev pub KnowsTrips : Settings → Option (List RoundTrip) → Type 0
-KnowsTrips s found = KnowsTripsBy s.hosts s.size found
+abbrev pub KnowsTrips : Settings → List RoundTrip → Type 0
+KnowsTrips s trips = trips ≡ trips_by s.hosts s.size
 
 -- the addresses that a text lists, if there is one that does
 abbrev pub AreListed : Option (Bor (List ℕ)) → Option (List Ipv4Addr) → Type 0

@@ -1,6 +1,12 @@
 -- What ports carried, step by step.
 use Rattle.std.proofs.Common.{◌≡◌, ℕ, List, [], ◌∷◌, ◌++◌, refl, sym, ap, subst, ◌∙◌, inl, inr}
-use Rattle.std.specs.Prelude.{◌⊎◌, Option, Some, None, Ok}
+use Rattle.std.proofs.Common.{Bool, true, false}
+use Rattle.std.specs.Prelude.{◌⊎◌, Option, Some, None, Result, Ok, Err}
+use mathlib.Core.Bool.{false≢true}
+use Rattle.datagram.specs.ByteMeanings.{datagram_of}
+use Rattle.datagram.specs.Spellings.{DatagramText, BodyText, FrameBody, AckBody, ResetBody}
+use Rattle.datagram.specs.declared.datagram.Header.{Header}
+use Rattle.datagram.specs.declared.refusal.DatagramRefusal.{DatagramRefusal}
 use Rattle.event_loop.specs.Exchanges.{receipt}
 use Rattle.port_transport.specs.Ports as ports
 use Rattle.event_loop.specs.declared.exchange.Exchange.{Exchange}
@@ -10,7 +16,10 @@ use Rattle.port_transport.specs.Ports.{Passes, PortState}
 use Rattle.port_transport.specs.Wires.{Parcel}
 use Rattle.port_transport.proofs.PortSteps.{passes_joined}
 use Rattle.port_transport.proofs.Steps.{stays}
-use Rattle.rank_process.specs.PortViews.{CarriesAll, HasFailed, printed_in, received_in, sent_in}
+use Rattle.round_trips.specs.Trips.{goes_with, may_go}
+use Rattle.round_trips.specs.declared.round_trip.RoundTrip.{RoundTrip}
+use Rattle.rank_process.specs.PortViews.{CarriesAll, HasFailed, HoldsBack, IsFrame, IsFrameBody, SentBy, printed_in}
+use Rattle.rank_process.specs.PortViews.{received_in, sent_in}
 
 sent_more : (xs ys : List Exchange) → sent_in (xs ++ ys) ≡ sent_in xs ++ sent_in ys
 sent_more [] ys = refl
@@ -57,10 +66,16 @@ failed_later (Printed line ∷ xs) ys is = failed_later xs ys is
 failed_later (Waited most ∷ xs) ys is = failed_later xs ys is
 failed_later (Failed ∷ xs) ys is = tt
 
+holds_joined : (a v b w : List Parcel) → HoldsBack a v → HoldsBack b w → HoldsBack (a ++ b) (v ++ w)
+holds_joined [] v b w none q = subst (λ (l : List Parcel). HoldsBack b (l ++ w)) (sym none) q
+holds_joined (x ∷ a) v b w (inl (rest, (is, p))) q =
+    inl (rest ++ w, (ap (λ (l : List Parcel). l ++ w) is, holds_joined a rest b w p q))
+holds_joined (x ∷ a) v b w (inr (frame, p)) q = inr (frame, holds_joined a v b w p q)
+
 -- where nothing was done, nothing was carried
 pub carries_none : {W : Type 0} (did : W → List WireEvent → W → Type 0) → ((w : W) → did w [] w) → (s : PortState W) →
     CarriesAll did s [] s
-carries_none did none s = inr (stays did s s [] [] [] (none s.wire) refl refl refl refl refl)
+carries_none did none s = inr ([], (refl, stays did s s [] [] [] (none s.wire) refl refl refl refl refl))
 
 -- what was carried in two steps
 pub carries_more : {W : Type 0} (did : W → List WireEvent → W → Type 0) →
@@ -68,37 +83,67 @@ pub carries_more : {W : Type 0} (did : W → List WireEvent → W → Type 0) �
     (xs ys : List Exchange) → CarriesAll did s xs t → CarriesAll did t ys u → CarriesAll did s (xs ++ ys) u
 carries_more did step s t u xs ys (inl failed) q = inl (failed_before xs ys failed)
 carries_more did step s t u xs ys (inr p) (inl failed) = inl (failed_later xs ys failed)
-carries_more did step s t u xs ys (inr p) (inr q) =
-    inr (subst (λ (l : List Parcel). Passes did s l (received_in (xs ++ ys)) (printed_in (xs ++ ys)) u)
-    (sym (sent_more xs ys))
-    (subst (λ (l : List (List ℕ)). Passes did s (sent_in xs ++ sent_in ys) l (printed_in (xs ++ ys)) u)
-    (sym (received_more xs ys))
-    (subst (λ (l : List (List ℕ)). Passes did s (sent_in xs ++ sent_in ys) (received_in xs ++ received_in ys) l u)
-    (sym (printed_more xs ys))
-    (passes_joined did step s t u (sent_in xs) (sent_in ys) (received_in xs) (received_in ys) (printed_in xs)
-    (printed_in ys) p q))))
+carries_more did step s t u xs ys (inr (v, (p, pp))) (inr (w, (q, qq))) =
+    inr (
+      v ++ w,
+      (
+        subst (λ (l : List Parcel). HoldsBack l (v ++ w)) (sym (sent_more xs ys))
+            (holds_joined (sent_in xs) v (sent_in ys) w p q),
+        subst (λ (l : List (List ℕ)). Passes did s (v ++ w) l (printed_in (xs ++ ys)) u) (sym (received_more xs ys))
+            (subst (λ (l : List (List ℕ)). Passes did s (v ++ w) (received_in xs ++ received_in ys) l u)
+            (sym (printed_more xs ys))
+            (passes_joined did step s t u v w (received_in xs) (received_in ys) (printed_in xs) (printed_in ys) pp qq)),
+      ),
+    )
 
 -- a datagram came, or none
 pub came : {W : Type 0} (did : W → List WireEvent → W → Type 0) (s t : PortState W) (found : Option ℕ)
     (buffer : List ℕ) → Passes did s [] (ports.received_in found buffer) [] t →
     CarriesAll did s (receipt (Ok found) buffer ∷ []) t
-came did s t None buffer passes = inr passes
-came did s t (Some n) buffer passes = inr passes
+came did s t None buffer passes = inr ([], (refl, passes))
+came did s t (Some n) buffer passes = inr ([], (refl, passes))
 
--- a datagram was handed over
-pub went : {W : Type 0} (did : W → List WireEvent → W → Type 0) (s t : PortState W) (target : ℕ) (bytes : List ℕ) →
-    Passes did s ((target, bytes) ∷ []) [] [] t → CarriesAll did s (Sent target bytes ∷ []) t
-went did s t target bytes passes = inr passes
+held_body : (trips : List RoundTrip) (h : Header) (body : BodyText) → goes_with trips h body ≡ false → IsFrameBody body
+held_body trips h (FrameBody f) is = tt
+held_body trips h (AckBody held) is = absurd (false≢true (sym is))
+held_body trips h ResetBody is = absurd (false≢true (sym is))
+
+-- what may not go is a frame
+held_frame : (trips : List RoundTrip) (d : Result DatagramText DatagramRefusal) → may_go trips d ≡ false → IsFrame d
+held_frame trips (Ok d) is = held_body trips d.header d.body is
+held_frame trips (Err e) is = absurd (false≢true (sym is))
+
+sent_if : {W : Type 0} (did : W → List WireEvent → W → Type 0) → ((w : W) → did w [] w) → (s t : PortState W)
+    (target : ℕ) (bytes : List ℕ) (trips : List RoundTrip) (may : Bool) → may_go trips (datagram_of bytes) ≡ may →
+    SentBy may did s target bytes t → CarriesAll did s (Sent target bytes ∷ []) t
+sent_if did none s t target bytes trips true is passes =
+    inr ((target, bytes) ∷ [], (inl ([], (refl, refl)), passes))
+sent_if did none s t target bytes trips false is same =
+    inr (
+      [],
+      (
+        inr (held_frame trips (datagram_of bytes) is, refl),
+        subst (λ (x : PortState W). Passes did s [] [] [] x) (sym same)
+            (stays did s s [] [] [] (none s.wire) refl refl refl refl refl),
+      ),
+    )
+
+-- a datagram was handed over, and went or was held back
+pub went : {W : Type 0} (did : W → List WireEvent → W → Type 0) → ((w : W) → did w [] w) → (s t : PortState W)
+    (target : ℕ) (bytes : List ℕ) (trips : List RoundTrip) →
+    SentBy (may_go trips (datagram_of bytes)) did s target bytes t → CarriesAll did s (Sent target bytes ∷ []) t
+went did none s t target bytes trips by =
+    sent_if did none s t target bytes trips (may_go trips (datagram_of bytes)) refl by
 
 -- a line was printed
 pub was_printed : {W : Type 0} (did : W → List WireEvent → W → Type 0) (s t : PortState W) (line : List ℕ) →
     Passes did s [] [] (line ∷ []) t → CarriesAll did s (Printed line ∷ []) t
-was_printed did s t line passes = inr passes
+was_printed did s t line passes = inr ([], (refl, passes))
 
 -- it was waited
 pub waited : {W : Type 0} (did : W → List WireEvent → W → Type 0) (s t : PortState W) (most : ℕ) →
     Passes did s [] [] [] t → CarriesAll did s (Waited most ∷ []) t
-waited did s t most passes = inr passes
+waited did s t most passes = inr ([], (refl, passes))
 
 -- a call failed
 pub call_failed : {W : Type 0} (did : W → List WireEvent → W → Type 0) (s t : PortState W) →

@@ -148,7 +148,8 @@ fn open<R: Net + Env + Wait + Print + Eprint + AllocGlobal + Clock>(
             let first = first_port(told.settings);
             match trips_of(rt.alloc(), told.settings) {
                 Ok(trips) => {
-                    let mut udp = RankTransport::new(rt.alloc(), wire, first, trips);
+                    let near = told.settings.hosts.is_none();
+                    let mut udp = RankTransport::new(rt.alloc(), wire, first, trips, near);
                     meet(rt, told, rank, &mut udp)
                 }
                 Err(_) => ExitStatus::OutOfMemory,

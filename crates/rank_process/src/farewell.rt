@@ -15,8 +15,7 @@ const MOST_LOOKS: u64 = 1_000_000;
 
 /// The milliseconds that a rank stays on without a datagram once its script is done, beyond those that its loop stays:
 /// one for each rank of its job. The more ranks there are, the later each of them has its turn on a machine, and the
-/// more of what goes to one of them at one time is lost and has to go again. Where round trips are measured the
-/// transport's stay comes to it.
+/// more of what goes to one of them at one time is lost and has to go again. The transport's stay comes to it.
 fn stay_of(size: u16) -> u64 {
     u64::from(size)
 }

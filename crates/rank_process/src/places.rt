@@ -60,14 +60,15 @@ pub fn addresses_of(alloc: Global, settings: &Settings) -> Result<RankAddresses,
     }
 }
 
-/// What the rank of these settings knows of round trips at its start, where it measures them: where its settings list
-/// hosts. Only want of memory is an error.
-pub(crate) fn trips_of(alloc: Global, settings: &Settings) -> Result<Option<RoundTrips>, AllocError>
-    ensures { IfOk result (λ found. KnowsTrips settings.now found) }
+/// What the rank of these settings knows of round trips at its start: where its settings list hosts, nothing of any rank;
+/// else that all ranks are near. Only want of memory is an error.
+pub(crate) fn trips_of(alloc: Global, settings: &Settings) -> Result<RoundTrips, AllocError>
+    ensures { IfOk result (λ trips. KnowsTrips settings.now trips) }
 {
-    match settings.hosts {
-        Some(_) => Ok(Some(RoundTrips::new(alloc, settings.size)?)),
-        None => Ok(None),
+    if settings.hosts.is_some() {
+        RoundTrips::new(alloc, settings.size)
+    } else {
+        RoundTrips::near(alloc, settings.size)
     }
 }
 

@@ -2,22 +2,27 @@
 
 ghost use Rattle.std.specs.Prelude.{◌≡◌, ◌+◌, ◌<◌, ◌≤◌, ◌^◌, [], None, length, IfOk, IfSome, OnOk};
 ghost use Rattle.port_transport.specs.Ports.{Passes};
+ghost use Rattle.datagram.specs.ByteMeanings.{datagram_of};
+ghost use Rattle.round_trips.specs.Trips.{may_go};
+ghost use Rattle.rank_process.specs.PortViews.{SentBy};
 ghost use Rattle.rank_process.specs.Waits.{waits_in};
 
 use crate::clock::micros_of;
 use event_loop::{Transport, TransportFault};
 use port_transport::{PortTransport, PrintFault, Wire, WireFault};
-use round_trips::{LEAST_WAIT, RoundTrips, stay_for};
+use round_trips::{LEAST_WAIT, RoundTrips, stay_for, stay_near};
 use std::alloc::Global;
 use std::time::Instant;
 
 /// The transport of a rank over a wire: what it decides by itself is what `PortTransport` says, and each call that
-/// fails is counted. Where that is wanted it measures round trips, and frames wait for their acknowledgements by that.
+/// fails is counted. It measures round trips, and frames wait for their acknowledgements by that.
 #[derive(Drop)]
 pub struct RankTransport<W: Wire> {
     ports: PortTransport<W>,
-    /// What was measured of round trips, where that is wanted.
-    trips: Option<RoundTrips>,
+    /// What was measured of round trips.
+    trips: RoundTrips,
+    /// Whether all ranks are on one machine.
+    is_near: bool,
     /// The time from which it counts, if the clock told it.
     start: Option<Instant>,
     /// How often it has failed.
@@ -26,28 +31,15 @@ pub struct RankTransport<W: Wire> {
     has_lost_line: bool,
 }
 
-/// A datagram goes out at this time, where that is known: the round trip of a frame begins.
-fn note_sent(trips: &mut Option<RoundTrips>, bytes: &[u8], now: Option<u64>) {
-    if let (Some(trips), Some(now)) = (trips, now) {
-        trips.on_sent(bytes, now);
-    }
-}
-
-/// A datagram came at this time, where that is known: an acknowledgement ends round trips.
-fn note_came(trips: &mut Option<RoundTrips>, bytes: &[u8], now: Option<u64>) {
-    if let (Some(trips), Some(now)) = (trips, now) {
-        trips.on_came(bytes, now);
-    }
-}
-
 impl<W: Wire> RankTransport<W> {
-    /// A transport over this wire, of a job whose rank 0 has this port, which measures round trips where it is given
-    /// what is known of them. It takes no memory.
+    /// A transport over this wire, of a job whose rank 0 has this port, in which so much is known of round trips, and
+    /// whose ranks are on one machine or not. It takes no memory.
     pub fn new(
         alloc: Global,
         wire: W,
         first_port: u16,
-        trips: Option<RoundTrips>,
+        trips: RoundTrips,
+        is_near: bool,
     ) -> RankTransport<W>
         ensures none { result.failures ≡ 0 }
         ensures ports { (result.ports.wire ≡ wire) × (result.ports.first ≡ first_port) × (result.ports.kept ≡ None) }
@@ -56,6 +48,7 @@ impl<W: Wire> RankTransport<W> {
         RankTransport {
             ports: PortTransport::new(alloc, wire, first_port),
             trips,
+            is_near,
             start,
             failures: 0,
             has_lost_line: false,
@@ -78,26 +71,70 @@ impl<W: Wire> RankTransport<W> {
         TransportFault
     }
 
-    /// The microseconds since it was made, where round trips are measured and the clock tells them.
+    /// The microseconds since it was made, where the clock tells them.
     fn micros(&self) -> Option<u64> {
-        let _measured = self.trips.as_ref()?;
         let now = self.ports.wire().time()?;
         Some(micros_of(now.duration_since(self.start?)))
     }
 
-    /// How many milliseconds a rank of a job of so many ranks stays on behind its end, by the longest of the times to
-    /// send again that were measured; 0 where none is.
+    /// A datagram goes out: where the clock tells when, the round trip of a frame begins.
+    fn note_sent(&mut self, bytes: &[u8])
+        ensures { (self.new.ports ≡ self.old.ports) × (self.new.failures ≡ self.old.failures) }
+    {
+        if let Some(now) = self.micros() {
+            self.trips.on_sent(bytes, now);
+        }
+    }
+
+    /// A datagram came: where the clock tells when, an acknowledgement ends round trips.
+    fn note_came(&mut self, bytes: &[u8])
+        ensures { (self.new.ports ≡ self.old.ports) × (self.new.failures ≡ self.old.failures) }
+    {
+        if let Some(now) = self.micros() {
+            self.trips.on_came(bytes, now);
+        }
+    }
+
+    /// How many milliseconds a rank of a job of so many ranks stays on behind its end: by the longest of the times to send
+    /// again that were measured; 0 where all ranks are on one machine and all went well.
     pub fn stay(&self, size: u16) -> u64 {
-        let Some(trips) = &self.trips else {
-            return 0;
+        let mut stay = if self.is_near {
+            0
+        } else {
+            stay_for(LEAST_WAIT)
         };
-        let mut wait = LEAST_WAIT;
         for rank in 0..size {
-            if let Some(measured) = trips.measured_wait(rank) {
-                wait = wait.max(measured);
+            stay = stay.max(self.stay_of(rank));
+        }
+        stay
+    }
+
+    /// The same for one rank.
+    fn stay_of(&self, rank: u16) -> u64 {
+        if self.is_near {
+            match self.trips.troubled_wait(rank) {
+                Some(wait) => stay_near(wait),
+                None => 0,
+            }
+        } else {
+            match self.trips.measured_wait(rank) {
+                Some(wait) => stay_for(wait),
+                None => 0,
             }
         }
-        stay_for(wait)
+    }
+
+    /// Sends a datagram, unless it is a frame that is not to go again now.
+    fn hand_on(&mut self, target: u16, bytes: &[u8]) -> Result<(), WireFault>
+        ensures sent { OnOk result (SentBy (may_go self.old.trips (datagram_of bytes.now)) W.did self.old.ports target
+            bytes.now self.new.ports) }
+        ensures failures { self.new.failures ≡ self.old.failures }
+    {
+        if !self.trips.may_go(bytes) {
+            return Ok(());
+        }
+        self.note_sent(bytes);
+        self.ports.send(target, bytes)
     }
 
     /// Whether its output failed.
@@ -150,8 +187,7 @@ impl<W: Wire> Transport for RankTransport<W> {
         match self.ports.receive(buffer) {
             Ok(found) => {
                 if let Some(len) = found {
-                    let now = self.micros();
-                    note_came(&mut self.trips, &buffer[..len], now);
+                    self.note_came(&buffer[..len]);
                 }
                 Ok(found)
             }
@@ -161,9 +197,7 @@ impl<W: Wire> Transport for RankTransport<W> {
 
     #[tactic(auto, using(crate::specs::PortSteps::went, crate::specs::PortSteps::call_failed))]
     fn send(&mut self, target: u16, bytes: &[u8]) -> Result<(), TransportFault> {
-        let now = self.micros();
-        note_sent(&mut self.trips, bytes, now);
-        match self.ports.send(target, bytes) {
+        match self.hand_on(target, bytes) {
             Ok(()) => Ok(()),
             Err(_) => Err(self.fault()),
         }
@@ -190,10 +224,7 @@ impl<W: Wire> Transport for RankTransport<W> {
 
     #[tactic(auto, using(crate::specs::Waits::wait_there))]
     fn wait_of(&self, rank: u16) -> Option<u64> {
-        match &self.trips {
-            Some(trips) => trips.wait_of(rank),
-            None => None,
-        }
+        self.trips.wait_of(rank)
     }
 
     fn failures(&self) -> u64 {
