@@ -5,19 +5,30 @@
 #include <stdbool.h>
 #include <stddef.h>
 
-/* Bytes of data that stand one behind the other, seen from the item's address. */
-struct stretch {
+/* The same data at several places: `count` of them, the first one `at`, seen from the item's address, each `stride`
+ * bytes from the one before it. A place has `length` bytes one behind the other, or what is nested. */
+struct run {
     ptrdiff_t at;
+    size_t count;
+    ptrdiff_t stride;
     size_t length;
+    struct runs *nested; /* or NULL */
 };
 
-/* Where the data of one item stand. The stretches are in the order in which the data go, and none is empty. */
+/* Runs in the order in which the data go; none is empty. What is nested is so for two places at least, so that it is
+ * nested no deeper than a size has bits. */
+struct runs {
+    size_t uses; /* by layouts, and by the runs that it is nested in */
+    size_t count;
+    struct run *list;
+};
+
+/* Where the data of one item stand. */
 struct layout {
-    size_t size;      /* bytes of data */
-    ptrdiff_t lower;  /* the lower bound */
-    ptrdiff_t extent; /* from one item to the next */
-    size_t count;     /* of stretches */
-    struct stretch *stretches;
+    size_t size;       /* bytes of data */
+    ptrdiff_t lower;   /* the lower bound */
+    ptrdiff_t extent;  /* from one item to the next */
+    struct runs *runs; /* NULL where there are no data */
 };
 
 /* How making a layout ended. */
@@ -35,6 +46,8 @@ enum layout_end layout_of_element(size_t size, struct layout *made);
 /* The layout of blocks of items (4.1.2): in order. It is the caller's, to be freed by layout_free. */
 enum layout_end layout_of_blocks(const struct layout *item, const struct block *blocks, size_t count,
                                  struct layout *made);
+/* That of `count` blocks of so many items each, `stride` extents of the item from one to the next; not below 0. */
+enum layout_end layout_of_vector(const struct layout *item, int count, int length, int stride, struct layout *made);
 void layout_free(struct layout *layout);
 
 /* Whether so many items have their data in one row in memory, without gaps. */
@@ -51,7 +64,7 @@ void unpack(const struct layout *layout, const unsigned char *row, size_t length
 
 /* Where the data of items are that stand in a row, and where they are put: the address of their first byte. */
 static inline void *row_of(const struct layout *layout, const void *items) {
-    return layout->count == 0 ? (void *)items : (char *)items + layout->stretches[0].at;
+    return layout->runs == NULL ? (void *)items : (char *)items + layout->runs->list[0].at;
 }
 
 /* The address of an item among those that begin at an address, which may be NULL where the item has no data. */

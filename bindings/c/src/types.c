@@ -17,7 +17,9 @@
 
 #define LAYOUT_OF(c_type)                                                                                              \
     {                                                                                                                  \
-        sizeof(c_type), 0, sizeof(c_type), 1, &(struct stretch) { 0, sizeof(c_type) }                                  \
+        sizeof(c_type), 0, sizeof(c_type), &(struct runs) {                                                            \
+            1, 1, &(struct run) { 0, 1, 0, sizeof(c_type), NULL }                                                      \
+        }                                                                                                              \
     }
 #define BASIC(of_name, c_type, of_family, of_basic, of_unit)                                                           \
     {                                                                                                                  \
@@ -96,22 +98,26 @@ static int64_t add_type(struct datatype *made) {
     return table_add(&types, made);
 }
 
-/* Makes a type of blocks of items of an older one: 0, or the class of an error, of which it has told. */
-static int make_type(const char *call, const struct datatype *old, const struct block *blocks, size_t count,
+/* Makes a type of a layout of items of an older one, which is the type's from now on: 0, or the class of an error, of
+ * which it has told. */
+static int make_type(const char *call, const struct datatype *old, enum layout_end end, struct layout *layout,
                      MPI_Datatype *handle) {
-    struct datatype *made = malloc(sizeof *made);
-    if (made == NULL) return raise_on(MPI_COMM_WORLD, call, MPI_ERR_NO_MEM, "no memory for a type");
-    *made = *old;
-    made->is_committed = made->is_predefined = false;
-    made->uses = 1;
-    made->name[0] = '\0';
-    enum layout_end end = layout_of_blocks(&old->layout, blocks, count, &made->layout);
-    int64_t number = end == LAYOUT_MADE ? add_type(made) : 0;
+    struct datatype *made = end == LAYOUT_MADE ? malloc(sizeof *made) : NULL;
+    int64_t number = 0;
+    if (made != NULL) {
+        *made = *old;
+        made->is_committed = made->is_predefined = false;
+        made->uses = 1;
+        made->name[0] = '\0';
+        made->layout = *layout;
+        number = add_type(made);
+    }
     if (number != 0) {
         *handle = (MPI_Datatype)(intptr_t)number;
         return MPI_SUCCESS;
     }
-    release_type(made);
+    free(made);
+    layout_free(layout);
     if (end == LAYOUT_TOO_LARGE) return raise_on(MPI_COMM_WORLD, call, MPI_ERR_ARG, "a type of more than 2^62 bytes");
     return raise_on(MPI_COMM_WORLD, call, MPI_ERR_NO_MEM, "no memory for a type");
 }
@@ -130,7 +136,9 @@ int MPI_Type_contiguous(int count, MPI_Datatype oldtype, MPI_Datatype *newtype) 
     struct datatype *old;
     int class = check_making("MPI_Type_contiguous", count, oldtype, newtype, &old);
     if (class != MPI_SUCCESS) return class;
-    return make_type("MPI_Type_contiguous", old, &(struct block){count, 0}, 1, newtype);
+    struct layout made;
+    enum layout_end end = layout_of_blocks(&old->layout, &(struct block){count, 0}, 1, &made);
+    return make_type("MPI_Type_contiguous", old, end, &made, newtype);
 }
 
 int MPI_Type_vector(int count, int blocklength, int stride, MPI_Datatype oldtype, MPI_Datatype *newtype) {
@@ -139,13 +147,9 @@ int MPI_Type_vector(int count, int blocklength, int stride, MPI_Datatype oldtype
     int class = check_making(call, count, oldtype, newtype, &old);
     if (class != MPI_SUCCESS) return class;
     if (blocklength < 0) return raise_on(MPI_COMM_WORLD, call, MPI_ERR_ARG, "blocks of %d items", blocklength);
-    if (blocklength == 0) count = 0;
-    struct block *blocks = calloc((size_t)count + 1, sizeof *blocks);
-    if (blocks == NULL) return raise_on(MPI_COMM_WORLD, call, MPI_ERR_NO_MEM, "no memory for %d blocks", count);
-    for (int i = 0; i < count; i++) blocks[i] = (struct block){blocklength, (ptrdiff_t)i * stride};
-    class = make_type(call, old, blocks, (size_t)count, newtype);
-    free(blocks);
-    return class;
+    struct layout made;
+    enum layout_end end = layout_of_vector(&old->layout, count, blocklength, stride, &made);
+    return make_type(call, old, end, &made, newtype);
 }
 
 int MPI_Type_indexed(int count, const int array_of_blocklengths[], const int array_of_displacements[],
@@ -163,9 +167,10 @@ int MPI_Type_indexed(int count, const int array_of_blocklengths[], const int arr
     struct block *blocks = calloc((size_t)count + 1, sizeof *blocks);
     if (blocks == NULL) return raise_on(MPI_COMM_WORLD, call, MPI_ERR_NO_MEM, "no memory for %d blocks", count);
     for (int i = 0; i < count; i++) blocks[i] = (struct block){array_of_blocklengths[i], array_of_displacements[i]};
-    class = make_type(call, old, blocks, (size_t)count, newtype);
+    struct layout made;
+    enum layout_end end = layout_of_blocks(&old->layout, blocks, (size_t)count, &made);
     free(blocks);
-    return class;
+    return make_type(call, old, end, &made, newtype);
 }
 
 /* The type that a call was given, committed or not. */
