@@ -1,5 +1,5 @@
-/* A bug: both ranks receive before they send, so each waits for the other for ever. After ten seconds in which nothing moves each rank
- * says where it waits, and the job ends.
+/* A bug: both ranks receive before they send, so each waits for the other for ever. After ten seconds in which nothing
+ * moves each rank says where it waits, and the job ends.
  *
  *   ./run -n 2 examples/c/deadlock.c        status 4
  */

@@ -72,6 +72,12 @@ def without_source(line):
     return re.sub(r" \(\w+\.c:\d+\)", "", line)
 
 
+def waits_and_others(lines):
+    """Of lines that mpirun -prefix printed: what ranks say that they wait for, without more, and the others."""
+    waits = [it for it in lines if is_wait(it.partition(" ")[2])]
+    return [without_source(it).partition("; gave up ")[0] for it in waits], [it for it in lines if it not in waits]
+
+
 def wanted_lines(lines):
     """What the ranks say, each of the other one."""
     return ["rank %d: %s" % (rank, it.replace("%d", str(1 - rank))) for rank, it in enumerate(lines) if it]
@@ -178,7 +184,7 @@ class Ends:
         """Who loses patience first says so, and the others what they wait for."""
         status, _, errors = self.run(2, "stuck", "receive", options=("-patience", "700"))
         waits = sorted(without_source(it) for it in errors if is_wait(it))
-        gave_up = [it.replace("; nothing came for 700 ms: it gives up", "") for it in waits]
+        gave_up = [it.replace("; gave up after 700 ms", "") for it in waits]
         self.add("patience", status == 4 and gave_up != waits and gave_up == wanted_lines(STUCK["receive"]), (status, errors))
 
 

@@ -15,6 +15,11 @@ void add_text(struct line *line, const char *form, ...) {
     if (length > 0) line->length += (size_t)length < room ? (size_t)length : room - 1;
 }
 
+void add_time(struct line *line, long milliseconds) {
+    bool is_whole = milliseconds % 1000 == 0;
+    add_text(line, is_whole ? "%ld s" : "%ld ms", is_whole ? milliseconds / 1000 : milliseconds);
+}
+
 /* A name that the program chose: it may have any bytes. */
 static void add_name(struct line *line, const char *name) {
     add_text(line, "'");

@@ -16,6 +16,9 @@ struct line {
 
 void add_text(struct line *line, const char *form, ...) __attribute__((format(printf, 2, 3)));
 
+/* `10 s`, or `1500 ms`. */
+void add_time(struct line *line, long milliseconds);
+
 /* `MPI_COMM_WORLD`, `'row'`, `a communicator of 4 without a name`. */
 void add_comm(struct line *line, const struct communicator *comm);
 

@@ -130,10 +130,7 @@ static void lose_patience(void) {
     if (process.patience == 0) return;
     uint64_t quiet = (device_nanoseconds() - heard) / MILLISECOND;
     if (!is_standstill(quiet) || quiet < (uint64_t)process.patience) return;
-    char behind[80];
-    snprintf(behind, sizeof behind, "; nothing came for %ld ms: it gives up", process.patience);
-    tell_wait(behind);
-    end_job(STATUS_PATIENCE);
+    give_up();
 }
 
 /* Waits a while for a datagram. */

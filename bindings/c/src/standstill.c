@@ -2,10 +2,9 @@
 #define _GNU_SOURCE
 #include "standstill.h"
 
-#include "internal.h"
+#include "lines.h"
 
 #include <fcntl.h>
-#include <stdio.h>
 #include <stdlib.h>
 #include <string.h>
 #include <unistd.h>
@@ -37,15 +36,22 @@ static bool are_all_marked(void) {
     return true;
 }
 
+static void tell(void) {
+    struct line line = {.length = 0};
+    add_text(&line, "rank 0: all ranks wait, and nothing has moved for ");
+    add_time(&line, SOON);
+    add_text(&line, ": after ");
+    add_time(&line, process.patience);
+    add_text(&line, " they give up (-patience MS)");
+    write_line(&line);
+}
+
 bool is_standstill(uint64_t quiet) {
     if (file < 0) return true;
     uint64_t patience = (uint64_t)process.patience;
     mark(quiet >= (patience < SOON ? patience : SOON));
     if (!is_marked || !are_all_marked()) return false;
-    if (process.rank == 0 && !is_told && patience > SOON)
-        fprintf(stderr,
-                "rank 0: all ranks wait, and nothing has moved for %d s: after %ld ms they give up (-patience MS)\n",
-                SOON / 1000, process.patience);
+    if (process.rank == 0 && !is_told && patience > SOON) tell();
     is_told = true;
     return true;
 }

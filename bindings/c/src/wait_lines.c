@@ -35,7 +35,8 @@ static void add_collective(struct line *line, const struct wait *it) {
     if (it->root >= 0) add_text(line, " (root %d)", it->root);
 }
 
-void tell_wait(const char *behind) {
+/* The line of the wait that lasts. */
+static struct line wait_line(void) {
     const struct wait *it = &current;
     struct line line = {.length = 0};
     add_text(&line, "rank %d: %s waits for ", process.rank, process.call);
@@ -61,8 +62,15 @@ void tell_wait(const char *behind) {
         break;
     }
     add_source(&line, process.caller);
-    add_text(&line, "%s", behind);
+    return line;
+}
+
+_Noreturn void give_up(void) {
+    struct line line = wait_line();
+    add_text(&line, "; gave up after ");
+    add_time(&line, process.patience);
     write_line(&line);
+    end_job(STATUS_PATIENCE);
 }
 
 /* ---- the wait ---- */
@@ -87,7 +95,8 @@ void end_wait(void) {
 
 void heed_signals(void) {
     if (asked == 0) return;
-    tell_wait("");
+    const struct line line = wait_line();
+    write_line(&line);
     end_by(asked);
 }
 

@@ -37,8 +37,8 @@ void end_wait(void);
  * wait, where a signal asked for it. */
 void heed_signals(void);
 
-/* Writes the line of the wait that lasts, and what stands behind it. */
-void tell_wait(const char *behind);
+/* Ends the process behind the line of its wait, since it lost its patience. */
+_Noreturn void give_up(void);
 
 /* From now on SIGTERM and SIGINT end a rank that waits behind that line, and every other one at once. A program that
  * treats one of them by itself keeps that. */
