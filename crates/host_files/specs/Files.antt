@@ -9,6 +9,10 @@ use Rattle.host_files.specs.Lines.{Told, told_in}
 abbrev pub is_line_end : ℕ → Bool
 is_line_end byte = byte == 10
 
+-- items of a list stand apart by byte 44, a comma
+abbrev pub is_comma : ℕ → Bool
+is_comma byte = byte == 44
+
 -- hosts in front of those that are told behind them
 abbrev pub in_front : List Told → Result (List Told) (ℕ × HostFault) → Result (List Told) (ℕ × HostFault)
 in_front hosts (Ok more) = Ok (hosts ++ more)

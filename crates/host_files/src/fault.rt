@@ -8,7 +8,8 @@ use std::fmt;
 pub enum HostFault {
     /// Its first word is no name of a host and no address.
     Name,
-    /// A word behind the first is neither `slots=N` with an N from 1 to 1,024 nor `local`, or the line has it twice.
+    /// The number behind its name isn't one from 1 to 1,024, a word behind it is neither `slots=N` nor `max_slots=N` with
+    /// such an N nor `local`, or the line has one of them twice.
     Option,
 }
 
@@ -22,7 +23,7 @@ impl fmt::Display for HostFault {
         f.write_str(match self {
             HostFault::Name => "a host begins the line: an IPv4 address or a name",
             HostFault::Option =>
-                "behind the host stand slots=N, with N from 1 to 1024, and local, each once at most",
+                "behind the host stand slots=N, max_slots=N, with N from 1 to 1024, and local, each once at most",
         })
     }
 }

@@ -1,4 +1,4 @@
-//! The file of hosts: on which of them a job has how many ranks.
+//! The hosts of a job, of a file or a list: on which of them it has how many ranks.
 #![tactic(auto)]
 
 mod fault;
@@ -8,6 +8,6 @@ mod line;
 mod slots;
 
 pub use fault::{FileFault, HostFault};
-pub use file::hosts_of;
+pub use file::{hosts_in_list, hosts_of};
 pub use host::Host;
 pub use slots::{hosts_of_ranks, slot_count};

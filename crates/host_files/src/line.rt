@@ -2,8 +2,11 @@
 
 ghost use Rattle.std.specs.Prelude.{◌≡◌, IfOk, map, option_map};
 ghost use Rattle.std.specs.List.{list_all, slice_split};
-ghost use Rattle.host_files.specs.Lines.{after, host_in, is_blank, is_name, is_name_byte, option_of, said, shown};
-ghost use Rattle.host_files.specs.Lines.{shown_result, slots_in, told_in, words_of};
+ghost use Rattle.std.specs.List.{position_from};
+ghost use Rattle.std.specs.Str.{bytes_eq};
+ghost use Rattle.host_files.specs.Lines.{after, finished, host_in, is_blank, is_colon, is_name, is_name_byte, is_own_name};
+ghost use Rattle.host_files.specs.Lines.{most_in, named_in, option_of, said, shown, shown_result, told_in, value_in};
+ghost use Rattle.host_files.specs.Lines.{with_value, words_of};
 
 use crate::fault::HostFault;
 use crate::host::Host;
@@ -15,6 +18,8 @@ use std::alloc::{AllocError, Global};
 pub(crate) enum HostOption {
     /// `slots=N`.
     Slots(u16),
+    /// `max_slots=N`, `max-slots=N`.
+    Most(u16),
     /// `local`.
     Local,
 }
@@ -77,27 +82,60 @@ fn is_name(word: &[u8]) -> bool
     !word.is_empty() && word[0] != b'-' && are_name_bytes(word)
 }
 
-/// The slots that a word tells.
-fn slots_in(word: &[u8]) -> Option<u16>
-    ensures { result ≡ slots_in word.now }
+fn is(word: &[u8], name: &[u8]) -> bool
+    ensures { result ≡ bytes_eq word.now name.now }
 {
-    let (front, number) = word.split_at(word.len().min(6));
-    if front != b"slots=".as_slice() {
+    word == name
+}
+
+/// The number of ranks that a word tells behind this name.
+fn value_in(name: &[u8], word: &[u8]) -> Option<u16>
+    ensures { result ≡ value_in name.now word.now }
+{
+    let (front, number) = word.split_at(word.len().min(name.len()));
+    if !is(front, name) {
         return None;
     }
     let number = number_between(number, 1, 1_024)?;
     Some(number as u16)
 }
 
+/// How many ranks a host takes at most, where the word tells that.
+fn most_in(word: &[u8]) -> Option<u16>
+    ensures { result ≡ most_in word.now }
+{
+    if let Some(most) = value_in(b"max_slots=", word) {
+        return Some(most);
+    }
+    value_in(b"max-slots=", word)
+}
+
 /// What a word says behind a host's name.
 fn option_of(word: &[u8]) -> Option<HostOption>
     ensures { result ≡ option_of word.now }
 {
-    if word == b"local".as_slice() {
+    if is(word, b"local") {
         return Some(HostOption::Local);
     }
-    let slots = slots_in(word)?;
-    Some(HostOption::Slots(slots))
+    if let Some(slots) = value_in(b"slots=", word) {
+        return Some(HostOption::Slots(slots));
+    }
+    let most = most_in(word)?;
+    Some(HostOption::Most(most))
+}
+
+/// Whether this name is the launcher's own machine, whatever it is.
+fn is_own_name(name: &[u8]) -> bool
+    ensures { result ≡ is_own_name name.now }
+{
+    is(name, b"localhost") || is(name, b"127.0.0.1")
+}
+
+/// The place of the first `:`.
+fn colon_place(word: &[u8]) -> Option<usize>
+    ensures { result ≡ position_from is_colon 0 word.now }
+{
+    word.iter().position(|byte| *byte == b':')
 }
 
 impl<'a> Host<'a> {
@@ -107,9 +145,14 @@ impl<'a> Host<'a> {
     {
         match option_of(word)? {
             HostOption::Slots(_) if self.slots.is_some() => None,
+            HostOption::Most(_) if self.most.is_some() => None,
             HostOption::Local if self.is_local => None,
             HostOption::Slots(slots) => Some(Host {
                 slots: Some(slots),
+                ..self
+            }),
+            HostOption::Most(most) => Some(Host {
+                most: Some(most),
                 ..self
             }),
             HostOption::Local => Some(Host {
@@ -118,19 +161,54 @@ impl<'a> Host<'a> {
             }),
         }
     }
+
+    /// The same host, as this machine where its name says so.
+    fn finished(self) -> Host<'a>
+        ensures { shown result ≡ finished (shown self.entry) }
+    {
+        Host {
+            is_local: self.is_local || is_own_name(self.name),
+            ..self
+        }
+    }
 }
 
-/// The host that these words tell, of which there is one at least.
-fn host_in<'a>(name: &'a [u8], options: &[&[u8]]) -> Result<Host<'a>, HostFault>
-    ensures { shown_result result ≡ host_in name.now (map (λ word. word.now) options.now) }
+/// A host of which only its name and, maybe, its slots are known.
+fn with_value<'a>(name: &'a [u8], slots: Option<u16>) -> Result<Host<'a>, HostFault>
+    ensures { shown_result result ≡ with_value name.now slots }
 {
     if !is_name(name) {
         return Err(HostFault::Name);
     }
-    let mut host = Host {
+    Ok(Host {
         name,
-        slots: None,
+        slots,
+        most: None,
         is_local: false,
+    })
+}
+
+/// The host that a word tells: `HOST` or `HOST:N`.
+fn named_in<'a>(word: &'a [u8]) -> Result<Host<'a>, HostFault>
+    ensures { shown_result result ≡ named_in word.now }
+{
+    let Some(place) = colon_place(word) else {
+        return with_value(word, None);
+    };
+    let (name, number) = word.split_at(place.min(word.len()));
+    match value_in(b":", number) {
+        Some(slots) => with_value(name, Some(slots)),
+        None => Err(HostFault::Option),
+    }
+}
+
+/// The host that these words tell, of which there is one at least.
+fn host_in<'a>(first: &'a [u8], options: &[&[u8]]) -> Result<Host<'a>, HostFault>
+    ensures { shown_result result ≡ host_in first.now (map (λ word. word.now) options.now) }
+{
+    let mut host = match named_in(first) {
+        Ok(host) => host,
+        Err(fault) => return Err(fault),
     };
     for word in options {
         match host.after(word) {
@@ -138,7 +216,7 @@ fn host_in<'a>(name: &'a [u8], options: &[&[u8]]) -> Result<Host<'a>, HostFault>
             None => return Err(HostFault::Option),
         }
     }
-    Ok(host)
+    Ok(host.finished())
 }
 
 /// What a line says: a host, nothing where it has no words, or its fault. Only want of memory is an error.

@@ -1,18 +1,28 @@
 //! Which rank is on which host.
 
 ghost use Rattle.std.specs.Prelude.{◌≡◌, ◌≤◌, ◌<◌, ◌++◌, IfOk, MatchOption, OnOk, length, replicate, take};
-ghost use Rattle.host_files.specs.Slots.{slots_of, all_slots};
+ghost use Rattle.host_files.specs.Slots.{all_slots, said_slots, slots_of};
 
 use crate::host::Host;
 use std::alloc::{AllocError, Global};
 
-/// How many ranks a host takes.
-pub fn slot_count(host: &Host) -> u16
-    ensures { result ≡ slots_of host.now }
+/// How many ranks a host takes by what is said of it.
+fn said_slots(slots: Option<u16>, most: Option<u16>) -> u16
+    ensures { result ≡ said_slots slots most }
 {
-    match host.slots {
-        Some(slots) => slots,
-        None => 1,
+    match slots {
+        Some(slots) => slots.min(most.unwrap_or(slots)),
+        None => most.unwrap_or(1),
+    }
+}
+
+/// How many ranks a host takes: so many where each takes so many, else by what is said of it.
+pub fn slot_count(host: &Host, per_host: Option<u16>) -> u16
+    ensures { result ≡ slots_of per_host host.now }
+{
+    match per_host {
+        Some(count) => count,
+        None => said_slots(host.slots, host.most),
     }
 }
 
@@ -27,27 +37,34 @@ fn push_copies(places: &mut Vec<usize>, place: usize, count: u16) -> Result<(), 
 }
 
 /// The host of each slot, by its place among these hosts, in order.
-fn all_slots(alloc: Global, hosts: &[Host<'_>]) -> Result<Vec<usize>, AllocError>
-    ensures { IfOk result (λ places. places.items ≡ all_slots 0 hosts.now) }
+fn all_slots(
+    alloc: Global,
+    hosts: &[Host<'_>],
+    per_host: Option<u16>,
+) -> Result<Vec<usize>, AllocError>
+    ensures { IfOk result (λ places. places.items ≡ all_slots per_host 0 hosts.now) }
 {
     let mut places = Vec::new(alloc);
     for (place, host) in hosts.iter().enumerate() {
-        push_copies(&mut places, place, slot_count(host))?;
+        push_copies(&mut places, place, slot_count(host, per_host))?;
     }
     Ok(places)
 }
 
 /// The host of each of so many ranks, by its place among these hosts: the ranks fill the slots of the hosts in their
-/// order. None where there are more ranks than slots. Only want of memory is an error.
+/// order, so many on each where that is said. None where there are more ranks than slots. Only want of memory is an
+/// error.
 pub fn hosts_of_ranks(
     alloc: Global,
     hosts: &[Host<'_>],
+    per_host: Option<u16>,
     size: u16,
 ) -> Result<Option<Vec<usize>>, AllocError>
-    ensures { IfOk result (λ found. MatchOption found (length (all_slots 0 hosts.now) < size)
-        (λ places. (size ≤ length (all_slots 0 hosts.now)) × (places.items ≡ take size (all_slots 0 hosts.now)))) }
+    ensures { IfOk result (λ found. MatchOption found (length (all_slots per_host 0 hosts.now) < size)
+        (λ places. (size ≤ length (all_slots per_host 0 hosts.now)) ×
+        (places.items ≡ take size (all_slots per_host 0 hosts.now)))) }
 {
-    let mut places = all_slots(alloc, hosts)?;
+    let mut places = all_slots(alloc, hosts, per_host)?;
     if places.len() < usize::from(size) {
         return Ok(None);
     }

@@ -6,9 +6,9 @@ use Rattle.std.specs.Str.{bytes_eq}
 use Rattle.numerals.specs.Numbers.{number_between}
 use Rattle.launch_keeper.specs.Words.{Word}
 use Rattle.run_plan.specs.declared.symbol.NumberOption.{NumberOption}
-use Rattle.run_plan.specs.declared.symbol.NumberOption.TheVariants.{Job, BasePort, Restart, Patience}
+use Rattle.run_plan.specs.declared.symbol.NumberOption.TheVariants.{Job, BasePort, Restart, Patience, Timeout, PerHost}
 use Rattle.run_plan.specs.declared.symbol.TextOption.{TextOption}
-use Rattle.run_plan.specs.declared.symbol.TextOption.TheVariants.{Folder, HostFile, Launcher}
+use Rattle.run_plan.specs.declared.symbol.TextOption.TheVariants.{Folder, HostFile, Hosts, Launcher}
 use Rattle.run_plan.specs.declared.symbol.Symbol.{Symbol}
 use Rattle.run_plan.specs.declared.symbol.Symbol.TheVariants as symbols
 use Rattle.run_plan.specs.declared.options.RunOptions.{RunOptions}
@@ -28,10 +28,13 @@ nothing_given = record {
   base_port = None;
   restarts = None;
   patience = None;
+  timeout = None;
+  per_host = None;
   marks_lines = false;
   keeps_going = false;
   folder = None;
   host_file = None;
+  hosts = None;
   launcher = None;
 }
 
@@ -41,6 +44,8 @@ given_of Job given = given.job
 given_of BasePort given = given.base_port
 given_of Restart given = given.restarts
 given_of Patience given = given.patience
+given_of Timeout given = given.timeout
+given_of PerHost given = given.per_host
 
 -- whether the option was given before
 abbrev pub is_given : NumberOption → RunOptions → Bool
@@ -52,11 +57,14 @@ with_number Job given n = record given { job = Some n }
 with_number BasePort given n = record given { base_port = Some n }
 with_number Restart given n = record given { restarts = Some n }
 with_number Patience given n = record given { patience = Some n }
+with_number Timeout given n = record given { timeout = Some n }
+with_number PerHost given n = record given { per_host = Some n }
 
 -- the place of the text that was given of an option
 abbrev pub text_of : TextOption → RunOptions → Option ℕ
 text_of Folder given = given.folder
 text_of HostFile given = given.host_file
+text_of Hosts given = given.hosts
 text_of Launcher given = given.launcher
 
 -- whether the option was given before
@@ -67,12 +75,14 @@ has_text option given = is_some (text_of option given)
 abbrev pub with_text : TextOption → RunOptions → ℕ → RunOptions
 with_text Folder given place = record given { folder = Some place }
 with_text HostFile given place = record given { host_file = Some place }
+with_text Hosts given place = record given { hosts = Some place }
 with_text Launcher given place = record given { launcher = Some place }
 
 -- what may stand where an option's text is due
 abbrev pub wanted_of : TextOption → Wanted
 wanted_of Folder = wanted.Folder
 wanted_of HostFile = wanted.HostFile
+wanted_of Hosts = wanted.Hosts
 wanted_of Launcher = wanted.Launcher
 
 -- a name of a variable isn't empty, has no `=`, and doesn't begin as those of a rank's place do
@@ -95,7 +105,7 @@ with_options options = record { options = options; stage = stages.Option }
 
 -- an option that may stand once
 abbrev pub unless : Bool → Reading → Result Reading Wanted
-unless given next = if given then Err wanted.OptionOrSet else Ok next
+unless given next = if given then Err wanted.Once else Ok next
 
 -- where an option may stand
 abbrev pub at_option : Reading → ℕ → Symbol → Result Reading Wanted
@@ -109,7 +119,7 @@ at_option reading place (symbols.Text option) =
     unless (has_text option reading.options) (due reading (stages.Text option))
 at_option reading place symbols.Variable = Ok (due reading stages.Name)
 at_option reading place symbols.Set = Ok (due reading (stages.Sets place))
-at_option reading place symbols.Other = Err wanted.OptionOrSet
+at_option reading place symbols.Other = Err wanted.Set
 
 -- a number that was read, or not
 abbrev pub number_read : Option ℕ → Reading → NumberOption → Result Reading Wanted
@@ -146,7 +156,7 @@ read_on place (Err due) rest = Err (record { place = place; wanted = due })
 -- what is missing, or what the words ask for
 abbrev pub ended_at : Stage → Reading → ℕ → Result RunRequest RunFault
 ended_at (stages.Sets sets) reading place = Ok (record { options = reading.options; sets = sets })
-ended_at stages.Option reading place = Err (record { place = place; wanted = wanted.OptionOrSet })
+ended_at stages.Option reading place = Err (record { place = place; wanted = wanted.Set })
 ended_at (stages.Number option) reading place =
     Err (record { place = place; wanted = wanted.Number (least_of option) (greatest_of option) })
 ended_at (stages.Text option) reading place = Err (record { place = place; wanted = wanted_of option })

@@ -3,9 +3,9 @@ use Rattle.std.specs.Prelude.{ℕ, ◌||◌, codes, Option, Some, None, if◌the
 use Rattle.std.specs.Str.{bytes_eq}
 use Rattle.launch_keeper.specs.Words.{Word}
 use Rattle.run_plan.specs.declared.symbol.NumberOption.{NumberOption}
-use Rattle.run_plan.specs.declared.symbol.NumberOption.TheVariants.{Job, BasePort, Restart, Patience}
+use Rattle.run_plan.specs.declared.symbol.NumberOption.TheVariants.{Job, BasePort, Restart, Patience, Timeout, PerHost}
 use Rattle.run_plan.specs.declared.symbol.TextOption.{TextOption}
-use Rattle.run_plan.specs.declared.symbol.TextOption.TheVariants.{Folder, HostFile, Launcher}
+use Rattle.run_plan.specs.declared.symbol.TextOption.TheVariants.{Folder, HostFile, Hosts, Launcher}
 use Rattle.run_plan.specs.declared.symbol.Symbol.{Symbol}
 use Rattle.run_plan.specs.declared.symbol.Symbol.TheVariants as symbols
 
@@ -16,15 +16,18 @@ number_option word =
     else (if bytes_eq word (codes "-baseport") then Some BasePort
     else (if bytes_eq word (codes "-restart") then Some Restart
     else (if bytes_eq word (codes "-patience") then Some Patience
-    else None)))
+    else (if bytes_eq word (codes "-timeout") then Some Timeout
+    else (if bytes_eq word (codes "-ppn") then Some PerHost
+    else None)))))
 
 -- the option of this name whose value is a text
 unfoldable pub text_option : Word → Option TextOption
 text_option word =
     if bytes_eq word (codes "-wdir") then Some Folder
     else (if bytes_eq word (codes "-hostfile") then Some HostFile
+    else (if bytes_eq word (codes "-host") then Some Hosts
     else (if bytes_eq word (codes "-launcher") then Some Launcher
-    else None))
+    else None)))
 
 -- any other word where an option may stand
 abbrev pub other_symbol : Word → Symbol
@@ -51,6 +54,8 @@ least_of Job = 0
 least_of BasePort = 1
 least_of Restart = 0
 least_of Patience = 1
+least_of Timeout = 1
+least_of PerHost = 1
 
 -- the greatest value of an option
 abbrev pub greatest_of : NumberOption → ℕ
@@ -58,3 +63,5 @@ greatest_of Job = 18446744073709551615
 greatest_of BasePort = 65535
 greatest_of Restart = 65535
 greatest_of Patience = 3600000
+greatest_of Timeout = 31536000
+greatest_of PerHost = 1024

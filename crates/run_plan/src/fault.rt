@@ -5,14 +5,18 @@ use std::fmt;
 /// What may stand at a place of the words.
 #[derive(Clone, Copy, Debug, PartialEq, Eq)]
 pub enum Wanted {
-    /// An option that wasn't given yet, or the first set.
-    OptionOrSet,
+    /// Nothing: the option was given before.
+    Once,
+    /// The first set.
+    Set,
     /// A number between these two, themselves included.
     Number(u64, u64),
     /// The name of a folder.
     Folder,
     /// The name of a file of hosts.
     HostFile,
+    /// Hosts, with commas between them.
+    Hosts,
     /// Words that start a program on a host.
     Launcher,
     /// The name of a variable.
@@ -38,12 +42,12 @@ impl fmt::Display for Wanted {
 
     fn fmt<W: fmt::Write>(&self, f: &mut fmt::Formatter<W>) -> fmt::Result {
         match self {
-            Wanted::OptionOrSet => f.write_str(
-                "an option not yet given, or a set (-n N PROGRAM ..) behind all options",
-            ),
+            Wanted::Once => f.write_str("another option than one that was given before"),
+            Wanted::Set => f.write_str("a program (-n N PROGRAM ..)"),
             Wanted::Number(least, greatest) => write!(f, "a number from {least} to {greatest}"),
             Wanted::Folder => f.write_str("the name of a folder"),
             Wanted::HostFile => f.write_str("the name of a file of hosts"),
+            Wanted::Hosts => f.write_str("hosts, with commas between them"),
             Wanted::Launcher => {
                 f.write_str("words that start a program on a host, one of them {host}")
             }

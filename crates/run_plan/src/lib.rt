@@ -20,4 +20,4 @@ pub use options::RunOptions;
 pub use ports::{BLOCK, FIRST_PORT, PORT_BLOCKS, block_port, blocks_for};
 pub use reading::{RunRequest, request_of};
 pub use sets::plan_words;
-pub use status::{Consequence, ConsequenceText, run_status};
+pub use status::{Consequence, ConsequenceText, is_over_time, run_status};

@@ -17,6 +17,10 @@ pub struct RunOptions {
     pub restarts: Option<u16>,
     /// How long the ranks wait, in milliseconds, of `-patience`.
     pub patience: Option<u32>,
+    /// How long the job may take, in seconds, of `-timeout`.
+    pub timeout: Option<u32>,
+    /// How many ranks each host takes, of `-ppn`.
+    pub per_host: Option<u16>,
     /// Whether `[r] ` stands before each line of rank r: `-prefix`.
     pub marks_lines: bool,
     /// Whether the other ranks go on once one has failed: `-keep-going`.
@@ -25,6 +29,8 @@ pub struct RunOptions {
     pub folder: Option<usize>,
     /// The place of the word that names the file of hosts: of `-hostfile`.
     pub host_file: Option<usize>,
+    /// The place of the word that lists hosts: of `-host`.
+    pub hosts: Option<usize>,
     /// The place of the word that says how a program is started on another host: of `-launcher`.
     pub launcher: Option<usize>,
 }
@@ -39,10 +45,13 @@ impl RunOptions {
             base_port: None,
             restarts: None,
             patience: None,
+            timeout: None,
+            per_host: None,
             marks_lines: false,
             keeps_going: false,
             folder: None,
             host_file: None,
+            hosts: None,
             launcher: None,
         }
     }
@@ -56,6 +65,8 @@ impl RunOptions {
             NumberOption::BasePort => self.base_port.is_some(),
             NumberOption::Restart => self.restarts.is_some(),
             NumberOption::Patience => self.patience.is_some(),
+            NumberOption::Timeout => self.timeout.is_some(),
+            NumberOption::PerHost => self.per_host.is_some(),
         }
     }
 
@@ -66,6 +77,7 @@ impl RunOptions {
         match option {
             TextOption::Folder => self.folder.is_some(),
             TextOption::HostFile => self.host_file.is_some(),
+            TextOption::Hosts => self.hosts.is_some(),
             TextOption::Launcher => self.launcher.is_some(),
         }
     }
@@ -81,6 +93,10 @@ impl RunOptions {
             },
             TextOption::HostFile => RunOptions {
                 host_file: Some(place),
+                ..self
+            },
+            TextOption::Hosts => RunOptions {
+                hosts: Some(place),
                 ..self
             },
             TextOption::Launcher => RunOptions {
@@ -110,6 +126,14 @@ impl RunOptions {
             },
             NumberOption::Patience => RunOptions {
                 patience: Some(number as u32),
+                ..self
+            },
+            NumberOption::Timeout => RunOptions {
+                timeout: Some(number as u32),
+                ..self
+            },
+            NumberOption::PerHost => RunOptions {
+                per_host: Some(number as u16),
                 ..self
             },
         }

@@ -68,6 +68,7 @@ fn wanted_of(option: TextOption) -> Wanted
     match option {
         TextOption::Folder => Wanted::Folder,
         TextOption::HostFile => Wanted::HostFile,
+        TextOption::Hosts => Wanted::Hosts,
         TextOption::Launcher => Wanted::Launcher,
     }
 }
@@ -77,7 +78,7 @@ fn unless(given: bool, next: Reading) -> Result<Reading, Wanted>
     ensures { result ≡ unless given next }
 {
     if given {
-        return Err(Wanted::OptionOrSet);
+        return Err(Wanted::Once);
     }
     Ok(next)
 }
@@ -138,7 +139,7 @@ impl Reading {
             }
             Symbol::Variable => Ok(self.due(Stage::Name)),
             Symbol::Set => Ok(self.due(Stage::Sets(place))),
-            Symbol::Other => Err(Wanted::OptionOrSet),
+            Symbol::Other => Err(Wanted::Set),
         }
     }
 
@@ -195,7 +196,7 @@ impl Reading {
                     sets,
                 });
             }
-            Stage::Option => Wanted::OptionOrSet,
+            Stage::Option => Wanted::Set,
             Stage::Number(option) => Wanted::Number(option.least(), option.greatest()),
             Stage::Text(option) => wanted_of(option),
             Stage::Name => Wanted::Name,
@@ -219,7 +220,8 @@ impl Reading {
 /// memory. The sets are judged by `launch_plan`.
 ///
 /// Options stand in front of the first set, which `-n` or `-np` begins: `-job J`, `-baseport P`, `-restart K`,
-/// `-patience MS`, `-prefix`, `-keep-going`, `-wdir FOLDER`, `-hostfile FILE` and `-launcher WORDS`, each once, and `-env NAME VALUE` any number of times.
+/// `-patience MS`, `-timeout S`, `-ppn K`, `-prefix`, `-keep-going`, `-wdir FOLDER`, `-hostfile FILE`, `-host LIST` and
+/// `-launcher WORDS`, each once, and `-env NAME VALUE` any number of times. Words of others are made these by `run_words`.
 pub fn request_of(words: &[Word]) -> Result<RunRequest, RunFault>
     ensures { result ≡ request_of words.now }
 {

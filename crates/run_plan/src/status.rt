@@ -1,7 +1,7 @@
 //! The statuses of ranks, and what is told of their ends.
 
 ghost use Rattle.std.specs.Prelude.{◌≡◌};
-ghost use Rattle.run_plan.specs.Ends.{run_status};
+ghost use Rattle.run_plan.specs.Ends.{is_over_time, run_status};
 
 use launch_keeper::ProgramEnding;
 use std::fmt;
@@ -14,6 +14,16 @@ pub fn run_status(ending: ProgramEnding) -> u8
     match ending {
         ProgramEnding::Signal(signal) => 128 + signal.min(127),
         _ => ending.status(),
+    }
+}
+
+/// Whether a job that has taken so many seconds has taken as long as it may.
+pub fn is_over_time(limit: Option<u32>, seconds: u64) -> bool
+    ensures { result ≡ is_over_time limit seconds }
+{
+    match limit {
+        Some(limit) => u64::from(limit) <= seconds,
+        None => false,
     }
 }
 

@@ -15,6 +15,10 @@ pub enum NumberOption {
     Restart,
     /// `-patience`: how long a rank waits, in milliseconds.
     Patience,
+    /// `-timeout`: how long the job may take, in seconds.
+    Timeout,
+    /// `-ppn`: how many ranks each host takes.
+    PerHost,
 }
 
 impl NumberOption {
@@ -24,7 +28,7 @@ impl NumberOption {
     {
         match self {
             NumberOption::Job | NumberOption::Restart => 0,
-            NumberOption::BasePort | NumberOption::Patience => 1,
+            _ => 1,
         }
     }
 
@@ -36,6 +40,8 @@ impl NumberOption {
             NumberOption::Job => u64::MAX,
             NumberOption::BasePort | NumberOption::Restart => 65_535,
             NumberOption::Patience => 3_600_000,
+            NumberOption::Timeout => 31_536_000,
+            NumberOption::PerHost => 1_024,
         }
     }
 }
@@ -47,6 +53,8 @@ pub enum TextOption {
     Folder,
     /// `-hostfile`: the file of hosts.
     HostFile,
+    /// `-host`: the hosts.
+    Hosts,
     /// `-launcher`: the words that start a program on another host.
     Launcher,
 }
@@ -89,6 +97,10 @@ fn number_option(word: &[u8]) -> Option<NumberOption>
         Some(NumberOption::Restart)
     } else if is(word, b"-patience") {
         Some(NumberOption::Patience)
+    } else if is(word, b"-timeout") {
+        Some(NumberOption::Timeout)
+    } else if is(word, b"-ppn") {
+        Some(NumberOption::PerHost)
     } else {
         None
     }
@@ -103,6 +115,8 @@ fn text_option(word: &[u8]) -> Option<TextOption>
         Some(TextOption::Folder)
     } else if is(word, b"-hostfile") {
         Some(TextOption::HostFile)
+    } else if is(word, b"-host") {
+        Some(TextOption::Hosts)
     } else if is(word, b"-launcher") {
         Some(TextOption::Launcher)
     } else {

@@ -5,42 +5,23 @@ use crate::front::{LAUNCH, run_front};
 use crate::job::{FAILED, Job};
 use crate::job_hosts::{JobHosts, hosts_by};
 use crate::keeper::{KEEPER, run_keeper};
+use crate::own_words::{REFUSED, own_words_of, tell_fault};
 use crate::setup::{Setup, tell_as_own};
 use launch_diagnostics::explain;
 use launch_keeper::{Word, Words};
 use launch_plan::Plan;
 use launch_plan::planning::plan;
 use numerals::number_between;
-use process_commands::text_of;
-use run_plan::{RunFault, RunRequest, plan_words, request_of};
+use run_plan::{RunRequest, plan_words, request_of};
 use std::alloc::AllocError;
+use std::io::ErrorKind;
 use std::net::Net;
 use std::os::fd::AsRawFd;
 use std::process::{OpenProcess, Processes};
 use std::rt::{Env, Files};
+use std::thread::Threads;
 use std::time::Clock;
 use std::{env, io};
-
-/// The status of words that are refused.
-const REFUSED: u8 = 2;
-
-/// The page of usage, without the last line's end.
-const PAGE: &str = "\
-usage: mpirun [OPTION ..] -n N PROGRAM [ARGUMENT ..] [: -n N PROGRAM ..] ..\n\
-Starts N processes of each PROGRAM as the ranks of a job, and\n\
-prints their lines as they come. Each finds its place in its environment.\n\
-\x20 -n N, -np N       so many processes, 1 to 1024\n\
-\x20 -prefix           [R] stands before each line of rank R\n\
-\x20 -wdir FOLDER      the ranks start in this folder\n\
-\x20 -env NAME VALUE   this variable has this value; as often as needed\n\
-\x20 -hostfile FILE    the ranks are on the hosts of its lines: HOST [slots=N] [local]\n\
-\x20 -launcher WORDS   start a program on a host; else ssh -o BatchMode=yes -T {host}\n\
-\x20 -keep-going       the other ranks go on when one has failed\n\
-\x20 -restart K        each rank may be started again so often; without it 0\n\
-\x20 -patience MS      so many milliseconds a rank waits before it gives up\n\
-\x20 -job J            the job's number; without it a random one\n\
-\x20 -baseport P       rank R's port is P + R; without it free ones\n\
-Options stand in front of the first set. More stands in docs/LAUNCHING.md.";
 
 /// The words behind the program's own name.
 fn words_of(rt: &(impl Env + AllocGlobal)) -> io::Result<Vec<Word>> {
@@ -53,34 +34,6 @@ fn words_of(rt: &(impl Env + AllocGlobal)) -> io::Result<Vec<Word>> {
             .map_err(AllocError::from)?;
     }
     Ok(words)
-}
-
-/// Whether a word asks how the program is used.
-fn is_help(word: &Word) -> bool {
-    let text = str::from_utf8(word.as_bytes()).unwrap_or("");
-    matches!(text, "--help" | "-h" | "--version")
-}
-
-/// Tells which word is at fault, or missing, and what may stand there. Answers the status.
-fn tell_fault<R: Print + Eprint>(rt: &R, words: &[Word], fault: RunFault) -> u8 {
-    let wanted = fault.wanted;
-    match words.get(fault.place) {
-        Some(word) if is_help(word) => {
-            let _ = println!(rt; "{PAGE}");
-            return 0;
-        }
-        Some(word) => {
-            let word = shown_words::Shown {
-                word: word.as_bytes(),
-            };
-            let _ = eprintln!(rt; "mpirun: '{word}': {wanted} may stand here");
-        }
-        None => {
-            let _ = eprintln!(rt; "mpirun: {wanted} is missing");
-        }
-    }
-    let _ = eprintln!(rt; "mpirun --help tells more");
-    REFUSED
 }
 
 /// The words by which the sets behind a request are planned.
@@ -162,16 +115,11 @@ fn hosts_for<R: Net + Files + Eprint + AllocGlobal>(
     request: &RunRequest,
     size: u16,
 ) -> Result<Option<JobHosts>, u8> {
-    let Some(place) = request.options.host_file else {
+    let options = request.options;
+    if options.host_file.is_none() && options.hosts.is_none() {
         return Ok(None);
-    };
-    let Some(word) = words.get(place) else {
-        return Err(FAILED);
-    };
-    let Ok(file) = text_of(word) else {
-        return Err(FAILED);
-    };
-    Ok(Some(hosts_by(rt, file, size)?))
+    }
+    Ok(Some(hosts_by(rt, words, options, size)?))
 }
 
 /// Starts the ranks of a plan on their hosts, and follows them to their ends. Answers the status.
@@ -252,8 +200,16 @@ fn launching(words: &[Word]) -> Option<(i32, &[Word])> {
     Some((i32::try_from(front).ok()?, rest))
 }
 
-/// Judges the words, and hands them to the process that launches.
-fn begin<R: Files + Print + Eprint + AllocGlobal + Processes>(rt: &R, words: &[Word]) -> u8 {
+/// Judges the words, and hands them to the process that launches, as own words.
+fn begin<R: Net + Env + Files + Print + Eprint + AllocGlobal + Processes + Threads>(
+    rt: &R,
+    words: &[Word],
+) -> u8 {
+    let own = match own_words_of(rt, words) {
+        Ok(own) => own,
+        Err(status) => return status,
+    };
+    let words = own.as_slice();
     let request = match request_of(words) {
         Ok(request) => request,
         Err(fault) => return tell_fault(rt, words, fault),
@@ -274,6 +230,7 @@ pub fn run_words<
         + Eprint
         + AllocGlobal
         + Clock
+        + Threads
         + Processes<Started: OpenProcess<Stdout: AsRawFd, Stderr: AsRawFd>>,
 >(rt: &R, words: &[Word]) -> u8 {
     if is_keeper(words) {
@@ -297,10 +254,16 @@ pub fn run<
         + Eprint
         + AllocGlobal
         + Clock
+        + Threads
         + Processes<Started: OpenProcess<Stdout: AsRawFd, Stderr: AsRawFd>>,
 >(rt: &R) -> u8 {
     match words_of(rt) {
         Ok(words) => run_words(rt, &words),
-        Err(_) => FAILED,
+        Err(error) => {
+            if error.kind() == ErrorKind::InvalidData {
+                let _ = eprintln!(rt; "mpirun: a word isn't UTF-8");
+            }
+            FAILED
+        }
     }
 }

@@ -10,7 +10,7 @@ use launch_keeper::{EndingLine, LostKeeperLine, ProgramEnding, Word};
 use launch_plan::Plan;
 use libc::net::poll;
 use libc::types::pollfd;
-use run_plan::{Consequence, ConsequenceText, run_status};
+use run_plan::{Consequence, ConsequenceText, is_over_time, run_status};
 use std::alloc::AllocError;
 use std::io;
 use std::os::fd::AsRawFd;
@@ -33,6 +33,9 @@ const SOON: i32 = 2;
 /// The status of a job that was interrupted.
 const INTERRUPTED: u8 = 130;
 
+/// The status of a job that took longer than it may.
+const LATE: u8 = 124;
+
 /// The status of a job whose own output failed, or for which memory was wanting.
 pub const FAILED: u8 = 3;
 
@@ -48,6 +51,10 @@ pub struct Job<'a, R: Processes> {
     asked: Option<Instant>,
     /// Whether the job was interrupted.
     is_interrupted: bool,
+    /// When the job began.
+    start: Instant,
+    /// Whether it took longer than it may.
+    is_late: bool,
 }
 
 impl<'a, R: Processes> Drop for Job<'a, R> {
@@ -60,6 +67,8 @@ impl<'a, R: Processes> Drop for Job<'a, R> {
             began: _,
             asked: _,
             is_interrupted: _,
+            start: _,
+            is_late: _,
         } = self;
         drop(ranks);
         drop(guard);
@@ -95,6 +104,8 @@ impl<
             began: None,
             asked: None,
             is_interrupted: false,
+            start: Instant::now(rt)?,
+            is_late: false,
         })
     }
 
@@ -329,8 +340,25 @@ impl<
         Ok(true)
     }
 
-    /// Ends the job where the process is gone that the user started; kills what was asked to end and had the time to.
+    /// Ends the job where it takes longer than it may.
+    fn attend_to_limit(&mut self) -> io::Result<()> {
+        let limit = self.setup.options.timeout;
+        let seconds = self.start.elapsed(self.rt)?.as_secs();
+        if self.asked.is_none() && is_over_time(limit, seconds) {
+            self.is_late = true;
+            self.setup.tell(
+                self.rt,
+                "mpiexec: the job has taken as long as it may; the ranks are ended",
+            );
+            self.ask_all()?;
+        }
+        Ok(())
+    }
+
+    /// Ends the job where the process is gone that the user started, or where it takes longer than it may; kills what was
+    /// asked to end and had the time to.
     fn attend(&mut self) -> io::Result<()> {
+        self.attend_to_limit()?;
         if !self.is_interrupted && libc::getppid() != self.setup.front {
             self.is_interrupted = true;
             self.setup
@@ -388,6 +416,7 @@ impl<
         match self.began {
             Some(failure) => failure.status,
             None if self.is_interrupted => INTERRUPTED,
+            None if self.is_late => LATE,
             None => 0,
         }
     }

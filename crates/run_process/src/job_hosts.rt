@@ -1,8 +1,10 @@
 //! The hosts of a job: on which of them each rank is, and at which addresses.
 
-use host_files::{FileFault, Host, hosts_of, hosts_of_ranks, slot_count};
+use host_files::{FileFault, Host, hosts_in_list, hosts_of, hosts_of_ranks, slot_count};
 use launch_keeper::Word;
+use process_commands::text_of;
 use rank_addresses::list_text;
+use run_plan::RunOptions;
 use shown_words::Shown;
 use std::alloc::{AllocError, Global};
 use std::io::ErrorKind;
@@ -15,6 +17,9 @@ const REFUSED: u8 = 2;
 
 /// The status where memory was wanting.
 const FAILED: u8 = 3;
+
+/// The most ranks that a job has.
+const MOST_RANKS: u16 = 1_024;
 
 /// The hosts of a job.
 #[derive(Drop)]
@@ -46,12 +51,24 @@ fn address_of<R: Net>(rt: &R, name: &str) -> Option<Ipv4Addr> {
     None
 }
 
-/// Tells why a file of hosts is refused.
-fn tell_fault<R: Eprint>(rt: &R, file: &str, fault: FileFault) -> u8 {
+/// What tells the hosts of a job.
+#[derive(Drop)]
+struct HostText<'a> {
+    /// What it is called where a fault is told: the file's name, or the option.
+    name: &'a str,
+    /// The file's content, or the list.
+    text: Vec<u8>,
+    /// Whether it is a list.
+    is_list: bool,
+}
+
+/// Tells why hosts are refused.
+fn tell_fault<R: Eprint>(rt: &R, from: &HostText<'_>, fault: FileFault) -> u8 {
     match fault {
         FileFault::OutOfMemory => FAILED,
         FileFault::Line(number, fault) => {
-            let _ = eprintln!(rt; "mpirun: {file} line {number}: {fault}");
+            let (name, part) = (from.name, if from.is_list { "host" } else { "line" });
+            let _ = eprintln!(rt; "mpirun: {name} {part} {number}: {fault}");
             REFUSED
         }
     }
@@ -101,37 +118,71 @@ fn placed(
     Ok(JobHosts { names, list })
 }
 
+/// Tells which of so many hosts the ranks of others can't reach, if there is one: an address of this machine alone beside
+/// others.
+fn tell_unreachable<R: Eprint>(rt: &R, hosts: &[Host<'_>], addresses: &[Ipv4Addr], count: usize) {
+    if addresses.iter().take(count).all(|one| one.is_loopback()) {
+        return;
+    }
+    for (host, address) in hosts.iter().zip(addresses.iter()).take(count) {
+        if address.is_loopback() {
+            let name = str::from_utf8(host.name).unwrap_or("");
+            let _ = eprintln!(rt;
+                "mpirun: other hosts can't reach {name}: its address is this machine's own"
+            );
+        }
+    }
+}
+
+/// How many ranks these hosts take.
+fn slots_of_all(hosts: &[Host<'_>], per_host: Option<u16>) -> u64 {
+    hosts.iter().fold(
+        0u64,
+        |all, host| all.saturating_add(u64::from(slot_count(host, per_host))),
+    )
+}
+
 /// The hosts of so many ranks, which these hosts take; tells where they are too many.
 fn shared_out<R: Net + Eprint + AllocGlobal>(
     rt: &R,
-    file: &str,
+    name: &str,
     hosts: &[Host<'_>],
+    per_host: Option<u16>,
     size: u16,
 ) -> Result<JobHosts, u8> {
-    let Ok(found) = hosts_of_ranks(rt.alloc(), hosts, size) else {
+    let Ok(found) = hosts_of_ranks(rt.alloc(), hosts, per_host, size) else {
         return Err(FAILED);
     };
     let Some(places) = found else {
-        let slots = hosts.iter().fold(
-            0u64,
-            |all, host| all.saturating_add(u64::from(slot_count(host))),
-        );
-        let _ = eprintln!(rt; "mpirun: {size} ranks, and {slots} slots in {file}");
+        let slots = slots_of_all(hosts, per_host);
+        let _ = eprintln!(rt; "mpirun: {size} ranks, and {slots} slots in {name}");
         return Err(REFUSED);
     };
     let addresses = addresses_of(rt, hosts)?;
+    let count = match places.last() {
+        Some(last) => last.saturating_add(1),
+        None => 0,
+    };
+    tell_unreachable(rt, hosts, &addresses, count);
     match placed(rt.alloc(), hosts, &addresses, &places) {
         Ok(hosts) => Ok(hosts),
         Err(_) => Err(FAILED),
     }
 }
 
-/// The hosts of so many ranks by the file of this name; tells why there are none.
-pub fn hosts_by<R: Net + Files + Eprint + AllocGlobal>(
+/// The word at this place as a text.
+fn text_at(words: &[Word], place: usize) -> Result<&str, u8> {
+    let Some(word) = words.get(place) else {
+        return Err(FAILED);
+    };
+    text_of(word).map_err(|_| REFUSED)
+}
+
+/// The file that tells the hosts; tells where it can't be read.
+fn file_text<'a, R: Files + Eprint + AllocGlobal>(
     rt: &R,
-    file: &str,
-    size: u16,
-) -> Result<JobHosts, u8> {
+    file: &'a str,
+) -> Result<HostText<'a>, u8> {
     let Ok(text) = fs::read(rt, file) else {
         let word = Shown {
             word: file.as_bytes(),
@@ -139,8 +190,81 @@ pub fn hosts_by<R: Net + Files + Eprint + AllocGlobal>(
         let _ = eprintln!(rt; "mpirun: '{word}' can't be read");
         return Err(REFUSED);
     };
-    match hosts_of(rt.alloc(), &text) {
-        Ok(hosts) => shared_out(rt, file, &hosts, size),
-        Err(fault) => Err(tell_fault(rt, file, fault)),
+    Ok(HostText {
+        name: file,
+        text,
+        is_list: false,
+    })
+}
+
+/// What tells the hosts by these options; tells where that is two things.
+fn host_text<'a, R: Files + Eprint + AllocGlobal>(
+    rt: &R,
+    words: &'a [Word],
+    options: RunOptions,
+) -> Result<HostText<'a>, u8> {
+    match (options.host_file, options.hosts) {
+        (Some(_), Some(_)) => {
+            let _ = eprintln!(rt; "mpirun: -host and -hostfile both say where the ranks are");
+            Err(REFUSED)
+        }
+        (Some(place), None) => file_text(rt, text_at(words, place)?),
+        (None, Some(place)) => {
+            let list = text_at(words, place)?;
+            match Vec::from_slice(rt.alloc(), list.as_bytes()) {
+                Ok(text) => Ok(HostText {
+                    name: "-host",
+                    text,
+                    is_list: true,
+                }),
+                Err(_) => Err(FAILED),
+            }
+        }
+        (None, None) => Err(FAILED),
     }
+}
+
+/// The hosts that a text tells; tells where it is at fault.
+fn told_in<'a, R: Eprint + AllocGlobal>(
+    rt: &R,
+    from: &'a HostText<'_>,
+) -> Result<Vec<Host<'a>>, u8> {
+    let told = if from.is_list {
+        hosts_in_list(rt.alloc(), &from.text)
+    } else {
+        hosts_of(rt.alloc(), &from.text)
+    };
+    match told {
+        Ok(hosts) => Ok(hosts),
+        Err(fault) => Err(tell_fault(rt, from, fault)),
+    }
+}
+
+/// How many ranks the hosts take that these options say, at most 1,024; tells why there are none.
+pub fn slots_by<R: Files + Eprint + AllocGlobal>(
+    rt: &R,
+    words: &[Word],
+    options: RunOptions,
+) -> Result<u16, u8> {
+    let from = host_text(rt, words, options)?;
+    let hosts = told_in(rt, &from)?;
+    let count = slots_of_all(&hosts, options.per_host);
+    Ok(
+        u16::try_from(count)
+            .unwrap_or(MOST_RANKS)
+            .min(MOST_RANKS)
+            .max(1),
+    )
+}
+
+/// The hosts of so many ranks by these options; tells why there are none.
+pub fn hosts_by<R: Net + Files + Eprint + AllocGlobal>(
+    rt: &R,
+    words: &[Word],
+    options: RunOptions,
+    size: u16,
+) -> Result<JobHosts, u8> {
+    let from = host_text(rt, words, options)?;
+    let hosts = told_in(rt, &from)?;
+    shared_out(rt, from.name, &hosts, options.per_host, size)
 }

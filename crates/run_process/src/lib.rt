@@ -13,6 +13,7 @@ mod job;
 mod job_hosts;
 mod keeper;
 mod kept_words;
+mod own_words;
 mod printing;
 mod rank;
 mod setup;

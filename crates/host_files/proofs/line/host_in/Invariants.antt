@@ -6,4 +6,4 @@ use Rattle.host_files.proofs.line.host_in.Given as goal
 abbrev pub invariant-loop-word : goal.invariant-loop-word
 invariant-loop-word l =
     with_options (shown l.host) (map (λ word. word.now) (drop l.word-index l.options))
-    ≡ host_in l.name (map (λ word. word.now) l.options)
+    ≡ host_in l.first (map (λ word. word.now) l.options)
