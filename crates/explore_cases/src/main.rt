@@ -1,5 +1,6 @@
 //! Explores the scripts that it is given one after the other, each behind its number of ranks, and prints what is
-//! told of each: worked rows as data. Behind the word `both` each is explored with synchronous sends too.
+//! told of each: worked rows as data. Behind the word `both` each is explored with synchronous sends too, and behind
+//! `findings` for what can go wrong alone.
 //!
 //! Status 0 where each script could be read and explored, else 1.
 #![tactic(auto)]
@@ -28,14 +29,30 @@ impl Progress for Silent {
     fn found(&mut self, _number: usize, _plays: u64, _report: &Report) {}
 }
 
+/// How a script is explored.
+#[derive(Clone, Copy, PartialEq, Eq)]
+enum Manner {
+    /// For each result, as it is.
+    AsWritten,
+    /// For each result, as it is and with synchronous sends.
+    Both,
+    /// For what can go wrong alone.
+    Findings,
+}
+
 /// What is explored of a script at so many ranks; none where it can't be.
-fn explored_of(alloc: Global, size: u16, script: &PlayedText<'_>) -> Option<Explored> {
+fn explored_of(
+    alloc: Global,
+    size: u16,
+    script: &PlayedText<'_>,
+    manner: Manner,
+) -> Option<Explored> {
     let extent = Extent {
         size,
         most: 1_000,
         seed: 1,
         results: 4,
-        findings: false,
+        findings: manner == Manner::Findings,
     };
     explore(alloc, script, extent, &mut Silent {}).ok()
 }
@@ -58,20 +75,20 @@ fn run<W: Write>(
     out: &mut W,
     size: u16,
     name: &str,
-    is_both: bool,
+    manner: Manner,
 ) -> Result<(), io::Error> {
     let alloc = rt.alloc();
     let text = fs::read(rt, name)?;
     writeln!(out, "== {name}")?;
-    let explored = explored_of(alloc, size, &PlayedText::as_written(&text));
+    let explored = explored_of(alloc, size, &PlayedText::as_written(&text), manner);
     let is_well = explored.as_ref().is_some_and(Explored::is_well);
     print(
         out,
         explored.map(|explored| summary_of(alloc, size, &explored)),
     )?;
-    if is_both {
+    if manner == Manner::Both {
         let script = PlayedText::with_synchronous_sends(alloc, &text)?;
-        let explored = explored_of(alloc, size, &script);
+        let explored = explored_of(alloc, size, &script, manner);
         print(
             out,
             explored.map(|explored| summary_of_synchronous(alloc, size, &explored, is_well)),
@@ -83,16 +100,19 @@ fn run<W: Write>(
 fn run_all(rt: &(impl Env + Files + Print + AllocGlobal)) -> Result<(), io::Error> {
     let mut out = BufWriter::new(rt.alloc(), io::writer(rt))?;
     let mut size = None;
-    let mut is_both = false;
+    let mut manner = Manner::AsWritten;
     for word in env::args(rt)?.skip(1) {
         match size {
             Some(count) => {
-                run(rt, &mut out, count, word.as_str(), is_both)?;
+                run(rt, &mut out, count, word.as_str(), manner)?;
                 size = None;
             }
             None => {
-                is_both = is_both || word.as_str() == "both";
-                size = word.as_str().parse::<u16>().ok();
+                match word.as_str() {
+                    "both" => manner = Manner::Both,
+                    "findings" => manner = Manner::Findings,
+                    number => size = number.parse::<u16>().ok(),
+                }
             }
         }
     }

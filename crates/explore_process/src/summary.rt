@@ -30,7 +30,7 @@ fn add_plays(alloc: Global, page: &mut Vec<u8>, explored: &Explored) -> Result<(
     } else if plays == 1 {
         add(
             page,
-            "nothing that comes first changes anything, so one schedule stands for all.\n",
+            "no outcome depends on timing, so one schedule covers all.\n",
         )
     } else {
         add(page, "every choice was tried.\n")
