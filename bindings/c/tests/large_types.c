@@ -21,12 +21,24 @@ static void columns_of(int n, MPI_Datatype *made) {
     MPI_Type_commit(made);
 }
 
+/* Many items of a type whose blocks are nowhere regular. */
+static void items_of(int n, MPI_Datatype *made) {
+    int lengths[LARGE], places[LARGE];
+    MPI_Datatype item;
+    for (int i = 0; i < n; i++) lengths[i] = 1 + i % 2, places[i] = i * (i + 3);
+    MPI_Type_indexed(n, lengths, places, MPI_INT, &item);
+    MPI_Type_contiguous(n, item, made);
+    MPI_Type_free(&item);
+}
+
 static void check_memory(void) {
     enum { TYPES = 5 };
-    MPI_Datatype types[TYPES];
+    MPI_Datatype types[TYPES], items;
     long before = most_memory();
     for (int i = 0; i < TYPES; i++) columns_of(LARGE, &types[i]);
+    items_of(LARGE / 2, &items);
     CHECK(most_memory() - before < MOST);
+    MPI_Type_free(&items);
     MPI_Aint lower, extent;
     int size;
     MPI_Type_size(types[0], &size);
