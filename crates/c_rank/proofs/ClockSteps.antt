@@ -1,16 +1,22 @@
 -- How long frames wait, told rank by rank; datagrams that go out, one after the other.
 use Rattle.std.proofs.Common.{◌≡◌, ℕ, zero, suc, ◌+◌, ◌<◌, ◌≤◌, List, [], ◌∷◌, ◌++◌, length, take, arith}
 use Rattle.std.proofs.Common.{refl, sym, ap, ◌∙◌}
-use Rattle.std.specs.Prelude.{slice_get, Some, None}
+use Rattle.std.specs.Prelude.{slice_get, slice_index_or, Some, None}
 use Rattle.std.proofs.lemmas.List.{length-take, take_all, take_more}
-use Rattle.std.proofs.lemmas.Option.{get_or_from_slice_get, slice_get_within}
+use Rattle.std.specs.Option.{option_map}
+use Rattle.std.proofs.lemmas.Option.{get_or_from_slice_get, slice_get-map, slice_get_within}
 use Rattle.datagram.specs.ByteMeanings.{datagram_of}
 use Rattle.engine.specs.Ticks.{after_wait}
 use Rattle.engine_calls.specs.EngineState.{EngineState}
 use Rattle.port_transport.specs.Wires.{Parcel}
-use Rattle.round_trips.specs.Trips.{after_sent}
+use Rattle.round_trips.specs.Trips.{after_sent, wait_now}
 use Rattle.round_trips.specs.declared.round_trip.RoundTrip.{RoundTrip}
-use Rattle.c_rank.specs.Clocks.{after_all, with_waits}
+use Rattle.c_rank.specs.Clocks.{after_all, waits_in, with_waits}
+
+-- what is told of a rank stands in its place
+pub wait_there : (trips : List RoundTrip) (rank : ℕ) → option_map wait_now (slice_get trips rank) ≡
+    slice_get (waits_in trips) rank
+wait_there trips rank = sym (slice_get-map wait_now trips rank)
 
 with_more : (e : EngineState) (r : ℕ) (ws : List ℕ) (w : ℕ) →
     with_waits e r (ws ++ w ∷ []) ≡ after_wait (with_waits e r ws) (r + length ws) w
@@ -52,12 +58,12 @@ all_more trips [] p now = refl
 all_more trips (q ∷ out) p now = all_more (after_sent trips (datagram_of q.1) now) out p now
 
 -- one datagram more went out
-pub sent_more : (trips : List RoundTrip) (out : List Parcel) (i : ℕ) (p : Parcel) (now : ℕ) → slice_get out i ≡ Some p →
+pub sent_more : (trips : List RoundTrip) (out : List Parcel) (i : ℕ) (p : Parcel) (now : ℕ) → i < length out →
+    p ≡ slice_index_or out i p →
     after_all trips (take (i + 1) out) now ≡ after_sent (after_all trips (take i out) now) (datagram_of p.1) now
-sent_more trips out i p now is =
-    let within : i < length out = slice_get_within out i p is in
+sent_more trips out i p now within is =
     let last : List Parcel → List Parcel = λ vs. take i out ++ vs in
     let front : take (i + 1) out ≡ take i out ++ p ∷ [] =
-    take_more out i p within ∙ ap (λ (v : Parcel). last (v ∷ [])) (get_or_from_slice_get out i p p is) in
+    take_more out i p within ∙ ap (λ (v : Parcel). last (v ∷ [])) (sym is) in
     ap (λ (l : List Parcel). after_all trips l now) front
     ∙ all_more trips (take i out) p now

@@ -41,7 +41,15 @@ use Rattle.outgoing_datagrams.proofs.HandedSteps.{hands_joined}
 use Rattle.round_trips.specs.declared.round_trip.RoundTrip.{RoundTrip}
 use Rattle.c_rank.specs.Clocks.{after_all, going}
 use Rattle.c_rank.specs.OutgoingDatagrams.{HandsFirst, KeepsRest, TakesOver, pending, trips_begun}
-use Rattle.c_rank.specs.State.{RankState}
+use Rattle.engine.specs.Places.{place_fault}
+use Rattle.incarnation.specs.declared.place.Place.{Place}
+use Rattle.point_to_point_calls.specs.Refusals.{IsRefusal}
+use Rattle.point_to_point_calls.specs.declared.refusal.Refusal.{Refusal}
+use Rattle.point_to_point_calls.specs.declared.refusal.Refusal.TheVariants.{OutOfMemory}
+use Rattle.vocabulary.specs.MessageLimits.{limit_of}
+use Rattle.vocabulary.specs.declared.message_limit.MessageLimit.{MessageLimit}
+use Rattle.c_rank.specs.State.{IsNoPlace, RankState, place_said}
+use Rattle.c_rank.specs.declared.records.PlaceRecord.{PlaceRecord}
 
 -- more waits behind
 pub hands_more : (k m : Option DelayedAcknowledgement) (ws us went out : List Parcel) → HandsOn k ws went m us →
@@ -234,3 +242,12 @@ kept_first a s b c most len more kept_too o p old mid new f none is h engine tri
       rest = rest_joined a s c f.rest
           (subst (λ (x : RankState). KeepsRest x c) is (inl (engine, trips), received, told, h.time));
     }
+
+-- where there is a place and memory is wanting
+pub no_memory : (p : PlaceRecord) (limit : MessageLimit) (place : Place) (n : ℕ) → limit_of limit ≡ p.message_limit →
+    place ≡ place_said p limit → place_fault place ≡ None → n ≡ 14 → IsNoPlace p n
+no_memory p limit place n bytes said none is =
+    inr (limit, (bytes, (
+      OutOfMemory,
+      (subst (λ (f : Option Refusal). IsRefusal f OutOfMemory) (sym (ap place_fault (sym said) ∙ none)) refl, is),
+    )))

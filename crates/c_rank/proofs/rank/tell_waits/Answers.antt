@@ -2,7 +2,7 @@ use Rattle.std.proofs.Common.{sym, ap, ◌∙◌}
 use Rattle.engine_calls.specs.EngineState.{EngineState}
 use Rattle.engine.specs.Ticks.{after_wait}
 use Rattle.c_rank.specs.Clocks.{waits_in}
-use Rattle.c_rank.proofs.ClockSteps.{told_more}
+use Rattle.c_rank.proofs.ClockSteps.{told_more, wait_there}
 use Rattle.c_rank.proofs.rank.tell_waits.Goals as goal
 
 pub loop-rank-preserved : goal.loop-rank-preserved
@@ -10,4 +10,4 @@ loop-rank-preserved c =
     c.set_wait.ensures
     ∙ ap (λ (e : EngineState). after_wait e c.loop-rank.rank c.in-Some.wait) c.loop-rank.invariant
     ∙ sym (told_more c.args.engine.now (waits_in c.args.trips.now) c.loop-rank.rank c.in-Some.wait
-    (sym c.wait_of.ensures ∙ c.in-Some.is))
+    (sym (wait_there c.args.trips.now c.loop-rank.rank) ∙ sym c.wait_of.ensures ∙ c.in-Some.is))

@@ -1,4 +1,4 @@
-use Rattle.std.proofs.Common.{◌≡◌, sym, ap, subst, ◌∙◌}
+use Rattle.std.proofs.Common.{◌≡◌, ap, subst}
 use Rattle.engine_calls.specs.Calls.{CallGives}
 use Rattle.engine_calls.specs.EngineState.{EngineState}
 use Rattle.c_rank.proofs.AnswerLaws.{answers_call}
@@ -8,14 +8,11 @@ use Rattle.c_rank.proofs.rank.Rank.answer.Goals as goal
 pub returns-clause-answers : goal.returns-clause-answers
 returns-clause-answers c =
     let old = c.args.self.now in
-    let mid = c.note.new.self in
+    let mid : RankState = record old { engine = c.call-reply.new.self; received = c.self.inside.received } in
     let reply = c.call-reply.result in
     let engine : c.self.inside.engine ≡ old.engine = ap (λ (r : RankState). r.engine) c.self.view_is in
     let received : c.self.inside.received ≡ old.received = ap (λ (r : RankState). r.received) c.self.view_is in
     let gives : CallGives old.engine c.args.call reply mid.engine =
-    subst (λ (e : EngineState). CallGives e c.args.call reply mid.engine) engine
-    (subst (λ (e : EngineState). CallGives c.self.inside.engine c.args.call reply e) (sym c.note.ensures.engine)
-    c.call-reply.ensures.exact)
-    in
+    subst (λ (e : EngineState). CallGives e c.args.call reply mid.engine) engine c.call-reply.ensures.exact in
     answers_call old mid c.tell_reply.new.self c.args.call reply c.type_taken_out-basic.result c.tell_reply.result gives
-    (c.note.ensures.received ∙ received) c.tell_reply.ensures.engine c.type_taken_out-basic.ensures c.tell_reply.ensures.tells
+    received c.tell_reply.ensures.engine c.type_taken_out-basic.ensures c.tell_reply.ensures.tells

@@ -1,7 +1,7 @@
 use Rattle.std.proofs.Common.{◌≡◌, refl, sym, ap, ◌∙◌, arith}
 use mathlib.Core.Bool.{false≢true}
 use Rattle.c_rank.proofs.HandingSteps.{emitted, fits_more, hands_after, hands_again, none_emitted, too_long_more}
-use Rattle.c_rank.specs.State.{RankState}
+use Rattle.c_rank.specs.Clocks.{going}
 use Rattle.c_rank.proofs.rank.Rank.hand_out.Goals.{then-outgoing-gt0-via-then-outgoing-gt0, then-outgoing-gt0-via-else-outgoing-gt0+then-not-is_through}
 use Rattle.c_rank.proofs.rank.Rank.hand_out.Goals as goal
 
@@ -13,7 +13,8 @@ returns-then-outgoing-gt0 c =
     (elim c.then-outgoing-gt0.branch [
       | then-outgoing-gt0-via-then-outgoing-gt0 w ↦ λ e. absurd (omega (arith, w.if-outgoing-gt0, e))
       | then-outgoing-gt0-via-else-outgoing-gt0+then-not-is_through w ↦ λ e.
-          too_long_more c.hand_out-len.new.self.waiting (emitted c.self.now) _ (c.hand_out-len.ensures.none e)
+          too_long_more c.hand_out-len.new.self.waiting
+          (going c.self.inside.trips c.self.inside.engine.sessions.out) _ (c.hand_out-len.ensures.none e)
           (λ none. false≢true (sym w.if-not-is_through.true ∙ w.is_through.ensures.1 none))
     ])
 
@@ -25,6 +26,7 @@ returns c =
     (omega (arith, c.if-outgoing-gt0.false))
     (hands_after _ c.refill-2.new.self _ _ c.args.most c.hand_out.result c.hand_out.new.outgoing _ _ c.self-2.view_is
     c.refill-2.ensures.pending c.refill-2.ensures.kept c.refill-2.ensures.rest c.hand_out.ensures refl refl refl refl
-    (λ e. fits_more c.hand_out.new.self.waiting (emitted c.self-2.now) _ (c.hand_out.ensures.none e)
+    (λ e. fits_more c.hand_out.new.self.waiting (going c.self-2.inside.trips c.self-2.inside.engine.sessions.out) _
+    (c.hand_out.ensures.none e)
     (ap emitted c.self-2.view_is ∙ none_emitted c.refill-2.new.self
     (c.refill-2.ensures.empty (c.is_through.ensures.0 c.if-not-is_through.false)))))
