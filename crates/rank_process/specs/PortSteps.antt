@@ -1,7 +1,8 @@
 -- What ports carried, step by step.
 use Rattle.std.proofs.Common.{◌≡◌, ℕ, List, [], ◌∷◌, ◌++◌, refl, sym, ap, subst, ◌∙◌, inl, inr}
 use Rattle.std.proofs.Common.{Bool, true, false}
-use Rattle.std.specs.Prelude.{◌⊎◌, Option, Some, None, Result, Ok, Err}
+use Rattle.std.specs.Prelude.{◌⊎◌, Option, Some, None, OnOk, Result, Ok, Err}
+use Rattle.port_transport.specs.declared.wire.WireFault.{WireFault}
 use mathlib.Core.Bool.{false≢true}
 use Rattle.datagram.specs.ByteMeanings.{datagram_of}
 use Rattle.datagram.specs.Spellings.{DatagramText, BodyText, FrameBody, AckBody, ResetBody}
@@ -113,27 +114,29 @@ held_frame : (trips : List RoundTrip) (d : Result DatagramText DatagramRefusal) 
 held_frame trips (Ok d) is = held_body trips d.header d.body is
 held_frame trips (Err e) is = absurd (false≢true (sym is))
 
-sent_if : {W : Type 0} (did : W → List WireEvent → W → Type 0) → ((w : W) → did w [] w) → (s t : PortState W)
-    (target : ℕ) (bytes : List ℕ) (trips : List RoundTrip) (may : Bool) → may_go trips (datagram_of bytes) ≡ may →
+sent_if : {W : Type 0} (did : W → List WireEvent → W → Type 0) (s t : PortState W) (target : ℕ) (bytes : List ℕ)
+    (trips : List RoundTrip) (may : Bool) → may_go trips (datagram_of bytes) ≡ may →
     SentBy may did s target bytes t → CarriesAll did s (Sent target bytes ∷ []) t
-sent_if did none s t target bytes trips true is passes =
-    inr ((target, bytes) ∷ [], (inl ([], (refl, refl)), passes))
-sent_if did none s t target bytes trips false is same =
-    inr (
-      [],
-      (
-        inr (held_frame trips (datagram_of bytes) is, refl),
-        subst (λ (x : PortState W). Passes did s [] [] [] x) (sym same)
-            (stays did s s [] [] [] (none s.wire) refl refl refl refl refl),
-      ),
-    )
+sent_if did s t target bytes trips true is passes = inr ((target, bytes) ∷ [], (inl ([], (refl, refl)), passes))
+sent_if did s t target bytes trips false is passes =
+    inr ([], (inr (held_frame trips (datagram_of bytes) is, refl), passes))
 
 -- a datagram was handed over, and went or was held back
-pub went : {W : Type 0} (did : W → List WireEvent → W → Type 0) → ((w : W) → did w [] w) → (s t : PortState W)
-    (target : ℕ) (bytes : List ℕ) (trips : List RoundTrip) →
-    SentBy (may_go trips (datagram_of bytes)) did s target bytes t → CarriesAll did s (Sent target bytes ∷ []) t
-went did none s t target bytes trips by =
-    sent_if did none s t target bytes trips (may_go trips (datagram_of bytes)) refl by
+pub went : {W : Type 0} (did : W → List WireEvent → W → Type 0) (s t : PortState W) (target : ℕ) (bytes : List ℕ)
+    (trips : List RoundTrip) → SentBy (may_go trips (datagram_of bytes)) did s target bytes t →
+    CarriesAll did s (Sent target bytes ∷ []) t
+went did s t target bytes trips by = sent_if did s t target bytes trips (may_go trips (datagram_of bytes)) refl by
+
+-- one that may go was sent, or that failed
+pub sent_on : {W : Type 0} (did : W → List WireEvent → W → Type 0) (s t : PortState W) (target : ℕ) (bytes : List ℕ)
+    (may : Bool) (r : Result (Unit {0}) WireFault) → may ≡ true → OnOk r (Passes did s ((target, bytes) ∷ []) [] [] t) →
+    OnOk r (SentBy may did s target bytes t)
+sent_on did s t target bytes may r is sent = subst (λ (b : Bool). OnOk r (SentBy b did s target bytes t)) (sym is) sent
+
+-- another one was held back
+pub was_held : {W : Type 0} (did : W → List WireEvent → W → Type 0) (s t : PortState W) (target : ℕ) (bytes : List ℕ)
+    (may : Bool) → may ≡ false → Passes did s [] [] [] t → SentBy may did s target bytes t
+was_held did s t target bytes may is none = subst (λ (b : Bool). SentBy b did s target bytes t) (sym is) none
 
 -- a line was printed
 pub was_printed : {W : Type 0} (did : W → List WireEvent → W → Type 0) (s t : PortState W) (line : List ℕ) →

@@ -73,8 +73,8 @@ CarriesAll did s xs t =
     HasFailed xs
     ⊎ ((went : List Parcel) × (HoldsBack (sent_in xs) went × Passes did s went (received_in xs) (printed_in xs) t))
 
--- a datagram that may go went to its port; another one was held back
+-- a datagram that may go went to its port; another one was held back, and nothing passed
 abbrev pub SentBy : (may : Bool) → {W : Type 0} → (W → List WireEvent → W → Type 0) → PortState W → (target : ℕ) →
     (bytes : List ℕ) → PortState W → Type 0
 SentBy true did s target bytes t = Passes did s ((target, bytes) ∷ []) [] [] t
-SentBy false did s target bytes t = t ≡ s
+SentBy false did s target bytes t = Passes did s [] [] [] t

@@ -31,6 +31,25 @@ pub struct RankTransport<W: Wire> {
     has_lost_line: bool,
 }
 
+/// A datagram goes out at this time, where that is known: the round trip of a frame begins.
+fn note_sent(trips: &mut RoundTrips, bytes: &[u8], now: Option<u64>) {
+    if let Some(now) = now {
+        trips.on_sent(bytes, now);
+    }
+}
+
+/// A datagram came at this time, where that is known: an acknowledgement ends round trips.
+fn note_came(trips: &mut RoundTrips, bytes: &[u8], now: Option<u64>) {
+    if let Some(now) = now {
+        trips.on_came(bytes, now);
+    }
+}
+
+/// Where nothing is done nothing passes.
+fn nothing_passes<W: Wire>(ports: &PortTransport<W>)
+    ensures { Passes W.did ports.now [] [] [] ports.now }
+{}
+
 impl<W: Wire> RankTransport<W> {
     /// A transport over this wire, of a job whose rank 0 has this port, in which so much is known of round trips, and
     /// whose ranks are on one machine or not. It takes no memory.
@@ -77,24 +96,6 @@ impl<W: Wire> RankTransport<W> {
         Some(micros_of(now.duration_since(self.start?)))
     }
 
-    /// A datagram goes out: where the clock tells when, the round trip of a frame begins.
-    fn note_sent(&mut self, bytes: &[u8])
-        ensures { (self.new.ports ≡ self.old.ports) × (self.new.failures ≡ self.old.failures) }
-    {
-        if let Some(now) = self.micros() {
-            self.trips.on_sent(bytes, now);
-        }
-    }
-
-    /// A datagram came: where the clock tells when, an acknowledgement ends round trips.
-    fn note_came(&mut self, bytes: &[u8])
-        ensures { (self.new.ports ≡ self.old.ports) × (self.new.failures ≡ self.old.failures) }
-    {
-        if let Some(now) = self.micros() {
-            self.trips.on_came(bytes, now);
-        }
-    }
-
     /// How many milliseconds a rank of a job of so many ranks stays on behind its end: by the longest of the times to send
     /// again that were measured; 0 where all ranks are on one machine and all went well.
     pub fn stay(&self, size: u16) -> u64 {
@@ -125,15 +126,18 @@ impl<W: Wire> RankTransport<W> {
     }
 
     /// Sends a datagram, unless it is a frame that is not to go again now.
+    #[tactic(auto, using(crate::specs::PortSteps::sent_on, crate::specs::PortSteps::was_held))]
     fn hand_on(&mut self, target: u16, bytes: &[u8]) -> Result<(), WireFault>
         ensures sent { OnOk result (SentBy (may_go self.old.trips (datagram_of bytes.now)) W.did self.old.ports target
             bytes.now self.new.ports) }
         ensures failures { self.new.failures ≡ self.old.failures }
     {
         if !self.trips.may_go(bytes) {
+            nothing_passes(&self.ports);
             return Ok(());
         }
-        self.note_sent(bytes);
+        let now = self.micros();
+        note_sent(&mut self.trips, bytes, now);
         self.ports.send(target, bytes)
     }
 
@@ -187,7 +191,8 @@ impl<W: Wire> Transport for RankTransport<W> {
         match self.ports.receive(buffer) {
             Ok(found) => {
                 if let Some(len) = found {
-                    self.note_came(&buffer[..len]);
+                    let now = self.micros();
+                    note_came(&mut self.trips, &buffer[..len], now);
                 }
                 Ok(found)
             }
