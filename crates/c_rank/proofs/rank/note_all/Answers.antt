@@ -1,6 +1,4 @@
-use Rattle.std.proofs.Common.{◌≡◌, ap, ◌∙◌}
-use Rattle.std.specs.Prelude.{List}
-use Rattle.datagram.specs.ByteMeanings.{datagram_of}
+use Rattle.std.proofs.Common.{rules}
 use Rattle.c_rank.proofs.ClockSteps.{sent_more}
 use Rattle.c_rank.proofs.rank.note_all.Goals as goal
 

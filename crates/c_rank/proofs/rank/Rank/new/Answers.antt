@@ -20,5 +20,5 @@ returns-in-Ok-near-clause-opening c =
 
 pub returns-in-Err-near-clause-refused : goal.returns-in-Err-near-clause-refused
 returns-in-Err-near-clause-refused c =
-    no_memory c.args.place.now _ _ c.number.result c.in-Ok.ensures.ok.1 c.in-Ok.ensures.ok.0 c.in-Ok-new.ensures.placed
-    c.number.ensures
+    no_memory c.args.place.now _ _ c.number-in-Err-near.result c.in-Ok.ensures.ok.1 c.in-Ok.ensures.ok.0 c.in-Ok-new.ensures.placed
+    c.number-in-Err-near.ensures
