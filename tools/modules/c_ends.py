@@ -88,7 +88,10 @@ def read_until(file, is_enough):
     found, until = b"", time.monotonic() + 20
     while not is_enough(found) and time.monotonic() < until:
         if select.select([file], [], [], 0.1)[0]:
-            found += file.read(4096)
+            try:
+                found += file.read(4096)
+            except OSError:   # nobody writes to it any more
+                break
     return found
 
 
@@ -169,7 +172,7 @@ class Ends:
             before = read_until(screen, lambda it: it.count(b"begins") == 2)
             time.sleep(BEGUN)
             os.write(master, b"\x03")
-            after = read_until(screen, lambda it: it.count(b" waits for ") == 2 and it.endswith(b"\n"))
+            after = read_until(screen, lambda it: it.count(b"MPI_Recv waits for ") == 2 and it.endswith(b"\n"))
             ran.wait(LONGEST)
         waits = sorted(without_source(it) for it in after.decode().splitlines() if is_wait(it))
         self.add("Ctrl-C on a terminal", waits == wanted_lines(STUCK["receive"]), (before, after))
