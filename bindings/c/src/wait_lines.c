@@ -7,7 +7,10 @@
 
 #include <signal.h>
 
-enum { MOST_TOLD = 4 /* requests of a list that are told one by one */ };
+enum {
+    MOST_TOLD = 4,        /* requests of a list that are told one by one */
+    MOST_WITH_SOURCE = 64 /* ranks that all look for the line of their call at once: they are given little time */
+};
 
 static struct wait current;
 /* Whether the wait lasts, and the signal that asked the process to end meanwhile. */
@@ -61,7 +64,7 @@ static struct line wait_line(void) {
         add_text(&line, "what it sent to be received");
         break;
     }
-    add_source(&line, process.caller);
+    if (process.size <= MOST_WITH_SOURCE) add_source(&line, process.caller);
     return line;
 }
 
