@@ -1,3 +1,2 @@
 pub mod SetLaws
-pub mod LineLaws
 pub mod CommandLaws

@@ -2,7 +2,6 @@ pub mod Symbols
 pub mod Readings
 pub mod Texts
 pub mod Sets
-pub mod Lines
 pub mod Ends
 pub mod Ports
 pub mod Commands

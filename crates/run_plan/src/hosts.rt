@@ -13,7 +13,7 @@ use std::io;
 use std::process::Command;
 
 /// The words of `-launcher` where it isn't given.
-pub const USUAL_LAUNCHER: &str = "ssh -o BatchMode=yes -T {host}";
+pub const USUAL_LAUNCHER: &str = "ssh -o BatchMode=yes -o ConnectTimeout=20 -T {host}";
 
 /// The word in whose place the host's name stands.
 const PLACE: &[u8] = b"{host}";

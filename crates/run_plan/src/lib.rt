@@ -4,7 +4,6 @@
 mod commands;
 mod fault;
 mod hosts;
-mod lines;
 mod options;
 mod ports;
 mod reading;
@@ -15,7 +14,6 @@ mod symbol;
 pub use commands::rank_command;
 pub use fault::{RunFault, Wanted};
 pub use hosts::{USUAL_LAUNCHER, launcher_words, set_hosts};
-pub use lines::LineBuffer;
 pub use options::RunOptions;
 pub use ports::{BLOCK, FIRST_PORT, PORT_BLOCKS, block_port, blocks_for};
 pub use reading::{RunRequest, request_of};

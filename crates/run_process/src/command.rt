@@ -12,6 +12,7 @@ use launch_keeper::{Word, Words};
 use launch_plan::Plan;
 use launch_plan::planning::plan;
 use numerals::number_between;
+use process_commands::{ClosedStreams, open_closed_streams};
 use run_plan::{RunRequest, plan_words, request_of};
 use std::alloc::AllocError;
 use std::io::ErrorKind;
@@ -76,10 +77,7 @@ fn planned<R: Eprint + AllocGlobal>(
 
 /// Starts the ranks of a plan, and follows them to their ends. Answers the status.
 fn follow<
-    R: Eprint
-        + AllocGlobal
-        + Clock
-        + Processes<Started: OpenProcess<Stdout: AsRawFd, Stderr: AsRawFd>>,
+    R: Eprint + AllocGlobal + Files + Clock + Processes<Started: OpenProcess<Stderr: AsRawFd>>,
 >(rt: &R, setup: &Setup, plan: &Plan) -> io::Result<u8> {
     let mut job = Job::new(rt, setup, plan)?;
     let followed = match job.start_all() {
@@ -88,6 +86,9 @@ fn follow<
     };
     if let Err(error) = followed {
         job.kill_all();
+        if job.tell_fault() {
+            return Ok(FAILED);
+        }
         return Err(error);
     }
     Ok(job.status())
@@ -130,7 +131,7 @@ fn follow_on_hosts<
         + Eprint
         + AllocGlobal
         + Clock
-        + Processes<Started: OpenProcess<Stdout: AsRawFd, Stderr: AsRawFd>>,
+        + Processes<Started: OpenProcess<Stderr: AsRawFd>>,
 >(rt: &R, words: &[Word], request: &RunRequest, front: i32, plan: &Plan) -> io::Result<u8> {
     let hosts = match hosts_for(rt, words, request, plan.size()) {
         Ok(hosts) => hosts,
@@ -157,7 +158,7 @@ fn launch<
         + Eprint
         + AllocGlobal
         + Clock
-        + Processes<Started: OpenProcess<Stdout: AsRawFd, Stderr: AsRawFd>>,
+        + Processes<Started: OpenProcess<Stderr: AsRawFd>>,
 >(rt: &R, words: &[Word], request: &RunRequest, front: i32) -> io::Result<u8> {
     let job = match request.options.job {
         Some(job) => job,
@@ -204,6 +205,7 @@ fn launching(words: &[Word]) -> Option<(i32, &[Word])> {
 fn begin<R: Net + Env + Files + Print + Eprint + AllocGlobal + Processes + Threads>(
     rt: &R,
     words: &[Word],
+    closed: &ClosedStreams,
 ) -> u8 {
     let own = match own_words_of(rt, words) {
         Ok(own) => own,
@@ -216,7 +218,7 @@ fn begin<R: Net + Env + Files + Print + Eprint + AllocGlobal + Processes + Threa
     };
     let base_port = request.options.base_port.unwrap_or(1);
     match planned(rt, words, &request, 1, base_port) {
-        Ok(_) => run_front(rt, words),
+        Ok(_) => run_front(rt, words, closed),
         Err(status) => status,
     }
 }
@@ -231,18 +233,27 @@ pub fn run_words<
         + AllocGlobal
         + Clock
         + Threads
-        + Processes<Started: OpenProcess<Stdout: AsRawFd, Stderr: AsRawFd>>,
+        + Processes<Started: OpenProcess<Stderr: AsRawFd>>,
 >(rt: &R, words: &[Word]) -> u8 {
+    let Ok(closed) = open_closed_streams() else {
+        return FAILED;
+    };
     if is_keeper(words) {
         return run_keeper(rt);
     }
     let Some((front, rest)) = launching(words) else {
-        return begin(rt, words);
+        return begin(rt, words, &closed);
     };
     let Ok(request) = request_of(rest) else {
         return REFUSED;
     };
-    launch(rt, rest, &request, front).unwrap_or(FAILED)
+    match launch(rt, rest, &request, front) {
+        Ok(status) => status,
+        Err(error) => {
+            let _ = eprintln!(rt; "mpirun: the job can't go on: {error}");
+            FAILED
+        }
+    }
 }
 
 /// Does what the words of this process ask for, and answers the status.
@@ -255,7 +266,7 @@ pub fn run<
         + AllocGlobal
         + Clock
         + Threads
-        + Processes<Started: OpenProcess<Stdout: AsRawFd, Stderr: AsRawFd>>,
+        + Processes<Started: OpenProcess<Stderr: AsRawFd>>,
 >(rt: &R) -> u8 {
     match words_of(rt) {
         Ok(words) => run_words(rt, &words),

@@ -3,7 +3,7 @@
 use crate::job::FAILED;
 use crate::shell::shell_command;
 use launch_keeper::Word;
-use process_commands::add_arguments;
+use process_commands::{ClosedStreams, add_arguments};
 use std::os::unix::process::ExitStatusExt;
 use std::process::{Command, Processes};
 use std::rt::Files;
@@ -17,19 +17,28 @@ const SCRIPT: &str = "trap '' INT QUIT HUP; exec \"$0\" \"$@\"";
 pub const LAUNCH: &str = "-launch";
 
 /// The command of the process that launches.
-fn launching<R: Files + AllocGlobal>(rt: &R, words: &[Word]) -> io::Result<Command> {
+fn launching<R: Files + AllocGlobal>(
+    rt: &R,
+    words: &[Word],
+    closed: &ClosedStreams,
+) -> io::Result<Command> {
     let itself = env::current_exe(rt)?;
     let mut command = shell_command(rt.alloc(), SCRIPT, itself.as_str())?;
     command.arg(LAUNCH)?;
     let own = libc::getpid();
     command.arg(format!(in rt.alloc(); "{own}")?.as_str())?;
     add_arguments(&mut command, words)?;
+    closed.stand_in(&mut command);
     Ok(command)
 }
 
 /// Starts the process that launches what these words ask for, and waits for its end. Answers its status.
-pub fn run_front<R: Files + Eprint + AllocGlobal + Processes>(rt: &R, words: &[Word]) -> u8 {
-    let ended = match launching(rt, words) {
+pub fn run_front<R: Files + Eprint + AllocGlobal + Processes>(
+    rt: &R,
+    words: &[Word],
+    closed: &ClosedStreams,
+) -> u8 {
+    let ended = match launching(rt, words, closed) {
         Ok(mut command) => command.status(rt),
         Err(error) => Err(error),
     };
@@ -42,8 +51,8 @@ pub fn run_front<R: Files + Eprint + AllocGlobal + Processes>(rt: &R, words: &[W
             }
             (None, None) => FAILED,
         },
-        Err(_) => {
-            let _ = eprintln!(rt; "mpirun: its launching process can't be started");
+        Err(error) => {
+            let _ = eprintln!(rt; "mpirun: its launching process can't be started: {error}");
             FAILED
         }
     }

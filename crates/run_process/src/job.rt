@@ -1,22 +1,26 @@
 //! A job while its ranks run: it prints what they write, starts them again, and ends them.
 
 use crate::guard::Guard;
-use crate::printing::{Stream, asked};
+use crate::printing::{Printer, Stream, asked};
 use crate::rank::Rank;
 use crate::setup::Setup;
 use crate::shell::terminate;
+use crate::waits::cycle_text;
 use launch_decisions::{Failure, Next, Start, ending_by, first_failure};
 use launch_keeper::{EndingLine, LostKeeperLine, ProgramEnding, Word};
 use launch_plan::Plan;
 use libc::net::poll;
 use libc::types::pollfd;
+use process_commands::StartFault;
+use rank_lines::cycle_of;
 use run_plan::{Consequence, ConsequenceText, is_over_time, run_status};
 use std::alloc::AllocError;
-use std::io;
 use std::os::fd::AsRawFd;
 use std::os::unix::process::ExitStatusExt;
-use std::process::{ExitStatus, OpenProcess, Processes};
+use std::process::{Command, ExitStatus, OpenProcess, Processes};
+use std::rt::Files;
 use std::time::{Clock, Instant};
+use std::{fs, io};
 
 /// How many milliseconds the programs have to end by themselves once they are asked to.
 const GRACE: u128 = 900;
@@ -29,6 +33,9 @@ const LATEST_LOOK: u128 = 50;
 
 /// The same, where one has closed what it writes to.
 const SOON: i32 = 2;
+
+/// The status of a rank that gave up waiting.
+const PATIENCE: u8 = 4;
 
 /// The status of a job that was interrupted.
 const INTERRUPTED: u8 = 130;
@@ -45,6 +52,7 @@ pub struct Job<'a, R: Processes> {
     setup: &'a Setup<'a>,
     ranks: Vec<Rank<'a, R::Started>>,
     guard: Guard<R::Started>,
+    printer: Printer,
     /// The first rank that failed for good.
     began: Option<Failure>,
     /// When the programs were asked to end.
@@ -64,6 +72,7 @@ impl<'a, R: Processes> Drop for Job<'a, R> {
             setup: _,
             ranks,
             guard,
+            printer,
             began: _,
             asked: _,
             is_interrupted: _,
@@ -72,6 +81,7 @@ impl<'a, R: Processes> Drop for Job<'a, R> {
         } = self;
         drop(ranks);
         drop(guard);
+        drop(printer);
     }
 }
 
@@ -81,12 +91,34 @@ fn ending_of(status: ExitStatus) -> ProgramEnding {
     ending_by(status.code().and_then(byte), status.signal().and_then(byte))
 }
 
+/// Why a program can't be started, at whose start this error came.
+pub fn fault_by(error: &io::Error) -> StartFault {
+    let number = error.raw_os_error().unwrap_or(0);
+    StartFault::of_number(u8::try_from(number).unwrap_or(0))
+}
+
+/// Whether the program of a command is named by a folder.
+pub fn is_folder<R: Files + AllocGlobal>(rt: &R, command: &Command) -> bool {
+    let program = command.get_program();
+    let found = match command.get_current_dir() {
+        Some(folder) if !program.starts_with('/') => {
+            let folder = folder.as_os_str();
+            match format!(in rt.alloc(); "{folder}/{program}") {
+                Ok(path) => fs::metadata(rt, path.as_str()),
+                Err(_) => return false,
+            }
+        }
+        _ => fs::metadata(rt, program),
+    };
+    match found {
+        Ok(found) => program.contains('/') && found.is_dir(),
+        Err(_) => false,
+    }
+}
+
 impl<
     'a,
-    R: Eprint
-        + AllocGlobal
-        + Clock
-        + Processes<Started: OpenProcess<Stdout: AsRawFd, Stderr: AsRawFd>>,
+    R: Eprint + AllocGlobal + Files + Clock + Processes<Started: OpenProcess<Stderr: AsRawFd>>,
 > Job<'a, R> {
     /// The job of a plan, of which nothing runs yet.
     pub fn new(rt: &'a R, setup: &'a Setup<'a>, plan: &'a Plan) -> io::Result<Job<'a, R>> {
@@ -101,6 +133,7 @@ impl<
             setup,
             ranks,
             guard: Guard::new(rt),
+            printer: Printer::new(rt.alloc(), setup.options.marks_lines),
             began: None,
             asked: None,
             is_interrupted: false,
@@ -116,14 +149,16 @@ impl<
             return Ok(true);
         };
         let message = self.setup.message(alloc, &one.start)?;
-        let mut command = self.setup.keeper_command(alloc, host)?;
-        match command.spawn(self.rt) {
-            Ok(child) => {
-                self.guard.begins(self.rt, child.id());
-                one.is_kept_by(child, &message);
+        let command = self.setup.keeper_command(alloc, host)?;
+        match self.guard.spawn(self.rt, command) {
+            Ok((child, output)) => {
+                one.is_kept_by(child, output, &message);
                 Ok(true)
             }
-            Err(_) => Ok(false),
+            Err(error) => {
+                one.fault = fault_by(&error);
+                Ok(false)
+            }
         }
     }
 
@@ -144,14 +179,21 @@ impl<
         let Some(one) = self.ranks.get_mut(rank) else {
             return Ok(true);
         };
-        let mut command = self.setup.command(self.rt.alloc(), rank, &one.start)?;
-        match command.spawn(self.rt) {
-            Ok(child) => {
-                self.guard.begins(self.rt, child.id());
-                one.runs(child);
+        let command = self.setup.command(self.rt.alloc(), rank, &one.start)?;
+        let is_folder = is_folder(self.rt, &command);
+        match self.guard.spawn(self.rt, command) {
+            Ok((child, output)) => {
+                one.runs(child, output);
                 Ok(true)
             }
-            Err(_) => Ok(false),
+            Err(error) => {
+                one.fault = if is_folder {
+                    StartFault::Folder
+                } else {
+                    fault_by(&error)
+                };
+                Ok(false)
+            }
         }
     }
 
@@ -230,7 +272,11 @@ impl<
             after: next.after(),
         };
         let behind = ConsequenceText { consequence };
-        if let Ok(text) = format!(in self.rt.alloc(); "{line}{behind}") {
+        let why = match ending {
+            ProgramEnding::NotStarted => one.fault,
+            _ => StartFault::Other,
+        };
+        if let Ok(text) = format!(in self.rt.alloc(); "{line}{why}{behind}") {
             self.setup.tell(self.rt, text.as_str());
         }
     }
@@ -259,6 +305,9 @@ impl<
             return Ok(());
         }
         self.tell(rank, ending, next, Consequence::OthersEnd);
+        if run_status(ending) != PATIENCE {
+            self.printer.drop_waits();
+        }
         self.ask_all()
     }
 
@@ -290,7 +339,7 @@ impl<
         let Some(status) = one.look()? else {
             return Ok(());
         };
-        one.drain(self.rt.alloc(), rank, self.setup.options.marks_lines)?;
+        one.drain(self.rt, rank, &mut self.printer)?;
         if let Some(child) = one.child.take() {
             self.guard.ends(self.rt, child.id());
         }
@@ -324,7 +373,6 @@ impl<
         if poll(&mut streams, if is_soon { SOON } else { LOOK }) <= 0 {
             return Ok(false);
         }
-        let marks = self.setup.options.marks_lines;
         for (place, asked) in streams.iter().enumerate() {
             if asked.revents != 0 {
                 let stream = if place % 2 == 0 {
@@ -333,11 +381,19 @@ impl<
                     Stream::Error
                 };
                 if let Some(one) = self.ranks.get_mut(place / 2) {
-                    one.hear(self.rt.alloc(), stream, place / 2, marks)?;
+                    one.hear(self.rt, stream, place / 2, &mut self.printer)?;
                 }
             }
         }
         Ok(true)
+    }
+
+    /// Prints the beginnings of lines that waited long enough.
+    fn hand_on_all(&mut self) -> io::Result<()> {
+        for (rank, one) in self.ranks.iter_mut().enumerate() {
+            one.hand_on(self.rt, rank, &mut self.printer)?;
+        }
+        Ok(())
     }
 
     /// Ends the job where it takes longer than it may.
@@ -403,6 +459,7 @@ impl<
             let is_time = !has_heard || last.elapsed(self.rt)?.as_millis() >= LATEST_LOOK;
             if is_time {
                 last = Instant::now(self.rt)?;
+                self.hand_on_all()?;
             }
             self.look_at(is_time)?;
             self.attend()?;
@@ -410,8 +467,38 @@ impl<
         Ok(())
     }
 
+    /// Tells which stream couldn't be written, and why, if there is one. Answers whether there is.
+    pub fn tell_fault(&self) -> bool {
+        match self.printer.fault() {
+            Some((Stream::Output, error)) => {
+                let _ = eprintln!(self.rt; "mpirun: the output can't be written: {error}");
+                true
+            }
+            Some((Stream::Error, error)) => {
+                let _ = eprintln!(self.rt; "mpirun: the standard error can't be written: {error}");
+                true
+            }
+            None => false,
+        }
+    }
+
+    /// Tells a cycle of ranks that wait for one another, where the job was interrupted or a rank gave up, and what the ranks
+    /// said makes one.
+    fn tell_cycle(&self) {
+        let has_given_up = self.began.is_some_and(|failure| failure.status == PATIENCE);
+        if !self.is_interrupted && !self.is_late && !has_given_up {
+            return;
+        }
+        if let Ok(Some(cycle)) = cycle_of(self.rt.alloc(), self.printer.waits()) {
+            if let Ok(text) = cycle_text(self.rt.alloc(), &cycle) {
+                let _ = eprintln!(self.rt; "mpirun: {text}");
+            }
+        }
+    }
+
     /// The status of the job, whose ranks have all ended: that of the rank whose failure began, or 0.
     pub fn status(&mut self) -> u8 {
+        self.tell_cycle();
         self.guard.close();
         match self.began {
             Some(failure) => failure.status,

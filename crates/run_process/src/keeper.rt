@@ -3,18 +3,21 @@
 //! or is gone.
 
 use crate::guard::Guard;
+use crate::job::{fault_by, is_folder};
 use crate::kept_words::command_by;
 use crate::printing::{asked, is_ready, write_all};
 use crate::shell::terminate;
 use host_keepers::{FoundWords, ReportKind, push_report, words_in};
 use launch_keeper::Words;
 use libc::net::poll;
+use process_commands::StartFault;
 use std::alloc::Global;
 use std::io;
-use std::io::{ErrorKind, Read};
+use std::io::{ErrorKind, PipeReader, Read};
 use std::os::fd::{AsRawFd, RawFd};
 use std::os::unix::process::ExitStatusExt;
 use std::process::{Child, ExitStatus, OpenProcess, Processes, Stdio};
+use std::rt::Files;
 use std::time::{Clock, Instant};
 
 /// The one word of a keeper.
@@ -79,7 +82,7 @@ fn await_words(alloc: Global) -> io::Result<Words> {
 struct Kept<'a, R, P: OpenProcess> {
     rt: &'a R,
     child: Child<P>,
-    output: Option<P::Stdout>,
+    output: Option<PipeReader>,
     errors: Option<P::Stderr>,
     /// When the launcher asked for its end.
     asked: Option<Instant>,
@@ -139,11 +142,11 @@ fn report_end(alloc: Global, status: ExitStatus) -> io::Result<()> {
     }
 }
 
-impl<
+impl<'a, R: AllocGlobal + Clock + Processes, P: OpenProcess<Stderr: AsRawFd> + Drop> Kept<
     'a,
-    R: AllocGlobal + Clock + Processes,
-    P: OpenProcess<Stdout: AsRawFd, Stderr: AsRawFd> + Drop,
-> Kept<'a, R, P> {
+    R,
+    P,
+> {
     /// Takes in what the launcher says. An error where it is gone.
     fn listen(&mut self) -> io::Result<()> {
         let mut word = [0u8; 16];
@@ -221,23 +224,31 @@ impl<
 }
 
 /// Starts the program of these words, and keeps it to its end.
-fn keep_program<
-    R: AllocGlobal + Clock + Processes<Started: OpenProcess<Stdout: AsRawFd, Stderr: AsRawFd>>,
->(rt: &R, words: &Words) -> io::Result<()> {
+fn keep_program<R: Files + AllocGlobal + Clock + Processes<Started: OpenProcess<Stderr: AsRawFd>>>(
+    rt: &R,
+    words: &Words,
+) -> io::Result<()> {
     let mut guard = Guard::new(rt);
     let mut command = command_by(rt.alloc(), words.as_slice())?;
     command.stdin(Stdio::null());
-    command.stdout(Stdio::piped());
     command.stderr(Stdio::piped());
-    let Ok(mut child) = command.spawn(rt) else {
-        guard.close();
-        return report(rt.alloc(), ReportKind::Nothing, &[]);
+    let is_folder = is_folder(rt, &command);
+    let (mut child, output) = match guard.spawn(rt, command) {
+        Ok(started) => started,
+        Err(error) => {
+            guard.close();
+            let fault = if is_folder {
+                StartFault::Folder
+            } else {
+                fault_by(&error)
+            };
+            return report(rt.alloc(), ReportKind::Nothing, &[fault.number()]);
+        }
     };
     let id = child.id();
-    guard.begins(rt, id);
     let mut kept = Kept {
         rt,
-        output: child.stdout.take(),
+        output: Some(output),
         errors: child.stderr.take(),
         child,
         asked: None,
@@ -254,7 +265,7 @@ fn keep_program<
 
 /// Keeps the program whose words the launcher hands over. Answers the status.
 pub fn run_keeper<
-    R: AllocGlobal + Clock + Processes<Started: OpenProcess<Stdout: AsRawFd, Stderr: AsRawFd>>,
+    R: Files + AllocGlobal + Clock + Processes<Started: OpenProcess<Stderr: AsRawFd>>,
 >(rt: &R) -> u8 {
     let Ok(words) = await_words(rt.alloc()) else {
         return FAILED;

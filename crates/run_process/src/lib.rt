@@ -18,5 +18,6 @@ mod printing;
 mod rank;
 mod setup;
 mod shell;
+mod waits;
 
 pub use crate::command::{run, run_words};

@@ -1,14 +1,16 @@
 //! One rank's program, while it runs.
 
-use crate::printing::{Stream, is_ready, print_lines};
+use crate::printing::{Printer, Stream, is_ready};
 use host_keepers::{Report, ReportKind, next_report};
 use launch_decisions::Start;
 use launch_keeper::ProgramEnding;
-use run_plan::LineBuffer;
+use process_commands::StartFault;
+use rank_lines::LineBuffer;
 use std::alloc::Global;
-use std::io::{ErrorKind, Read, Write};
+use std::io::{ErrorKind, PipeReader, Read, Write};
 use std::os::fd::{AsRawFd, RawFd};
 use std::process::{Child, ExitStatus, OpenProcess};
+use std::time::{Clock, Instant};
 use std::{io, mem};
 
 /// How many bytes are read at a time.
@@ -17,16 +19,79 @@ const ROOM: usize = 65_536;
 /// How often what a program left behind is read once it has ended.
 const MOST_READS: usize = 4_096;
 
+/// What a rank writes to one of its streams, as far as it wasn't printed.
+#[derive(Drop)]
+struct Written {
+    line: LineBuffer,
+    /// When the first byte came of what waits.
+    first: Option<Instant>,
+    /// When the last one came.
+    last: Option<Instant>,
+}
+
+/// How many milliseconds ago something was; 0 where it wasn't.
+fn age_of<R: Clock>(rt: &R, time: Option<Instant>) -> io::Result<u64> {
+    match time {
+        Some(time) => Ok(u64::try_from(time.elapsed(rt)?.as_millis()).unwrap_or(u64::MAX)),
+        None => Ok(0),
+    }
+}
+
+impl Written {
+    /// Nothing was written yet.
+    fn new(alloc: Global) -> Written {
+        Written {
+            line: LineBuffer::new(alloc),
+            first: None,
+            last: None,
+        }
+    }
+
+    /// The whole lines that there are with these bytes.
+    fn take<R: AllocGlobal + Clock>(&mut self, rt: &R, more: &[u8]) -> io::Result<Vec<u8>> {
+        let lines = self.line.take(rt.alloc(), more)?;
+        let now = Instant::now(rt)?;
+        if self.line.is_empty() {
+            self.first = None;
+        } else if self.first.is_none() || !lines.is_empty() {
+            self.first = Some(now);
+        }
+        self.last = Some(now);
+        Ok(lines)
+    }
+
+    /// The beginning of a line, where it waited long enough.
+    fn take_due<R: AllocGlobal + Clock>(&mut self, rt: &R) -> io::Result<Vec<u8>> {
+        if self.first.is_none() {
+            return Ok(Vec::new(rt.alloc()));
+        }
+        let (silence, age) = (age_of(rt, self.last)?, age_of(rt, self.first)?);
+        let due = self.line.take_due(rt.alloc(), silence, age);
+        if self.line.is_empty() {
+            self.first = None;
+        }
+        Ok(due)
+    }
+
+    /// What is left once its program has ended.
+    fn take_all(&mut self, alloc: Global) -> Vec<u8> {
+        self.first = None;
+        self.line.take_all(alloc)
+    }
+}
+
 /// A rank: what runs of it, and what it wrote so far of a line.
 pub struct Rank<'a, P: OpenProcess> {
     /// The start of what runs, or ran last.
     pub start: Start<'a>,
     /// What runs.
     pub child: Option<Child<P>>,
-    output: Option<P::Stdout>,
+    /// Why it couldn't be started.
+    pub fault: StartFault,
+    output: Option<PipeReader>,
     errors: Option<P::Stderr>,
-    output_line: LineBuffer,
-    error_line: LineBuffer,
+    written: Written,
+    told: Written,
     /// Whether what runs is the keeper of a program on another host.
     is_kept: bool,
     /// The beginning of a report of the keeper.
@@ -40,10 +105,11 @@ impl<'a, P: OpenProcess + Drop> Drop for Rank<'a, P> {
         let Self {
             start: _,
             child,
+            fault: _,
             output,
             errors,
-            output_line,
-            error_line,
+            written,
+            told,
             is_kept: _,
             reports,
             reported: _,
@@ -51,67 +117,62 @@ impl<'a, P: OpenProcess + Drop> Drop for Rank<'a, P> {
         drop(child);
         drop(output);
         drop(errors);
-        drop(output_line);
-        drop(error_line);
+        drop(written);
+        drop(told);
         drop(reports);
     }
 }
 
-/// Reads from a pipe, if it is open, and prints the whole lines that there are then. Where the pipe has ended it is
+/// Reads from a pipe, if it is open, and answers the whole lines that there are then. Where the pipe has ended it is
 /// closed.
-fn read_and_print<S: Read + Drop>(
-    alloc: Global,
+fn read_lines<R: AllocGlobal + Clock, S: Read + Drop>(
+    rt: &R,
     pipe: &mut Option<S>,
-    line: &mut LineBuffer,
-    stream: Stream,
-    rank: usize,
-    marks: bool,
-) -> io::Result<()> {
+    written: &mut Written,
+) -> io::Result<Vec<u8>> {
     let mut room = [0u8; ROOM];
     let Some(open) = pipe else {
-        return Ok(());
+        return Ok(Vec::new(rt.alloc()));
     };
     match open.read(&mut room) {
         Ok(0) => {
             *pipe = None;
-            Ok(())
+            Ok(Vec::new(rt.alloc()))
         }
-        Ok(count) => {
-            let lines = line.take(alloc, &room[..count])?;
-            print_lines(alloc, stream, rank, marks, &lines)
-        }
-        Err(error) if error.kind() == ErrorKind::Interrupted => Ok(()),
+        Ok(count) => written.take(rt, &room[..count]),
+        Err(error) if error.kind() == ErrorKind::Interrupted => Ok(Vec::new(rt.alloc())),
         Err(error) => Err(error),
     }
 }
 
-impl<'a, P: OpenProcess<Stdout: AsRawFd, Stderr: AsRawFd> + Drop> Rank<'a, P> {
+impl<'a, P: OpenProcess<Stderr: AsRawFd> + Drop> Rank<'a, P> {
     /// A rank of which nothing runs yet.
     pub fn new(alloc: Global, start: Start<'a>) -> Rank<'a, P> {
         Rank {
             start,
             child: None,
+            fault: StartFault::Other,
             output: None,
             errors: None,
-            output_line: LineBuffer::new(alloc),
-            error_line: LineBuffer::new(alloc),
+            written: Written::new(alloc),
+            told: Written::new(alloc),
             is_kept: false,
             reports: Vec::new(alloc),
             reported: None,
         }
     }
 
-    /// This runs now.
-    pub fn runs(&mut self, mut child: Child<P>) {
-        self.output = child.stdout.take();
+    /// This runs now, and this is its output.
+    pub fn runs(&mut self, mut child: Child<P>, output: PipeReader) {
+        self.output = Some(output);
         self.errors = child.stderr.take();
         self.child = Some(child);
         self.is_kept = false;
     }
 
-    /// This keeper runs now, and is handed this message.
-    pub fn is_kept_by(&mut self, child: Child<P>, message: &[u8]) {
-        self.runs(child);
+    /// This keeper runs now, this is its output, and it is handed this message.
+    pub fn is_kept_by(&mut self, child: Child<P>, output: PipeReader, message: &[u8]) {
+        self.runs(child, output);
         self.is_kept = true;
         self.reports.clear();
         self.reported = None;
@@ -160,47 +221,60 @@ impl<'a, P: OpenProcess<Stdout: AsRawFd, Stderr: AsRawFd> + Drop> Rank<'a, P> {
     }
 
     /// Takes in a report of its keeper.
-    fn take_report(
+    fn take_report<R: AllocGlobal + Clock>(
         &mut self,
-        alloc: Global,
+        rt: &R,
         report: &Report,
         rank: usize,
-        marks: bool,
+        printer: &mut Printer,
     ) -> io::Result<()> {
         let number = report.bytes.first().copied().unwrap_or(0);
         match report.kind {
             ReportKind::Output => {
-                let lines = self.output_line.take(alloc, report.bytes)?;
-                return print_lines(alloc, Stream::Output, rank, marks, &lines);
+                let lines = self.written.take(rt, report.bytes)?;
+                return printer.print(rt.alloc(), Stream::Output, rank, lines);
             }
             ReportKind::Errors => {
-                let lines = self.error_line.take(alloc, report.bytes)?;
-                return print_lines(alloc, Stream::Error, rank, marks, &lines);
+                let lines = self.told.take(rt, report.bytes)?;
+                return printer.print(rt.alloc(), Stream::Error, rank, lines);
             }
             ReportKind::Status => self.reported = Some(ProgramEnding::Status(number)),
             ReportKind::Signal => self.reported = Some(ProgramEnding::Signal(number)),
-            ReportKind::Nothing => self.reported = Some(ProgramEnding::NotStarted),
+            ReportKind::Nothing => {
+                self.reported = Some(ProgramEnding::NotStarted);
+                self.fault = StartFault::of_number(number);
+            }
         }
         Ok(())
     }
 
     /// Takes in the reports that came whole.
-    fn take_reports(&mut self, alloc: Global, rank: usize, marks: bool) -> io::Result<()> {
-        let text = mem::replace(&mut self.reports, Vec::new(alloc));
+    fn take_reports<R: AllocGlobal + Clock>(
+        &mut self,
+        rt: &R,
+        rank: usize,
+        printer: &mut Printer,
+    ) -> io::Result<()> {
+        let text = mem::replace(&mut self.reports, Vec::new(rt.alloc()));
         let mut rest = text.as_slice();
         for _ in 0..u64::MAX {
             let Some((report, behind)) = next_report(rest) else {
                 break;
             };
-            self.take_report(alloc, &report, rank, marks)?;
+            self.take_report(rt, &report, rank, printer)?;
             rest = behind;
         }
-        self.reports = Vec::from_slice(alloc, rest)?;
+        self.reports = Vec::from_slice(rt.alloc(), rest)?;
         Ok(())
     }
 
     /// Reads from its keeper, which is ready, and takes in the reports that came whole.
-    fn hear_keeper(&mut self, alloc: Global, rank: usize, marks: bool) -> io::Result<()> {
+    fn hear_keeper<R: AllocGlobal + Clock>(
+        &mut self,
+        rt: &R,
+        rank: usize,
+        printer: &mut Printer,
+    ) -> io::Result<()> {
         let mut room = [0u8; ROOM];
         let Some(open) = &mut self.output else {
             return Ok(());
@@ -212,7 +286,7 @@ impl<'a, P: OpenProcess<Stdout: AsRawFd, Stderr: AsRawFd> + Drop> Rank<'a, P> {
             }
             Ok(count) => {
                 self.reports.extend_from_slice(&room[..count])?;
-                self.take_reports(alloc, rank, marks)
+                self.take_reports(rt, rank, printer)
             }
             Err(error) if error.kind() == ErrorKind::Interrupted => Ok(()),
             Err(error) => Err(error),
@@ -241,32 +315,32 @@ impl<'a, P: OpenProcess<Stdout: AsRawFd, Stderr: AsRawFd> + Drop> Rank<'a, P> {
     }
 
     /// Reads from one of its streams, which is ready, and prints the whole lines that there are then.
-    pub fn hear(
+    pub fn hear<R: AllocGlobal + Clock>(
         &mut self,
-        alloc: Global,
+        rt: &R,
         stream: Stream,
         rank: usize,
-        marks: bool,
+        printer: &mut Printer,
     ) -> io::Result<()> {
-        match stream {
-            Stream::Output if self.is_kept => self.hear_keeper(alloc, rank, marks),
-            Stream::Output => read_and_print(
-                alloc,
-                &mut self.output,
-                &mut self.output_line,
-                stream,
-                rank,
-                marks,
-            ),
-            Stream::Error => read_and_print(
-                alloc,
-                &mut self.errors,
-                &mut self.error_line,
-                stream,
-                rank,
-                marks,
-            ),
-        }
+        let lines = match stream {
+            Stream::Output if self.is_kept => return self.hear_keeper(rt, rank, printer),
+            Stream::Output => read_lines(rt, &mut self.output, &mut self.written)?,
+            Stream::Error => read_lines(rt, &mut self.errors, &mut self.told)?,
+        };
+        printer.print(rt.alloc(), stream, rank, lines)
+    }
+
+    /// Prints the beginnings of lines that waited long enough.
+    pub fn hand_on<R: AllocGlobal + Clock>(
+        &mut self,
+        rt: &R,
+        rank: usize,
+        printer: &mut Printer,
+    ) -> io::Result<()> {
+        let output = self.written.take_due(rt)?;
+        printer.print(rt.alloc(), Stream::Output, rank, output)?;
+        let errors = self.told.take_due(rt)?;
+        printer.print(rt.alloc(), Stream::Error, rank, errors)
     }
 
     /// How its program ended, if it has.
@@ -277,25 +351,32 @@ impl<'a, P: OpenProcess<Stdout: AsRawFd, Stderr: AsRawFd> + Drop> Rank<'a, P> {
         }
     }
 
-    /// Prints what is left of an ended program's writing, the beginning of a line too.
-    pub fn drain(&mut self, alloc: Global, rank: usize, marks: bool) -> io::Result<()> {
+    /// Prints what is left of an ended program's writing, the beginning of a line too, which gets its end.
+    pub fn drain<R: AllocGlobal + Clock>(
+        &mut self,
+        rt: &R,
+        rank: usize,
+        printer: &mut Printer,
+    ) -> io::Result<()> {
         for _ in 0..MOST_READS {
             if !is_ready(self.output_descriptor()) {
                 break;
             }
-            self.hear(alloc, Stream::Output, rank, marks)?;
+            self.hear(rt, Stream::Output, rank, printer)?;
         }
         for _ in 0..MOST_READS {
             if !is_ready(self.error_descriptor()) {
                 break;
             }
-            self.hear(alloc, Stream::Error, rank, marks)?;
+            self.hear(rt, Stream::Error, rank, printer)?;
         }
         self.output = None;
         self.errors = None;
-        let output = self.output_line.take_rest(alloc)?;
-        print_lines(alloc, Stream::Output, rank, marks, &output)?;
-        let errors = self.error_line.take_rest(alloc)?;
-        print_lines(alloc, Stream::Error, rank, marks, &errors)
+        let output = self.written.take_all(rt.alloc());
+        printer.print(rt.alloc(), Stream::Output, rank, output)?;
+        printer.finish(Stream::Output, rank)?;
+        let errors = self.told.take_all(rt.alloc());
+        printer.print(rt.alloc(), Stream::Error, rank, errors)?;
+        printer.finish(Stream::Error, rank)
     }
 }

@@ -110,7 +110,7 @@ impl<'a> Setup<'a> {
         Ok(message_text(alloc, words.as_slice())?)
     }
 
-    /// The command that starts a keeper on this host.
+    /// The command that starts a keeper on this host, but for its standard output.
     pub fn keeper_command(&self, alloc: Global, host: &Word) -> io::Result<Command> {
         let text = self
             .text_at(self.options.launcher)
@@ -120,12 +120,11 @@ impl<'a> Setup<'a> {
         command.arg(self.itself)?;
         command.arg(KEEPER)?;
         command.stdin(Stdio::piped());
-        command.stdout(Stdio::piped());
         command.stderr(Stdio::piped());
         Ok(command)
     }
 
-    /// The command of a rank's start on this machine.
+    /// The command of a rank's start on this machine, but for its standard output.
     pub fn command(&self, alloc: Global, rank: usize, start: &Start) -> io::Result<Command> {
         let mut command = self.own_command(alloc, start)?;
         self.set_folder(&mut command)?;
@@ -137,7 +136,6 @@ impl<'a> Setup<'a> {
         } else {
             command.stdin(Stdio::null());
         }
-        command.stdout(Stdio::piped());
         command.stderr(Stdio::piped());
         Ok(command)
     }

@@ -1,6 +1,6 @@
 use Rattle.std.proofs.Common.{rules, ap, ◌∙◌}
-use Rattle.run_plan.proofs.LineLaws.{taken_by}
-use Rattle.run_plan.proofs.lines.LineBuffer.take.Goals as goal
+use Rattle.rank_lines.proofs.LineLaws.{taken_by}
+use Rattle.rank_lines.proofs.buffer.LineBuffer.take.Goals as goal
 
 pub returns : goal.returns
 returns c =

@@ -1,5 +1,5 @@
 -- What a rank writes, line by line.
-use Rattle.std.specs.Prelude.{◌≡◌, ◌⊎◌, ℕ, ◌≤◌, List, [], ◌∷◌, ◌++◌, length, take, drop}
+use Rattle.std.specs.Prelude.{◌≡◌, ◌⊎◌, ℕ, ◌≤◌, Bool, nat_le, ◌||◌, List, [], ◌++◌, length, take, drop}
 use Rattle.launch_keeper.specs.JoinedOutput.{IsLine, ended}
 
 -- nothing, or something that ends with the end of a line
@@ -18,7 +18,7 @@ pub record IsTaken (all lines rest : List ℕ) : Type 0 where
   pub are_whole : AreEnded lines
   pub rest_is_line : IsLine rest
 
--- a last line gets its end
-abbrev pub rest_line : List ℕ → List ℕ
-rest_line [] = []
-rest_line (byte ∷ bytes) = ended (byte ∷ bytes)
+-- whether the beginning of a line is handed on: nothing more of it came for 100 milliseconds, or its first byte came a
+-- second ago
+abbrev pub is_due : ℕ → ℕ → Bool
+is_due silence age = nat_le 100 silence || nat_le 1000 age

@@ -1,13 +1,19 @@
-//! What a rank writes, line by line.
+//! What a rank writes to one of its streams, line by line.
 
-ghost use Rattle.std.specs.Prelude.{◌≡◌, ◌++◌, ◌∷◌, [], IfOk};
-ghost use Rattle.run_plan.specs.Lines.{IsWholeLength, IsTaken, rest_line};
+ghost use Rattle.std.specs.Prelude.{◌≡◌, ◌==◌, ◌++◌, [], length, IfOk, if◌then◌else◌};
+ghost use Rattle.rank_lines.specs.Lines.{IsWholeLength, IsTaken, is_due};
 
 use std::alloc::{AllocError, Global};
 use std::marker::Model;
 use std::mem;
 
-/// The beginning of a line that has no end yet.
+/// For so many milliseconds nothing more of a line comes until its beginning is handed on.
+pub const SILENCE: u64 = 100;
+
+/// So many milliseconds after its first byte the beginning of a line is handed on, though more of it comes all the time.
+pub const MOST_AGE: u64 = 1_000;
+
+/// The beginning of a line that has no end yet, as far as it wasn't handed on.
 #[derive(Drop)]
 pub struct LineBuffer {
     bytes: Vec<u8>,
@@ -39,6 +45,14 @@ fn whole_length(bytes: &[u8]) -> usize
     length
 }
 
+/// Whether the beginning of a line is handed on of which nothing more came for so many milliseconds, and whose first byte
+/// came so many milliseconds ago.
+fn is_due(silence: u64, age: u64) -> bool
+    ensures { result ≡ is_due silence age }
+{
+    silence >= SILENCE || age >= MOST_AGE
+}
+
 impl LineBuffer {
     /// No bytes came yet. It takes no memory.
     pub fn new(alloc: Global) -> LineBuffer
@@ -66,15 +80,31 @@ impl LineBuffer {
         Ok(lines)
     }
 
-    /// What is left, with an end of line where it isn't empty. Only want of memory is an error.
-    pub fn take_rest(&mut self, alloc: Global) -> Result<Vec<u8>, AllocError>
-        ensures lines { IfOk result (λ lines. lines.items ≡ rest_line self.old) }
+    /// What is handed on of what waits once nothing more of it came for so many milliseconds, and its first byte came so
+    /// many milliseconds ago: all of it from `SILENCE` or `MOST_AGE` on, or else nothing. It takes no memory.
+    pub fn take_due(&mut self, alloc: Global, silence: u64, age: u64) -> Vec<u8>
+        ensures handed { result.items ≡ (if is_due silence age then self.old else []) }
+        ensures left { self.new ≡ (if is_due silence age then [] else self.old) }
+    {
+        if is_due(silence, age) {
+            self.take_all(alloc)
+        } else {
+            Vec::new(alloc)
+        }
+    }
+
+    /// What waits. It takes no memory.
+    pub fn take_all(&mut self, alloc: Global) -> Vec<u8>
+        ensures all { result.items ≡ self.old }
         ensures left { self.new ≡ [] }
     {
-        let mut lines = mem::replace(&mut self.bytes, Vec::new(alloc));
-        if !lines.is_empty() {
-            lines.push(b'\n')?;
-        }
-        Ok(lines)
+        mem::replace(&mut self.bytes, Vec::new(alloc))
+    }
+
+    /// Whether nothing waits.
+    pub fn is_empty(&self) -> bool
+        ensures { result ≡ (length self.now == 0) }
+    {
+        self.bytes.is_empty()
     }
 }

@@ -3,7 +3,7 @@ use Rattle.std.proofs.Common.{◌≡◌, ◌⊎◌, ℕ, zero, suc, ◌+◌, ◌
 use Rattle.std.proofs.Common.{refl, sym, ap, subst, ◌∙◌, append_assoc, inl, inr, arith}
 use Rattle.std.specs.Prelude.{slice_index, ◌==◌}
 use Rattle.launch_keeper.specs.JoinedOutput.{IsLine, ended}
-use Rattle.run_plan.specs.Lines.{AreEnded, IsWholeLength, IsTaken}
+use Rattle.rank_lines.specs.Lines.{AreEnded, IsWholeLength, IsTaken}
 
 line_at : (bytes : List ℕ) (n : ℕ) → n < length bytes → (slice_index bytes n ≡ 10 → ⊥) → IsLine (drop (suc n) bytes) →
     IsLine (drop n bytes)

@@ -1,0 +1,4 @@
+pub mod Cycles
+pub mod Lines
+pub mod Streams
+pub mod Waits
