@@ -55,7 +55,6 @@ fn without_message(item: &str) -> &str
 }
 
 /// What stands behind the word `rank` of the first item of a wait, where that names a rank.
-#[tactic(auto, using(crate::proofs::WaitLaws::ends_twice))]
 fn named_item(items: &str) -> Option<&str>
     ensures { IfSome result (λ rest. EndsWith items.now (codes "rank " ++ rest.now)) }
 {
@@ -64,7 +63,6 @@ fn named_item(items: &str) -> Option<&str>
 }
 
 /// The rank that the line of a call of a C program is of, and the call, from behind `MPI_` on.
-#[tactic(auto, using(crate::proofs::WaitLaws::begins_with_place))]
 fn place_of(line: &str) -> Option<(u16, &str)>
     ensures { IfSome result (λ found. BeginsWithPlace line.now found.0 found.1.now) }
 {
@@ -74,7 +72,6 @@ fn place_of(line: &str) -> Option<(u16, &str)>
 }
 
 /// The rank that the first item of a wait names.
-#[tactic(auto, using(crate::proofs::WaitLaws::names_rank))]
 fn named_rank(items: &str) -> Option<u16>
     ensures { IfSome result (λ other. NamesRank items.now other) }
 {
@@ -85,7 +82,6 @@ fn named_rank(items: &str) -> Option<u16>
 /// That a rank waits for another one, where this line of a rank of a C program says so: `rank R: CALL waits for ITEM`,
 /// whose first item is a message of another rank, or that one to receive a message. What suffices beside others (`any of`)
 /// or may come from any rank is none.
-#[tactic(auto, using(crate::proofs::WaitLaws::says_wait))]
 pub fn wait_said(line: &[u8]) -> Option<Wait>
     ensures { IfSome result (λ wait. SaysWait line.now wait) }
 {
