@@ -15,3 +15,5 @@ _kombazily() {
 }
 complete -o bashdefault -o default -F _kombazily mpirun mpiexec kombazily-mpiexec mpicc mpicxx mpic++
 complete -o bashdefault -o default -F _kombazily mpisim mpiexplore mpidraw rank_main kombazily
+# In a clone of the repository: source tools/completions.bash
+case ${BASH_SOURCE[0]} in *.bash) complete -o bashdefault -o default -F _kombazily run ;; esac
