@@ -83,23 +83,26 @@ def wanted_lines(lines):
     return ["rank %d: %s" % (rank, it.replace("%d", str(1 - rank))) for rank, it in enumerate(lines) if it]
 
 
-def read_until(file, is_enough):
-    """What comes from a terminal until it is enough, or for some seconds."""
+def read_until(file, is_enough, most=4096):
+    """What comes from a terminal or a pipe, so many bytes at a time, until it is enough, or for some seconds."""
     found, until = b"", time.monotonic() + 20
     while not is_enough(found) and time.monotonic() < until:
         if select.select([file], [], [], 0.1)[0]:
             try:
-                found += file.read(4096)
-            except OSError:   # nobody writes to it any more
+                more = file.read(most)
+            except OSError:   # nobody writes to the terminal any more
                 break
+            if not more:
+                break
+            found += more
     return found
 
 
 class Ends:
     """The rows, with the programs of a library."""
 
-    def __init__(self, mode, library, mpirun, verdict):
-        self.mode, self.library, self.mpirun, self.verdict = mode, library, mpirun, verdict
+    def __init__(self, mode, library, mpirun, verdict, longest=LONGEST):
+        self.mode, self.library, self.mpirun, self.verdict, self.longest = mode, library, mpirun, verdict, longest
 
     def add(self, name, is_so, found):
         self.verdict.add("%s: %s" % (self.mode, name), None if is_so else str(found)[-900:])
@@ -108,9 +111,13 @@ class Ends:
         return [str(it) for it in (self.mpirun, *options, "-n", size, self.library.program(program), *words)]
 
     def run(self, size, program, *words, options=(), **variables):
-        """Status, and the lines of both streams."""
-        told = subprocess.run(self.words(size, program, *words, options=options), stdin=subprocess.DEVNULL, capture_output=True, text=True,
-                              timeout=LONGEST, env={**os.environ, **variables})
+        """Status, and the lines of both streams; status None where it took too long."""
+        words = self.words(size, program, *words, options=options)
+        how = {"stdin": subprocess.DEVNULL, "capture_output": True, "text": True, "timeout": self.longest}
+        try:
+            told = subprocess.run(words, env={**os.environ, **variables}, **how)
+        except subprocess.TimeoutExpired:
+            return None, [], []
         return told.returncode, told.stdout.splitlines(), told.stderr.splitlines()
 
     def lines(self):
@@ -125,12 +132,13 @@ class Ends:
     def prompts(self):
         """The beginning of a line is there before its answer is given; and what the program said of its room holds."""
         for word in ("prompt", "quiet_prompt"):
-            with subprocess.Popen([str(self.library.program("speaks")), word], stdin=subprocess.PIPE, stdout=subprocess.PIPE) as ran:
-                prompt = ran.stdout.read(3)
+            pipes = {"stdin": subprocess.PIPE, "stdout": subprocess.PIPE, "bufsize": 0}
+            with subprocess.Popen([str(self.library.program("speaks")), word], **pipes) as ran:
+                prompt = read_until(ran.stdout, lambda it: it == b"n: ", 3)
                 rest = ran.communicate(b"42\n", LONGEST)[0]
             self.add("a %s is seen before its answer" % word, (prompt, rest) == (b"n: ", b"rank 0 has 42\n"), (prompt, rest))
-        with subprocess.Popen([str(self.library.program("speaks")), "dots"], stdout=subprocess.PIPE) as ran:
-            began = (ran.stdout.read(2), time.monotonic())
+        with subprocess.Popen([str(self.library.program("speaks")), "dots"], stdout=subprocess.PIPE, bufsize=0) as ran:
+            began = (read_until(ran.stdout, lambda it: len(it) == 2, 1), time.monotonic())
             rest = ran.communicate(timeout=LONGEST)[0]
             took = time.monotonic() - began[1]
         self.add("dots are seen that the program lets out at once", (began[0], rest) == (b"..", b"done\n") and took > 0.7, (began, rest))
@@ -240,6 +248,27 @@ class Ends:
             told = subprocess.run([str(it) for it in words], stdin=subprocess.DEVNULL, capture_output=True, text=True, timeout=3 * LONGEST,
                                   env={**os.environ, "KOMBAZILY_CHECK": "1"})
             self.add(name, told.returncode == (4 if word[1:] else 0) and "==" not in told.stderr, (told.returncode, told.stderr))
+
+
+class Found:
+    """Which rows weren't right."""
+
+    def __init__(self):
+        self.wrong = []
+
+    def add(self, name, fault=None):
+        self.wrong += [name] if fault is not None else []
+
+
+def tells(library, mpirun, names, longest):
+    """Whether each of these rows, as `kept` or `stuck:part`, tells that the library is wrong."""
+    for name in names:
+        found = Found()
+        row, _, word = name.partition(":")
+        getattr(Ends("faults", library, mpirun, found, longest), row)(*filter(None, [word]))
+        if not found.wrong:
+            return False
+    return True
 
 
 def all_rows(mode, library, mpirun, verdict, side_by_side):
