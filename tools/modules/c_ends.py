@@ -130,13 +130,18 @@ class Ends:
             self.add("%s are seen as they are printed" % word, is_live, (seen, left))
 
     def prompts(self):
-        """The beginning of a line is there before its answer is given; and what the program said of its room holds."""
+        """The beginning of a line is there before its answer is given, under mpirun too; and what the program said of its room holds."""
         for word in ("prompt", "quiet_prompt"):
             pipes = {"stdin": subprocess.PIPE, "stdout": subprocess.PIPE, "bufsize": 0}
             with subprocess.Popen([str(self.library.program("speaks")), word], **pipes) as ran:
                 prompt = read_until(ran.stdout, lambda it: it == b"n: ", 3)
                 rest = ran.communicate(b"42\n", LONGEST)[0]
             self.add("a %s is seen before its answer" % word, (prompt, rest) == (b"n: ", b"rank 0 has 42\n"), (prompt, rest))
+            with subprocess.Popen(self.words(2, "speaks", word), **pipes) as ran:
+                prompt = read_until(ran.stdout, lambda it: it == b"n: ", 3)
+                rest = sorted(ran.communicate(b"42\n", LONGEST)[0].splitlines())
+            is_so = (prompt, rest) == (b"n: ", [b"rank 0 has 42", b"rank 1 has 42"])
+            self.add("a %s under mpirun" % word, is_so, (prompt, rest))
         with subprocess.Popen([str(self.library.program("speaks")), "dots"], stdout=subprocess.PIPE, bufsize=0) as ran:
             began = (read_until(ran.stdout, lambda it: len(it) == 2, 1), time.monotonic())
             rest = ran.communicate(timeout=LONGEST)[0]
@@ -152,8 +157,7 @@ class Ends:
     def leaving(self):
         for word, (status, said) in LEAVING.items():
             found = self.run(3, "leaves", word)
-            others = [it for it in found[2] if not is_wait(it)]
-            is_so = (found[0], found[1], sorted(others)) == (status, ["rank 1 leaves"], sorted(said))
+            is_so = (found[0], found[1], sorted(found[2])) == (status, ["rank 1 leaves"], sorted(said))
             self.add("rank 1 leaves by %s" % word, is_so, found)
         found = self.run(2, "leaves", "child")
         self.add("a child isn't the rank", found == (0, ["rank 1 leaves", "the child's status is 0"], []), found)
