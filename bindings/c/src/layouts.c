@@ -177,8 +177,7 @@ enum layout_end layout_of_blocks(const struct layout *item, const struct block *
     return LAYOUT_MADE;
 }
 
-/* The bounds and the size of so many blocks, each so many bytes from the one before it; false where one is too large.
- */
+/* The bounds and the size of so many blocks, each so many bytes behind the one before; false where one is too large. */
 static bool spread(struct layout *made, const struct layout *block, int count, ptrdiff_t step) {
     ptrdiff_t last, first, upper, data;
     if (!product(count - 1, step, &last) || !product(count, (ptrdiff_t)block->size, &data)) return false;
