@@ -190,7 +190,7 @@ def built(parts, table):
              "compiler of the library's C: %s" % run_output(["cc", "--version"]).partition("\n")[0],
              "needs glibc: %s" % libc_needed(table[it].source for it in sums if it.startswith("bin/") and it != "bin/mpicc"),
              "proved: %s" % (" ".join(it for it in names if it in parts.proved) or "none"),
-             "built of the same sources before any proof: %s" % (" ".join(it for it in names if it not in parts.proved) or "none"), ""]
+             "not proved: %s" % (" ".join(it for it in names if it not in parts.proved) or "none"), ""]
     return "\n".join([*lines, *("%s  %s" % (sum_of(table[it].source), it) for it in sums)]) + "\n"
 
 
