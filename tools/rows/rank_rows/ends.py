@@ -89,6 +89,21 @@ def stray():
         compare("stray, rank 0", ended(zero)[:2], ("3\n", 0))
 
 
+def refused_all_the_time():
+    """What is refused keeps no rank waiting: its patience ends as if nothing came."""
+    with ranks_of("refused", "on 0\nbuf b int32 0\nrecv world 1 1 b\n") as (script, port):
+        with socket.socket(socket.AF_INET, socket.SOCK_DGRAM) as other:
+            other.bind(("127.0.0.1", port + 1))
+            zero = start(script, 0, 2, port, patience=800)
+            until = time.monotonic() + 10
+            while zero.poll() is None and time.monotonic() < until:
+                other.sendto(b"x", ("127.0.0.1", port))
+                time.sleep(0.05)
+            if zero.poll() is None:
+                zero.kill()
+        compare("refused, all the time", ended(zero), ("", 4, gave_up(0, 800, "at line 3: recv world 1 1 b")[0] + "\n"))
+
+
 def strangers():
     """A datagram of a rank is taken from that rank's own address and port alone."""
     text = "on 0\nbuf b int32 0\nrecv world 1 1 b\nprint b\non 1\nbuf a int32 9\nsend world 0 1 a\n"
@@ -153,6 +168,6 @@ def faulty_when_reached():
 
 
 def rows():
-    for part in (killed, restarted, restarted_in_a_large_message, stray, strangers, stopped, taken_port, failing_output,
+    for part in (killed, restarted, restarted_in_a_large_message, stray, refused_all_the_time, strangers, stopped, taken_port, failing_output,
                  faulty_when_reached):
         part()
