@@ -8,8 +8,8 @@ use std::fmt;
 pub enum HostFault {
     /// Its first word is no name of a host and no address.
     Name,
-    /// The number behind its name isn't one from 1 to 1,024, a word behind it is neither `slots=N` nor `max_slots=N` with
-    /// such an N nor `local`, or the line has one of them twice.
+    /// The number behind its name isn't one from 1 to 1,024, a word behind it is neither `slots=N` nor `max_slots=N`
+    /// with such an N nor `local`, or the line has one of them twice.
     Option,
 }
 

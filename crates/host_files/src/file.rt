@@ -31,9 +31,9 @@ fn told_hosts<'a>(alloc: Global, lines: &[&'a [u8]]) -> Result<Vec<Host<'a>>, Fi
     Ok(hosts)
 }
 
-/// The hosts that a file tells, in order, one a line: `HOST[:N] [slots=N] [max_slots=N] [local]`. A word that begins with `#` begins a
-/// comment; lines without words are skipped. Else the first line that is at fault, by its number, unless memory was
-/// wanting before.
+/// The hosts that a file tells, in order, one a line: `HOST[:N] [slots=N] [max_slots=N] [local]`. A word that begins
+/// with `#` begins a comment; lines without words are skipped. Else the first line that is at fault, by its number,
+/// unless memory was wanting before.
 pub fn hosts_of(alloc: Global, file: &[u8]) -> Result<Vec<Host<'_>>, FileFault>
     ensures { Gives (λ hosts. map shown hosts.items) (told_from 1 (slice_split is_line_end file.now)) result }
 {

@@ -4,9 +4,9 @@ ghost use Rattle.std.specs.Prelude.{◌≡◌, IfOk, map, option_map};
 ghost use Rattle.std.specs.List.{list_all, slice_split};
 ghost use Rattle.std.specs.List.{position_from};
 ghost use Rattle.std.specs.Str.{bytes_eq};
-ghost use Rattle.host_files.specs.Lines.{after, finished, host_in, is_blank, is_colon, is_name, is_name_byte, is_own_name};
-ghost use Rattle.host_files.specs.Lines.{most_in, named_in, option_of, said, shown, shown_result, told_in, value_in};
-ghost use Rattle.host_files.specs.Lines.{with_value, words_of};
+ghost use Rattle.host_files.specs.Lines.{after, finished, host_in, is_blank, is_colon, is_name, is_name_byte};
+ghost use Rattle.host_files.specs.Lines.{is_own_name, most_in, named_in, option_of, said, shown, shown_result};
+ghost use Rattle.host_files.specs.Lines.{told_in, value_in, with_value, words_of};
 
 use crate::fault::HostFault;
 use crate::host::Host;

@@ -221,7 +221,8 @@ impl Reading {
 ///
 /// Options stand in front of the first set, which `-n` or `-np` begins: `-job J`, `-baseport P`, `-restart K`,
 /// `-patience MS`, `-timeout S`, `-ppn K`, `-prefix`, `-keep-going`, `-wdir FOLDER`, `-hostfile FILE`, `-host LIST` and
-/// `-launcher WORDS`, each once, and `-env NAME VALUE` any number of times. Words of others are made these by `run_words`.
+/// `-launcher WORDS`, each once, and `-env NAME VALUE` any number of times. Words of others are made these by
+/// `run_words`.
 pub fn request_of(words: &[Word]) -> Result<RunRequest, RunFault>
     ensures { result ≡ request_of words.now }
 {

@@ -118,8 +118,8 @@ fn placed(
     Ok(JobHosts { names, list })
 }
 
-/// Tells which of so many hosts the ranks of others can't reach, if there is one: an address of this machine alone beside
-/// others.
+/// Tells which of so many hosts the ranks of others can't reach, if there is one: an address of this machine alone
+/// beside others.
 fn tell_unreachable<R: Eprint>(rt: &R, hosts: &[Host<'_>], addresses: &[Ipv4Addr], count: usize) {
     if addresses.iter().take(count).all(|one| one.is_loopback()) {
         return;

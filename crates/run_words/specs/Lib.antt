@@ -3,3 +3,4 @@ pub mod Texts
 pub mod Steps
 pub mod Pieces
 pub mod Readings
+pub mod Arguments

@@ -1,11 +1,10 @@
 -- What each word adds to the options and to the sets.
-use Rattle.std.specs.Prelude.{ℕ, Bool, true, false, List, [], ◌∷◌, ◌++◌, min, length, take, drop, codes, Option, Some, None}
+use Rattle.std.specs.Prelude.{ℕ, List, [], ◌∷◌, min, length, drop, codes, Option, Some, None}
 use Rattle.std.specs.Prelude.{if◌then◌else◌}
 use Rattle.std.specs.Str.{bytes_eq}
 use Rattle.std.specs.List.{position_from}
 use Rattle.std.specs.Fmt.{decimal}
 use Rattle.launch_keeper.specs.Words.{Word}
-use Rattle.run_words.specs.declared.symbol.OwnOption.{OwnOption}
 use Rattle.run_words.specs.declared.symbol.OwnOption.TheVariants as options
 use Rattle.run_words.specs.declared.steps.Piece.{Piece}
 use Rattle.run_words.specs.declared.steps.Piece.TheVariants as pieces

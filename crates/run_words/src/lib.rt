@@ -13,6 +13,7 @@ mod variables;
 pub use fault::{Trouble, WordFault};
 pub use nearest::nearest_option;
 pub use reading::{
-    Asked, exported_places, idle_places, option_words, own_words, read_words, set_words,
+    Asked, arguments_stay, exported_places, idle_places, option_words, own_words, read_words,
+    set_words,
 };
 pub use variables::Variable;

@@ -56,8 +56,8 @@ const NAMES: [&str; 45] = [
     "-q",
 ];
 
-/// The known option whose name is nearest to this word, by bytes that are wrong, missing, too many or swapped: as many at
-/// most as a third of its name has bytes. Only want of memory is an error.
+/// The known option whose name is nearest to this word, by bytes that are wrong, missing, too many or swapped: as many
+/// at most as a third of its name has bytes. Only want of memory is an error.
 pub fn nearest_option(alloc: Global, word: &str) -> Result<Option<&'static str>, AllocError>
     ensures { IfOk result (λ found. IfSome found (λ name. IsTrue (is_known name.now))) }
 {

@@ -3,6 +3,7 @@
 ghost use Rattle.std.specs.Prelude.{◌≡◌, IfOk};
 ghost use Rattle.run_words.specs.Readings.{ended, exported_places, idle_places, is_exported, is_idle, option_words};
 ghost use Rattle.run_words.specs.Readings.{own_words, read_words, set_words};
+ghost use Rattle.run_words.specs.Arguments.{ArgumentsStay};
 
 use crate::fault::{Trouble, WordFault};
 use crate::pieces::{push_option_piece, push_set_piece};
@@ -58,9 +59,10 @@ fn is_exported(piece: Piece) -> bool
 /// What these words, behind the program's own name, say beside what they are as own words, or the first fault from the
 /// left. It takes no memory.
 ///
-/// Options stand in front of the first program, in front of `-n` or behind it; two dashes in front of a name are one. An
-/// option that others take as one of its set alone stands in front of the first `-n` where there are several sets. Which
-/// names options have stands in docs/LAUNCHING.md; the values are judged by `run_plan`, and the sets by `launch_plan`.
+/// Options stand in front of the first program, in front of `-n` or behind it; two dashes in front of a name are one.
+/// An option that others take as one of its set alone stands in front of the first `-n` where there are several sets.
+/// Which names options have stands in docs/LAUNCHING.md; the values are judged by `run_plan`, and the sets by
+/// `launch_plan`.
 pub fn read_words(words: &[Word]) -> Result<Asked, WordFault>
     ensures { result ≡ read_words words.now }
 {
@@ -163,3 +165,8 @@ pub fn exported_places(alloc: Global, words: &[Word]) -> Result<Vec<usize>, Allo
     }
     Ok(places)
 }
+
+/// Words behind a program, up to `:`, are its own: they stay as they are, and none is taken for an option.
+pub fn arguments_stay()
+    ensures { ArgumentsStay }
+{}

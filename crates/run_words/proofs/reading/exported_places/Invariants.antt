@@ -6,4 +6,5 @@ use Rattle.run_words.proofs.reading.exported_places.Given as goal
 
 abbrev pub invariant-loop-place : goal.invariant-loop-place
 invariant-loop-place l =
-    l.places.items ++ places_from is_exported l.reading l.place (drop l.place l.words) ≡ places_from is_exported start 0 l.words
+    l.places.items ++ places_from is_exported l.reading l.place (drop l.place l.words)
+    ≡ places_from is_exported start 0 l.words
