@@ -86,7 +86,7 @@ pub fn write_all(fd: RawFd, bytes: &[u8]) -> io::Result<()> {
             wait_to_write(fd);
             tries += 1;
         } else {
-            let (_, behind) = left.split_at(count);
+            let (_, behind) = left.split_at(count.min(left.len()));
             left = behind;
             tries = 0;
         }
