@@ -61,7 +61,7 @@ fn wait_to_write(fd: RawFd) {
 /// will: the disk is full, nobody reads the pipe, nothing is open there.
 fn write_some(fd: RawFd, bytes: &[u8]) -> io::Result<usize> {
     match usize::try_from(os::write_no_sigpipe(fd, bytes)) {
-        Ok(count) => Ok(count.min(bytes.len())),
+        Ok(count) => Ok(count),
         Err(_) => {
             let error = os::errno();
             if error == EAGAIN || error == EINTR {
