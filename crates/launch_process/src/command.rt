@@ -7,6 +7,7 @@ use launch_diagnostics::explain;
 use launch_keeper::{Word, kept_rank};
 use launch_plan::planning::plan;
 use launch_plan::{LaunchOutcome, LaunchRefusal, Plan, config_name, spelled_out};
+use process_commands::{ClosedStreams, open_closed_streams};
 use std::alloc::AllocError;
 use std::net::Net;
 use std::os::fd::AsRawFd;
@@ -77,7 +78,7 @@ fn run_launch<
         + Eprint
         + AllocGlobal
         + Processes<Started: OpenProcess<Stdout: AsRawFd>>,
->(rt: &R, words: &[Word]) -> LaunchOutcome {
+>(rt: &R, words: &[Word], closed: &ClosedStreams) -> LaunchOutcome {
     let alloc = rt.alloc();
     let request = request_of(words);
     let words = request.words;
@@ -93,7 +94,7 @@ fn run_launch<
     let Ok(words) = spelled_out(alloc, words, config) else {
         return LaunchOutcome::Failed;
     };
-    match launch(rt, &plan, words.as_slice(), request.aborts) {
+    match launch(rt, &plan, words.as_slice(), request.aborts, closed) {
         Ok(outcome) => outcome,
         Err(_) => LaunchOutcome::Failed,
     }
@@ -124,9 +125,12 @@ pub fn run_words<
         + Clock
         + Processes<Started: OpenProcess<Stdout: AsRawFd>>,
 >(rt: &R, words: &[Word]) -> u8 {
+    let Ok(closed) = open_closed_streams() else {
+        return LaunchOutcome::Failed.status();
+    };
     let outcome = match kept_rank(words) {
         Some(kept) => run_keeper(rt, kept.rank, kept.words),
-        None => run_launch(rt, words),
+        None => run_launch(rt, words, &closed),
     };
     outcome.status()
 }

@@ -5,6 +5,8 @@ use crate::reports::{report_of, tell_lost};
 use launch_decisions::{ended, keeper_commands};
 use launch_keeper::{TakenPortsLine, UnstartedKeeperLine, Word, join_from};
 use launch_plan::{LaunchOutcome, Plan};
+use libc::EMFILE;
+use process_commands::ClosedStreams;
 use std::alloc::AllocError;
 use std::io::{ErrorKind, Write};
 use std::net::{Ipv4Addr, Net, SocketAddr, TcpListener};
@@ -23,13 +25,22 @@ fn start_or_tell<R: Eprint + AllocGlobal + Processes>(
     command.stdin(Stdio::piped());
     command.stdout(Stdio::piped());
     let started = command.spawn(rt);
-    if started.is_err() {
+    if let Err(error) = &started {
+        tell_unstarted(rt, rank, error);
+    }
+    started
+}
+
+/// Tells that a keeper can't be started, and why.
+fn tell_unstarted<R: Eprint>(rt: &R, rank: usize, error: &io::Error) {
+    if error.raw_os_error() == Some(EMFILE) {
         let line = UnstartedKeeperLine {
             rank: u16::try_from(rank).unwrap_or(u16::MAX),
         };
         let _ = eprintln!(rt; "{line}");
+    } else {
+        let _ = eprintln!(rt; "mpiexec: the keeper of rank {rank} can't be started: {error}");
     }
-    started
 }
 
 /// Starts the keepers of so many ranks, in rank order.
@@ -37,12 +48,14 @@ fn start_all<R: Env + Files + Eprint + AllocGlobal + Processes>(
     rt: &R,
     size: u16,
     words: &[Word],
+    closed: &ClosedStreams,
 ) -> io::Result<Vec<Child<R::Started>>> {
     let alloc = rt.alloc();
     let itself = env::current_exe(rt)?;
     let mut keepers = Vec::new(alloc);
     let mut commands = keeper_commands(alloc, itself.as_str(), size, words)?;
     for (rank, command) in commands.iter_mut().enumerate() {
+        closed.stand_in(command);
         let keeper = start_or_tell(rt, rank, command)?;
         keepers.push(keeper).map_err(AllocError::from)?;
     }
@@ -130,9 +143,15 @@ pub fn launch<
         + Eprint
         + AllocGlobal
         + Processes<Started: OpenProcess<Stdout: AsRawFd>>,
->(rt: &R, plan: &Plan, words: &[Word], aborts: bool) -> io::Result<LaunchOutcome> {
+>(
+    rt: &R,
+    plan: &Plan,
+    words: &[Word],
+    aborts: bool,
+    closed: &ClosedStreams,
+) -> io::Result<LaunchOutcome> {
     let _held = hold_port(rt, plan.base_port());
-    let keepers = start_all(rt, plan.size(), words)?;
+    let keepers = start_all(rt, plan.size(), words, closed)?;
     if aborts {
         follow_to_failure(rt, keepers)
     } else {
