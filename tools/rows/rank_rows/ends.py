@@ -168,6 +168,6 @@ def faulty_when_reached():
 
 
 def rows():
-    for part in (killed, restarted, restarted_in_a_large_message, stray, refused_all_the_time, strangers, stopped, taken_port, failing_output,
-                 faulty_when_reached):
+    for part in (killed, restarted, restarted_in_a_large_message, stray, refused_all_the_time, strangers, stopped, taken_port,
+                 failing_output, faulty_when_reached):
         part()
