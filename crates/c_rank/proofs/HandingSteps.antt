@@ -247,7 +247,13 @@ kept_first a s b c most len more kept_too o p old mid new f none is h engine tri
 pub no_memory : (p : PlaceRecord) (limit : MessageLimit) (place : Place) (n : ℕ) → limit_of limit ≡ p.message_limit →
     place ≡ place_said p limit → place_fault place ≡ None → n ≡ 14 → IsNoPlace p n
 no_memory p limit place n bytes said none is =
-    inr (limit, (bytes, (
-      OutOfMemory,
-      (subst (λ (f : Option Refusal). IsRefusal f OutOfMemory) (sym (ap place_fault (sym said) ∙ none)) refl, is),
-    )))
+    inr (
+      limit,
+      (
+        bytes,
+        (
+          OutOfMemory,
+          (subst (λ (f : Option Refusal). IsRefusal f OutOfMemory) (sym (ap place_fault (sym said) ∙ none)) refl, is),
+        ),
+      ),
+    )
