@@ -10,6 +10,7 @@ OUT ?= out/release
 all:
 	./run build
 	tools/c_library
+	./run check --help > /dev/null
 install:
 	tools/release --install "$(DESTDIR)$(PREFIX)"
 uninstall:

@@ -8,6 +8,8 @@ usage: ./run                            two ranks play ping-pong
        ./run --picture [-n N] SCRIPT    one play of a script as a picture
        ./run --svg PICTURE.svg ..       the same, written as an SVG
        ./run --explore [-n N] SCRIPT    all schedules of a script that can matter: what may go wrong
+       ./run --explore [-n N] FILE.c    compiles a C program and runs it again and again, by other choices each time
+       ./run check -n N [..] PROGRAM    explores a C program that is compiled (tools/mpicc); ./run check --help has all options
        ./run .. -                       what stands on the standard input, in place of a file
        ./run [-n N] FILE.c [WORD ..]    compiles a C program (tools/mpicc) and runs it with these words; without -n 2 ranks.
                                         Lines come as they are printed; rank 0 has the standard input
@@ -23,11 +25,12 @@ options, as mpiexec and mpirun have them:
        -v              says which programs are taken, and the command that is run
 
 Options stand in any order, in front of the file or behind it. Those of mpiexplore (--most K, --seed S, ..) may
-stand beside --explore, and those of mpidraw (--width W, --datagrams) beside --picture and --svg.
+stand beside --explore, and those of mpidraw (--width W, --datagrams) beside --picture and --svg; of those of mpiexplore the
+exploration of a C program has --most, --results, --out, --synchronous and --both, and it has those of `./run check`.
 
 A script is judged before ranks are started: what is wrong with it is told once, and the status is 1. Scripts are
 run by mpiexec and rank_main and explored by mpiexplore, files of events are run by mpisim and drawn by mpidraw, C programs
-are run by mpirun. A release has them. In the repository the proved programs are taken where `rt ci` or `./run --proved` has
+are run by mpirun and explored by kombazily-check. A release has them. In the repository the proved programs are taken where `rt ci` or `./run --proved` has
 left them and no source has changed since. Else programs of the same sources are taken, of which nothing is proved: they are
 built once, in two to three minutes, and kept in out/unproved. RUN_PROGRAMS may name a folder whose programs are taken as
 they are.
@@ -47,6 +50,7 @@ sys.dont_write_bytecode = True
 sys.path.insert(0, str(Path(__file__).resolve().parent / "modules"))
 import bounds
 import c_programs
+import explorer
 import ports
 import programs
 
@@ -62,6 +66,10 @@ SHOWING = {
     "--picture": {"--width": 1, "--datagrams": 0},
     "--svg": {"--datagrams": 0},
 }
+# The same of a C program that is explored.
+EXPLORING_C = {"--most": 1, "--results": 1, "--out": 1, "--html": 1, "--seconds": 1, "--random": 1, "--noes": 1, "--replay": 1, "--debug": 1,
+               "--patience": 1, "--stdin": 1, "--both": 0, "--synchronous": 0, "--each": 0, "--fork": 0, "--go-on": 0, "--output": 0,
+               "--quiet": 0, "--count": 0}
 OPTIONS_OF_C = ("-n", "-np")
 # Milliseconds for which all ranks of a C program may wait for one another.
 PATIENCE_OF_C = 10000
@@ -87,6 +95,7 @@ class Request:
         words, files = list(words), []
         own = next((place for place, it in enumerate(words) if it.endswith(".c")), len(words))
         self.view = next((it for it in words[:own] if it in VIEWS), None)
+        self.shows = EXPLORING_C if self.view == "--explore" and own < len(words) else SHOWING.get(self.view, {})
         self.builds_only = [it for it in words if it != "--proved"] == ["build"]
         while words:
             if self.is_c(words):
@@ -126,7 +135,7 @@ class Request:
 
     def take_option(self, words):
         option = words.pop(0)
-        shown = SHOWING.get(self.view, {})
+        shown = self.shows
         if option == "--proved":
             self.is_proved = True
         elif option == "-v":
@@ -302,10 +311,12 @@ def launch(mpiexec, request, ranks):
 
 def command_of_c(request):
     """The same for a C program, which is compiled first."""
-    if request.view:
-        raise Fault("'%s' shows scripts and files of events: a C program can only be run" % request.view)
+    if request.view and request.view != "--explore":
+        raise Fault("'%s' shows scripts and files of events: a C program can be run and explored" % request.view)
     if not request.file.is_file():
         raise Fault("%s can't be read" % request.file)
+    if request.view:
+        return exploration_of_c(request)
     if not request.is_proved and not {"RUN_PROGRAMS", "RUN_ENGINE"} & set(os.environ):
         c_programs.build_with(say, ["mpirun"])
     mpirun = find(["mpirun"], request)["mpirun"]
@@ -314,6 +325,28 @@ def command_of_c(request):
     options = {"-patience": PATIENCE_OF_C, **request.options}
     told = [str(it) for option in options.items() for it in option]
     return [short(mpirun), "-prefix", *told, "-n", str(request.ranks or 2), short(program), *request.words]
+
+
+def exploration_of_c(request):
+    """The words that explore a C program, which is compiled first."""
+    if request.options:
+        raise Fault("'%s': a C program is explored without ports %s" % (next(iter(request.options)), HELP))
+    program = c_programs.compiled(say, request.file, request.is_proved)
+    both = [] if {"--synchronous", "--both", "--each", "--replay"} & set(request.shown) else ["--both"]
+    return [short(explorer.taken(say)), *request.shown, "-n", str(request.ranks or 2), *both, short(program), *request.words]
+
+
+def check(words):
+    """Explores a C program that is compiled."""
+    if words in (["-h"], ["--help"]) and not programs.RELEASED:
+        print(explorer.usage(), end="")
+        return 0
+    try:
+        program = str(explorer.taken(say))
+    except (c_programs.Fault, programs.NotBuilt) as why:
+        say(why)
+        return OWN_FAILURE
+    os.execv(program, [program, *words])
 
 
 def show(program, file):
@@ -346,6 +379,8 @@ def main(words):
     if words == ["--version"]:
         print("%s (Kombazily) %s" % (CALLED.removeprefix("./"), programs.version()))
         return 0
+    if words[:1] == ["check"]:
+        return check(words[1:])
     signal.signal(signal.SIGTERM, lambda *_: sys.exit(128 + signal.SIGTERM))
     try:
         request = Request(words)

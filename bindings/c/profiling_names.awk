@@ -1,4 +1,4 @@
-# Of mpi.h makes mpi_profiling.h: each function once more under its second name (make profiling-names).
+# Of mpi.h and its parts makes mpi_profiling.h: each function once more under its second name (make profiling-names).
 BEGIN {
     print "/* The second names of all functions of mpi.h, for profilers (MPI 3.1, 14.2.1). Made by `make profiling-names`. */"
     print "#ifndef MPI_PROFILING_H"

@@ -13,7 +13,9 @@ import subprocess
 import tempfile
 import termios
 import time
+from pathlib import Path
 
+TESTS = Path(__file__).resolve().parents[2] / "bindings" / "c" / "tests"
 LONGEST = 60
 BEGUN = 0.5    # so long behind their first lines the ranks wait for one another
 WORLD = "in MPI_COMM_WORLD"
@@ -26,6 +28,9 @@ STUCK = {
     "probe": ["MPI_Probe waits for a message of rank %d with tag 5 " + WORLD] * 2,
     "matched_probe": ["MPI_Mprobe waits for a message of rank %d with tag 5 " + WORLD] * 2,
     "one": ["MPI_Wait waits for a message of rank %d with tag 3 " + WORLD] * 2,
+    "started": ["MPI_Wait waits for a message of rank %d with tag 8 " + WORLD] * 2,
+    "threads": ["MPI_Recv waits for a message of rank %d with tag 5 " + WORLD] * 2,
+    "detach": ["MPI_Buffer_detach waits for rank %d to receive 4000 bytes with tag 0 " + WORLD] * 2,
     "any": ["MPI_Waitany waits for any of 2 requests: a message of rank %d with tag 0 " + WORLD + "; a message of rank %d with tag 1 "
             + WORLD] * 2,
     "all": ["MPI_Waitall waits for all of 5 requests: " + "; ".join("a message of rank %%d with tag %d %s" % (it, WORLD)
@@ -54,12 +59,15 @@ LEAVING = {
 SELF = "rank 0: MPI_Finalize: nobody received a message of rank 0 with tag 4 in MPI_COMM_SELF, where it is rank 0: 1 bytes"
 LEFT = ["rank 0: MPI_Finalize: 2 more messages"] + 10 * [SELF] + [
     "rank 0: MPI_Finalize: no call ended this receive: a message of any rank with tag 3 in 'part'",
+    "rank 0: MPI_Finalize: no call ended this receive: a message of rank 1 with tag 6 in MPI_COMM_WORLD",
     "rank 0: MPI_Finalize: no call ended this send: 40 bytes to rank 1 with tag 1 in MPI_COMM_WORLD",
     "rank 0: MPI_Finalize: no call ended this send: 4000 bytes to rank 1 with tag 2 in 'part', where it is rank 0",
     "rank 1: MPI_Finalize: nobody received a message of rank 0 with tag 1 in MPI_COMM_WORLD: 40 bytes",
     "rank 1: MPI_Finalize: nobody received a message of rank 0 with tag 2 in 'part', where it is rank 1: 4000 bytes",
 ]
 KEPT = ("crash", "kill", "abort", "error")
+# What rank 0 says behind a second without any movement, where no patience was told: on a slow machine before an interrupt, too.
+STANDS = "rank 0: all ranks wait, and nothing has moved for 1 s; Ctrl-C ends the job and tells what each waits for"
 
 
 def is_wait(line):
@@ -72,8 +80,13 @@ def without_source(line):
     return re.sub(r" \(\w+\.c:\d+\)", "", line)
 
 
+def without_standstill(text):
+    return [it for it in text.splitlines() if it != STANDS]
+
+
 def waits_and_others(lines):
     """Of lines that mpirun -prefix printed: what ranks say that they wait for, without more, and the others."""
+    lines = [it for it in lines if not it.endswith(STANDS)]
     waits = [it for it in lines if is_wait(it.partition(" ")[2])]
     return [without_source(it).partition("; gave up ")[0] for it in waits], [it for it in lines if it not in waits]
 
@@ -83,9 +96,26 @@ def wanted_lines(lines):
     return ["rank %d: %s" % (rank, it.replace("%d", str(1 - rank))) for rank, it in enumerate(lines) if it]
 
 
+def names_of_files(program):
+    """The files in memory that the processes of a program have open."""
+    names = []
+    for folder in Path("/proc").glob("[0-9]*"):
+        try:
+            if os.readlink(folder / "exe") == str(Path(program).resolve()):
+                names += [os.readlink(it) for it in (folder / "fd").iterdir()]
+        except OSError:   # it has ended, or isn't ours
+            continue
+    return [it for it in names if it.startswith("/dev/shm/kombazily-")]
+
+
 def read_until(file, is_enough, most=4096):
     """What comes from a terminal or a pipe, so many bytes at a time, until it is enough, or for some seconds."""
-    found, until = b"", time.monotonic() + 20
+    return read_within(file, is_enough, 20, most)
+
+
+def read_within(file, is_enough, seconds, most=4096):
+    """The same for so many seconds."""
+    found, until = b"", time.monotonic() + seconds
     while not is_enough(found) and time.monotonic() < until:
         if select.select([file], [], [], 0.1)[0]:
             try:
@@ -118,7 +148,7 @@ class Ends:
             told = subprocess.run(words, env={**os.environ, **variables}, **how)
         except subprocess.TimeoutExpired:
             return None, [], []
-        return told.returncode, told.stdout.splitlines(), told.stderr.splitlines()
+        return told.returncode, told.stdout.splitlines(), without_standstill(told.stderr)
 
     def lines(self):
         """Each line is seen when it is printed: the times are those behind it until the end."""
@@ -172,7 +202,7 @@ class Ends:
             time.sleep(BEGUN)
             ran.send_signal(signal.SIGINT)
             output, errors = ran.communicate(timeout=LONGEST)
-        return begun == ["rank 0 begins\n", "rank 1 begins\n"] and not output, errors.splitlines()
+        return begun == ["rank 0 begins\n", "rank 1 begins\n"] and not output, without_standstill(errors)
 
     def terminal(self):
         """The same at Ctrl-C on a terminal; what was printed is there before."""
@@ -222,6 +252,38 @@ class Ends:
             found = self.run(3, "speaks", "lines", options=("-patience", "700"), KOMBAZILY_STANDSTILL=file.name)
         self.add("no standstill while a rank computes", found == (0, ["one 1", "two", "three"], []), found)
 
+    def hang(self, word, seconds, starter=()):
+        """What two ranks tell in so many seconds before they are interrupted, and the files in memory that they have open."""
+        words = self.words(2, "stuck", word)
+        words[-2:-2] = starter
+        with subprocess.Popen(words, stdin=subprocess.DEVNULL, stdout=subprocess.DEVNULL, stderr=subprocess.PIPE, bufsize=0) as ran:
+            told = read_within(ran.stderr, lambda it: it.endswith(b"\n"), seconds)
+            names = names_of_files(self.library.program("stuck"))
+            ran.send_signal(signal.SIGINT)
+            rest = ran.communicate(timeout=LONGEST)[1]
+        return told.decode().splitlines(), names, rest.decode().splitlines()
+
+    def hangs(self):
+        """Where no patience was told rank 0 says once that all wait; the file by which it knows has no name any more."""
+        told, names, rest = self.hang("receive", 20)
+        waits = sorted(without_source(it) for it in rest if is_wait(it))
+        is_so = told == [STANDS] and STANDS not in rest and waits == wanted_lines(STUCK["receive"])
+        self.add("a job that hangs says so", is_so, (told, rest))
+        self.add("a standstill leaves no file", len(names) == 2 and all(it.endswith(" (deleted)") for it in names), names)
+        told, names, _ = self.hang("receive", 20, ("sh", "-c", '[ $KOMBAZILY_RANK != 0 ] || sleep 1; exec "$@"', "sh"))
+        is_so = told == [STANDS] and len(names) == 2 and all(it.endswith(" (deleted)") for it in names)
+        self.add("nor where rank 0 comes last", is_so, (told, names))
+        told, _, rest = self.hang("computes", 3)
+        self.add("while a rank computes nobody says so", told == [] and STANDS not in rest, (told, rest))
+
+    def beginning(self):
+        """The first message comes at once to a rank that begins late, though its sender is in no call behind it."""
+        found = self.run(2, "begins")
+        self.add("the first message comes to a rank that begins late", found == (0, ["it came soon"], []), found)
+        with tempfile.NamedTemporaryFile() as file:
+            found = self.run(2, "begins", options=("-patience", "10000"), KOMBAZILY_STANDSTILL=file.name)
+        self.add("the same with a patience for all", found == (0, ["it came soon"], []), found)
+
     def synchronous(self):
         """With every send synchronous two that send first wait for one another, which else go on."""
         found = self.run(2, "stuck", "small_send", options=("-patience", "700"))
@@ -243,6 +305,10 @@ class Ends:
         tries = range(5 if shutil.which("addr2line") else 0)
         found = next((it for it in tries if any(" (stuck.c:" in line for line in self.interrupted("receive")[1])), None)
         self.add("a wait is told with its line", found is not None or not tries, "five times without")
+        lines = (TESTS / "ends" / "leaks.c").read_text().splitlines()
+        start = " (leaks.c:%d)" % next(number for number, line in enumerate(lines, 1) if "MPI_Start(" in line)
+        found = next((it for it in tries if any(start in line for line in self.run(2, "leaks", KOMBAZILY_CHECK="1")[2])), None)
+        self.add("what was begun again is told with the line of its start", found is not None or not tries, "five times without")
 
 
     def under(self, checker):
@@ -277,7 +343,7 @@ def tells(library, mpirun, names, longest):
 
 def all_rows(mode, library, mpirun, verdict, side_by_side):
     it = Ends(mode, library, mpirun, verdict)
-    rows = [it.lines, it.standstill, it.prompts, it.kept, it.leaving, it.patience, it.left, it.synchronous, it.too_early, it.terminal,
-            it.source]
+    rows = [it.lines, it.beginning, it.standstill, it.hangs, it.prompts, it.kept, it.leaving, it.patience, it.left, it.synchronous, it.too_early,
+            it.terminal, it.source]
     side_by_side(lambda row: row(), rows)
     side_by_side(it.stuck, list(STUCK))

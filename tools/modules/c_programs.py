@@ -4,11 +4,13 @@ The engine is the static library of the crate c_exports: the proved one, which `
 built of the same sources before any proof, which is kept in out/unproved. bindings/c/Makefile makes libmpi.a of it in out/c.
 """
 
+import fcntl
 import hashlib
 import os
 import shutil
 import subprocess
 import tempfile
+from contextlib import contextmanager
 from pathlib import Path
 
 import programs
@@ -118,8 +120,22 @@ def put_engine(made, say, what):
     say(what)
 
 
+@contextmanager
+def alone(folder):
+    """One at a time makes things in a folder."""
+    folder.mkdir(parents=True, exist_ok=True)
+    with open(folder / "lock", "w") as lock:
+        fcntl.flock(lock, fcntl.LOCK_EX)
+        yield
+
+
 def make_library(say, wants_proved=False):
     """Makes libmpi.a current; says whether its engine is proved where that is another one than before. Returns whether it is."""
+    with alone(OUT):
+        return make_library_alone(say, wants_proved)
+
+
+def make_library_alone(say, wants_proved):
     if given := os.environ.get("RUN_ENGINE"):
         put_engine(Path(given), say, "libmpi.a is made of the engine %s" % given)
         proved = False
@@ -134,7 +150,8 @@ def make_library(say, wants_proved=False):
             put_engine(UNPROVED, say, "libmpi.a is made of an engine that was built before any proof ('./run --proved' proves it first)")
     # Named from there, since make takes no name with a blank.
     out = "OUT=%s" % os.path.relpath(OUT, BINDING)
-    made = subprocess.run(["make", "-s", "-C", BINDING, out], stdin=subprocess.DEVNULL, stdout=subprocess.PIPE, stderr=subprocess.STDOUT)
+    words = ["make", "-s", "-j%d" % (os.cpu_count() or 1), "-C", BINDING, out]
+    made = subprocess.run(words, stdin=subprocess.DEVNULL, stdout=subprocess.PIPE, stderr=subprocess.STDOUT)
     if made.returncode != 0:
         raise Fault("libmpi.a wasn't made:\n%s" % made.stdout.decode(errors="replace"))
     os.utime(LIBRARY)

@@ -11,12 +11,14 @@ import subprocess
 from pathlib import Path
 
 import c_programs
+import explorer
 import programs
 
 TOP = programs.TOP
 # Programs by their names in a release: there `mpiexec` is another name of `mpirun`.
 NAMES = {**{it: it for it in programs.NAMES}, "mpiexec": programs.JOINING}
-COMMANDS = (*NAMES.values(), "mpiexec", "mpicc", "mpicxx", "mpic++", "kombazily")
+IN_CXX = ("mpicxx", "mpic++", "mpiCC")
+COMMANDS = (*NAMES.values(), "mpiexec", "mpicc", *IN_CXX, "kombazily", "kombazily-check")
 OWN, DOCS, MANUALS = "share/kombazily/", "share/doc/kombazily/", "share/man/man1/"
 COMPLETIONS = "share/bash-completion/completions/"
 # What a release in an archive has at its top, too.
@@ -80,6 +82,19 @@ class Parts:
             raise Fault("the library wasn't made:\n" + made.stdout + made.stderr)
         subprocess.run(["strip", "--strip-debug", *(self.room / "lib").glob("lib*.*[a0]")], check=True)
 
+    def make_explorer(self, say):
+        """The explorer of C programs, over the same engine."""
+        parts = {"OUT": self.room / "explorer", "ENGINE": c_programs.ENGINE, "CHOICES": explorer.choices(say)}
+        flags = "CFLAGS=-O2 '-ffile-prefix-map=%s=.'" % explorer.FOLDER
+        named = ["%s=%s" % (name, os.path.relpath(it, explorer.FOLDER)) for name, it in parts.items()]
+        made = subprocess.run(["make", "-s", "-C", explorer.FOLDER, *named, flags], capture_output=True, text=True)
+        if made.returncode != 0:
+            raise Fault("the explorer wasn't made:\n" + made.stdout + made.stderr)
+        subprocess.run(["strip", self.explorer()], check=True)
+
+    def explorer(self):
+        return self.room / "explorer" / explorer.PROGRAM.name
+
     def is_proved(self):
         return len(self.proved) == len(self.programs) + 1
 
@@ -113,7 +128,8 @@ def modules_of(file):
 def binaries(parts):
     """Programs, libraries, and what compiles with them."""
     found = {"bin/" + NAMES[name]: Copy(file, 0o755) for name, file in parts.programs.items()}
-    found |= {"bin/mpicc": Copy(TOP / "tools" / "mpicc", 0o755), "bin/mpicxx": Link("mpicc"), "bin/mpic++": Link("mpicc")}
+    found |= {"bin/kombazily-check": Copy(parts.explorer(), 0o755)}
+    found |= {"bin/mpicc": Copy(TOP / "tools" / "mpicc", 0o755), **{"bin/" + it: Link("mpicc") for it in IN_CXX}}
     found |= {"bin/mpiexec": Link("mpirun"), "bin/kombazily": Link("../" + OWN + "run")}
     for it in sorted((parts.room / "lib").rglob("*")):
         name = "lib/" + str(it.relative_to(parts.room / "lib"))
@@ -141,7 +157,7 @@ def manual_of_joining():
 def manuals():
     found = {MANUALS + it.name: Copy(it) for it in sorted((TOP / "docs" / "man").glob("*.1"))}
     found |= {MANUALS + programs.JOINING + ".1": Text(manual_of_joining())}
-    others = {"mpiexec": "mpirun", "mpicxx": "mpicc", "mpic++": "mpicc"}
+    others = {"mpiexec": "mpirun", **{it: "mpicc" for it in IN_CXX}}
     return found | {MANUALS + one + ".1": Text(".so man1/%s.1\n" % other) for one, other in others.items()}
 
 

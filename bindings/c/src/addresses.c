@@ -1,7 +1,8 @@
 /* Where the ranks of a job are in the network: see addresses.h. */
 #include "addresses.h"
 
-enum { NUMBERS = 4, LARGEST = 255, SENDER = 6 /* where a datagram has its sender's rank: two bytes, big-endian */ };
+/* Where a datagram has its sender's rank, in two bytes, and its job's number, in eight; both big-endian. */
+enum { NUMBERS = 4, LARGEST = 255, SENDER = 6, JOB = 16, JOB_BYTES = 8 };
 
 /* Reads a number from 0 to 255 without leading zeros: what stands behind it, or NULL. */
 static const char *read_part(const char *text, uint32_t *part) {
@@ -40,11 +41,27 @@ void put_loopback(struct addresses *job) {
     for (int rank = 0; rank < job->size; rank++) job->of_rank[rank] = LOOPBACK;
 }
 
-int rank_at(const struct addresses *job, uint32_t address, uint16_t port) {
-    int rank = (int)port - job->first_port;
-    return rank >= 0 && rank < job->size && job->of_rank[rank] == address ? rank : -1;
+bool are_together(const struct addresses *job) {
+    for (int rank = 1; rank < job->size; rank++)
+        if (job->of_rank[rank] != job->of_rank[0]) return false;
+    return true;
+}
+
+uint16_t port_at(const struct addresses *job, int rank) {
+    return job->first_port == 0 ? job->port_of[rank] : (uint16_t)(job->first_port + rank);
+}
+
+bool is_at(const struct addresses *job, int rank, uint32_t address, uint16_t port) {
+    return rank >= 0 && rank < job->size && job->of_rank[rank] == address && port_at(job, rank) == port;
 }
 
 int sender_of(const unsigned char *datagram, size_t len) {
     return len < SENDER + 2 ? -1 : datagram[SENDER] << 8 | datagram[SENDER + 1];
+}
+
+bool is_of_job(const unsigned char *datagram, size_t len, uint64_t job) {
+    if (len < JOB + JOB_BYTES) return false;
+    for (int at = 0; at < JOB_BYTES; at++)
+        if (datagram[JOB + at] != (job >> 8 * (JOB_BYTES - 1 - at) & LARGEST)) return false;
+    return true;
 }

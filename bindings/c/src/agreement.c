@@ -30,6 +30,13 @@ void note_entry(const struct engine_call *entry) {
     note(entry->count);
 }
 
+void note_plan(enum plan_kind kind, int root, const struct communicator *comm) {
+    enum { BEHIND_CALLS = 1000 /* more than any call of the engine has */ };
+    if (comm->place != ENGINE_WORLD) return;
+    note(BEHIND_CALLS + kind);
+    note((uint32_t)root);
+}
+
 /* Whether all ranks have the same sum: the greatest one is the least. Or a number of the engine. */
 static uint32_t is_same_at_all(uint64_t own, bool *is_same) {
     const uint64_t both[2] = {own, ~own};
@@ -41,7 +48,7 @@ static uint32_t is_same_at_all(uint64_t own, bool *is_same) {
                                     .count = 2};
     struct engine_answer answer;
     uint32_t number = enter_engine(&ask, both, sizeof both, &answer);
-    if (number == 0) kombazily_take(&engine, 0, (uint8_t *)most, sizeof most);
+    if (number == 0) take_from_engine(0, (uint8_t *)most, sizeof most);
     *is_same = most[0] == own && most[1] == ~own;
     return number;
 }
@@ -54,7 +61,7 @@ static void find_other(uint64_t own) {
     uint64_t sum = own;
     if (enter_engine(&ask, &own, sizeof own, &answer) != 0 || process.rank != 0) return;
     while (sum == own && ++other_rank < process.size)
-        kombazily_take(&engine, (uint64_t)other_rank, (uint8_t *)&sum, sizeof sum);
+        take_from_engine((uint64_t)other_rank, (uint8_t *)&sum, sizeof sum);
 }
 
 int compare_entries(const char *call) {

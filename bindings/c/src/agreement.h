@@ -3,10 +3,14 @@
 #ifndef KOMBAZILY_AGREEMENT_H
 #define KOMBAZILY_AGREEMENT_H
 
+#include "communicators.h"
 #include "engine.h"
+#include "engine_plans.h"
 
 /* Notes what this rank enters. */
 void note_entry(const struct engine_call *entry);
+/* The same of one that goes by a plan: of its kind and its root alone, since counts may differ. */
+void note_plan(enum plan_kind kind, int root, const struct communicator *comm);
 
 /* Compares what the ranks have entered, which all of them do together. 0, or MPI_ERR_NOT_SAME, of which it has told:
  * another rank is in another collective even now. */

@@ -1,6 +1,7 @@
 /* Checks of what calls are given: see errors.h. */
 #include "errors.h"
 #include "internal.h"
+#include "lines.h"
 
 #include <stdio.h>
 
@@ -18,7 +19,7 @@ void check_running(const char *call) {
     if (process.phase == RUNNING) return;
     fflush(stdout);
     if (process.phase == BEFORE_INIT) end_before_init(call);
-    fprintf(stderr, "rank %d: %s: called after MPI_Finalize\n", process.rank, call);
+    write_error(call, "called after MPI_Finalize");
     end_job(MPI_ERR_OTHER);
 }
 
@@ -42,6 +43,8 @@ int check_type(MPI_Comm comm, const char *call, MPI_Datatype type, struct dataty
 
 int check_buffer(MPI_Comm comm, const char *call, const void *buf, int count, const struct datatype *type) {
     if (buf != NULL || count == 0 || type->layout.size == 0) return MPI_SUCCESS;
+    /* MPI_BOTTOM is NULL: a type may have addresses for its displacements (4.1.5). The first page is no process's. */
+    if (type->layout.true_lower >= 4096) return MPI_SUCCESS;
     return raise_on(comm, call, MPI_ERR_BUFFER, "the buffer of %d items is NULL", count);
 }
 
@@ -78,4 +81,8 @@ int check_receive_tag(MPI_Comm comm, const char *call, int tag) {
 
 int check_result(MPI_Comm comm, const char *call, const void *result, const char *name) {
     return result != NULL ? MPI_SUCCESS : raise_on(comm, call, MPI_ERR_ARG, "%s is NULL", name);
+}
+
+int check_function(const char *call, bool is_there) {
+    return is_there ? MPI_SUCCESS : raise_on(MPI_COMM_WORLD, call, MPI_ERR_ARG, "the function is NULL");
 }

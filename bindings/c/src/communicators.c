@@ -1,12 +1,17 @@
 /* Communicators (MPI 3.1, 6.4, 6.6.1, 6.8): what is decided about them is the engine's; here stand their handles. */
 #include "communicators.h"
 
+#include "attributes.h"
 #include "errors.h"
 #include "groups.h"
+#include "handlers.h"
 #include "internal.h"
 #include "names.h"
+#include "plan_runs.h"
 #include "rows.h"
 #include "table.h"
+#include "topologies.h"
+#include "turns.h"
 
 #include <stdlib.h>
 
@@ -46,7 +51,7 @@ static struct communicator *new_communicator(MPI_Comm *handle) {
         return NULL;
     }
     made->uses = 1;
-    *handle = (MPI_Comm)(intptr_t)number;
+    *handle = made->handle = (MPI_Comm)(intptr_t)number;
     return made;
 }
 
@@ -56,19 +61,22 @@ struct communicator *hold_communicator(struct communicator *comm) {
 }
 
 void release_communicator(struct communicator *comm) {
-    if (--comm->uses == 0) free(comm);
+    if (--comm->uses > 0) return;
+    release_topology(comm->topology);
+    release_handler(comm->errhandler);
+    forget_attributes(&comm->attributes);
+    forget_number(comm);
+    free(comm);
 }
 
-static void remove_communicator(MPI_Comm handle) {
-    release_communicator(table_remove(&communicators, (intptr_t)handle));
-}
+void drop_communicator(MPI_Comm comm) { release_communicator(table_remove(&communicators, (intptr_t)comm)); }
 
 /* Says which communicator of the engine it is. */
 static void place_communicator(struct communicator *made, uint32_t place, MPI_Errhandler errhandler) {
     made->place = place;
     made->rank = fact_of(place, ENGINE_RANK);
     made->size = fact_of(place, ENGINE_SIZE);
-    made->errhandler = errhandler;
+    made->errhandler = hold_handler(errhandler);
 }
 
 int open_communicators(void) {
@@ -79,17 +87,22 @@ int open_communicators(void) {
         if (made == NULL) return MPI_ERR_NO_MEM;
         place_communicator(made, place, MPI_ERRORS_ARE_FATAL);
         copy_name(made->name, names[place]);
+        made->number = place;
     }
     return MPI_SUCCESS;
 }
 
 void close_communicators(void) {
-    for (int place = 0; place < communicators.count; place++) free(communicators.places[place].object);
+    for (int place = 0; place < communicators.count; place++) {
+        struct communicator *it = communicators.places[place].object;
+        if (it != NULL) release_communicator(it);
+    }
     table_free(&communicators);
     close_groups();
 }
 
 int MPI_Comm_size(MPI_Comm comm, int *size) {
+    NOTE_CALLER();
     struct communicator *own;
     check_running("MPI_Comm_size");
     int class = check_comm(comm, "MPI_Comm_size", &own);
@@ -99,6 +112,7 @@ int MPI_Comm_size(MPI_Comm comm, int *size) {
 }
 
 int MPI_Comm_rank(MPI_Comm comm, int *rank) {
+    NOTE_CALLER();
     struct communicator *own;
     check_running("MPI_Comm_rank");
     int class = check_comm(comm, "MPI_Comm_rank", &own);
@@ -128,6 +142,20 @@ int MPI_Comm_compare(MPI_Comm comm1, MPI_Comm comm2, int *result) {
     return MPI_SUCCESS;
 }
 
+uint16_t *members_of_communicator(MPI_Comm comm, const char *call, int *class) {
+    const struct communicator *own = communicator_of(comm);
+    struct engine_answer answer;
+    call_engine(&(struct engine_call){.kind = ENGINE_MEMBERS, .communicator = own->place}, NULL, 0, &answer);
+    if (answer.kind != ENGINE_FACT) {
+        *class = raise_number(comm, call, answer.number);
+        return NULL;
+    }
+    uint16_t *members = malloc((size_t)own->size * sizeof *members);
+    if (members == NULL) *class = raise_on(comm, call, MPI_ERR_NO_MEM, "no memory for a group");
+    else take_from_engine(0, (uint8_t *)members, (size_t)own->size * sizeof *members);
+    return members;
+}
+
 int MPI_Comm_group(MPI_Comm comm, MPI_Group *group) {
     NOTE_CALLER();
     const char *call = "MPI_Comm_group";
@@ -136,19 +164,14 @@ int MPI_Comm_group(MPI_Comm comm, MPI_Group *group) {
     int class = check_comm(comm, call, &own);
     if (class == MPI_SUCCESS) class = check_result(comm, call, group, "group");
     if (class != MPI_SUCCESS) return class;
-    struct engine_answer answer;
-    call_engine(&(struct engine_call){.kind = ENGINE_MEMBERS, .communicator = own->place}, NULL, 0, &answer);
-    if (answer.kind != ENGINE_FACT) return raise_number(comm, call, answer.number);
-    uint16_t *members = malloc((size_t)own->size * sizeof *members);
-    if (members == NULL) return raise_on(comm, call, MPI_ERR_NO_MEM, "no memory for a group");
-    kombazily_take(&engine, 0, (uint8_t *)members, (size_t)own->size * sizeof *members);
+    uint16_t *members = members_of_communicator(comm, call, &class);
+    if (members == NULL) return class;
     class = add_group(comm, call, members, own->size, group);
     free(members);
     return class;
 }
 
-/* Enters the call that makes a communicator of another one. */
-static int make_communicator(MPI_Comm comm, const char *call, struct engine_call *entry, MPI_Comm *newcomm) {
+int make_communicator(MPI_Comm comm, const char *call, struct engine_call *entry, MPI_Comm *newcomm) {
     struct communicator *own = communicator_of(comm);
     MPI_Comm handle;
     struct engine_answer answer;
@@ -156,15 +179,29 @@ static int make_communicator(MPI_Comm comm, const char *call, struct engine_call
     if (made == NULL) return raise_on(comm, call, MPI_ERR_NO_MEM, "no memory for a communicator");
     entry->communicator = own->place;
     *newcomm = MPI_COMM_NULL;
-    uint32_t number = enter_engine(entry, NULL, 0, &answer);
-    if (number != 0 || answer.communicator == ENGINE_NO_COMMUNICATOR) {
-        remove_communicator(handle);
-        if (number == 0) return MPI_SUCCESS;
-        return raise_limited(comm, call, number, "4,094 communicators were made, or no number is left for another one");
+    uint32_t number = begin_turn(own, -1);
+    if (number == 0) number = enter_engine(entry, NULL, 0, &answer);
+    bool is_made = number == 0 && answer.communicator != ENGINE_NO_COMMUNICATOR;
+    if (is_made) {
+        place_communicator(made, answer.communicator, own->errhandler);
+        number = number_communicator(made);
     }
-    place_communicator(made, answer.communicator, own->errhandler);
-    *newcomm = handle;
-    return MPI_SUCCESS;
+    end_turn();
+    if (is_made && number == 0) *newcomm = handle;
+    else drop_communicator(handle);
+    if (number == 0) return MPI_SUCCESS;
+    return raise_limited(comm, call, number, "4,094 communicators were made, or no number is left for another one");
+}
+
+int copy_communicator(MPI_Comm comm, const char *call, MPI_Comm *newcomm) {
+    int class = make_communicator(comm, call, &(struct engine_call){.kind = ENGINE_DUP}, newcomm);
+    if (class != MPI_SUCCESS) return class;
+    communicator_of(*newcomm)->topology = hold_topology(communicator_of(comm)->topology);
+    class = copy_values(comm, call, *newcomm);
+    if (class == MPI_SUCCESS) return class;
+    drop_communicator(*newcomm);
+    *newcomm = MPI_COMM_NULL;
+    return class;
 }
 
 int MPI_Comm_dup(MPI_Comm comm, MPI_Comm *newcomm) {
@@ -174,7 +211,7 @@ int MPI_Comm_dup(MPI_Comm comm, MPI_Comm *newcomm) {
     int class = check_comm(comm, "MPI_Comm_dup", &own);
     if (class == MPI_SUCCESS) class = check_result(comm, "MPI_Comm_dup", newcomm, "newcomm");
     if (class != MPI_SUCCESS) return class;
-    return make_communicator(comm, "MPI_Comm_dup", &(struct engine_call){.kind = ENGINE_DUP}, newcomm);
+    return copy_communicator(comm, "MPI_Comm_dup", newcomm);
 }
 
 int MPI_Comm_split(MPI_Comm comm, int color, int key, MPI_Comm *newcomm) {
@@ -191,6 +228,7 @@ int MPI_Comm_split(MPI_Comm comm, int color, int key, MPI_Comm *newcomm) {
 }
 
 int MPI_Comm_free(MPI_Comm *comm) {
+    NOTE_CALLER();
     const char *call = "MPI_Comm_free";
     struct communicator *own;
     check_running(call);
@@ -198,12 +236,15 @@ int MPI_Comm_free(MPI_Comm *comm) {
     if (class == MPI_SUCCESS) class = check_comm(*comm, call, &own);
     if (class != MPI_SUCCESS) return class;
     if (own->place <= ENGINE_SELF) return raise_on(*comm, call, MPI_ERR_COMM, "%s can't be freed", own->name);
-    remove_communicator(*comm);
+    class = delete_values(*comm, call);
+    if (class != MPI_SUCCESS) return class;
+    drop_communicator(*comm);
     *comm = MPI_COMM_NULL;
     return MPI_SUCCESS;
 }
 
 int MPI_Comm_test_inter(MPI_Comm comm, int *flag) {
+    NOTE_CALLER();
     struct communicator *own;
     check_running("MPI_Comm_test_inter");
     int class = check_comm(comm, "MPI_Comm_test_inter", &own);
@@ -213,6 +254,7 @@ int MPI_Comm_test_inter(MPI_Comm comm, int *flag) {
 }
 
 int MPI_Comm_get_name(MPI_Comm comm, char *comm_name, int *resultlen) {
+    NOTE_CALLER();
     struct communicator *own;
     check_running("MPI_Comm_get_name");
     int class = check_comm(comm, "MPI_Comm_get_name", &own);
@@ -223,6 +265,7 @@ int MPI_Comm_get_name(MPI_Comm comm, char *comm_name, int *resultlen) {
 }
 
 int MPI_Comm_set_name(MPI_Comm comm, const char *comm_name) {
+    NOTE_CALLER();
     struct communicator *own;
     check_running("MPI_Comm_set_name");
     int class = check_comm(comm, "MPI_Comm_set_name", &own);
@@ -232,8 +275,12 @@ int MPI_Comm_set_name(MPI_Comm comm, const char *comm_name) {
 }
 
 /* Handles as Fortran has them (17.2.4): the low halves of their numbers, which name what lives now. */
-MPI_Fint MPI_Comm_c2f(MPI_Comm comm) { return (MPI_Fint)(intptr_t)comm; }
+MPI_Fint MPI_Comm_c2f(MPI_Comm comm) {
+    NOTE_CALLER();
+    return (MPI_Fint)(intptr_t)comm;
+}
 MPI_Comm MPI_Comm_f2c(MPI_Fint comm) {
+    NOTE_CALLER();
     int64_t number = table_number(&communicators, (uint32_t)comm);
     return (MPI_Comm)(intptr_t)(number == 0 ? comm : number);
 }

@@ -2,10 +2,14 @@
 #ifndef KOMBAZILY_COMMUNICATORS_H
 #define KOMBAZILY_COMMUNICATORS_H
 
+#include "engine.h"
 #include "mpi.h"
 
 #include <stdbool.h>
 #include <stdint.h>
+
+struct attribute;
+struct topology;
 
 /* A communicator. */
 struct communicator {
@@ -15,6 +19,16 @@ struct communicator {
     MPI_Errhandler errhandler;
     int uses; /* by the program's handle, and by operations that aren't at their end */
     char name[MPI_MAX_OBJECT_NAME];
+
+    MPI_Comm handle;              /* as the program has it; it may have freed it */
+    struct topology *topology;    /* of topologies.h, or NULL */
+    struct attribute *attributes; /* of attributes.h */
+
+    /* Of plan_places.c: the members' ranks in MPI_COMM_WORLD (NULL: they are their ranks here), the number that all
+     * members know it by, how many plans were begun in it; under an explorer the engine's communicator for them, or
+     * 0. */
+    uint16_t *members;
+    uint32_t number, plans, explored_plans;
 };
 
 /* The communicator of a handle, or NULL: there is none. */
@@ -29,6 +43,16 @@ void each_communicator(void (*visit)(const struct communicator *));
  * told to its own handler. */
 struct communicator *hold_communicator(struct communicator *comm);
 void release_communicator(struct communicator *comm);
+
+/* Enters the call of the engine that makes a communicator of another one; its error handler goes on with it. A member
+ * that isn't in the new one gets MPI_COMM_NULL. 0, or the class of an error, of which it has told the handler. */
+int make_communicator(MPI_Comm comm, const char *call, struct engine_call *entry, MPI_Comm *newcomm);
+/* The same of a copy, which has what is kept with a communicator, too (6.4.2). */
+int copy_communicator(MPI_Comm comm, const char *call, MPI_Comm *newcomm);
+/* Takes a handle away, and what is kept with its communicator. */
+void drop_communicator(MPI_Comm comm);
+/* The members of a communicator, by their ranks in MPI_COMM_WORLD, in order: NULL, and the class of an error. */
+uint16_t *members_of_communicator(MPI_Comm comm, const char *call, int *class);
 
 /* Makes MPI_COMM_WORLD and MPI_COMM_SELF, as the engine has them: 0, or the class of an error. */
 int open_communicators(void);

@@ -4,11 +4,14 @@
 
 #include <arpa/inet.h>
 #include <errno.h>
+#include <ifaddrs.h>
+#include <net/if.h>
 #include <netinet/in.h>
 #include <netinet/udp.h>
 #include <poll.h>
 #include <sched.h>
 #include <string.h>
+#include <sys/eventfd.h>
 #include <sys/resource.h>
 #include <sys/socket.h>
 #include <time.h>
@@ -46,7 +49,7 @@ union control {
     struct cmsghdr aligned;
 };
 
-static int own_socket = -1, error_of_socket;
+static int own_socket = -1, bell = -1, error_of_socket;
 static const struct addresses *addresses;
 static bool can_segment;
 
@@ -63,7 +66,7 @@ static union control heard_controls[MOST_HEARD];
 
 static struct sockaddr_in address_of(int rank) {
     return (struct sockaddr_in){.sin_family = AF_INET,
-                                .sin_port = htons((uint16_t)(addresses->first_port + rank)),
+                                .sin_port = htons(port_at(addresses, rank)),
                                 .sin_addr.s_addr = htonl(addresses->of_rank[rank])};
 }
 
@@ -78,9 +81,66 @@ static void set_options(void) {
     (void)setsockopt(own_socket, IPPROTO_UDP, UDP_GRO, &on, sizeof on);
 }
 
+bool device_own_address(uint32_t towards, uint32_t *address) {
+    struct sockaddr_in to = {.sin_family = AF_INET, .sin_port = htons(9), .sin_addr.s_addr = htonl(towards)};
+    struct sockaddr_in own;
+    socklen_t len = sizeof own;
+    int tried = socket(AF_INET, SOCK_DGRAM | SOCK_CLOEXEC, 0);
+    if (tried < 0) return false;
+    bool leads = connect(tried, (struct sockaddr *)&to, sizeof to) == 0 &&
+                 getsockname(tried, (struct sockaddr *)&own, &len) == 0;
+    int why = errno;
+    close(tried);
+    errno = why;
+    if (leads) *address = ntohl(own.sin_addr.s_addr);
+    return leads;
+}
+
+uint32_t device_any_address(void) {
+    struct ifaddrs *all;
+    struct sockaddr_in own = {.sin_addr.s_addr = htonl(LOOPBACK)};
+    if (getifaddrs(&all) != 0) return LOOPBACK;
+    for (const struct ifaddrs *it = all; it != NULL && own.sin_family != AF_INET; it = it->ifa_next) {
+        bool is_outer = (it->ifa_flags & IFF_UP) != 0 && (it->ifa_flags & IFF_LOOPBACK) == 0;
+        if (is_outer && it->ifa_addr != NULL && it->ifa_addr->sa_family == AF_INET)
+            memcpy(&own, it->ifa_addr, sizeof own);
+    }
+    freeifaddrs(all);
+    return ntohl(own.sin_addr.s_addr);
+}
+
+/* Binds the socket to a port, or to any where it is 0: whether it could. */
+static bool bind_at(uint32_t address, uint16_t port) {
+    struct sockaddr_in own = {.sin_family = AF_INET, .sin_port = htons(port), .sin_addr.s_addr = htonl(address)};
+    return bind(own_socket, (struct sockaddr *)&own, sizeof own) == 0;
+}
+
+bool device_claim(uint32_t address, uint16_t first, uint16_t last, int rank, uint16_t *port) {
+    struct sockaddr_in own;
+    socklen_t len = sizeof own;
+    int count = last - first + 1;
+    bool is_bound = false;
+    own_socket = socket(AF_INET, SOCK_DGRAM | SOCK_NONBLOCK | SOCK_CLOEXEC, 0);
+    if (own_socket < 0) return false;
+    for (int at = 0; at < count && !is_bound; at++)
+        is_bound = bind_at(address, (uint16_t)(first + (rank + at) % count));
+    if (is_bound && getsockname(own_socket, (struct sockaddr *)&own, &len) == 0) {
+        *port = ntohs(own.sin_port);
+        return true;
+    }
+    int why = errno;
+    device_close();
+    errno = why;
+    return false;
+}
+
 bool device_open(int rank, const struct addresses *job) {
     addresses = job;
     error_of_socket = 0;
+    if (device_is_open()) {
+        set_options();
+        return true;
+    }
     own_socket = socket(AF_INET, SOCK_DGRAM | SOCK_NONBLOCK | SOCK_CLOEXEC, 0);
     if (own_socket < 0) return false;
     struct sockaddr_in own = address_of(rank);
@@ -96,7 +156,8 @@ bool device_open(int rank, const struct addresses *job) {
 
 void device_close(void) {
     if (own_socket >= 0) close(own_socket);
-    own_socket = -1;
+    if (bell >= 0) close(bell);
+    own_socket = bell = -1;
     out_len = 0;
     group_count = 0;
 }
@@ -199,9 +260,9 @@ static void clear_heard(int count) {
 /* Hands over a packet, if it has bytes and was sent by a rank of the job: whether it was. */
 static bool hand_on(device_hearer *hearer, int packet) {
     const struct sockaddr_in *from = &heard_from[packet];
-    int source = rank_at(addresses, ntohl(from->sin_addr.s_addr), ntohs(from->sin_port));
     size_t len = heard[packet].msg_len;
-    if (source < 0 || len == 0) return false;
+    int source = sender_of(heard_room[packet], len);
+    if (!is_at(addresses, source, ntohl(from->sin_addr.s_addr), ntohs(from->sin_port))) return false;
     hearer(source, heard_room[packet], len, length_of_each(&heard[packet].msg_hdr, len));
     return true;
 }
@@ -220,6 +281,26 @@ bool device_hear(device_hearer *hearer) {
 void device_sleep(int milliseconds) {
     struct pollfd came = {.fd = own_socket, .events = POLLIN};
     (void)poll(&came, own_socket >= 0, milliseconds);
+}
+
+void device_open_bell(void) {
+    if (bell < 0) bell = eventfd(0, EFD_NONBLOCK | EFD_CLOEXEC);
+}
+
+void device_ring(void) {
+    const uint64_t once = 1;
+    if (write(bell, &once, sizeof once) != sizeof once) return; /* it rings already */
+}
+
+void device_await(long spin, int milliseconds) {
+    struct pollfd both[] = {{.fd = bell, .events = POLLIN}, {.fd = own_socket, .events = POLLIN}};
+    const nfds_t count = own_socket >= 0 ? 2 : 1;
+    const uint64_t until = device_nanoseconds() + (uint64_t)spin;
+    uint64_t rung;
+    int found;
+    while ((found = poll(both, count, 0)) == 0 && device_nanoseconds() < until) continue;
+    if (found == 0) (void)poll(both, count, milliseconds);
+    if (read(bell, &rung, sizeof rung) != sizeof rung) return; /* it didn't ring */
 }
 
 uint64_t device_nanoseconds(void) {

@@ -12,6 +12,15 @@
 /* Opens the socket of a rank, at its address and port alone: whether it could. `errno` says why it couldn't. The
  * addresses stay where they are while the device is open. */
 bool device_open(int rank, const struct addresses *job);
+/* The address from which datagrams to `towards` would go, by the routes of this machine: whether one leads there. No
+ * datagram goes. */
+bool device_own_address(uint32_t towards, uint32_t *address);
+/* The first address that this machine has in a network, or 127.0.0.1 where it has none. */
+uint32_t device_any_address(void);
+/* Opens a socket at an address before the others' are known, which device_open then takes: at any free port where
+ * `first` is 0, else at a free one from `first` to `last`, which is tried first at the place of the rank: whether one
+ * was free. */
+bool device_claim(uint32_t address, uint16_t first, uint16_t last, int rank, uint16_t *port);
 void device_close(void);
 bool device_is_open(void);
 
@@ -34,6 +43,14 @@ typedef void device_hearer(int source, const unsigned char *bytes, size_t len, s
 bool device_hear(device_hearer *hearer);
 /* Waits until something comes, or so many milliseconds. */
 void device_sleep(int milliseconds);
+
+/* For a program with several threads: from now on device_ring ends a wait of another thread in device_await, or the
+ * next one. That asks for so many nanoseconds whether something has come, and then sleeps for so many milliseconds at
+ * most.
+ */
+void device_open_bell(void);
+void device_ring(void);
+void device_await(long spin, int milliseconds);
 
 /* The time since some moment in the past, in nanoseconds; it never goes back. */
 uint64_t device_nanoseconds(void);

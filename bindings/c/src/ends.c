@@ -3,6 +3,7 @@
 #include "ends.h"
 
 #include "internal.h"
+#include "pmi.h"
 
 #include <stdio.h>
 #include <stdio_ext.h>
@@ -27,7 +28,12 @@ static pid_t own_process;
 
 static void tell_unfinished(int status, void *nothing) {
     (void)nothing;
-    if (status != 0 || process.phase != RUNNING || getpid() != own_process) return;
+    if (process.phase != RUNNING || getpid() != own_process) return;
+    if (status != 0) {
+        /* The launcher of a site may not look at it, and the others wait for ever. */
+        if (pmi_is_open()) fflush(NULL), pmi_abort(status);
+        return;
+    }
     fflush(stdout);
     fprintf(stderr, "rank %d: the program ended without MPI_Finalize\n", process.rank);
     end_job(MPI_ERR_OTHER);

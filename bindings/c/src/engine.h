@@ -2,9 +2,10 @@
  *
  * A rank knows no socket, no clock, no thread and no file. C tells it calls, datagrams and the time, and gets answers,
  * data and datagrams. It never waits: what isn't ready is answered ENGINE_PENDING or ENGINE_BLOCKED, and C asks again
- * once it has carried datagrams and told the time. All that MPI means is decided behind this border and proved: which
- * message a receive takes, order, collectives, communicators, resending, what is refused of what it is asked. (MPI 3.1
- * is the standard. What a program asks wrongly C tells, mostly, before it asks: checks.c.)
+ * once it has carried datagrams and told the time. Behind this border it is decided, and proved, which message a
+ * receive takes, order, the engine's collectives, communicators, resending, what is refused of what it is asked. On
+ * this side stand types, the carrying out of plans, topologies but for grids, attributes. (MPI 3.1 is the standard.
+ * What a program asks wrongly C tells, mostly, before it asks: checks.c.)
  *
  * What crosses is numbers, records of fixed size and slices of bytes. No record holds a pointer, and the rank keeps no
  * pointer to what is C's: a send's data are copied in by the call, and what came is copied out by `kombazily_take`.

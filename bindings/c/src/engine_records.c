@@ -1,7 +1,10 @@
-/* What engine.h has to be so that C and the engine speak of the same bytes: records, numbers, functions. It compiles
- * where that is so. Made by tools/c_records of the sources of c_exports, c_rank, outgoing_datagrams and vocabulary. */
+/* What engine.h and its like have to be so that C and the engine speak of the same bytes: records, numbers, functions.
+ * It compiles where that is so. Made by tools/c_records of the sources of c_exports and of the crates below it. */
 /* clang-format off */
 #include "engine.h"
+#include "engine_grids.h"
+#include "engine_plans.h"
+#include "launching.h"
 
 #define RECORD(name, bytes, alignment)                                                                                 \
     _Static_assert(sizeof(struct name) == (bytes) && _Alignof(struct name) == (alignment), #name)
@@ -57,6 +60,41 @@ FIELD(engine_outgoing, target, 16, 2);
 RECORD(engine_rank, 16, 8);
 FIELD(engine_rank, at, 0, 8);
 FIELD(engine_rank, is_held, 8, 1);
+
+RECORD(launch_way, 32, 4);
+FIELD(launch_way, kind, 0, 4);
+FIELD(launch_way, fault, 4, 4);
+FIELD(launch_way, descriptor, 8, 4);
+FIELD(launch_way, wire, 12, 4);
+FIELD(launch_way, towards, 16, 4);
+FIELD(launch_way, patience, 20, 4);
+FIELD(launch_way, rank, 24, 2);
+FIELD(launch_way, size, 26, 2);
+FIELD(launch_way, first_port, 28, 2);
+FIELD(launch_way, last_port, 30, 2);
+
+RECORD(told_place, 16, 8);
+FIELD(told_place, job, 0, 8);
+FIELD(told_place, address, 8, 4);
+FIELD(told_place, port, 12, 2);
+FIELD(told_place, has_job, 14, 1);
+
+RECORD(plan_asked, 16, 4);
+FIELD(plan_asked, kind, 0, 4);
+FIELD(plan_asked, size, 4, 4);
+FIELD(plan_asked, rank, 8, 4);
+FIELD(plan_asked, root, 12, 4);
+
+RECORD(plan_slot, 8, 4);
+FIELD(plan_slot, kind, 0, 4);
+FIELD(plan_slot, place, 4, 4);
+
+RECORD(plan_step, 32, 4);
+FIELD(plan_step, kind, 0, 4);
+FIELD(plan_step, peer, 4, 4);
+FIELD(plan_step, from, 8, 8);
+FIELD(plan_step, high, 16, 8);
+FIELD(plan_step, into, 24, 8);
 
 /* The kinds of calls. */
 NUMBER(ENGINE_ISEND, 1);
@@ -143,6 +181,46 @@ NUMBER(ENGINE_NO_SUCH_CALL, 83);
 NUMBER(ENGINE_GREATEST_LIMIT, 2147483647);
 NUMBER(ENGINE_OTHER_LIMIT, 84);
 
+/* Launchers: by which way a process has its place. */
+NUMBER(WAY_WORDS, 1);
+NUMBER(WAY_VARIABLES, 2);
+NUMBER(WAY_ALONE, 4);
+
+/* Why it has none. */
+NUMBER(FAULT_DESCRIPTOR, 1);
+NUMBER(FAULT_SIZE, 2);
+NUMBER(FAULT_RANK, 3);
+NUMBER(FAULT_ORDER, 4);
+NUMBER(FAULT_WIRE, 5);
+NUMBER(FAULT_PORTS, 6);
+NUMBER(FAULT_NETWORK, 7);
+NUMBER(FAULT_PATIENCE, 8);
+NUMBER(FAULT_SLURM, 9);
+NUMBER(FAULT_OPENMPI, 10);
+NUMBER(FAULT_PMIX, 11);
+
+/* What an answer is. */
+NUMBER(ANSWER_GIVEN, 0);
+NUMBER(ANSWER_FAILED, 1);
+NUMBER(ANSWER_OTHER, 2);
+
+/* How a launcher speaks. */
+NUMBER(WIRE_LINES, 1);
+NUMBER(WIRE_RECORDS, 2);
+
+/* Collectives that go by plans. */
+NUMBER(PLAN_ALLTOALL, 1);
+NUMBER(PLAN_ALLGATHER, 2);
+NUMBER(PLAN_REDUCE_SCATTER, 3);
+NUMBER(PLAN_SCAN, 4);
+NUMBER(PLAN_EXSCAN, 5);
+NUMBER(PLAN_GATHER, 6);
+NUMBER(PLAN_SCATTER, 7);
+NUMBER(PLAN_BROADCAST, 8);
+NUMBER(PLAN_REDUCE, 9);
+NUMBER(PLAN_ALLREDUCE, 10);
+NUMBER(PLAN_BARRIER, 11);
+
 /* The functions. */
 uint32_t kombazily_new(struct engine_rank *, const struct engine_place *);
 void kombazily_free(struct engine_rank *);
@@ -152,3 +230,18 @@ uint32_t kombazily_datagram(struct engine_rank *, const uint8_t *, size_t);
 uint32_t kombazily_tick(struct engine_rank *, uint64_t);
 size_t kombazily_next(struct engine_rank *, uint32_t, bool, struct engine_outgoing *, uint8_t *, size_t);
 bool kombazily_is_idle(struct engine_rank *);
+uint32_t kombazily_grid_places(const uint32_t *, size_t, uint32_t *);
+uint32_t kombazily_grid_rank(const uint32_t *, size_t, const bool *, size_t, const int32_t *, size_t, uint32_t *);
+uint32_t kombazily_grid_coordinates(const uint32_t *, size_t, uint32_t, uint32_t *, size_t);
+uint32_t kombazily_grid_shift(const uint32_t *, size_t, const bool *, size_t, uint32_t, size_t, int32_t, uint32_t *);
+uint32_t kombazily_grid_part(const uint32_t *, size_t, const bool *, size_t, uint32_t, uint32_t *, uint32_t *);
+uint32_t kombazily_grid_balance(uint32_t, uint32_t *, size_t);
+void kombazily_way(bool, const uint8_t *, size_t, struct launch_way *);
+size_t kombazily_word(const uint8_t *, size_t, const uint8_t *, size_t, uint32_t, uint8_t *, size_t);
+uint32_t kombazily_answer(const uint8_t *, size_t, const uint8_t *, size_t, uint32_t);
+bool kombazily_speaks(const uint8_t *, size_t, uint32_t);
+uint64_t kombazily_record_length(const uint8_t *, size_t);
+size_t kombazily_place_text(const struct told_place *, uint8_t *, size_t);
+bool kombazily_read_place(const uint8_t *, size_t, uint16_t, struct told_place *);
+uint32_t kombazily_plan(const struct plan_asked *, struct plan_step *, size_t, uint64_t *);
+uint32_t kombazily_fold(uint32_t, uint32_t, const uint8_t *, size_t, uint8_t *, size_t);

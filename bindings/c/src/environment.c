@@ -2,13 +2,22 @@
  */
 #define _GNU_SOURCE
 #include "agreement.h"
+#include "attributes.h"
 #include "device.h"
 #include "ends.h"
+#include "error_codes.h"
 #include "errors.h"
+#include "explored.h"
+#include "handlers.h"
+#include "info.h"
 #include "internal.h"
 #include "leftovers.h"
-#include "place.h"
+#include "own_operations.h"
+#include "pmi.h"
+#include "rows.h"
 #include "standstill.h"
+#include "start.h"
+#include "transfers.h"
 #include "types.h"
 #include "wait_lines.h"
 
@@ -20,26 +29,20 @@
 #include <threads.h>
 #include <unistd.h>
 
-enum { STATUS_PLACE = 2 }; /* what the launcher tells of the place is wrong */
-
 struct process process = {.size = 1, .call = "MPI_Init"};
 struct engine_rank engine;
 static struct addresses addresses;
 static thrd_t main_thread;
 
 _Noreturn void end_job(int status) {
+    int code = status & 255 ? status & 255 : 1;
     fflush(NULL);
-    _exit(status & 255 ? status & 255 : 1);
+    standstill_drop();
+    pmi_abort(code);
+    _exit(code);
 }
 
 /* ---- the beginning ---- */
-
-/* Ends a process that can't begin. */
-static _Noreturn void refuse_start(int status, const char *cause, const char *detail) {
-    fflush(stdout);
-    fprintf(stderr, "rank %d: MPI_Init: %s%s\n", process.rank, cause, detail);
-    end_job(status);
-}
 
 /* Whether a variable of the environment is 1. */
 static bool is_wanted(const char *variable) {
@@ -47,44 +50,10 @@ static bool is_wanted(const char *variable) {
     return value != NULL && strcmp(value, "1") == 0;
 }
 
-/* Takes words of the launcher out of the program's. */
-static void drop_words(int taken, int *argc, char ***argv) {
-    memmove(*argv + 1, *argv + 1 + taken, (size_t)(*argc - taken) * sizeof **argv);
-    *argc -= taken;
-}
-
-/* Where the ranks are: all on this machine, unless KOMBAZILY_HOSTS says otherwise. */
-static void find_addresses(const struct place *place) {
-    const char *hosts = getenv("KOMBAZILY_HOSTS");
-    addresses.size = (int)place->size;
-    addresses.first_port = (int)place->port;
-    put_loopback(&addresses);
-    if (hosts != NULL && !read_addresses(hosts, &addresses))
-        refuse_start(STATUS_PLACE, "its place is told wrongly: ", "KOMBAZILY_HOSTS");
-}
-
-int rank_in_environment(void) {
-    struct place place;
-    const char *fault;
-    return place_in_environment(getenv, &place, &fault) == PLACE_TOLD ? (int)place.rank : -1;
-}
-
-/* The place of this process: from words, else from the environment, else a job of it alone. */
-static void find_place(int *argc, char ***argv) {
-    struct place place = {.size = 1, .port = 1};
-    const char *fault = NULL;
-    int taken = 0;
-    enum place_source source = PLACE_NONE;
-    if (argc != NULL && argv != NULL) source = place_in_words(*argc, *argv, &place, &taken, &fault);
-    if (source == PLACE_TOLD) drop_words(taken, argc, argv);
-    if (source == PLACE_NONE) source = place_in_environment(getenv, &place, &fault);
-    if (source == PLACE_FAULTY) refuse_start(STATUS_PLACE, "its place is told wrongly: ", fault);
-    process.rank = (int)place.rank;
-    process.size = (int)place.size;
-    process.incarnation = (int)place.incarnation;
-    process.job = place.job;
-    process.patience = (long)place.patience;
-    if (source == PLACE_TOLD) find_addresses(&place);
+int first_neighbour(void) {
+    int rank = 0;
+    while (addresses.of_rank[rank] != addresses.of_rank[process.rank]) rank++;
+    return rank;
 }
 
 static void open_engine(void) {
@@ -103,27 +72,53 @@ static void open_device(void) {
     char cause[128];
     uint32_t own = addresses.of_rank[process.rank];
     snprintf(cause, sizeof cause, "%u.%u.%u.%u port %d: %s", own >> 24, own >> 16 & 255, own >> 8 & 255, own & 255,
-             addresses.first_port + process.rank, strerror(errno));
+             port_at(&addresses, process.rank), strerror(errno));
     refuse_start(STATUS_SOCKET, "no socket at ", cause);
+}
+
+/* The level of threads that a program gets (12.4.3). Under an explorer calls come one by one. */
+static int level_of(int required) {
+    const int highest = is_explored ? MPI_THREAD_SERIALIZED : MPI_THREAD_MULTIPLE;
+    return required < MPI_THREAD_SINGLE ? MPI_THREAD_SINGLE : required < highest ? required : highest;
+}
+
+/* Several threads may speak MPI from now on. All ranks of the job have asked for that: they meet, so that it is told
+ * where one has not. */
+static int open_threads(const char *call) {
+    if (process.thread_level < MPI_THREAD_MULTIPLE) return MPI_SUCCESS;
+    const struct engine_call meeting = {.kind = ENGINE_BARRIER, .communicator = ENGINE_WORLD};
+    struct engine_answer answer;
+    uint32_t number = enter_engine(&meeting, NULL, 0, &answer);
+    if (number != 0) return raise_number(MPI_COMM_WORLD, call, number);
+    threads_open();
+    return MPI_SUCCESS;
 }
 
 static int begin(const char *call, int *argc, char ***argv, int required) {
     if (process.phase != BEFORE_INIT) return raise_on(MPI_COMM_WORLD, call, MPI_ERR_OTHER, "it was called before");
-    find_place(argc, argv);
+    process.call = call;
+    find_place(argc, argv, &addresses);
+    const bool has_explorer = explored_open();
     print_by_lines();
     if (process.size > 1) watch_end();
     watch_signals();
-    standstill_open();
+    standstill_open(!has_explorer && are_together(&addresses), addresses.first_port);
     process.sends_wait = is_wanted("KOMBAZILY_SYNCHRONOUS");
     process.checks = is_wanted("KOMBAZILY_CHECK");
-    open_engine();
-    open_device();
+    if (!has_explorer) {
+        open_engine();
+        open_device();
+        await_begun();
+    }
     progress_open();
     process.phase = RUNNING;
     main_thread = thrd_current();
-    process.thread_level = required < MPI_THREAD_SERIALIZED ? required : MPI_THREAD_SERIALIZED;
+    process.thread_level = level_of(required);
     progress();
-    return open_communicators();
+    open_infos(argc == NULL ? 0 : *argc, argv == NULL ? NULL : *argv);
+    keep_place_from_children();
+    int class = open_communicators();
+    return class == MPI_SUCCESS ? open_threads(call) : class;
 }
 
 /* Answers a number, where there is somewhere to put it. */
@@ -133,14 +128,21 @@ static int put_number(const char *call, const char *name, int *into, int number)
     return class;
 }
 
-int MPI_Init(int *argc, char ***argv) { return begin("MPI_Init", argc, argv, MPI_THREAD_SINGLE); }
+int MPI_Init(int *argc, char ***argv) {
+    NOTE_CALLER();
+    return begin("MPI_Init", argc, argv, MPI_THREAD_SINGLE);
+}
 
 int MPI_Init_thread(int *argc, char ***argv, int required, int *provided) {
+    NOTE_CALLER();
     int class = begin("MPI_Init_thread", argc, argv, required);
     return class != MPI_SUCCESS ? class : put_number("MPI_Init_thread", "provided", provided, process.thread_level);
 }
 
-int MPI_Initialized(int *flag) { return put_number("MPI_Initialized", "flag", flag, process.phase != BEFORE_INIT); }
+int MPI_Initialized(int *flag) {
+    NOTE_CALLER();
+    return put_number("MPI_Initialized", "flag", flag, process.phase != BEFORE_INIT);
+}
 
 /* ---- the end ---- */
 
@@ -161,35 +163,50 @@ static void leave_job(void) {
 }
 
 int MPI_Finalize(void) {
-    static const char call[] = "MPI_Finalize";
     NOTE_CALLER();
+    static const char call[] = "MPI_Finalize";
     check_running(call);
-    if (process.checks) tell_requests();
-    cancel_requests();
-    settle_freed();
+    int left = delete_values(MPI_COMM_SELF, call);
+    if (process.checks && !is_explored) tell_requests();
+    if (is_explored) explored_finalize();
+    else abandon_requests(), settle_freed();
     int class = MPI_SUCCESS;
     if (device_is_open()) {
         class = compare_entries(call);
         leave_job();
         if (class == MPI_SUCCESS) class = tell_disagreement(call);
     }
-    if (process.checks) tell_messages();
+    if (process.checks && !is_explored) tell_messages();
     standstill_close();
     close_requests();
+    close_buffer();
     close_messages();
     close_communicators();
+    close_type_values();
     close_types();
+    close_keyvals();
+    close_handlers();
+    close_error_codes();
+    close_infos();
+    close_operations();
     device_close();
     kombazily_free(&engine);
+    pmi_close();
+    progress_close();
     process.phase = FINALIZED;
-    return class;
+    return class != MPI_SUCCESS ? class : left;
 }
 
-int MPI_Finalized(int *flag) { return put_number("MPI_Finalized", "flag", flag, process.phase == FINALIZED); }
+int MPI_Finalized(int *flag) {
+    NOTE_CALLER();
+    return put_number("MPI_Finalized", "flag", flag, process.phase == FINALIZED);
+}
 
 int MPI_Abort(MPI_Comm comm, int errorcode) {
+    NOTE_CALLER();
     (void)comm;
     fflush(stdout);
+    if (is_explored) explored_abort(errorcode);
     fprintf(stderr, "rank %d: MPI_Abort: code %d\n", process.rank, errorcode);
     end_job(errorcode);
 }
@@ -197,11 +214,13 @@ int MPI_Abort(MPI_Comm comm, int errorcode) {
 /* ---- threads ---- */
 
 int MPI_Query_thread(int *provided) {
+    NOTE_CALLER();
     check_running("MPI_Query_thread");
     return put_number("MPI_Query_thread", "provided", provided, process.thread_level);
 }
 
 int MPI_Is_thread_main(int *flag) {
+    NOTE_CALLER();
     check_running("MPI_Is_thread_main");
     return put_number("MPI_Is_thread_main", "flag", flag, thrd_equal(thrd_current(), main_thread) != 0);
 }
@@ -209,11 +228,13 @@ int MPI_Is_thread_main(int *flag) {
 /* ---- surroundings ---- */
 
 int MPI_Get_version(int *version, int *subversion) {
+    NOTE_CALLER();
     int class = put_number("MPI_Get_version", "version", version, MPI_VERSION);
     return class != MPI_SUCCESS ? class : put_number("MPI_Get_version", "subversion", subversion, MPI_SUBVERSION);
 }
 
 int MPI_Get_library_version(char *version, int *resultlen) {
+    NOTE_CALLER();
     static const char call[] = "MPI_Get_library_version";
     int class = check_result(MPI_COMM_WORLD, call, version, "version");
     if (class == MPI_SUCCESS) class = check_result(MPI_COMM_WORLD, call, resultlen, "resultlen");
@@ -224,6 +245,7 @@ int MPI_Get_library_version(char *version, int *resultlen) {
 }
 
 int MPI_Get_processor_name(char *name, int *resultlen) {
+    NOTE_CALLER();
     static const char call[] = "MPI_Get_processor_name";
     check_running(call);
     int class = check_result(MPI_COMM_WORLD, call, name, "name");
@@ -235,11 +257,18 @@ int MPI_Get_processor_name(char *name, int *resultlen) {
     return MPI_SUCCESS;
 }
 
-double MPI_Wtime(void) { return (double)device_nanoseconds() * 1e-9; }
+double MPI_Wtime(void) {
+    NOTE_CALLER();
+    return (double)(is_explored ? explored_nanoseconds() : device_nanoseconds()) * 1e-9;
+}
 
-double MPI_Wtick(void) { return 1e-9; }
+double MPI_Wtick(void) {
+    NOTE_CALLER();
+    return 1e-9;
+}
 
 int MPI_Alloc_mem(MPI_Aint size, MPI_Info info, void *baseptr) {
+    NOTE_CALLER();
     static const char call[] = "MPI_Alloc_mem";
     (void)info;
     check_running(call);
@@ -253,11 +282,13 @@ int MPI_Alloc_mem(MPI_Aint size, MPI_Info info, void *baseptr) {
 }
 
 int MPI_Free_mem(void *base) {
+    NOTE_CALLER();
     free(base);
     return MPI_SUCCESS;
 }
 
 int MPI_Pcontrol(const int level, ...) {
+    NOTE_CALLER();
     (void)level;
     return MPI_SUCCESS;
 }

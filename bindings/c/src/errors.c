@@ -1,7 +1,11 @@
 /* Errors (MPI 3.1, 8.3 and 8.4). */
 #include "errors.h"
 
+#include "error_codes.h"
+#include "explored.h"
+#include "handlers.h"
 #include "internal.h"
+#include "lines.h"
 #include "names.h"
 
 #include <stdarg.h>
@@ -68,6 +72,22 @@ static const char *const class_texts[MPI_ERR_LASTCODE + 1] = {
     [MPI_ERR_UNSUPPORTED_DATAREP] = "no such data representation",
     [MPI_ERR_UNSUPPORTED_OPERATION] = "the operation isn't supported",
     [MPI_ERR_WIN] = "invalid window",
+    [MPI_T_ERR_CANNOT_INIT] = "the interface for tools can't be begun",
+    [MPI_T_ERR_NOT_INITIALIZED] = "the interface for tools isn't begun",
+    [MPI_T_ERR_MEMORY] = "no memory",
+    [MPI_T_ERR_INVALID_INDEX] = "no such index",
+    [MPI_T_ERR_INVALID_ITEM] = "no such item",
+    [MPI_T_ERR_INVALID_HANDLE] = "invalid handle",
+    [MPI_T_ERR_OUT_OF_HANDLES] = "no handles are left",
+    [MPI_T_ERR_OUT_OF_SESSIONS] = "no sessions are left",
+    [MPI_T_ERR_INVALID_SESSION] = "invalid session",
+    [MPI_T_ERR_CVAR_SET_NOT_NOW] = "the variable can't be set now",
+    [MPI_T_ERR_CVAR_SET_NEVER] = "the variable can't be set",
+    [MPI_T_ERR_PVAR_NO_STARTSTOP] = "the variable can't be started or stopped",
+    [MPI_T_ERR_PVAR_NO_WRITE] = "the variable can't be written",
+    [MPI_T_ERR_PVAR_NO_ATOMIC] = "the variable can't be read and written at once",
+    [MPI_T_ERR_INVALID_NAME] = "no such name",
+    [MPI_T_ERR_INVALID] = "invalid use of the interface for tools",
 };
 
 /* What the numbers of the engine mean: docs/NUMBERS.md. */
@@ -101,29 +121,43 @@ const char *cause_of(uint32_t number) {
     return number != 0 && number < ENGINE_NUMBERS ? engine_numbers[number].cause : "an answer that isn't understood";
 }
 
-/* Writes the line of a fatal error, at once, so that lines of several ranks don't mix; and ends the job. */
-static _Noreturn void end_by_error(const char *call, int class, const char *cause, va_list arguments) {
+/* Writes the line of a fatal error, at once, so that lines of several ranks don't mix; and ends the job. Under the
+ * explorer the error is told there, and returned where it says so; and so is each error that a call returns. */
+static int end_by_error(bool is_returned, const char *call, int class, const char *cause, va_list arguments) {
     char text[LONGEST_CAUSE];
+    if (is_returned && !is_explored) return class;
     vsnprintf(text, sizeof text, cause, arguments);
     fflush(stdout);
-    fprintf(stderr, "rank %d: %s: %s\n", process.rank, call, text);
+    if (is_explored && explored_error(is_returned ? ASK_RETURNED : ASK_ERROR, call, class, text)) return class;
+    write_error(call, text);
     end_job(class);
+}
+
+/* Tells a communicator's handler: a function of the program's is called, and then the call returns. */
+static int tell_handler(const struct communicator *comm, const char *call, int class, const char *cause,
+                        va_list arguments) {
+    class = end_by_error(comm != NULL && comm->errhandler != MPI_ERRORS_ARE_FATAL, call, class, cause, arguments);
+    if (comm != NULL) (void)call_handler(comm, class);
+    return class;
 }
 
 int raise_on(MPI_Comm comm, const char *call, int class, const char *cause, ...) {
     const struct communicator *own = communicator_of(comm);
     if (own == NULL) own = communicator_of(MPI_COMM_WORLD);
-    if (own != NULL && own->errhandler == MPI_ERRORS_RETURN) return class;
     va_list arguments;
     va_start(arguments, cause);
-    end_by_error(call, class, cause, arguments);
+    class = tell_handler(own, call, class, cause, arguments);
+    va_end(arguments);
+    return class;
 }
 
 int raise_in(const struct communicator *comm, const char *call, int class, const char *cause, ...) {
-    if (comm->errhandler == MPI_ERRORS_RETURN) return class;
+    if (comm == NULL) comm = communicator_of(MPI_COMM_WORLD);
     va_list arguments;
     va_start(arguments, cause);
-    end_by_error(call, class, cause, arguments);
+    class = tell_handler(comm, call, class, cause, arguments);
+    va_end(arguments);
+    return class;
 }
 
 int raise_number(MPI_Comm comm, const char *call, uint32_t number) {
@@ -135,74 +169,36 @@ int raise_limited(MPI_Comm comm, const char *call, uint32_t number, const char *
     return raise_on(comm, call, class_of(number), "%s (%u)", limit, (unsigned)number);
 }
 
-int MPI_Error_class(int errorcode, int *errorclass) {
-    check_running("MPI_Error_class");
-    int class = check_result(MPI_COMM_WORLD, "MPI_Error_class", errorclass, "errorclass");
-    if (class != MPI_SUCCESS) return class;
-    if (errorcode < 0 || errorcode > MPI_ERR_LASTCODE)
-        return raise_on(MPI_COMM_WORLD, "MPI_Error_class", MPI_ERR_ARG, "no such error code: %d", errorcode);
-    *errorclass = errorcode;
+/* The class of a code, and what it means: 0, or the class of an error. */
+static int look_up(const char *call, int code, int *class, const char **text) {
+    if (find_added(code, class, text)) return MPI_SUCCESS;
+    if (code < 0 || code > MPI_ERR_LASTCODE)
+        return raise_on(MPI_COMM_WORLD, call, MPI_ERR_ARG, "no such error code: %d", code);
+    *class = code;
+    *text = class_texts[code];
     return MPI_SUCCESS;
+}
+
+int MPI_Error_class(int errorcode, int *errorclass) {
+    NOTE_CALLER();
+    static const char call[] = "MPI_Error_class";
+    const char *text;
+    check_running(call);
+    int class = check_result(MPI_COMM_WORLD, call, errorclass, "errorclass");
+    return class != MPI_SUCCESS ? class : look_up(call, errorcode, errorclass, &text);
 }
 
 int MPI_Error_string(int errorcode, char *string, int *resultlen) {
-    const char *call = "MPI_Error_string";
+    NOTE_CALLER();
+    static const char call[] = "MPI_Error_string";
+    const char *text = "";
+    int of_code;
     check_running(call);
     int class = check_result(MPI_COMM_WORLD, call, string, "string");
     if (class == MPI_SUCCESS) class = check_result(MPI_COMM_WORLD, call, resultlen, "resultlen");
+    if (class == MPI_SUCCESS) class = look_up(call, errorcode, &of_code, &text);
     if (class != MPI_SUCCESS) return class;
-    if (errorcode < 0 || errorcode > MPI_ERR_LASTCODE)
-        return raise_on(MPI_COMM_WORLD, call, MPI_ERR_ARG, "no such error code: %d", errorcode);
-    *resultlen = copy_name(string, class_texts[errorcode]);
-    return MPI_SUCCESS;
-}
-
-static bool is_errhandler(MPI_Errhandler handler) {
-    return handler == MPI_ERRORS_ARE_FATAL || handler == MPI_ERRORS_RETURN;
-}
-
-static int set_errhandler(const char *call, MPI_Comm comm, MPI_Errhandler errhandler) {
-    struct communicator *own;
-    check_running(call);
-    int class = check_comm(comm, call, &own);
-    if (class != MPI_SUCCESS) return class;
-    if (!is_errhandler(errhandler)) return raise_on(comm, call, MPI_ERR_ARG, "no such error handler");
-    own->errhandler = errhandler;
-    return MPI_SUCCESS;
-}
-
-static int get_errhandler(const char *call, MPI_Comm comm, MPI_Errhandler *errhandler) {
-    struct communicator *own;
-    check_running(call);
-    int class = check_comm(comm, call, &own);
-    if (class == MPI_SUCCESS) class = check_result(comm, call, errhandler, "errhandler");
-    if (class == MPI_SUCCESS) *errhandler = own->errhandler;
-    return class;
-}
-
-int MPI_Comm_set_errhandler(MPI_Comm comm, MPI_Errhandler errhandler) {
-    return set_errhandler("MPI_Comm_set_errhandler", comm, errhandler);
-}
-
-int MPI_Comm_get_errhandler(MPI_Comm comm, MPI_Errhandler *errhandler) {
-    return get_errhandler("MPI_Comm_get_errhandler", comm, errhandler);
-}
-
-int MPI_Errhandler_set(MPI_Comm comm, MPI_Errhandler errhandler) {
-    return set_errhandler("MPI_Errhandler_set", comm, errhandler);
-}
-
-int MPI_Errhandler_get(MPI_Comm comm, MPI_Errhandler *errhandler) {
-    return get_errhandler("MPI_Errhandler_get", comm, errhandler);
-}
-
-int MPI_Errhandler_free(MPI_Errhandler *errhandler) {
-    check_running("MPI_Errhandler_free");
-    int class = check_result(MPI_COMM_WORLD, "MPI_Errhandler_free", errhandler, "errhandler");
-    if (class != MPI_SUCCESS) return class;
-    if (!is_errhandler(*errhandler))
-        return raise_on(MPI_COMM_WORLD, "MPI_Errhandler_free", MPI_ERR_ARG, "no such error handler");
-    /* What MPI_Comm_get_errhandler gave is to be freed; the predefined handlers stay. */
-    *errhandler = MPI_ERRHANDLER_NULL;
+    *resultlen = (int)strlen(text);
+    memcpy(string, text, strlen(text) + 1);
     return MPI_SUCCESS;
 }

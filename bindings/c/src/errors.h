@@ -13,7 +13,7 @@
  * and ends the job with the class as its status. The cause is a format as for printf. */
 int raise_on(MPI_Comm comm, const char *call, int class, const char *cause, ...) __attribute__((format(printf, 4, 5)));
 
-/* The same of a communicator itself, which the program may have freed. */
+/* The same of a communicator itself, which the program may have freed; NULL is that of MPI_COMM_WORLD. */
 int raise_in(const struct communicator *comm, const char *call, int class, const char *cause, ...)
     __attribute__((format(printf, 4, 5)));
 
@@ -43,6 +43,8 @@ int check_root(MPI_Comm comm, const char *call, const struct communicator *in, i
 /* A tag is 0 or more; that of a receive may be MPI_ANY_TAG, too. */
 int check_tag(MPI_Comm comm, const char *call, int tag);
 int check_receive_tag(MPI_Comm comm, const char *call, int tag);
+/* A function of the program's is there. */
+int check_function(const char *call, bool is_there);
 /* What a call answers in isn't NULL. */
 int check_result(MPI_Comm comm, const char *call, const void *result, const char *name);
 

@@ -6,7 +6,7 @@
 #include <stdbool.h>
 #include <string.h>
 
-/* The bytes of a long double that have its value: the others are the first operand's. */
+/* The bytes of a long double that have its value. */
 #if LDBL_MANT_DIG == 64
 enum { VALUE_BYTES = 10 };
 #else
@@ -40,13 +40,22 @@ static long double combine(enum engine_operation operation, long double a, long 
     }
 }
 
-void fold_long_doubles(enum engine_operation operation, void *all, const void *next, size_t count) {
-    for (size_t at = 0; at < count; at++) {
-        unsigned char *own = (unsigned char *)all + at * sizeof(long double);
+/* Folds two rows into one of them: bytes of a long double that have no value are those that stood there. */
+static void fold_rows_into(enum engine_operation operation, const unsigned char *low, const unsigned char *high,
+                           unsigned char *into, size_t count) {
+    for (size_t at = 0; at < count * sizeof(long double); at += sizeof(long double)) {
         long double a, b;
-        memcpy(&a, own, sizeof a);
-        memcpy(&b, (const unsigned char *)next + at * sizeof b, sizeof b);
+        memcpy(&a, low + at, sizeof a);
+        memcpy(&b, high + at, sizeof b);
         a = combine(operation, a, b);
-        memcpy(own, &a, VALUE_BYTES);
+        memcpy(into + at, &a, VALUE_BYTES);
     }
+}
+
+void fold_long_doubles(enum engine_operation operation, void *all, const void *next, size_t count) {
+    fold_rows_into(operation, all, next, all, count);
+}
+
+void fold_long_doubles_into(enum engine_operation operation, const void *low, void *high, size_t count) {
+    fold_rows_into(operation, low, high, high, count);
 }

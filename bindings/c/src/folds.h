@@ -11,4 +11,7 @@
  * than 0. Addresses needn't be aligned. */
 void fold_long_doubles(enum engine_operation operation, void *all, const void *next, size_t count);
 
+/* The same where the result goes into the second row. */
+void fold_long_doubles_into(enum engine_operation operation, const void *low, void *high, size_t count);
+
 #endif

@@ -62,7 +62,15 @@ static int check_group(const char *call, MPI_Group handle, struct group **found)
     return raise_on(MPI_COMM_WORLD, call, MPI_ERR_GROUP, "%s", cause);
 }
 
+int check_members(const char *call, MPI_Group group, struct members *members) {
+    struct group *own;
+    int class = check_group(call, group, &own);
+    if (class == MPI_SUCCESS) *members = members_of(own);
+    return class;
+}
+
 int MPI_Group_size(MPI_Group group, int *size) {
+    NOTE_CALLER();
     struct group *own;
     int class = check_group("MPI_Group_size", group, &own);
     if (class == MPI_SUCCESS) class = check_result(MPI_COMM_WORLD, "MPI_Group_size", size, "size");
@@ -71,6 +79,7 @@ int MPI_Group_size(MPI_Group group, int *size) {
 }
 
 int MPI_Group_rank(MPI_Group group, int *rank) {
+    NOTE_CALLER();
     struct group *own;
     int class = check_group("MPI_Group_rank", group, &own);
     if (class == MPI_SUCCESS) class = check_result(MPI_COMM_WORLD, "MPI_Group_rank", rank, "rank");
@@ -79,6 +88,7 @@ int MPI_Group_rank(MPI_Group group, int *rank) {
 }
 
 int MPI_Group_translate_ranks(MPI_Group group1, int n, const int ranks1[], MPI_Group group2, int ranks2[]) {
+    NOTE_CALLER();
     const char *call = "MPI_Group_translate_ranks";
     struct group *first, *second;
     int class = check_group(call, group1, &first);
@@ -101,6 +111,7 @@ int MPI_Group_translate_ranks(MPI_Group group1, int n, const int ranks1[], MPI_G
 }
 
 int MPI_Group_compare(MPI_Group group1, MPI_Group group2, int *result) {
+    NOTE_CALLER();
     const char *call = "MPI_Group_compare";
     struct group *first, *second;
     int class = check_group(call, group1, &first);
@@ -129,20 +140,25 @@ static int combine(const char *call, MPI_Group group1, MPI_Group group2,
 }
 
 int MPI_Group_union(MPI_Group group1, MPI_Group group2, MPI_Group *newgroup) {
+    NOTE_CALLER();
     return combine("MPI_Group_union", group1, group2, join_members, newgroup);
 }
 
 int MPI_Group_intersection(MPI_Group group1, MPI_Group group2, MPI_Group *newgroup) {
+    NOTE_CALLER();
     return combine("MPI_Group_intersection", group1, group2, common_members, newgroup);
 }
 
 int MPI_Group_difference(MPI_Group group1, MPI_Group group2, MPI_Group *newgroup) {
+    NOTE_CALLER();
     return combine("MPI_Group_difference", group1, group2, other_members, newgroup);
 }
 
+/* What a list of a group's ranks makes of it. */
+typedef int choice(struct members, const int *, int, uint16_t *);
+
 /* Makes a group of another one and a list of its ranks by a function of both. */
-static int choose(const char *call, MPI_Group group, int n, const int ranks[],
-                  int (*make)(struct members, const int *, int, uint16_t *), MPI_Group *newgroup) {
+static int choose(const char *call, MPI_Group group, int n, const int ranks[], choice *make, MPI_Group *newgroup) {
     struct group *own;
     int class = check_group(call, group, &own);
     if (class == MPI_SUCCESS) class = check_count(MPI_COMM_WORLD, call, n);
@@ -162,14 +178,58 @@ static int choose(const char *call, MPI_Group group, int n, const int ranks[],
 }
 
 int MPI_Group_incl(MPI_Group group, int n, const int ranks[], MPI_Group *newgroup) {
+    NOTE_CALLER();
     return choose("MPI_Group_incl", group, n, ranks, members_at, newgroup);
 }
 
 int MPI_Group_excl(MPI_Group group, int n, const int ranks[], MPI_Group *newgroup) {
+    NOTE_CALLER();
     return choose("MPI_Group_excl", group, n, ranks, members_but, newgroup);
 }
 
+/* Checks a range of ranks: a first and a last one of the group, and a stride that leads from the one to the other. */
+static int check_range(const char *call, int size, const int range[3]) {
+    const int first = range[0], last = range[1], stride = range[2];
+    if (first < 0 || first >= size || last < 0 || last >= size)
+        return raise_on(MPI_COMM_WORLD, call, MPI_ERR_RANK, "ranks %d to %d of a group of %d", first, last, size);
+    if (stride == 0 || (first < last && stride < 0) || (first > last && stride > 0))
+        return raise_on(MPI_COMM_WORLD, call, MPI_ERR_ARG, "ranks %d to %d by a stride of %d", first, last, stride);
+    return MPI_SUCCESS;
+}
+
+/* Makes a group of another one and ranges of its ranks: of the list that they stand for (6.3.2). */
+static int choose_ranges(const char *call, MPI_Group group, int n, int ranges[][3], choice *make, MPI_Group *newgroup) {
+    struct group *own;
+    int class = check_group(call, group, &own), count = 0;
+    if (class == MPI_SUCCESS) class = check_count(MPI_COMM_WORLD, call, n);
+    if (class == MPI_SUCCESS && n > 0) class = check_result(MPI_COMM_WORLD, call, ranges, "ranges");
+    for (int at = 0; class == MPI_SUCCESS && at < n; at++) class = check_range(call, own->size, ranges[at]);
+    if (class != MPI_SUCCESS) return class;
+    /* One more than there are ranks: then one of them stands twice in the list, which is told. */
+    int *ranks = calloc((size_t)own->size + 1, sizeof *ranks);
+    if (ranks == NULL) return raise_on(MPI_COMM_WORLD, call, MPI_ERR_NO_MEM, "no memory for a group");
+    for (int at = 0; at < n; at++) {
+        const int steps = (ranges[at][1] - ranges[at][0]) / ranges[at][2];
+        for (int step = 0; step <= steps && count <= own->size; step++)
+            ranks[count++] = ranges[at][0] + step * ranges[at][2];
+    }
+    class = choose(call, group, count, ranks, make, newgroup);
+    free(ranks);
+    return class;
+}
+
+int MPI_Group_range_incl(MPI_Group group, int n, int ranges[][3], MPI_Group *newgroup) {
+    NOTE_CALLER();
+    return choose_ranges("MPI_Group_range_incl", group, n, ranges, members_at, newgroup);
+}
+
+int MPI_Group_range_excl(MPI_Group group, int n, int ranges[][3], MPI_Group *newgroup) {
+    NOTE_CALLER();
+    return choose_ranges("MPI_Group_range_excl", group, n, ranges, members_but, newgroup);
+}
+
 int MPI_Group_free(MPI_Group *group) {
+    NOTE_CALLER();
     const char *call = "MPI_Group_free";
     struct group *own;
     check_running(call);
@@ -180,4 +240,16 @@ int MPI_Group_free(MPI_Group *group) {
     if (own != &empty) free(table_remove(&groups, (intptr_t)*group));
     *group = MPI_GROUP_NULL;
     return MPI_SUCCESS;
+}
+
+/* Handles as Fortran has them (17.2.4). */
+MPI_Fint MPI_Group_c2f(MPI_Group group) {
+    NOTE_CALLER();
+    return (MPI_Fint)(intptr_t)group;
+}
+
+MPI_Group MPI_Group_f2c(MPI_Fint group) {
+    NOTE_CALLER();
+    int64_t number = table_number(&groups, (uint32_t)group);
+    return (MPI_Group)(intptr_t)(number == 0 ? group : number);
 }

@@ -1,54 +1,68 @@
-/* Where the data of a type stand in memory, and how they are put in a row: pure functions of their arguments. */
+/* Type maps (MPI 3.1, 4.1.1 to 4.1.8), but for their basic types: where the data of an item stand in memory, what its
+ * bounds are, and how its data are put in a row. Pure functions of their arguments. */
 #ifndef KOMBAZILY_LAYOUTS_H
 #define KOMBAZILY_LAYOUTS_H
 
 #include <stdbool.h>
 #include <stddef.h>
+#include <stdint.h>
 
-/* The same data at several places: `count` of them, the first one `at`, seen from the item's address, each `stride`
- * bytes from the one before it. A place has `length` bytes one behind the other, or what is nested. */
+/* `count` pieces of data, the first one `at`, seen from the item's address, each `stride` bytes behind the one before
+ * it. A piece has `length` bytes of data: one row where there is no body, else those of the body's runs, seen from the
+ * piece's address. A body has two pieces at least, so bodies are no deeper in one another than a size has bits. */
 struct run {
     ptrdiff_t at;
+    size_t length;
     size_t count;
     ptrdiff_t stride;
-    size_t length;
-    struct runs *nested; /* or NULL */
+    struct runs *body; /* or NULL */
 };
 
-/* Runs in the order in which the data go; none is empty. What is nested is so for two places at least, so that it is
- * nested no deeper than a size has bits. */
+/* Runs in the order in which the data go; none is empty. Layouts that are made of one another share them. */
 struct runs {
-    size_t uses; /* by layouts, and by the runs that it is nested in */
+    size_t uses; /* by layouts, and as bodies */
     size_t count;
+    ptrdiff_t low, high; /* the data stand from byte `low` up to `high` */
+    size_t rows;         /* of which they are, where no run has a body; else 0 */
     struct run *list;
 };
 
-/* Where the data of one item stand. */
+/* A type map, but for its basic types. */
 struct layout {
-    size_t size;       /* bytes of data */
-    ptrdiff_t lower;   /* the lower bound */
-    ptrdiff_t extent;  /* from one item to the next */
-    struct runs *runs; /* NULL where there are no data */
+    size_t size;                      /* bytes of data */
+    ptrdiff_t lower, extent;          /* the lower bound; from one item to the next (4.1.6) */
+    ptrdiff_t true_lower, true_upper; /* the bounds of the data alone (4.1.8) */
+    bool has_lower, has_upper;        /* whether the map has markers of this bound (4.1.7) */
+    size_t alignment;                 /* the greatest of its basic types */
+    struct runs *runs;                /* NULL where there are no data */
 };
 
-/* How making a layout ended. */
+/* How making a layout ended. Bounds and sizes of 2^62 bytes and more are too large. */
 enum layout_end { LAYOUT_MADE, LAYOUT_TOO_LARGE, LAYOUT_NO_MEMORY };
 
-/* Blocks of items: `length` of them from the item `at` on, counted in extents of the item. */
-struct block {
-    int length;
-    ptrdiff_t at;
+/* A layout while it is made: copies of items are added one behind the other. */
+struct making {
+    enum layout_end end;
+    struct layout made;
+    ptrdiff_t upper; /* where it has a marker of the upper bound */
+    size_t room;     /* runs that it has memory for; 0: its runs are an item's, too */
 };
-
-/* The layout of one element of so many bytes. */
-enum layout_end layout_of_element(size_t size, struct layout *made);
-
-/* The layout of blocks of items (4.1.2): in order. It is the caller's, to be freed by layout_free. */
-enum layout_end layout_of_blocks(const struct layout *item, const struct block *blocks, size_t count,
-                                 struct layout *made);
-/* That of `count` blocks of so many items each, `stride` extents of the item from one to the next; not below 0. */
-enum layout_end layout_of_vector(const struct layout *item, int count, int length, int stride, struct layout *made);
+void making_begin(struct making *making);
+/* So many copies of an item, the first one moved by `at` bytes, each further one by `stride` bytes more. */
+void making_add(struct making *making, const struct layout *item, ptrdiff_t at, size_t count, ptrdiff_t stride);
+/* So many blocks, the first one at `at`, each further one `stride` bytes on: each is `length` items in a row. */
+void making_add_blocks(struct making *making, const struct layout *item, ptrdiff_t at, size_t count, size_t length,
+                       ptrdiff_t stride);
+/* Sets markers of both bounds in place of those that there are. */
+void making_bound(struct making *making, ptrdiff_t lower, ptrdiff_t extent);
+/* The layout is the caller's, to be freed by layout_free, where it was made; else there is nothing to be freed. */
+enum layout_end making_end(struct making *making, struct layout *made);
 void layout_free(struct layout *layout);
+
+/* The product and the sum of two numbers, where they are below 2^62 in amount: then neither bounds nor places overflow.
+ */
+bool bytes_product(ptrdiff_t first, ptrdiff_t second, ptrdiff_t *made);
+bool bytes_sum(ptrdiff_t first, ptrdiff_t second, ptrdiff_t *made);
 
 /* Whether so many items have their data in one row in memory, without gaps. */
 bool is_row(const struct layout *layout, size_t items);
@@ -59,18 +73,20 @@ size_t data_size(const struct layout *layout, size_t items);
 /* Puts the data of so many items in a row. */
 void pack(const struct layout *layout, const void *items, size_t count, unsigned char *row);
 
-/* Puts the first bytes of a row where they belong; what they don't reach is as it was. */
+/* Puts the first bytes of a row where they belong, in their order; what they don't reach is as it was. */
 void unpack(const struct layout *layout, const unsigned char *row, size_t length, void *items);
+
+/* An address that lies so many bytes further on. Items may begin at MPI_BOTTOM, which is no object's address. */
+static inline void *further(const void *address, ptrdiff_t by) { return (void *)((uintptr_t)address + (uintptr_t)by); }
 
 /* Where the data of items are that stand in a row, and where they are put: the address of their first byte. */
 static inline void *row_of(const struct layout *layout, const void *items) {
-    return layout->runs == NULL ? (void *)items : (char *)items + layout->runs->list[0].at;
+    return layout->runs == NULL ? (void *)items : further(items, layout->runs->list[0].at);
 }
 
 /* The address of an item among those that begin at an address, which may be NULL where the item has no data. */
 static inline void *item_at(const struct layout *layout, const void *items, size_t number) {
-    ptrdiff_t offset = (ptrdiff_t)number * layout->extent;
-    return offset == 0 ? (void *)items : (char *)items + offset;
+    return further(items, (ptrdiff_t)(number * (size_t)layout->extent));
 }
 
 /* The row of so many items' data: the items themselves where they are one, else room that is to be freed behind its

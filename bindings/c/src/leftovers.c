@@ -22,16 +22,8 @@ static void tell_others(int found, const char *what) {
 
 static void tell_request(struct request *request) {
     struct line line = begun_line();
-    if (request->kind == REQUEST_MATCHED) {
-        add_text(&line, "no call ended this receive: a message that was taken out in ");
-        add_comm(&line, request->comm);
-    } else if (request->kind == REQUEST_RECEIVE) {
-        add_text(&line, "no call ended this receive: ");
-        add_message(&line, request->comm, request->peer, request->tag);
-    } else {
-        add_text(&line, "no call ended this send: ");
-        add_send(&line, request);
-    }
+    add_text(&line, "no call ended this ");
+    request->kind->say_left(&line, request);
     add_source(&line, request->caller);
     write_line(&line);
 }
@@ -40,7 +32,7 @@ void tell_requests(void) {
     int found = 0;
     for (int at = 0; at < request_places(); at++) {
         struct request *it = request_at(at);
-        if (it != NULL && ++found <= MOST_TOLD) tell_request(it);
+        if (it != NULL && !it->is_inactive && ++found <= MOST_TOLD) tell_request(it);
     }
     tell_others(found, "requests");
 }

@@ -1,10 +1,16 @@
 /* Lines that the library writes of messages, requests and communicators: see lines.h. */
+#define _GNU_SOURCE
 #include "lines.h"
 
+#include "explored.h"
 #include "where.h"
 
+#include <signal.h>
 #include <stdarg.h>
 #include <stdio.h>
+
+/* Of these all may look for the line of their call at once: they are given little time. */
+enum { MOST_WITH_SOURCE = 64 };
 
 void add_text(struct line *line, const char *form, ...) {
     size_t room = sizeof line->text - line->length;
@@ -42,17 +48,16 @@ static int rank_in_world(const struct communicator *comm, int member) {
     uint16_t rank = 0;
     ask_engine(&(struct engine_call){.kind = ENGINE_MEMBERS, .communicator = comm->place}, NULL, 0, &answer);
     if (answer.kind != ENGINE_FACT) return member;
-    kombazily_take(&engine, (uint64_t)member, (uint8_t *)&rank, sizeof rank);
+    take_from_engine((uint64_t)member, (uint8_t *)&rank, sizeof rank);
     return rank;
 }
 
-static void add_rank(struct line *line, const struct communicator *comm, int member) {
+void add_rank(struct line *line, const struct communicator *comm, int member) {
     if (member == MPI_PROC_NULL) add_text(line, "MPI_PROC_NULL");
     else add_text(line, "rank %d", rank_in_world(comm, member));
 }
 
-/* With which tag, in which communicator, and which number the rank has there. */
-static void add_place(struct line *line, const struct communicator *comm, int member, int tag) {
+void add_place(struct line *line, const struct communicator *comm, int member, int tag) {
     if (tag == MPI_ANY_TAG) add_text(line, " with any tag in ");
     else add_text(line, " with tag %d in ", tag);
     add_comm(line, comm);
@@ -70,23 +75,7 @@ void add_message(struct line *line, const struct communicator *comm, int source,
 
 void add_request(struct line *line, struct request *request) {
     if (request->other != NULL && request->is_ended) request = request->other;
-    if (request->kind == REQUEST_MATCHED) {
-        add_text(line, "the data of its message");
-        return;
-    }
-    if (request->kind == REQUEST_RECEIVE) {
-        add_message(line, request->comm, request->peer, request->tag);
-        return;
-    }
-    add_rank(line, request->comm, request->peer);
-    add_text(line, " to receive %zu bytes", request->room);
-    add_place(line, request->comm, request->peer, request->tag);
-}
-
-void add_send(struct line *line, const struct request *request) {
-    add_text(line, "%zu bytes to ", request->room);
-    add_rank(line, request->comm, request->peer);
-    add_place(line, request->comm, request->peer, request->tag);
+    request->kind->say_wait(line, request);
 }
 
 void add_source(struct line *line, const void *caller) {
@@ -95,7 +84,26 @@ void add_source(struct line *line, const void *caller) {
     add_text(line, "%s", source);
 }
 
+void add_call_source(struct line *line) {
+    /* An explorer tells lines itself. */
+    if (!is_explored && process.size <= MOST_WITH_SOURCE) add_source(line, process.caller);
+}
+
 void write_line(const struct line *line) {
     fflush(stdout);
     fprintf(stderr, "%s\n", line->text);
+}
+
+/* Where another rank's error ends the job meanwhile, its signal comes behind the line. */
+void write_error(const char *call, const char *text) {
+    struct line line = {.length = 0};
+    sigset_t ends, before;
+    sigemptyset(&ends);
+    sigaddset(&ends, SIGTERM);
+    sigaddset(&ends, SIGINT);
+    pthread_sigmask(SIG_BLOCK, &ends, &before);
+    add_text(&line, "rank %d: %s: %s", process.rank, call, text);
+    add_call_source(&line);
+    write_line(&line);
+    pthread_sigmask(SIG_SETMASK, &before, NULL);
 }

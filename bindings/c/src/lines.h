@@ -25,16 +25,25 @@ void add_comm(struct line *line, const struct communicator *comm);
 /* `a message of rank 1 with tag 5 in MPI_COMM_WORLD`: the source and the tag as a receive names them. */
 void add_message(struct line *line, const struct communicator *comm, int source, int tag);
 
+/* A member of a communicator: `rank 1`, or MPI_PROC_NULL. */
+void add_rank(struct line *line, const struct communicator *comm, int member);
+
+/* ` with tag 5 in 'row', where it is rank 0`: the tag, the communicator, and which number the member has there. */
+void add_place(struct line *line, const struct communicator *comm, int member, int tag);
+
 /* What a request is for: a message, or `rank 1 to receive 40 bytes with tag 5 in MPI_COMM_WORLD`. */
 void add_request(struct line *line, struct request *request);
-
-/* What a send sends: `40 bytes to rank 1 with tag 5 in MPI_COMM_WORLD`. */
-void add_send(struct line *line, const struct request *request);
 
 /* ` (ring.c:14)`, of the call of MPI that returns there, where that can be told. */
 void add_source(struct line *line, const void *caller);
 
+/* The same of the call that the program made last, in a job of at most 64 ranks: they may all look at once. */
+void add_call_source(struct line *line);
+
 /* Writes it on standard error, behind what the program has printed. */
 void write_line(const struct line *line);
+
+/* Writes the line of an error that ends the job: `rank 1: MPI_Recv: TEXT (ring.c:14)`. */
+void write_error(const char *call, const char *text);
 
 #endif

@@ -25,6 +25,7 @@ static void receive_first(struct engine_answer *answer) {
 }
 
 bool is_engine_free(void) {
+    if (is_engine_in_collective()) return false;
     while (first != NULL) {
         struct engine_answer answer;
         receive_first(&answer);
@@ -32,6 +33,7 @@ bool is_engine_free(void) {
         struct request *ended = first;
         first = ended->behind;
         end_request(ended, &answer);
+        note_news();
     }
     return true;
 }

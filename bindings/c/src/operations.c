@@ -21,9 +21,11 @@ bool is_defined_on(enum engine_operation operation, enum family family) {
     switch (operation) {
     case ENGINE_MAX:
     case ENGINE_MIN:
+        return family == FAMILY_INTEGER || family == FAMILY_FLOATING || family == FAMILY_ADDRESS;
     case ENGINE_SUM:
     case ENGINE_PROD:
-        return family == FAMILY_INTEGER || family == FAMILY_FLOATING || family == FAMILY_ADDRESS;
+        return family == FAMILY_INTEGER || family == FAMILY_FLOATING || family == FAMILY_ADDRESS ||
+               family == FAMILY_COMPLEX;
     case ENGINE_LAND:
     case ENGINE_LOR:
     case ENGINE_LXOR:

@@ -2,33 +2,18 @@
  * the engine decides; here arguments become its calls. */
 #include "errors.h"
 #include "internal.h"
+#include "transfers.h"
 #include "types.h"
 
 #include <stdlib.h>
-
-/* What is sent or received, as a call was given it. */
-struct argument {
-    const char *call;
-    void *buf;
-    int count;
-    MPI_Datatype type;
-    int rank;
-    int tag;
-    MPI_Comm comm;
-};
-
-/* What handles stand for. */
-struct found {
-    struct communicator *comm;
-    struct datatype *type;
-};
 
 /* ---- beginning ---- */
 
 uint32_t begin_send(struct request *request, struct communicator *comm, bool is_synchronous, const void *buf, int count,
                     const struct datatype *type, int target, int tag) {
-    *request = (struct request){.kind = REQUEST_SEND, .comm = comm, .peer = target, .tag = tag};
+    *request = (struct request){.kind = &send_kind, .comm = comm, .peer = target, .tag = tag};
     request->caller = process.caller;
+    request->age = next_age();
     if (target == MPI_PROC_NULL) count = 0; /* its data go nowhere (3.11) */
     size_t len = data_size(&type->layout, (size_t)count);
     /* The engine refuses it, too, but behind a copy. */
@@ -47,6 +32,7 @@ uint32_t begin_send(struct request *request, struct communicator *comm, bool is_
     free(room);
     request->own = answer.request;
     if (answer.kind != ENGINE_STARTED) return answer.number;
+    if (target == comm->rank) note_news();
     progress_out();
     return 0;
 }
@@ -54,8 +40,9 @@ uint32_t begin_send(struct request *request, struct communicator *comm, bool is_
 uint32_t begin_receive(struct request *request, struct communicator *comm, void *buf, int count, struct datatype *type,
                        int source, int tag) {
     *request = (struct request){
-        .kind = REQUEST_RECEIVE, .comm = comm, .peer = source, .tag = tag, .buf = buf, .element = type->of};
+        .kind = &receive_kind, .comm = comm, .peer = source, .tag = tag, .buf = buf, .element = type->of};
     request->caller = process.caller;
+    request->age = next_age();
     request->room = data_size(&type->layout, (size_t)count);
     const struct engine_call receive = {.kind = ENGINE_IRECV,
                                         .communicator = comm->place,
@@ -69,58 +56,64 @@ uint32_t begin_receive(struct request *request, struct communicator *comm, void 
     call_engine(&receive, NULL, 0, &answer);
     request->own = answer.request;
     if (answer.kind != ENGINE_STARTED) return answer.number;
+    if (source == comm->rank || source == MPI_ANY_SOURCE) note_news();
     request->type = type;
     hold_type(type);
     progress_out();
     return 0;
 }
 
+int tell_number(const struct communicator *comm, const char *call, uint32_t number) {
+    if (number == 0) return MPI_SUCCESS;
+    const char *cause = number == NUMBER_LIMIT ? LIMIT_OF_REQUESTS : cause_of(number);
+    return raise_in(comm, call, class_of(number), "%s (%u)", cause, (unsigned)number);
+}
+
+int begin_transfer(const char *call, const struct transfer *it, struct request *request) {
+    if (it->kind == TRANSFER_BUFFERED) return begin_buffered(call, it, request);
+    if (it->kind == TRANSFER_RECEIVE)
+        return tell_number(it->comm, call,
+                           begin_receive(request, it->comm, it->buf, it->count, it->type, it->peer, it->tag));
+    bool is_synchronous = it->kind == TRANSFER_SYNCHRONOUS;
+    uint32_t number = begin_send(request, it->comm, is_synchronous || process.sends_wait, it->buf, it->count, it->type,
+                                 it->peer, it->tag);
+    return tell_number(it->comm, call, number);
+}
+
 /* ---- checks ---- */
 
-/* What a send and a receive have in common: 0, or the class of the error, of which was told. */
-static int check_argument(const struct argument *it, struct found *found) {
+int check_transfer(const struct argument *it, enum transfer_kind kind, struct transfer *made) {
+    struct communicator *comm;
+    struct datatype *type;
     check_running(it->call);
-    int class = check_comm(it->comm, it->call, &found->comm);
+    int class = check_comm(it->comm, it->call, &comm);
     if (class == 0) class = check_count(it->comm, it->call, it->count);
-    if (class == 0) class = check_type(it->comm, it->call, it->type, &found->type);
-    if (class == 0) class = check_buffer(it->comm, it->call, it->buf, it->count, found->type);
+    if (class == 0) class = check_type(it->comm, it->call, it->type, &type);
+    if (class == 0) class = check_buffer(it->comm, it->call, it->buf, it->count, type);
+    bool is_receive = kind == TRANSFER_RECEIVE;
+    if (class == 0) class = (is_receive ? check_source : check_target)(it->comm, it->call, comm, it->rank);
+    if (class == 0) class = (is_receive ? check_receive_tag : check_tag)(it->comm, it->call, it->tag);
+    if (class == 0) *made = (struct transfer){kind, it->buf, it->count, type, comm, it->rank, it->tag};
     return class;
 }
 
-/* Begins a send of a program. */
-static int start_send(const struct argument *it, bool is_synchronous, struct request *request) {
-    struct found found;
-    int class = check_argument(it, &found);
-    if (class == 0) class = check_target(it->comm, it->call, found.comm, it->rank);
-    if (class == 0) class = check_tag(it->comm, it->call, it->tag);
-    if (class != 0) return class;
-    uint32_t number = begin_send(request, found.comm, is_synchronous || process.sends_wait, it->buf, it->count,
-                                 found.type, it->rank, it->tag);
-    return number == 0 ? MPI_SUCCESS : raise_limited(it->comm, it->call, number, LIMIT_OF_REQUESTS);
-}
-
-/* Begins a receive of a program. */
-static int start_receive(const struct argument *it, struct request *request) {
-    struct found found;
-    int class = check_argument(it, &found);
-    if (class == 0) class = check_source(it->comm, it->call, found.comm, it->rank);
-    if (class == 0) class = check_receive_tag(it->comm, it->call, it->tag);
-    if (class != 0) return class;
-    uint32_t number = begin_receive(request, found.comm, it->buf, it->count, found.type, it->rank, it->tag);
-    return number == 0 ? MPI_SUCCESS : raise_limited(it->comm, it->call, number, LIMIT_OF_REQUESTS);
+/* Begins what a call was given. */
+static int start(const struct argument *it, enum transfer_kind kind, struct request *request) {
+    struct transfer made;
+    int class = check_transfer(it, kind, &made);
+    return class == 0 ? begin_transfer(it->call, &made, request) : class;
 }
 
 /* ---- one send, one receive ---- */
 
-static int send_and_wait(const struct argument *it, bool is_synchronous) {
+static int send_and_wait(const struct argument *it, enum transfer_kind kind) {
     struct request request;
-    int class = start_send(it, is_synchronous, &request);
+    int class = start(it, kind, &request);
     if (class != 0) return class;
     return await_request(&request) == 0 ? MPI_SUCCESS : raise_end(it->call, &request);
 }
 
-/* Makes the request that such a call answers with, before its operation begins. */
-static int open_handle(const struct argument *it, const MPI_Request *request, MPI_Request *own) {
+int open_handle(const struct argument *it, const MPI_Request *request, MPI_Request *own) {
     check_running(it->call);
     int class = check_result(it->comm, it->call, request, "request");
     if (class != 0) return class;
@@ -128,8 +121,7 @@ static int open_handle(const struct argument *it, const MPI_Request *request, MP
     return *own != MPI_REQUEST_NULL ? MPI_SUCCESS : raise_number(it->comm, it->call, NUMBER_NO_MEMORY);
 }
 
-/* Hands it to the program, if the operation has begun. */
-static int hand_over(int class, MPI_Request own, MPI_Request *request) {
+int hand_over(int class, MPI_Request own, MPI_Request *request) {
     struct request *begun = request_of(own);
     if (class != 0) {
         begun->comm = NULL;
@@ -141,57 +133,57 @@ static int hand_over(int class, MPI_Request own, MPI_Request *request) {
     return MPI_SUCCESS;
 }
 
-static int send_later(const struct argument *it, bool is_synchronous, MPI_Request *request) {
+int begin_later(const struct argument *it, enum transfer_kind kind, MPI_Request *request) {
     MPI_Request own;
     int class = open_handle(it, request, &own);
-    return class != 0 ? class : hand_over(start_send(it, is_synchronous, request_of(own)), own, request);
+    return class != 0 ? class : hand_over(start(it, kind, request_of(own)), own, request);
 }
 
 int MPI_Send(const void *buf, int count, MPI_Datatype datatype, int dest, int tag, MPI_Comm comm) {
     NOTE_CALLER();
     const struct argument it = {"MPI_Send", (void *)buf, count, datatype, dest, tag, comm};
-    return send_and_wait(&it, false);
+    return send_and_wait(&it, TRANSFER_SEND);
 }
 
 int MPI_Ssend(const void *buf, int count, MPI_Datatype datatype, int dest, int tag, MPI_Comm comm) {
     NOTE_CALLER();
     const struct argument it = {"MPI_Ssend", (void *)buf, count, datatype, dest, tag, comm};
-    return send_and_wait(&it, true);
+    return send_and_wait(&it, TRANSFER_SYNCHRONOUS);
 }
 
 /* A ready send may do what a standard one does (3.4). */
 int MPI_Rsend(const void *buf, int count, MPI_Datatype datatype, int dest, int tag, MPI_Comm comm) {
     NOTE_CALLER();
     const struct argument it = {"MPI_Rsend", (void *)buf, count, datatype, dest, tag, comm};
-    return send_and_wait(&it, false);
+    return send_and_wait(&it, TRANSFER_SEND);
 }
 
 int MPI_Isend(const void *buf, int count, MPI_Datatype datatype, int dest, int tag, MPI_Comm comm,
               MPI_Request *request) {
     NOTE_CALLER();
     const struct argument it = {"MPI_Isend", (void *)buf, count, datatype, dest, tag, comm};
-    return send_later(&it, false, request);
+    return begin_later(&it, TRANSFER_SEND, request);
 }
 
 int MPI_Issend(const void *buf, int count, MPI_Datatype datatype, int dest, int tag, MPI_Comm comm,
                MPI_Request *request) {
     NOTE_CALLER();
     const struct argument it = {"MPI_Issend", (void *)buf, count, datatype, dest, tag, comm};
-    return send_later(&it, true, request);
+    return begin_later(&it, TRANSFER_SYNCHRONOUS, request);
 }
 
 int MPI_Irsend(const void *buf, int count, MPI_Datatype datatype, int dest, int tag, MPI_Comm comm,
                MPI_Request *request) {
     NOTE_CALLER();
     const struct argument it = {"MPI_Irsend", (void *)buf, count, datatype, dest, tag, comm};
-    return send_later(&it, false, request);
+    return begin_later(&it, TRANSFER_SEND, request);
 }
 
 int MPI_Recv(void *buf, int count, MPI_Datatype datatype, int source, int tag, MPI_Comm comm, MPI_Status *status) {
     NOTE_CALLER();
     const struct argument it = {"MPI_Recv", buf, count, datatype, source, tag, comm};
     struct request request;
-    int class = start_receive(&it, &request);
+    int class = start(&it, TRANSFER_RECEIVE, &request);
     if (class != 0) return class;
     await_request(&request);
     put_status(status, &request.end);
@@ -201,9 +193,7 @@ int MPI_Recv(void *buf, int count, MPI_Datatype datatype, int source, int tag, M
 int MPI_Irecv(void *buf, int count, MPI_Datatype datatype, int source, int tag, MPI_Comm comm, MPI_Request *request) {
     NOTE_CALLER();
     const struct argument it = {"MPI_Irecv", buf, count, datatype, source, tag, comm};
-    MPI_Request own;
-    int class = open_handle(&it, request, &own);
-    return class != 0 ? class : hand_over(start_receive(&it, request_of(own)), own, request);
+    return begin_later(&it, TRANSFER_RECEIVE, request);
 }
 
 /* ---- a send and a receive together (3.10) ---- */
@@ -212,14 +202,12 @@ int MPI_Irecv(void *buf, int count, MPI_Datatype datatype, int source, int tag, 
  * that has begun goes on where the receive can't begin, and is ended by whatever ends requests next. */
 static int start_both(const struct argument *out, const struct argument *in, struct request *send,
                       struct request *receive) {
-    struct found found;
+    struct transfer made;
     /* All of the receive is checked before anything is sent. */
-    int class = check_argument(in, &found);
-    if (class == 0) class = check_source(in->comm, in->call, found.comm, in->rank);
-    if (class == 0) class = check_receive_tag(in->comm, in->call, in->tag);
-    if (class == 0) class = start_send(out, false, send);
+    int class = check_transfer(in, TRANSFER_RECEIVE, &made);
+    if (class == 0) class = start(out, TRANSFER_SEND, send);
     if (class != 0) return class;
-    class = start_receive(in, receive);
+    class = begin_transfer(in->call, &made, receive);
     if (class != 0) (void)let_go(send);
     return class;
 }

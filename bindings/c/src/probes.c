@@ -1,5 +1,6 @@
 /* Probes, and receives of the messages that matching probes took out (MPI 3.1, 3.8). */
 #include "errors.h"
+#include "explored.h"
 #include "internal.h"
 #include "table.h"
 #include "types.h"
@@ -48,7 +49,8 @@ static void look_once(const struct look *it, const struct communicator *comm, st
                                               : it->source == MPI_ANY_SOURCE ? ENGINE_ANY
                                                                              : it->source,
                                       .tag = it->tag == MPI_ANY_TAG ? ENGINE_ANY : it->tag};
-    call_engine(&probe, NULL, 0, answer);
+    if (is_explored) explored_probe(&probe, it->waits, answer);
+    else call_engine(&probe, NULL, 0, answer);
 }
 
 /* Looks once, or until something is found: 0, or the class of an error, of which was told. */
@@ -154,8 +156,9 @@ static void start_message(MPI_Message *message, const struct message *own, const
                           struct datatype *type, struct request *request) {
     static const struct engine_answer of_no_process = {
         .kind = ENGINE_DONE, .outcome = ENGINE_RECEIVED, .source = ENGINE_NULL, .tag = ENGINE_ANY};
-    *request = (struct request){.kind = REQUEST_MATCHED, .type = type, .buf = room->buf, .element = type->of};
+    *request = (struct request){.kind = &matched_kind, .type = type, .buf = room->buf, .element = type->of};
     request->caller = process.caller;
+    request->age = next_age();
     request->room = data_size(&type->layout, (size_t)room->count);
     request->comm = own == NULL ? hold_communicator(communicator_of(MPI_COMM_WORLD)) : own->comm;
     hold_type(type);
@@ -202,6 +205,12 @@ int MPI_Imrecv(void *buf, int count, MPI_Datatype datatype, MPI_Message *message
     return MPI_SUCCESS;
 }
 
+uint32_t count_messages(void) {
+    uint32_t count = 0;
+    for (int place = 0; place < messages.count; place++) count += messages.places[place].object != NULL;
+    return count;
+}
+
 void close_messages(void) {
     for (int place = 0; place < messages.count; place++) {
         struct message *own = messages.places[place].object;
@@ -209,4 +218,12 @@ void close_messages(void) {
         free(own);
     }
     table_free(&messages);
+}
+
+/* Handles as Fortran has them (17.2.4). */
+MPI_Fint MPI_Message_c2f(MPI_Message message) { return (MPI_Fint)(intptr_t)message; }
+MPI_Message MPI_Message_f2c(MPI_Fint message) {
+    NOTE_CALLER();
+    int64_t number = table_number(&messages, (uint32_t)message);
+    return (MPI_Message)(intptr_t)(number == 0 ? message : number);
 }

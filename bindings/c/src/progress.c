@@ -1,7 +1,9 @@
 /* Progress: datagrams are carried between the device and the engine, and the engine is told the time. */
 #include "device.h"
 #include "errors.h"
+#include "explored.h"
 #include "internal.h"
+#include "plan_runs.h"
 #include "standstill.h"
 #include "wait_lines.h"
 
@@ -21,9 +23,16 @@ enum {
     COPIES_OF_LAST = 3       /* so often a rank that ends says what it says: it may be gone before it is asked again */
 };
 
-/* What the engine was told last, in nanoseconds, and until when it keeps an acknowledgement back (0: none is kept). */
+/* The second engine of this rank, over which plans go (plan_runs.h); it is made when it is needed. An engine takes no
+ * call while one of its collectives is blocked: plans go on then. Its job has another number, so that its datagrams,
+ * which go over the same socket, are told from the others. */
+static struct engine_rank plans;
+static bool has_plans;
+#define PLANS_JOB (process.job ^ UINT64_C(1) << 63)
+
+/* What both engines were told last, in nanoseconds, and until when one keeps an acknowledgement back (0: none does). */
 static uint64_t told, kept_until;
-/* When the engine took a datagram last. */
+/* When an engine took a datagram last. */
 static uint64_t heard;
 /* So long it asks again and again before it sleeps. */
 static uint64_t spin_time, longest_spin;
@@ -47,8 +56,24 @@ static bool tell_time(void) {
     told = now;
     /* For want of memory nothing goes out again now: it does the next time. */
     (void)kombazily_tick(&engine, now);
+    if (has_plans) (void)kombazily_tick(&plans, now);
     return true;
 }
+
+/* Makes the second engine, where it isn't there: whether it is. */
+static bool need_plans(void) {
+    const struct engine_place place = {.job = PLANS_JOB,
+                                       .message_limit = ENGINE_GREATEST_LIMIT,
+                                       .rank = (uint16_t)process.rank,
+                                       .size = (uint16_t)process.size,
+                                       .incarnation = (uint16_t)process.incarnation};
+    if (has_plans) return true;
+    has_plans = kombazily_new(&plans, &place) == 0;
+    if (has_plans) (void)kombazily_tick(&plans, told);
+    return has_plans;
+}
+
+static bool are_idle(void) { return kombazily_is_idle(&engine) && (!has_plans || kombazily_is_idle(&plans)); }
 
 /* Without its socket a rank can't go on. */
 static _Noreturn void refuse_device(int error) {
@@ -57,18 +82,24 @@ static _Noreturn void refuse_device(int error) {
     end_job(STATUS_SOCKET);
 }
 
-/* Sends what is to go out; what is kept back too, if it is told so. */
-static void send_out(bool kept_too) {
-    if (!device_is_open()) return;
+/* Sends what is to go out of an engine: until when it keeps an acknowledgement back. */
+static uint64_t send_from(struct engine_rank *own, bool kept_too) {
     struct engine_outgoing out = {0};
     for (;;) {
         size_t room;
         unsigned char *into = device_room(&room);
-        size_t len = kombazily_next(&engine, device_most(), kept_too, &out, into, room);
-        if (len == 0) break;
+        size_t len = kombazily_next(own, device_most(), kept_too, &out, into, room);
+        if (len == 0) return out.kept_until;
         device_put(out.target, out.count, out.each, len);
     }
-    kept_until = out.kept_until;
+}
+
+/* Sends what is to go out; what is kept back too, if it is told so. */
+static void send_out(bool kept_too) {
+    if (!device_is_open()) return;
+    kept_until = send_from(&engine, kept_too);
+    uint64_t other = has_plans ? send_from(&plans, kept_too) : 0;
+    if (other != 0 && (kept_until == 0 || other < kept_until)) kept_until = other;
     device_flush(copies);
     if (device_error() != 0) refuse_device(device_error());
 }
@@ -82,7 +113,9 @@ static void hear(int source, const unsigned char *bytes, size_t len, size_t each
     for (size_t at = 0; at < len; at += each) {
         size_t rest = len - at, own = rest < each ? rest : each;
         if (sender_of(bytes + at, own) != source) continue;
-        if (kombazily_datagram(&engine, bytes + at, own) == 0) heard = told;
+        bool is_of_plans = is_of_job(bytes + at, own, PLANS_JOB);
+        if (is_of_plans && !need_plans()) continue;
+        if (kombazily_datagram(is_of_plans ? &plans : &engine, bytes + at, own) == 0) heard = told, note_news();
     }
     send_out(false);
 }
@@ -91,9 +124,10 @@ static void hear(int source, const unsigned char *bytes, size_t len, size_t each
 static bool take_in(void) { return device_is_open() && device_hear(hear); }
 
 void progress(void) {
-    tell_time();
-    take_in();
-    send_out(false);
+    if (!is_explored) tell_time(), take_in();
+    plans_go_on();
+    move_requests();
+    if (!is_explored) send_out(false);
 }
 
 /* Asks until some time whether something came: whether it did. */
@@ -118,7 +152,7 @@ static void learn(uint64_t waited) {
 
 /* Sleeps until a datagram comes, or something may be due. */
 static void sleep_on(void) {
-    bool is_idle = kombazily_is_idle(&engine);
+    bool is_idle = are_idle();
     device_sleep(is_idle ? LONG_SLEEP : SHORT_SLEEP);
     if (!is_idle) tell_time();
     take_in();
@@ -127,8 +161,11 @@ static void sleep_on(void) {
 
 /* A rank that was told a patience gives up where the engine took no datagram for so long. */
 static void lose_patience(void) {
-    if (process.patience == 0) return;
     uint64_t quiet = (device_nanoseconds() - heard) / MILLISECOND;
+    if (process.patience == 0) {
+        watch_standstill(quiet, are_idle());
+        return;
+    }
     if (!is_standstill(quiet) || quiet < (uint64_t)process.patience) return;
     give_up();
 }
@@ -144,9 +181,34 @@ static void wait_a_while(void) {
     learn(device_nanoseconds() - begun);
 }
 
-void progress_wait(void) {
-    wait_a_while();
+/* The same where other threads may speak MPI meanwhile. */
+static void wait_with_others(void) {
+    if (!is_poller()) {
+        await_news();
+        return;
+    }
+    uint64_t begun = device_nanoseconds();
+    if (tell_time()) send_out(false);
+    if (take_in()) {
+        let_others_in();
+        return;
+    }
+    send_out(true);
+    await_datagram((long)spin_time, are_idle() ? LONG_SLEEP : SHORT_SLEEP);
+    tell_time();
+    take_in();
+    send_out(false);
+    heed_signals();
     lose_patience();
+    learn(device_nanoseconds() - begun);
+}
+
+void progress_wait(void) {
+    if (is_explored) explored_pause();
+    else if (process.is_threaded) wait_with_others();
+    else wait_a_while(), lose_patience();
+    plans_go_on();
+    move_requests();
 }
 
 void progress_begin_wait(void) {
@@ -156,7 +218,7 @@ void progress_begin_wait(void) {
 
 void progress_until_idle(void) {
     progress_begin_wait();
-    while (!kombazily_is_idle(&engine)) progress_wait();
+    while (!are_idle()) progress_wait();
 }
 
 void progress_say_often(void) { copies = COPIES_OF_LAST; }
@@ -164,7 +226,7 @@ void progress_say_often(void) { copies = COPIES_OF_LAST; }
 void progress_last_words(void) {
     uint64_t until = device_nanoseconds() + LAST_WORDS;
     /* Who has left can't acknowledge any more: that is no failure, whatever the patience is. */
-    while (!kombazily_is_idle(&engine) && device_nanoseconds() < until) wait_a_while();
+    while (!are_idle() && device_nanoseconds() < until) wait_a_while();
     send_out(true);
 }
 
@@ -189,18 +251,56 @@ static bool may_send(enum engine_call_kind kind) {
 
 void ask_engine(const struct engine_call *call, const void *data, size_t len, struct engine_answer *answer) {
     static const unsigned char nothing[1];
+    if (is_explored) {
+        explored_call(call, data, len, answer);
+        return;
+    }
     if (may_send(call->kind)) tell_time();
     kombazily_call(&engine, call, data == NULL || len == 0 ? nothing : data, len, answer);
+    if (call->kind == ENGINE_CANCEL || call->kind == ENGINE_MRECV) note_news();
 }
+
+size_t take_from_engine(uint64_t first, uint8_t *into, size_t len) {
+    return is_explored ? explored_take(first, into, len) : kombazily_take(&engine, first, into, len);
+}
+
+void ask_plans(const struct engine_call *call, const void *data, size_t len, struct engine_answer *answer) {
+    static const unsigned char nothing[1];
+    if (is_explored) {
+        explored_call(call, data, len, answer);
+        return;
+    }
+    *answer = (struct engine_answer){.kind = ENGINE_REFUSED, .number = NUMBER_NO_MEMORY};
+    if (!need_plans()) return;
+    if (may_send(call->kind)) tell_time();
+    kombazily_call(&plans, call, data == NULL || len == 0 ? nothing : data, len, answer);
+}
+
+size_t take_from_plans(uint8_t *into, size_t len) {
+    return is_explored ? explored_take(0, into, len) : kombazily_take(&plans, 0, into, len);
+}
+
+void progress_close(void) {
+    kombazily_free(&plans);
+    has_plans = false;
+}
+
+/* The engine is in a collective, and answers nothing but FINISH and LOOK. */
+static bool is_in_collective;
+
+bool is_engine_in_collective(void) { return is_in_collective; }
 
 void await_finish(struct engine_answer *answer) {
     const struct engine_call finish = {.kind = ENGINE_FINISH};
     progress_out();
     progress_begin_wait();
+    is_in_collective = true;
     while (answer->kind == ENGINE_BLOCKED || answer->kind == ENGINE_PENDING) {
         progress_wait();
         ask_engine(&finish, NULL, 0, answer);
     }
+    is_in_collective = false;
+    note_news();
     progress_out();
     /* The program may know by this end of the end of a receive that it let go. Data of the answer are taken first. */
     if (answer->bytes == 0 && has_freed()) settle_freed();

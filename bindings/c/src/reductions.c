@@ -1,7 +1,9 @@
-/* Reductions (MPI 3.1, 5.9): by the engine, but of long doubles, which C folds in the order of the ranks. */
+/* Reductions (MPI 3.1, 5.9): by the engine, but of long doubles, which C folds in the order of the ranks, and those
+ * that the engine doesn't know, which go by plans. */
 #include "errors.h"
 #include "internal.h"
-#include "operations.h"
+#include "own_operations.h"
+#include "prefixes.h"
 #include "rows.h"
 
 /* What a reduction was given, once it is checked. */
@@ -20,14 +22,10 @@ static int check_reduction(MPI_Comm comm, const char *call, int count, MPI_Datat
     if (class == MPI_SUCCESS) class = check_count(comm, call, count);
     if (class == MPI_SUCCESS) class = check_type(comm, call, datatype, &found->type);
     if (class != MPI_SUCCESS) return class;
-    int operation = operation_of(op);
-    if (operation == 0) return raise_on(comm, call, MPI_ERR_OP, "no such operation");
-    found->operation = (enum engine_operation)operation;
-    const char *name = operation_name(found->operation);
-    if (!found->type->is_predefined)
-        return raise_on(comm, call, MPI_ERR_OP, "%s isn't defined on a derived type", name);
-    if (!is_defined_on(found->operation, found->type->family))
-        return raise_on(comm, call, MPI_ERR_OP, "%s isn't defined on %s", name, found->type->name);
+    struct operation *operation;
+    class = check_operation(comm, call, op, found->type, &operation);
+    if (class != MPI_SUCCESS) return class;
+    found->operation = (enum engine_operation)operation->number;
     found->length = data_size(&found->type->layout, (size_t)count);
     return MPI_SUCCESS;
 }
@@ -59,6 +57,7 @@ int MPI_Reduce(const void *sendbuf, void *recvbuf, int count, MPI_Datatype datat
                MPI_Comm comm) {
     NOTE_CALLER();
     const char *call = "MPI_Reduce";
+    if (is_for_plans(op, datatype)) return reduce_by_plan(sendbuf, recvbuf, count, datatype, op, root, comm);
     struct reduction of;
     const void *row = sendbuf;
     int class = check_reduction(comm, call, count, datatype, op, &of);
@@ -79,6 +78,7 @@ int MPI_Reduce(const void *sendbuf, void *recvbuf, int count, MPI_Datatype datat
 int MPI_Allreduce(const void *sendbuf, void *recvbuf, int count, MPI_Datatype datatype, MPI_Op op, MPI_Comm comm) {
     NOTE_CALLER();
     const char *call = "MPI_Allreduce";
+    if (is_for_plans(op, datatype)) return allreduce_by_plan(sendbuf, recvbuf, count, datatype, op, comm);
     struct reduction of;
     const void *row;
     int class = check_reduction(comm, call, count, datatype, op, &of);

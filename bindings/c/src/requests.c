@@ -1,6 +1,8 @@
 /* Requests: operations that were begun, until the program was told of their ends (MPI 3.1, 3.7 and 3.8.4). */
 #include "errors.h"
+#include "explored.h"
 #include "internal.h"
+#include "plan_runs.h"
 #include "table.h"
 #include "types.h"
 #include "wait_lines.h"
@@ -53,12 +55,12 @@ static uint32_t take_data(const struct request *request, uint64_t bytes) {
     const struct layout *layout = &request->type->layout;
     size_t items = layout->size == 0 ? 0 : (size_t)(bytes + layout->size - 1) / layout->size;
     if (is_row(layout, items)) {
-        kombazily_take(&engine, 0, row_of(layout, request->buf), (size_t)bytes);
+        take_from_engine(0, row_of(layout, request->buf), (size_t)bytes);
         return 0;
     }
     unsigned char *row = malloc((size_t)bytes);
     if (row == NULL) return NUMBER_NO_MEMORY;
-    size_t len = kombazily_take(&engine, 0, row, (size_t)bytes);
+    size_t len = take_from_engine(0, row, (size_t)bytes);
     unpack(layout, row, len, request->buf);
     free(row);
     return 0;
@@ -88,20 +90,9 @@ void end_request(struct request *request, const struct engine_answer *answer) {
     request->type = NULL;
 }
 
-/* Asks the engine whether a request is at its end, and then how: looking takes a twentieth of the time of a test. */
-static void ask_end(struct request *request) {
-    if (!is_engine_free() || request->kind == REQUEST_MATCHED) return;
-    struct engine_call call = {.kind = ENGINE_LOOK, .request = request->own};
-    struct engine_answer answer;
-    call_engine(&call, NULL, 0, &answer);
-    if (answer.kind == ENGINE_FACT && answer.fact == 0) return;
-    call.kind = ENGINE_TEST;
-    call_engine(&call, NULL, 0, &answer);
-    if (answer.kind != ENGINE_PENDING) end_request(request, &answer);
-}
-
 bool is_at_end(struct request *request) {
-    if (!request->is_ended) ask_end(request);
+    if (request->is_inactive) return true;
+    if (!request->is_ended && is_engine_free() && request->kind->go_on != NULL) request->kind->go_on(request);
     bool is_other_at_end = request->other == NULL || is_at_end(request->other);
     if (!request->is_ended || !is_other_at_end) return false;
     if (request->number == 0 && request->other != NULL) request->number = request->other->number;
@@ -109,7 +100,8 @@ bool is_at_end(struct request *request) {
 }
 
 uint32_t await_request(struct request *request) {
-    if (!is_at_end(request)) {
+    const bool is_ended = is_explored && explored_wait(request);
+    if (!is_ended && !is_at_end(request)) {
         begin_wait(&(struct wait){.kind = WAIT_REQUEST, .request = request});
         do progress_wait();
         while (!is_at_end(request));
@@ -120,6 +112,9 @@ uint32_t await_request(struct request *request) {
     if (has_freed()) settle_freed();
     return request->number;
 }
+
+/* Where a function of the program's answers a code (12.2). */
+#define CODE_OF_PROGRAM "a function of a generalised request answered %d"
 
 /* A message of another type than its receive: the engine says how many elements it has, and not of which type. */
 static void say_other_type(const struct request *request, char *text) {
@@ -132,11 +127,13 @@ static void say_other_type(const struct request *request, char *text) {
 
 void say_end(const struct request *request, char *text) {
     const MPI_Status *end = &request->end;
-    if (request->number == NUMBER_TYPE && request->elements != 0) say_other_type(request, text);
+    if (request->kind == &plan_kind) say_plan_end(request->state, text);
+    else if (request->number == NUMBER_TYPE && request->elements != 0) say_other_type(request, text);
     else if (request->number == NUMBER_TRUNCATED)
         snprintf(text, LONGEST_CAUSE,
                  "a message of %lld bytes from rank %d with tag %d is longer than its receive of %zu bytes",
                  end->reserved_bytes, end->MPI_SOURCE, end->MPI_TAG, request->room);
+    else if (request->number == 0) snprintf(text, LONGEST_CAUSE, CODE_OF_PROGRAM, request->code);
     else snprintf(text, LONGEST_CAUSE, "%s (%u)", cause_of(request->number), (unsigned)request->number);
 }
 
@@ -146,13 +143,63 @@ int raise_end(const char *call, const struct request *request) {
     return raise_in(request->comm, call, class_of(request->number), "%s", text);
 }
 
-/* Gives the memory of a request back, and what it holds where its operation never ended. */
-static void forget_request(struct request *request) {
+int raise_code(const char *call, int code) {
+    if (code == MPI_SUCCESS) return MPI_SUCCESS;
+    return raise_on(MPI_COMM_WORLD, call, code, CODE_OF_PROGRAM, code);
+}
+
+/* ---- requests that go on in each progress ---- */
+
+static struct request *moving;
+
+void keep_moving(struct request *request) {
+    struct request **at = &moving;
+    while (*at != NULL) at = &(*at)->moving;
+    *at = request;
+    request->moving = NULL;
+}
+
+static void stop_moving(const struct request *request) {
+    for (struct request **at = &moving; *at != NULL; at = &(*at)->moving) {
+        if (*at != request) continue;
+        *at = request->moving;
+        return;
+    }
+}
+
+void move_requests(void) {
+    for (struct request **at = &moving; *at != NULL && is_engine_free();) {
+        struct request *it = *at;
+        if (!it->is_ended) it->kind->go_on(it);
+        if (it->is_ended) *at = it->moving, note_news();
+        else at = &it->moving;
+    }
+}
+
+/* Gives back what its kind holds: 0, or an error code. */
+static int forget_state(struct request *request) {
+    if (request->is_settled || request->kind == NULL || request->kind->forget == NULL) return MPI_SUCCESS;
+    return request->kind->forget(request);
+}
+
+int tell_end(struct request *request) {
+    int asked = request->kind->query == NULL ? MPI_SUCCESS : request->kind->query(request);
+    int last = request->is_persistent ? MPI_SUCCESS : forget_state(request);
+    request->is_settled = true;
+    request->code = request->number != 0 ? class_of(request->number) : last != MPI_SUCCESS ? last : asked;
+    return request->code;
+}
+
+/* Gives the memory of a request back, and what it holds, where its operation never ended too: 0, or an error code. */
+static int forget_request(struct request *request) {
+    int code = forget_state(request);
+    stop_moving(request);
     if (request->type != NULL) release_type(request->type);
     if (request->other != NULL && request->other->type != NULL) release_type(request->other->type);
     if (request->comm != NULL) release_communicator(request->comm);
     free(request->other);
     free(request);
+    return code;
 }
 
 /* ---- requests that the program let go ---- */
@@ -178,13 +225,33 @@ void settle_freed(void) {
             continue;
         }
         *at = it->next;
-        forget_request(it);
+        (void)forget_request(it);
+        /* A function of the program's may have been called, and the list be another one. */
+        at = &freed;
     }
 }
 
 bool has_freed(void) { return freed != NULL; }
 
+struct request *find_freed(bool (*is_it)(const struct request *request, const void *what), const void *what) {
+    struct request *it = freed;
+    while (it != NULL && !is_it(it, what)) it = it->next;
+    return it;
+}
+
+int end_freed(struct request *request) {
+    struct request **at = &freed;
+    while (*at != request) at = &(*at)->next;
+    *at = request->next;
+    return forget_request(request);
+}
+
 /* ---- handles ---- */
+
+uint64_t next_age(void) {
+    static uint64_t last;
+    return ++last;
+}
 
 MPI_Request open_request(void) {
     struct request *own = calloc(1, sizeof *own);
@@ -197,10 +264,21 @@ struct request *request_of(MPI_Request handle) {
     return table_find(&requests, (intptr_t)handle);
 }
 
+struct request *active_of(MPI_Request handle) {
+    struct request *request = request_of(handle);
+    return request == NULL || request->is_inactive ? NULL : request;
+}
+
 void close_request(MPI_Request *handle) {
-    struct request *request = table_remove(&requests, (intptr_t)*handle);
+    struct request *request = request_of(*handle);
+    if (request->is_persistent) {
+        request->is_inactive = true;
+        request->is_settled = false;
+        return;
+    }
+    table_remove(&requests, (intptr_t)*handle);
     *handle = MPI_REQUEST_NULL;
-    if (request != NULL) forget_request(request);
+    (void)forget_request(request);
 }
 
 int request_places(void) { return requests.count; }
@@ -218,6 +296,7 @@ int check_request(const char *call, const MPI_Request *handle, struct request **
 }
 
 int MPI_Request_free(MPI_Request *request) {
+    NOTE_CALLER();
     static const char call[] = "MPI_Request_free";
     struct request *found;
     check_running(call);
@@ -226,9 +305,10 @@ int MPI_Request_free(MPI_Request *request) {
     if (found == NULL) return raise_on(MPI_COMM_WORLD, call, MPI_ERR_REQUEST, "the request is MPI_REQUEST_NULL");
     table_remove(&requests, (intptr_t)*request);
     *request = MPI_REQUEST_NULL;
+    progress();
+    if (is_at_end(found)) return raise_code(call, forget_request(found));
     found->next = freed;
     freed = found;
-    progress();
     settle_freed();
     return MPI_SUCCESS;
 }
@@ -241,17 +321,13 @@ int MPI_Cancel(MPI_Request *request) {
     int class = check_request(call, request, &found);
     if (class != 0) return class;
     if (found == NULL) return raise_on(MPI_COMM_WORLD, call, MPI_ERR_REQUEST, "the request is MPI_REQUEST_NULL");
-    /* A send and the receive of a message that was taken out go on as if nothing was said (3.8.4). */
-    if (found->is_ended || found->kind != REQUEST_RECEIVE) return MPI_SUCCESS;
-    const struct engine_call cancel = {.kind = ENGINE_CANCEL, .request = found->own};
-    struct engine_answer answer;
-    call_engine(&cancel, NULL, 0, &answer);
-    progress_out();
-    if (answer.kind != ENGINE_REFUSED) return MPI_SUCCESS;
-    return raise_in(found->comm, call, class_of(answer.number), "%s (%u)", cause_of(answer.number), answer.number);
+    if (found->is_inactive) return raise_in(found->comm, call, MPI_ERR_REQUEST, "the request is inactive");
+    /* Whoever can't be cancelled goes on as if nothing was said (3.8.4). */
+    return found->kind->cancel == NULL ? MPI_SUCCESS : found->kind->cancel(call, found);
 }
 
 int MPI_Test_cancelled(const MPI_Status *status, int *flag) {
+    NOTE_CALLER();
     static const char call[] = "MPI_Test_cancelled";
     check_running(call);
     int class = check_result(MPI_COMM_WORLD, call, status, "status");
@@ -261,6 +337,7 @@ int MPI_Test_cancelled(const MPI_Status *status, int *flag) {
 }
 
 int MPI_Request_get_status(MPI_Request request, int *flag, MPI_Status *status) {
+    NOTE_CALLER();
     static const char call[] = "MPI_Request_get_status";
     struct request *found;
     check_running(call);
@@ -268,37 +345,42 @@ int MPI_Request_get_status(MPI_Request request, int *flag, MPI_Status *status) {
     if (class == 0) class = check_result(MPI_COMM_WORLD, call, flag, "flag");
     if (class != 0) return class;
     progress();
-    *flag = found == NULL || is_at_end(found);
+    found = active_of(request);
+    *flag = found == NULL || (is_explored ? explored_test(1, &request) : is_at_end(found));
     if (found == NULL) put_empty(status);
-    else if (*flag) put_status(status, &found->end);
-    return MPI_SUCCESS;
+    if (found == NULL || !*flag) return MPI_SUCCESS;
+    int code = found->kind->query == NULL ? MPI_SUCCESS : found->kind->query(found);
+    put_status(status, &found->end);
+    return raise_code(call, code);
 }
 
-void cancel_requests(void) {
+/* Nothing that it began in the engine waits any longer. */
+static void abandon_request(struct request *request) {
+    if (!request->is_inactive && !request->is_ended && request->kind->abandon != NULL) request->kind->abandon(request);
+}
+
+void abandon_requests(void) {
     free_engine();
-    for (int place = 0; place < requests.count; place++) {
-        struct request *it = requests.places[place].object;
-        if (it == NULL) continue;
-        if (!it->is_ended && it->kind == REQUEST_RECEIVE) {
-            const struct engine_call cancel = {.kind = ENGINE_CANCEL, .request = it->own};
-            struct engine_answer answer;
-            call_engine(&cancel, NULL, 0, &answer);
-        }
-    }
-    for (struct request *it = freed; it != NULL; it = it->next) {
-        const struct engine_call cancel = {.kind = ENGINE_CANCEL, .request = it->own};
-        struct engine_answer answer;
-        if (it->kind == REQUEST_RECEIVE) call_engine(&cancel, NULL, 0, &answer);
-    }
+    for (int place = 0; place < requests.count; place++)
+        if (requests.places[place].object != NULL) abandon_request(requests.places[place].object);
+    for (struct request *it = freed; it != NULL; it = it->next) abandon_request(it);
 }
 
 void close_requests(void) {
     for (int place = 0; place < requests.count; place++)
-        if (requests.places[place].object != NULL) forget_request(requests.places[place].object);
+        if (requests.places[place].object != NULL) (void)forget_request(requests.places[place].object);
     table_free(&requests);
     while (freed != NULL) {
         struct request *it = freed;
         freed = it->next;
-        forget_request(it);
+        (void)forget_request(it);
     }
+}
+
+/* Handles as Fortran has them (17.2.4): the low halves of their numbers, which name what lives now. */
+MPI_Fint MPI_Request_c2f(MPI_Request request) { return (MPI_Fint)(intptr_t)request; }
+MPI_Request MPI_Request_f2c(MPI_Fint request) {
+    NOTE_CALLER();
+    int64_t number = table_number(&requests, (uint32_t)request);
+    return (MPI_Request)(intptr_t)(number == 0 ? request : number);
 }

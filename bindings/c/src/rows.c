@@ -4,19 +4,28 @@
 #include "agreement.h"
 #include "folds.h"
 #include "internal.h"
+#include "turns.h"
 #include "wait_lines.h"
 
 #include <stdlib.h>
 #include <string.h>
 
-uint32_t enter_engine(const struct engine_call *entry, const void *data, size_t length, struct engine_answer *answer) {
-    const bool is_rooted = entry->kind >= ENGINE_BCAST && entry->kind <= ENGINE_REDUCE;
-    note_entry(entry);
+static void enter_and_wait(const struct engine_call *entry, int root, const void *data, size_t length,
+                           struct engine_answer *answer) {
     call_engine(entry, data, length, answer);
-    begin_wait(
-        &(struct wait){.kind = WAIT_COLLECTIVE, .place = entry->communicator, .root = is_rooted ? entry->peer : -1});
+    begin_wait(&(struct wait){.kind = WAIT_COLLECTIVE, .place = entry->communicator, .root = root});
     await_finish(answer);
     end_wait();
+}
+
+uint32_t enter_engine(const struct engine_call *entry, const void *data, size_t length, struct engine_answer *answer) {
+    const bool is_rooted = entry->kind >= ENGINE_BCAST && entry->kind <= ENGINE_REDUCE;
+    const int root = is_rooted ? entry->peer : -1;
+    note_entry(entry);
+    uint32_t number = process.is_threaded ? begin_turn(communicator_at(entry->communicator), root) : 0;
+    if (number == 0) enter_and_wait(entry, root, data, length, answer);
+    else *answer = (struct engine_answer){.kind = ENGINE_REFUSED, .number = number};
+    if (process.is_threaded) end_turn();
     return answer->number;
 }
 
@@ -53,7 +62,7 @@ static struct engine_call entry_of(enum engine_call_kind kind, struct collective
 
 /* Takes the data that the last answer told of, from this byte on. */
 static void take_data(struct collective of, size_t from, void *into, size_t length) {
-    if (length != 0) kombazily_take(&engine, from / of.unit, into, length);
+    if (length != 0) take_from_engine(from / of.unit, into, length);
 }
 
 uint32_t broadcast_row(struct collective of, void *row, size_t length) {

@@ -7,13 +7,12 @@
 
 #include <signal.h>
 
-enum {
-    MOST_TOLD = 4,        /* requests of a list that are told one by one */
-    MOST_WITH_SOURCE = 64 /* ranks that all look for the line of their call at once: they are given little time */
-};
+enum { MOST_TOLD = 4 /* requests of a list that are told one by one */ };
 
+/* The wait of the thread that is in the library, if it is in one. */
 static struct wait current;
-/* Whether the wait lasts, and the signal that asked the process to end meanwhile. */
+static bool is_in_wait;
+/* How many threads wait, and the signal that asked the process to end meanwhile. */
 static volatile sig_atomic_t is_waiting, asked;
 
 /* ---- the line ---- */
@@ -64,7 +63,7 @@ static struct line wait_line(void) {
         add_text(&line, "what it sent to be received");
         break;
     }
-    if (process.size <= MOST_WITH_SOURCE) add_source(&line, process.caller);
+    add_call_source(&line);
     return line;
 }
 
@@ -80,7 +79,8 @@ _Noreturn void give_up(void) {
 
 void begin_wait(const struct wait *it) {
     current = *it;
-    is_waiting = 1;
+    if (!is_in_wait) is_waiting++;
+    is_in_wait = true;
     progress_begin_wait();
 }
 
@@ -90,8 +90,20 @@ static void end_by(int signal_number) {
     raise(signal_number);
 }
 
+struct wait_state leave_wait(void) {
+    const struct wait_state state = {current, is_in_wait};
+    is_in_wait = false;
+    return state;
+}
+
+void come_back_to_wait(const struct wait_state *state) {
+    current = state->wait;
+    is_in_wait = state->is_waiting;
+}
+
 void end_wait(void) {
-    is_waiting = 0;
+    if (is_in_wait) is_waiting--;
+    is_in_wait = false;
     standstill_leave();
     if (asked != 0) end_by(asked);
 }

@@ -33,6 +33,14 @@ struct wait {
 void begin_wait(const struct wait *it);
 void end_wait(void);
 
+/* A thread that waits gives the library to others, and comes back. */
+struct wait_state {
+    struct wait wait;
+    bool is_waiting;
+};
+struct wait_state leave_wait(void);
+void come_back_to_wait(const struct wait_state *state);
+
 /* To be called again and again by whoever waits, outside of signal handlers: ends the process, behind the line of its
  * wait, where a signal asked for it. */
 void heed_signals(void);

@@ -1,10 +1,14 @@
 //! What C calls: one rank of a job, as functions of C.
 //!
-//! C holds a rank by a handle, which is a pointer and whether it holds one. Each export takes the rank out of the handle,
-//! calls it, and puts it back. What is asked and answered is in records of numbers and slices of bytes
-//! (`bindings/c/src/engine.h`).
+//! C holds a rank by a handle, which is a pointer and whether it holds one. Each export takes the rank out of the
+//! handle, calls it, and puts it back. What is asked and answered is in records of numbers and slices of bytes
+//! (`bindings/c/src/engine.h`). Before it makes a rank C asks by which way the process has its place, and what its
+//! launcher says (`bindings/c/src/launching.h`).
 #![tactic(auto)]
 
 mod exports;
+mod grids;
 mod handle;
 mod held;
+mod launching;
+mod plans;

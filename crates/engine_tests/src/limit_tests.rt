@@ -1,7 +1,7 @@
 //! What the limit of a job's messages decides, and how long a frame waits for its acknowledgement.
 
+use crate::pairs::{copies, deliver, rank_of_two, rank_with_limit};
 use engine::{Call, Completion, Engine, Receive, Reply, Send};
-use engine_pairs::{copies, deliver, rank_of_two, rank_with_limit};
 use requests::{Answer, Outcome, Region, Request};
 use std::alloc::Global;
 use vocabulary::{Endpoint, MessageLimit, Mode, Source};

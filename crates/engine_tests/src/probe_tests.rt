@@ -1,9 +1,9 @@
 //! Synchronous sends and probes of one rank and of two. Helpers take engines by `&mut` and answer plain values, or
 //! nothing where a step failed; a test makes the engines, calls one helper and compares.
 
+use crate::pairs::{copies, deliver, rank_of_two, two_ranks};
 use datatypes::Buffer;
 use engine::{Call, Completion, Engine, Layout, Probe, Receive, Refusal, Reply, Send};
-use engine_pairs::{copies, deliver, rank_of_two, two_ranks};
 use requests::{Answer, Outcome, Places, Region, Request};
 use std::alloc::Global;
 use vocabulary::{BasicType, Mode, Source, Status};

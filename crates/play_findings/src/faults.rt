@@ -1,9 +1,9 @@
 //! What is told of errors, of what nobody waited for, and of messages that nobody received.
 
+use crate::started::{Operation, OperationKind, Standing};
 use crate::teller::Teller;
 use error_lines::{MetError, error_line};
 use play_events::ErrorAt;
-use play_faults::{Operation, OperationKind, Standing};
 use play_waits::{Group, Leftover, Page, add_source, add_tag};
 use script_plays::{Played, RunnerState};
 use std::alloc::AllocError;

@@ -3,11 +3,12 @@
 ghost use Rattle.std.specs.Prelude.{◌≡◌, ◌↔◌, IfOk, IsTrue};
 ghost use Rattle.play_findings.specs.Outcomes.{EndsWell, IsVerdictOf};
 
+use crate::asking::asked_of;
 use crate::ending::Verdict;
+use crate::operations::operations_of;
 use crate::outcome::outcome_of;
 use crate::teller::Teller;
 use play_events::{ShownLines, account_of};
-use play_faults::{asked_of, operations_of};
 use play_waits::{Page, communicators_of};
 use script_plays::Move;
 use std::alloc::Global;

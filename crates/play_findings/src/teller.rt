@@ -1,10 +1,11 @@
 //! What is to be told of a play.
 
+use crate::asking::Asked;
+use crate::operations::Operations;
 use crate::outcome::Outcome;
 use crate::printed::add_printed;
 use line_diagnostics::explanation;
 use play_events::{Account, ShownLines};
-use play_faults::{Asked, Operations};
 use play_waits::{
     Communicators, Entered, Group, Page, Wait, Waiter, Waiting, add_elements, add_knot, blocked_in,
     cycle_in, knot_in, waiting_of,

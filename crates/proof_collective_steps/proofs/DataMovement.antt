@@ -45,8 +45,8 @@ use Rattle.proof_group_network.specs.Notices as network
 use Rattle.proof_group_network.specs.Notices.{HasResult, Member, Notice, carried_out, making_new, notice, part_known}
 use Rattle.proof_group_network.specs.Notices.{results_to}
 use Rattle.proof_group_network.specs.Roles as roles
-use Rattle.proof_roles.proofs.RolesJoin.{at_same, first_same}
-use Rattle.proof_roles.specs.RoleViews.{IsRole, named}
+use Rattle.proof_collective_steps.proofs.RolesJoin.{at_same, first_same}
+use Rattle.proof_collective_steps.specs.RoleViews.{IsRole, named}
 use Rattle.reductions.specs.Operations.{is_defined}
 use Rattle.vocabulary.specs.BasicTypes.{code_of}
 use Rattle.vocabulary.specs.Endpoints.{is_same}

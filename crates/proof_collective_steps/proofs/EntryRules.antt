@@ -23,7 +23,7 @@ use Rattle.context_agreement.specs.declared.communicator.Communicator as held
 use Rattle.perfect_groups.specs.Communicators.{Communicator}
 use Rattle.perfect_groups.specs.Faults.{is_within}
 use Rattle.perfect_groups.specs.Results.{is_making}
-use Rattle.proof_roles.proofs.RolesJoin.{first_same}
+use Rattle.proof_collective_steps.proofs.RolesJoin.{first_same}
 use Rattle.proof_collective_steps.specs.Counterparts.{communicator_of, part_of}
 use Rattle.proof_collective_steps.specs.MemberViews.{IsPresent, IsShown}
 use Rattle.proof_collective_steps.specs.StepLaws.{EntriesAreJudged, HoldsAt, IsJudged}

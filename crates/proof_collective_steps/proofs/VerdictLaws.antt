@@ -74,8 +74,8 @@ use Rattle.proof_collective_steps.proofs.DataMovement.{decides_gather, decides_r
 use Rattle.proof_collective_steps.proofs.Relays.{relays_follow, warnings_follow}
 use Rattle.proof_collective_steps.proofs.Words.{words_follow}
 use Rattle.proof_collective_steps.specs.MemberVerdicts.{here}
-use Rattle.proof_roles.proofs.RolesJoin.{first_same}
-use Rattle.proof_roles.specs.RoleViews.{named}
+use Rattle.proof_collective_steps.proofs.RolesJoin.{first_same}
+use Rattle.proof_collective_steps.specs.RoleViews.{named}
 use Rattle.proof_group_network.specs.Roles as roles
 use Rattle.collective_messages.specs.Roles.{RoleState, all_or_own, role_of}
 use Rattle.collectives.specs.State.{told_in}

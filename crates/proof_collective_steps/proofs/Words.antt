@@ -33,7 +33,7 @@ use Rattle.proof_collective_steps.specs.MemberVerdicts.{here}
 use Rattle.proof_group_network.specs.Notices as network
 use Rattle.proof_group_network.specs.Notices.{HasEntered, Notice, joined, notice, part_known}
 use Rattle.proof_group_network.specs.Roles as roles
-use Rattle.proof_roles.specs.RoleViews.{IsRole, named}
+use Rattle.proof_collective_steps.specs.RoleViews.{IsRole, named}
 use Rattle.vocabulary.specs.Endpoints.{is_same}
 use Rattle.vocabulary.specs.Operations.{is_associative}
 use Rattle.vocabulary.specs.declared.endpoint.Endpoint.{Endpoint}

@@ -249,6 +249,13 @@ impl World {
         self.engines.len()
     }
 
+    /// The engine of a rank, to be looked at; none where the world has no such rank. It takes no memory.
+    pub fn engine(&self, rank: u16) -> Option<&Engine>
+        ensures { slice_get self.now.engines rank ≡ option_map (λ e. e.now) result }
+    {
+        self.engines.get(rank as usize)
+    }
+
     /// A datagram that was emitted, by its number: the rank that it goes to, and its bytes. It takes no memory.
     pub fn datagram(&self, number: usize) -> Option<(u16, &[u8])>
         ensures { slice_get self.now.datagrams number ≡ option_map (λ d. (d.0, d.1.now)) result }

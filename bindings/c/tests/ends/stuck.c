@@ -4,6 +4,7 @@
 #include <stdio.h>
 #include <stdlib.h>
 #include <string.h>
+#include <threads.h>
 #include <unistd.h>
 
 static int rank, size, other;
@@ -22,12 +23,38 @@ static void begin_lists(const char *what) {
     if (strcmp(what, "one") == 0) MPI_Wait(&requests[3], MPI_STATUS_IGNORE);
 }
 
+/* Waits of requests that are begun in two steps. */
+static void begin_persistent(void) {
+    MPI_Request request;
+    MPI_Recv_init(row, 1, MPI_INT, other, 8, MPI_COMM_WORLD, &request);
+    MPI_Start(&request);
+    MPI_Wait(&request, MPI_STATUS_IGNORE);
+}
+static void fill_buffer(void) {
+    static char room[4000 + MPI_BSEND_OVERHEAD];
+    void *at;
+    int bytes;
+    MPI_Buffer_attach(room, sizeof room);
+    MPI_Bsend(row, 1000, MPI_INT, other, 0, MPI_COMM_WORLD);
+    MPI_Buffer_detach(&at, &bytes);
+}
+
 /* The ranks in the opposite order: the other one has another number here. */
 static void begin_in_part(const char *what) {
     MPI_Comm turned = world_of_none;
     MPI_Comm_split(MPI_COMM_WORLD, 0, size - rank, &turned);
     if (strcmp(what, "named") == 0) MPI_Comm_set_name(turned, "turned\n");
     MPI_Recv(row, 1, MPI_INT, rank == 0 ? 0 : size - 1, MPI_ANY_TAG, turned, MPI_STATUS_IGNORE);
+}
+
+/* Two threads of a rank wait for the same. */
+static int receive(void *nothing) {
+    (void)nothing;
+    return MPI_Recv(row, 1, MPI_INT, other, 5, MPI_COMM_WORLD, MPI_STATUS_IGNORE);
+}
+static void wait_in_threads(void) {
+    thrd_t thread;
+    if (thrd_create(&thread, receive, NULL) == thrd_success) receive(NULL);
 }
 
 static void wait_for_ever(const char *what) {
@@ -38,6 +65,9 @@ static void wait_for_ever(const char *what) {
     if (strcmp(what, "send") == 0) MPI_Send(row, 1000, MPI_INT, other, 0, MPI_COMM_WORLD);
     if (strcmp(what, "small_send") == 0) MPI_Send(row, 1, MPI_INT, other, 0, MPI_COMM_WORLD);
     if (strcmp(what, "synchronous") == 0) MPI_Ssend(row, 1, MPI_INT, other, 0, MPI_COMM_WORLD);
+    if (strcmp(what, "started") == 0) begin_persistent();
+    if (strcmp(what, "threads") == 0) wait_in_threads();
+    if (strcmp(what, "detach") == 0) fill_buffer();
     if (strcmp(what, "probe") == 0) MPI_Probe(other, 5, MPI_COMM_WORLD, &status);
     if (strcmp(what, "matched_probe") == 0) MPI_Mprobe(other, 5, MPI_COMM_WORLD, &message, &status);
     if (strcmp(what, "barrier") == 0 && rank == 0) MPI_Barrier(MPI_COMM_WORLD);
@@ -48,7 +78,8 @@ static void wait_for_ever(const char *what) {
 
 int main(int argc, char **argv) {
     const char *what = argc > 1 ? argv[1] : "";
-    MPI_Init(&argc, &argv);
+    int level;
+    MPI_Init_thread(&argc, &argv, strcmp(what, "threads") == 0 ? MPI_THREAD_MULTIPLE : MPI_THREAD_SINGLE, &level);
     MPI_Comm_rank(MPI_COMM_WORLD, &rank);
     MPI_Comm_size(MPI_COMM_WORLD, &size);
     other = (rank + 1) % size;

@@ -5,6 +5,12 @@
 
 static struct addresses job;
 
+static bool has(uint32_t address, uint16_t port) {
+    for (int rank = -1; rank <= job.size; rank++)
+        if (is_at(&job, rank, address, port)) return true;
+    return false;
+}
+
 static bool reads(int size, const char *text) {
     job = (struct addresses){.size = size, .first_port = 4000};
     return read_addresses(text, &job);
@@ -30,24 +36,37 @@ static void test_faults(void) {
 
 static void test_ranks(void) {
     CHECK(reads(3, "10.0.0.1,10.0.0.2,10.0.0.1"));
-    CHECK(rank_at(&job, 0x0a000001, 4000) == 0 && rank_at(&job, 0x0a000002, 4001) == 1);
-    CHECK(rank_at(&job, 0x0a000001, 4002) == 2);
-    CHECK(rank_at(&job, 0x0a000002, 4000) == -1 && rank_at(&job, 0x0a000001, 4001) == -1);
-    CHECK(rank_at(&job, 0x0a000001, 3999) == -1 && rank_at(&job, 0x0a000001, 4003) == -1);
+    CHECK(is_at(&job, 0, 0x0a000001, 4000) && is_at(&job, 1, 0x0a000002, 4001) && is_at(&job, 2, 0x0a000001, 4002));
+    CHECK(!has(0x0a000002, 4000) && !has(0x0a000001, 4001));
+    CHECK(!has(0x0a000001, 3999) && !has(0x0a000001, 4003));
     put_loopback(&job);
-    CHECK(rank_at(&job, LOOPBACK, 4002) == 2 && rank_at(&job, 0x0a000001, 4002) == -1);
+    CHECK(is_at(&job, 2, LOOPBACK, 4002) && !has(0x0a000001, 4002));
+}
+
+static void test_own_ports(void) {
+    job = (struct addresses){.size = 2, .of_rank = {0x0a000001, 0x0a000002}, .port_of = {5000, 4000}};
+    CHECK(port_at(&job, 0) == 5000 && port_at(&job, 1) == 4000);
+    CHECK(is_at(&job, 0, 0x0a000001, 5000) && is_at(&job, 1, 0x0a000002, 4000));
+    CHECK(!is_at(&job, 0, 0x0a000002, 4000) && !is_at(&job, 1, 0x0a000001, 5000));
+    CHECK(!has(0x0a000001, 4000) && !has(0x0a000002, 5000) && !has(0x0a000001, 0) && !has(0, 0));
 }
 
 static void test_senders(void) {
     const unsigned char datagram[] = {0x4d, 0x50, 0x55, 0x44, 2, 1, 0x01, 0x03, 0, 9};
     CHECK(sender_of(datagram, sizeof datagram) == 259 && sender_of(datagram, 8) == 259);
     CHECK(sender_of(datagram, 7) == -1 && sender_of(datagram, 0) == -1);
+    unsigned char whole[24] = {[16] = 0x81, [22] = 1, [23] = 2};
+    CHECK(is_of_job(whole, sizeof whole, UINT64_C(0x8100000000000102)));
+    CHECK(!is_of_job(whole, sizeof whole, UINT64_C(0x0100000000000102)));
+    CHECK(!is_of_job(whole, sizeof whole, UINT64_C(0x8100000000000103)));
+    CHECK(!is_of_job(whole, 23, UINT64_C(0x8100000000000102)) && !is_of_job(whole, 0, 0));
 }
 
 int main(void) {
     test_reading();
     test_faults();
     test_ranks();
+    test_own_ports();
     test_senders();
     return unit_end();
 }

@@ -1,0 +1,143 @@
+/* Buffered sends (MPI 3.1, 3.6). The engine copies the data of each send at once, so that none stand in the buffer that
+ * the program attaches: of it is only counted how much the messages take that aren't on their way yet, by the rule of
+ * 3.6.1, each the bytes of its data and MPI_BSEND_OVERHEAD. */
+#include "errors.h"
+#include "transfers.h"
+#include "types.h"
+
+#include <stdlib.h>
+
+/* A message in the buffer. */
+struct kept {
+    struct request send;
+    size_t room;
+    struct kept *next;
+};
+
+static struct {
+    void *at;
+    int size;
+    bool is_attached, is_detached_now; /* a call waits until it is empty */
+    size_t used;
+    struct kept *first;
+} buffer;
+
+/* ---- what it holds ---- */
+
+static void add(struct kept *kept) {
+    struct kept **at = &buffer.first;
+    while (*at != NULL) at = &(*at)->next;
+    *at = kept;
+    buffer.used += kept->room;
+    hold_communicator(kept->send.comm);
+}
+
+/* Takes the one out that stands there. */
+static void take_out(struct kept **at) {
+    struct kept *kept = *at;
+    *at = kept->next;
+    buffer.used -= kept->room;
+    release_communicator(kept->send.comm);
+    free(kept);
+}
+
+/* Takes all out that are on their way. */
+static void take_sent(void) {
+    struct kept **at = &buffer.first;
+    while (*at != NULL && !buffer.is_detached_now) {
+        if (is_at_end(&(*at)->send)) take_out(at);
+        else at = &(*at)->next;
+    }
+}
+
+static bool has_room(size_t wanted) {
+    size_t size = buffer.is_attached ? (size_t)buffer.size : 0;
+    if (wanted <= size && buffer.used <= size - wanted) return true;
+    progress();
+    take_sent();
+    return wanted <= size && buffer.used <= size - wanted;
+}
+
+/* ---- sends ---- */
+
+int begin_buffered(const char *call, const struct transfer *it, struct request *request) {
+    size_t room = it->peer == MPI_PROC_NULL ? 0 : data_size(&it->type->layout, (size_t)it->count) + MPI_BSEND_OVERHEAD;
+    take_sent();
+    if (room > 0 && !has_room(room))
+        return raise_in(it->comm, call, MPI_ERR_BUFFER, "a message needs %zu bytes in the buffer, which has %zu of %d",
+                        room, (size_t)buffer.size - buffer.used, buffer.size);
+    struct kept *kept = malloc(sizeof *kept);
+    if (kept == NULL) return tell_number(it->comm, call, NUMBER_NO_MEMORY);
+    uint32_t number = begin_send(&kept->send, it->comm, false, it->buf, it->count, it->type, it->peer, it->tag);
+    if (number != 0) {
+        free(kept);
+        return tell_number(it->comm, call, number);
+    }
+    *request = kept->send;
+    request->is_ended = true;
+    request->end = empty_status();
+    kept->room = room;
+    kept->next = NULL;
+    add(kept);
+    take_sent();
+    return MPI_SUCCESS;
+}
+
+int MPI_Bsend(const void *buf, int count, MPI_Datatype datatype, int dest, int tag, MPI_Comm comm) {
+    NOTE_CALLER();
+    const struct argument it = {"MPI_Bsend", (void *)buf, count, datatype, dest, tag, comm};
+    struct transfer made;
+    struct request request;
+    int class = check_transfer(&it, TRANSFER_BUFFERED, &made);
+    return class == MPI_SUCCESS ? begin_transfer(it.call, &made, &request) : class;
+}
+
+int MPI_Ibsend(const void *buf, int count, MPI_Datatype datatype, int dest, int tag, MPI_Comm comm,
+               MPI_Request *request) {
+    NOTE_CALLER();
+    const struct argument it = {"MPI_Ibsend", (void *)buf, count, datatype, dest, tag, comm};
+    return begin_later(&it, TRANSFER_BUFFERED, request);
+}
+
+/* ---- the buffer ---- */
+
+int MPI_Buffer_attach(void *at, int size) {
+    NOTE_CALLER();
+    static const char call[] = "MPI_Buffer_attach";
+    check_running(call);
+    if (size < 0) return raise_on(MPI_COMM_WORLD, call, MPI_ERR_ARG, "a buffer of %d bytes", size);
+    if (at == NULL && size > 0) return raise_on(MPI_COMM_WORLD, call, MPI_ERR_BUFFER, "the buffer is NULL");
+    if (buffer.is_attached) return raise_on(MPI_COMM_WORLD, call, MPI_ERR_BUFFER, "a buffer is attached already");
+    buffer.at = at;
+    buffer.size = size;
+    buffer.is_attached = true;
+    return MPI_SUCCESS;
+}
+
+/* Without a buffer it is as if one of no bytes were there (3.6). */
+int MPI_Buffer_detach(void *buffer_addr, int *size) {
+    NOTE_CALLER();
+    static const char call[] = "MPI_Buffer_detach";
+    check_running(call);
+    int class = check_result(MPI_COMM_WORLD, call, buffer_addr, "buffer_addr");
+    if (class == MPI_SUCCESS) class = check_result(MPI_COMM_WORLD, call, size, "size");
+    if (class != MPI_SUCCESS) return class;
+    buffer.is_detached_now = true;
+    while (buffer.first != NULL) {
+        (void)await_request(&buffer.first->send);
+        take_out(&buffer.first);
+    }
+    *(void **)buffer_addr = buffer.at;
+    *size = buffer.size;
+    buffer.at = NULL;
+    buffer.size = 0;
+    buffer.is_attached = buffer.is_detached_now = false;
+    return MPI_SUCCESS;
+}
+
+void close_buffer(void) {
+    while (buffer.first != NULL) take_out(&buffer.first);
+    buffer.at = NULL;
+    buffer.size = 0;
+    buffer.is_attached = false;
+}

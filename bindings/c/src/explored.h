@@ -1,0 +1,65 @@
+/* A rank under the explorer (KOMBAZILY_EXPLORER): its calls go to another process, which holds the engines of all ranks
+ * and decides what MPI leaves open. The gate is narrow: what asks the engine by ask_engine and takes data by
+ * take_from_engine, and waits by progress_wait, goes through it as it stands. What tells the program that a request is
+ * at its end, and could tell it of another one or later, asks here. */
+#ifndef KOMBAZILY_EXPLORED_H
+#define KOMBAZILY_EXPLORED_H
+
+#include "explorer_records.h"
+#include "internal.h"
+
+extern bool is_explored;
+
+/* ---- explored_start.c ---- */
+
+/* In MPI_Init, once the place is known: whether the environment names an explorer, to which the rank then talks. */
+bool explored_open(void);
+/* In MPI_Finalize: tells what is left over, and waits for all ranks. */
+void explored_finalize(void);
+/* The explorer is gone, or ends this run. */
+_Noreturn void explored_lose(void);
+/* The descriptor of the explorer's socket. */
+int explored_socket(void);
+/* Whether the explorer wants to know where calls stand; and where the last one does, innermost first: how many. */
+uint32_t explored_frames(uint64_t frames[EXPLORER_FRAMES]);
+
+/* ---- explored.c ---- */
+
+/* As kombazily_call and kombazily_take. */
+void explored_call(const struct engine_call *call, const void *data, size_t len, struct engine_answer *answer);
+size_t explored_take(uint64_t first, uint8_t *into, size_t len);
+/* Asks for something of which the rank tells more than a call, with entries and bytes behind it. The answer, and what
+ * stands behind it, stay until the next ask. */
+const struct explorer_answer *explored_ask(struct explorer_ask *ask, const struct explorer_entry *entries,
+                                           const void *bytes, const uint32_t **places);
+/* The data of an answer are these, which stay where they are until the next ask. */
+void explored_lend(const uint8_t *from, const struct engine_answer *answer);
+/* The data of the last answer, which the caller frees. */
+uint8_t *explored_keep(void);
+/* Its number may be another request's. */
+void explored_free_key(uint64_t key);
+/* Waits until something may have changed for what this rank looked at. */
+void explored_pause(void);
+void explored_probe(const struct engine_call *probe, bool waits, struct engine_answer *answer);
+/* Tells of an error that ends the program, or that a call returned: whether the program is to go on. */
+bool explored_error(enum explorer_ask_kind kind, const char *call, int class, const char *text);
+void explored_abort(int code);
+/* A clock that goes on by a millisecond with each look: a program's time is the same in each run of the same choices.
+ */
+uint64_t explored_nanoseconds(void);
+
+/* ---- explored_requests.c ---- */
+
+/* Waits until a request of the engine is at its end: false of another one. */
+bool explored_wait(struct request *request);
+/* Waits until all of a list are at their ends: false where one isn't of the engine. */
+bool explored_wait_all(int count, const MPI_Request list[]);
+/* Whether the program is told that all of these are at their ends; then they are ended. */
+bool explored_test(int count, const MPI_Request list[]);
+/* The place of the one of which it is told, -1: of none, MPI_UNDEFINED: all are null. */
+int explored_any(bool waits, int count, const MPI_Request list[]);
+/* How many it is told of; those are ended. */
+int explored_some(bool waits, int count, const MPI_Request list[]);
+/* Whether the program is told of the end of this one now, behind such a call. */
+bool is_told(struct request *request);
+#endif

@@ -1,0 +1,170 @@
+/* How a rank under the explorer begins and ends: see explored.h. */
+#define _GNU_SOURCE
+#include "communicators.h"
+#include "explored.h"
+#include "place.h"
+#include "types.h"
+
+#include <errno.h>
+#include <execinfo.h>
+#include <link.h>
+#include <stdio.h>
+#include <stdlib.h>
+#include <string.h>
+#include <sys/socket.h>
+#include <sys/wait.h>
+#include <unistd.h>
+
+/* The status of a rank that its explorer has left: nobody looks at it. */
+enum { STATUS_LEFT = 125 };
+
+static int explorer = -1;
+static bool tells_places;
+
+int explored_socket(void) { return explorer; }
+
+_Noreturn void explored_lose(void) { _exit(STATUS_LEFT); }
+
+/* ---- places of calls ---- */
+
+/* The parts of the program's own file in memory. */
+static struct { uintptr_t base, from, to; } program_file;
+
+static int note_program(struct dl_phdr_info *info, size_t size, void *nothing) {
+    (void)size, (void)nothing;
+    program_file.base = info->dlpi_addr;
+    program_file.from = UINTPTR_MAX;
+    for (int i = 0; i < info->dlpi_phnum; i++) {
+        const ElfW(Phdr) *part = &info->dlpi_phdr[i];
+        uintptr_t from = info->dlpi_addr + part->p_vaddr;
+        if (part->p_type != PT_LOAD) continue;
+        if (from < program_file.from) program_file.from = from;
+        if (from + part->p_memsz > program_file.to) program_file.to = from + part->p_memsz;
+    }
+    return 1; /* the program itself comes first */
+}
+
+uint32_t explored_frames(uint64_t frames[EXPLORER_FRAMES]) {
+    void *all[EXPLORER_FRAMES];
+    uint32_t count = 0;
+    int found = tells_places ? backtrace(all, EXPLORER_FRAMES) : 0;
+    if (program_file.to == 0) dl_iterate_phdr(note_program, NULL);
+    for (int i = 0; i < found; i++) {
+        uintptr_t at = (uintptr_t)all[i];
+        if (at >= program_file.from && at < program_file.to) frames[count++] = at - program_file.base;
+    }
+    return count;
+}
+
+/* ---- a process that is copied for each run ---- */
+
+static void exchange(void *bytes, size_t len, bool is_put) {
+    for (char *at = bytes; len > 0;) {
+        ssize_t done = is_put ? send(explorer, at, len, MSG_NOSIGNAL) : recv(explorer, at, len, 0);
+        if (done < 0 && errno == EINTR) continue;
+        if (done <= 0) explored_lose();
+        at += done, len -= (size_t)done;
+    }
+}
+
+/* What the explorer hands over for one run: its socket, and where the output goes. */
+static bool take_run(int descriptors[2]) {
+    struct explorer_run run;
+    struct iovec part = {&run, sizeof run};
+    union {
+        char room[CMSG_SPACE(2 * sizeof(int))];
+        struct cmsghdr aligned;
+    } control;
+    struct msghdr message = {
+        .msg_iov = &part, .msg_iovlen = 1, .msg_control = control.room, .msg_controllen = sizeof control.room};
+    if (recvmsg(explorer, &message, MSG_CMSG_CLOEXEC) != (ssize_t)sizeof run) return false;
+    const struct cmsghdr *it = CMSG_FIRSTHDR(&message);
+    if (it == NULL || it->cmsg_type != SCM_RIGHTS || it->cmsg_len != CMSG_LEN(2 * sizeof(int))) return false;
+    memcpy(descriptors, CMSG_DATA(it), 2 * sizeof(int));
+    tells_places = run.tells_places != 0;
+    return true;
+}
+
+/* In the copy: its run begins. */
+static void begin_run(const int descriptors[2]) {
+    dup2(descriptors[1], STDOUT_FILENO);
+    dup2(descriptors[1], STDERR_FILENO);
+    close(descriptors[1]);
+    close(explorer);
+    explorer = descriptors[0];
+}
+
+/* From here on the process makes a copy of itself for each run, which goes on with the program, and tells how it ends.
+ */
+static void be_mould(void) {
+    int descriptors[2], status;
+    fflush(NULL);
+    while (take_run(descriptors)) {
+        pid_t copy = fork();
+        if (copy == 0) {
+            begin_run(descriptors);
+            return;
+        }
+        close(descriptors[0]);
+        close(descriptors[1]);
+        if (copy < 0) explored_lose();
+        exchange(&copy, sizeof copy, true);
+        while (waitpid(copy, &status, 0) < 0 && errno == EINTR) {}
+        exchange(&status, sizeof status, true);
+    }
+    _exit(0);
+}
+
+/* ---- the beginning and the end ---- */
+
+bool explored_open(void) {
+    const char *where = getenv("KOMBAZILY_EXPLORER");
+    uint64_t number;
+    if (where == NULL || !read_number(where, 1023, &number)) return false;
+    explorer = (int)number;
+    tells_places = getenv("KOMBAZILY_EXPLORER_PLACES") != NULL;
+    if (getenv("KOMBAZILY_EXPLORER_COPIES") != NULL) be_mould();
+    is_explored = true;
+    return true;
+}
+
+/* The requests that have handles, as entries. */
+static struct explorer_entry *left_requests(uint32_t *count) {
+    struct explorer_entry *all = malloc((size_t)(request_places() + 1) * sizeof *all);
+    if (all == NULL) explored_lose();
+    *count = 0;
+    for (int place = 0; place < request_places(); place++) {
+        const struct request *it = request_at(place);
+        if (it == NULL || it->is_inactive) continue;
+        bool is_of_engine = it->kind == &send_kind || it->kind == &receive_kind;
+        all[(*count)++] = (struct explorer_entry){it->is_ended   ? EXPLORER_ENDED
+                                                  : is_of_engine ? it->own.key
+                                                                 : EXPLORER_OPEN,
+                                                  EXPLORER_ENDED};
+    }
+    return all;
+}
+
+/* What is told of what is left, beside requests. */
+static struct {
+    struct explorer_left left;
+    uint32_t communicators[8];
+} rest;
+static uint32_t communicator_count;
+
+static void note_communicator(const struct communicator *it) {
+    const uint32_t most = sizeof rest.communicators / sizeof *rest.communicators;
+    if (it->place > ENGINE_SELF && communicator_count < most) rest.communicators[communicator_count++] = it->place;
+}
+
+void explored_finalize(void) {
+    struct explorer_ask ask = {.kind = ASK_FINALIZE};
+    struct explorer_entry *requests = left_requests(&ask.count);
+    rest.left = (struct explorer_left){count_types(), count_messages()};
+    each_communicator(note_communicator);
+    ask.length = sizeof rest.left + communicator_count * sizeof *rest.communicators;
+    (void)explored_ask(&ask, requests, &rest, NULL);
+    free(requests);
+    close(explorer);
+    explorer = -1;
+}

@@ -1,0 +1,70 @@
+/* What a rank and the explorer tell each other: records of fixed size over a local socket, and rows behind them. A rank
+ * asks, and waits for the answer; nothing else crosses. The engine's own records go through unchanged. */
+#ifndef KOMBAZILY_EXPLORER_RECORDS_H
+#define KOMBAZILY_EXPLORER_RECORDS_H
+
+#include "engine.h"
+
+enum { EXPLORER_FRAMES = 24, EXPLORER_NAME = 32 };
+
+/* What a rank asks of the explorer. */
+enum explorer_ask_kind {
+    ASK_CALL = 1, /* call, bytes: the engine's call. A collective, or the receive of a message that was taken out, is
+                     answered once it is at its end; a LOOK says whether a request is, and what waits may go on by it */
+    ASK_POST,     /* call, bytes: a send or a receive begins, as call.request. It is answered by nothing */
+    ASK_WAIT,     /* call.request: answered once it is at its end, as its test is */
+    ASK_WAITALL,  /* entries: answered once all are at their ends, by their answers and their data in a row */
+    ASK_WAITANY,  /* entries: fact 1 and the place of one, once one is at its end */
+    ASK_WAITSOME, /* entries: how many, and their places behind the answer, once one is at its end */
+    ASK_TEST, /* entries: fact 1 if all are at their ends, else 0. What is told to be at its end is not ended by it */
+    ASK_TESTANY,  /* entries: fact 1 and the place of one, or 0 */
+    ASK_TESTSOME, /* entries: how many, and their places behind the answer, or 0 */
+    ASK_PROBE,    /* call (IPROBE or IMPROBE); with is_waiting it is answered once something is there */
+    ASK_PAUSE,    /* answered once a request is at its end of which a LOOK said that it isn't */
+    ASK_ERROR,    /* bytes: an error that ends the program; call.order: its class. Fact 1: the program is to go on */
+    ASK_RETURNED, /* bytes: an error that a call returned; call.order: its class */
+    ASK_ABORT,    /* call.order: the code */
+    ASK_FINALIZE  /* entries: the requests that are left; bytes: an explorer_left, then the places of the communicators
+                     that are left. Answered once all ranks are there */
+};
+
+/* A request of a list. A list with one that is EXPLORER_OPEN is answered by the fact EXPLORER_AGAIN, too: as a pause.
+ */
+struct explorer_entry {
+    uint64_t key;   /* of its engine_request, or one of the following */
+    uint64_t other; /* the send of a send and receive in one, or EXPLORER_ENDED */
+};
+#define EXPLORER_NULL UINT64_MAX        /* the null request */
+#define EXPLORER_ENDED (UINT64_MAX - 1) /* one of which the rank knows that it is at its end */
+#define EXPLORER_OPEN (UINT64_MAX - 2)  /* one that the rank makes of others, and that isn't at its end */
+enum { EXPLORER_AGAIN = 2 };
+
+/* What a program leaves over at MPI_Finalize, beside requests and communicators. */
+struct explorer_left {
+    uint32_t types;    /* made and never freed */
+    uint32_t messages; /* taken out and never received */
+};
+
+/* An ask. Behind it stand `frame_count` addresses of 64 bits, then `count` entries, then `length` bytes. */
+struct explorer_ask {
+    uint32_t kind; /* an explorer_ask_kind */
+    uint32_t count;
+    uint32_t is_waiting;
+    uint32_t frame_count; /* where it was called from: addresses within the program's file, innermost first */
+    struct engine_call call;
+    uint64_t length;
+    char name[EXPLORER_NAME]; /* the call of MPI */
+};
+
+/* The answer. Behind it stand `count` places of 32 bits, then answer.bytes bytes of data. */
+struct explorer_answer {
+    struct engine_answer answer;
+    uint32_t count;
+    uint32_t place;
+};
+
+/* What a process that is copied for each run is handed with the two descriptors of a run. */
+struct explorer_run {
+    uint32_t tells_places;
+};
+#endif

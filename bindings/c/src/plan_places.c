@@ -1,0 +1,94 @@
+/* Where the blocks of plans lie, and whose they are: see plan_runs.h. */
+#include "explored.h"
+#include "plan_runs.h"
+#include "rows.h"
+
+#include <stdlib.h>
+#include <string.h>
+
+/* ---- blocks ---- */
+
+size_t place_length(struct place place) { return place.type == NULL ? 0 : data_size(&place.type->layout, place.count); }
+
+const void *place_row(struct place from, void **room) {
+    *room = NULL;
+    return place_length(from) == 0 ? NULL : data_row(&from.type->layout, from.at, from.count, room);
+}
+
+uint32_t copy_place(struct place from, struct place into) {
+    size_t length = place_length(from), wanted = place_length(into);
+    if (length == 0 || wanted == 0 || (from.at == into.at && from.type == into.type)) return 0;
+    void *room;
+    const void *row = place_row(from, &room);
+    if (row == NULL) return NUMBER_NO_MEMORY;
+    unpack(&into.type->layout, row, length < wanted ? length : wanted, into.at);
+    free(room);
+    return 0;
+}
+
+void free_places(struct places *places) {
+    for (size_t at = 0; at < places->count; at++)
+        if (places->list[at].type != NULL) release_type(places->list[at].type);
+    free(places->list);
+    *places = (struct places){0};
+}
+
+/* ---- members ---- */
+
+/* A communicator's number is part of its messages' tags. */
+enum { NUMBERS = 4096, WORDS = NUMBERS / 64 };
+/* Those that are taken: MPI_COMM_WORLD has 0, MPI_COMM_SELF 1. */
+static uint64_t taken[WORDS] = {3};
+
+int world_rank(const struct communicator *comm, int member) {
+    return comm->members == NULL ? member : comm->members[member];
+}
+
+/* Asks the engine for the members. */
+static uint32_t find_members(struct communicator *comm) {
+    const size_t bytes = (size_t)comm->size * sizeof *comm->members;
+    struct engine_answer answer;
+    comm->members = malloc(bytes);
+    if (comm->members == NULL) return NUMBER_NO_MEMORY;
+    call_engine(&(struct engine_call){.kind = ENGINE_MEMBERS, .communicator = comm->place}, NULL, 0, &answer);
+    if (answer.kind != ENGINE_FACT) return answer.number;
+    take_from_engine(0, (uint8_t *)comm->members, bytes);
+    return 0;
+}
+
+/* The numbers that all members have free. */
+static uint32_t find_free(const struct communicator *comm, uint64_t free_numbers[WORDS]) {
+    for (int at = 0; at < WORDS; at++) free_numbers[at] = ~taken[at];
+    const struct collective all = {comm, 0, ENGINE_UINT64, sizeof *free_numbers};
+    return allreduce_rows(all, ENGINE_BAND, free_numbers, sizeof taken, free_numbers);
+}
+
+uint32_t number_communicator(struct communicator *comm) {
+    uint64_t free_numbers[WORDS];
+    /* A member alone sends nothing; nor does one whose calls an explorer answers. */
+    if (comm->size == 1 || is_explored) return 0;
+    uint32_t number = find_members(comm);
+    if (number == 0) number = find_free(comm, free_numbers);
+    if (number != 0) return number;
+    for (uint32_t at = 0; at < NUMBERS; at++) {
+        if ((free_numbers[at / 64] >> at % 64 & 1) == 0) continue;
+        taken[at / 64] |= UINT64_C(1) << at % 64;
+        comm->number = at;
+        return 0;
+    }
+    return NUMBER_LIMIT;
+}
+
+uint32_t open_explored_plans(struct communicator *comm) {
+    const struct engine_call copy = {.kind = ENGINE_DUP, .communicator = comm->place};
+    struct engine_answer answer;
+    if (!is_explored || comm->size == 1 || comm->explored_plans != 0) return 0;
+    uint32_t number = enter_engine(&copy, NULL, 0, &answer);
+    if (number == 0) comm->explored_plans = answer.communicator;
+    return number;
+}
+
+void forget_number(struct communicator *comm) {
+    if (comm->number > ENGINE_SELF) taken[comm->number / 64] &= ~(UINT64_C(1) << comm->number % 64);
+    free(comm->members);
+}

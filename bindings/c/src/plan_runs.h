@@ -1,0 +1,81 @@
+/* Carries plans out (engine_plans.h): collectives over sends and receives of an engine that no program has. A plan goes
+ * on whenever MPI is called, so the same one makes a blocking and a nonblocking collective. */
+#ifndef KOMBAZILY_PLAN_RUNS_H
+#define KOMBAZILY_PLAN_RUNS_H
+
+#include "communicators.h"
+#include "engine_plans.h"
+#include "internal.h"
+#include "own_operations.h"
+#include "types.h"
+
+/* Items at an address: a block's data. */
+struct place {
+    void *at;
+    size_t count;
+    struct datatype *type; /* NULL where there are no data */
+};
+
+/* Blocks in the order of their slots. The list is freed with the plan, and holds its types. */
+struct places {
+    size_t count;
+    struct place *list;
+};
+
+/* The kind of exchanges with neighbours (neighbours.c), behind those of engine_plans.h. */
+enum { PLAN_NEIGHBOURS = PLAN_BARRIER + 1 };
+
+/* A collective as it is to be carried out. */
+struct plan_call {
+    const char *name; /* of the call of MPI */
+    enum plan_kind kind;
+    struct communicator *comm;
+    int root;
+    struct places given, got;
+    struct folding folding;  /* by what blocks are folded */
+    struct plan_step *steps; /* of PLAN_NEIGHBOURS alone: its steps, which are freed with the plan */
+    size_t step_count;
+};
+
+/* The requests of collectives: their state is a run. */
+extern const struct request_kind plan_kind;
+
+struct plan_run;
+
+/* Makes what carries it out for a request, and takes its lists over. NULL where there is no memory: the lists are the
+ * caller's then. It may be started, and again once it is at its end. */
+struct plan_run *make_plan(const struct plan_call *asked, struct request *request);
+void start_plan(struct plan_run *run);
+/* Goes on as far as it can, and notes in the request where it is at its end. */
+void plan_goes_on(struct plan_run *run);
+/* Why it failed, in at most LONGEST_CAUSE bytes. */
+void say_plan_end(const struct plan_run *run, char *text);
+/* Forgets it. */
+void end_plan(struct plan_run *run);
+
+/* All that are on their way go on, also where the engine is in a collective. */
+void plans_go_on(void);
+
+/* ---- plan_places.c ---- */
+
+/* Bytes of data of a block. */
+size_t place_length(struct place place);
+/* One block becomes what another one is: 0, or a number. */
+uint32_t copy_place(struct place from, struct place into);
+/* The data of a block one behind the other: the block itself, or room that is to be freed. NULL: there are none, or no
+ * memory. */
+const void *place_row(struct place from, void **room);
+
+void free_places(struct places *places);
+
+/* The rank of a member in MPI_COMM_WORLD. */
+int world_rank(const struct communicator *comm, int member);
+/* Numbers a communicator that was just made, at all its members at once: 0, or a number. What holds of it ends with
+ * forget_number. */
+uint32_t number_communicator(struct communicator *comm);
+void forget_number(struct communicator *comm);
+/* Under an explorer there is one engine a rank: plans go there in a copy of the communicator, which is made by the
+ * first one. So only blocking collectives may go by plans then: all members wait for the copy. 0, or a number. */
+uint32_t open_explored_plans(struct communicator *comm);
+
+#endif

@@ -1,0 +1,19 @@
+/* How a process comes to its place in its job, and where the other ranks are. */
+#ifndef KOMBAZILY_START_H
+#define KOMBAZILY_START_H
+
+#include "addresses.h"
+
+/* Finds the place of this process: from words, which go out of the program's own, else from the environment, else from
+ * the launcher of a site; else it is a job of one rank. `process` has it then, and `job` where the ranks are. Where it
+ * is told wrongly the process ends. */
+void find_place(int *argc, char ***argv, struct addresses *job);
+
+/* Takes out of the environment what tells this process's place, so that a program that it starts is no rank of this
+ * job: one that speaks MPI is a job of one rank (KOMBAZILY_PARENT says whose child it is). */
+void keep_place_from_children(void);
+
+/* Ends a process that can't begin. */
+_Noreturn void refuse_start(int status, const char *cause, const char *detail);
+
+#endif

@@ -1,0 +1,163 @@
+/* Communicators of groups, of machines, and copies whose request is asked for (MPI 3.1, 6.4.2), and their end (10.5.4).
+ * They go by the engine's DUP and SPLIT. */
+#include "errors.h"
+#include "group_lists.h"
+#include "groups.h"
+#include "info.h"
+#include "internal.h"
+
+#include <stdlib.h>
+
+/* ---- of a group ---- */
+
+/* The ranks that a group's members have in the communicator, and the own place among them: the first of them is what
+ * the parts are told apart by, since groups that are handed in have no member in common (6.4.2). */
+static int place_group(MPI_Comm comm, const char *call, struct members group, struct engine_call *entry) {
+    int class = MPI_SUCCESS;
+    uint16_t *list = members_of_communicator(comm, call, &class);
+    if (list == NULL) return class;
+    const struct members all = {list, communicator_of(comm)->size};
+    for (int at = 0; class == MPI_SUCCESS && at < group.size; at++)
+        if (place_in(all, group.list[at]) < 0)
+            class =
+                raise_on(comm, call, MPI_ERR_GROUP, "rank %d of MPI_COMM_WORLD is in the group alone", group.list[at]);
+    entry->order = place_in(group, (uint16_t)process.rank);
+    entry->colour = entry->order < 0 ? ENGINE_NO_COLOUR : place_in(all, group.list[0]);
+    free(list);
+    return class;
+}
+
+int MPI_Comm_create(MPI_Comm comm, MPI_Group group, MPI_Comm *newcomm) {
+    NOTE_CALLER();
+    static const char call[] = "MPI_Comm_create";
+    struct communicator *own;
+    struct members members;
+    struct engine_call entry = {.kind = ENGINE_SPLIT};
+    check_running(call);
+    int class = check_comm(comm, call, &own);
+    if (class == MPI_SUCCESS) class = check_result(comm, call, newcomm, "newcomm");
+    if (class == MPI_SUCCESS) class = check_members(call, group, &members);
+    if (class == MPI_SUCCESS) class = place_group(comm, call, members, &entry);
+    return class != MPI_SUCCESS ? class : make_communicator(comm, call, &entry, newcomm);
+}
+
+/* ---- of a machine ---- */
+
+int MPI_Comm_split_type(MPI_Comm comm, int split_type, int key, MPI_Info info, MPI_Comm *newcomm) {
+    NOTE_CALLER();
+    static const char call[] = "MPI_Comm_split_type";
+    struct communicator *own;
+    struct engine_call entry = {.kind = ENGINE_SPLIT, .order = key, .colour = ENGINE_NO_COLOUR};
+    (void)info;
+    check_running(call);
+    int class = check_comm(comm, call, &own);
+    if (class == MPI_SUCCESS) class = check_result(comm, call, newcomm, "newcomm");
+    if (class != MPI_SUCCESS) return class;
+    if (split_type != MPI_COMM_TYPE_SHARED && split_type != MPI_UNDEFINED)
+        return raise_on(comm, call, MPI_ERR_ARG, "split type %d", split_type);
+    if (split_type == MPI_COMM_TYPE_SHARED) entry.colour = first_neighbour();
+    return make_communicator(comm, call, &entry, newcomm);
+}
+
+/* ---- copies with a request ---- */
+
+static void say_copied(struct line *line, struct request *request) {
+    (void)line;
+    (void)request;
+}
+
+/* The request of a call that has done all when it returns: it is at its end at once. */
+static const struct request_kind done_kind = {.say_wait = say_copied, .say_left = say_copied};
+
+static int begin_copy(const char *call, MPI_Comm comm, MPI_Info info, MPI_Comm *newcomm, MPI_Request *request) {
+    struct communicator *own;
+    check_running(call);
+    int class = check_comm(comm, call, &own);
+    if (class == MPI_SUCCESS) class = check_hints(comm, call, info);
+    if (class == MPI_SUCCESS) class = check_result(comm, call, newcomm, "newcomm");
+    if (class == MPI_SUCCESS) class = check_result(comm, call, request, "request");
+    if (class != MPI_SUCCESS) return class;
+    MPI_Request handle = open_request();
+    if (handle == MPI_REQUEST_NULL) return raise_number(comm, call, NUMBER_NO_MEMORY);
+    struct request *made = request_of(handle);
+    made->kind = &done_kind;
+    made->comm = hold_communicator(own);
+    made->caller = process.caller;
+    made->age = next_age();
+    made->end = empty_status();
+    made->is_ended = true;
+    class = copy_communicator(comm, call, newcomm);
+    if (class != MPI_SUCCESS) close_request(&handle);
+    *request = handle;
+    return class;
+}
+
+int MPI_Comm_idup(MPI_Comm comm, MPI_Comm *newcomm, MPI_Request *request) {
+    NOTE_CALLER();
+    return begin_copy("MPI_Comm_idup", comm, MPI_INFO_NULL, newcomm, request);
+}
+
+int MPI_Comm_idup_with_info(MPI_Comm comm, MPI_Info info, MPI_Comm *newcomm, MPI_Request *request) {
+    NOTE_CALLER();
+    return begin_copy("MPI_Comm_idup_with_info", comm, info, newcomm, request);
+}
+
+/* ---- hints, of which none is used ---- */
+
+int MPI_Comm_dup_with_info(MPI_Comm comm, MPI_Info info, MPI_Comm *newcomm) {
+    NOTE_CALLER();
+    static const char call[] = "MPI_Comm_dup_with_info";
+    struct communicator *own;
+    check_running(call);
+    int class = check_comm(comm, call, &own);
+    if (class == MPI_SUCCESS) class = check_hints(comm, call, info);
+    if (class == MPI_SUCCESS) class = check_result(comm, call, newcomm, "newcomm");
+    return class != MPI_SUCCESS ? class : copy_communicator(comm, call, newcomm);
+}
+
+int MPI_Comm_set_info(MPI_Comm comm, MPI_Info info) {
+    NOTE_CALLER();
+    static const char call[] = "MPI_Comm_set_info";
+    struct communicator *own;
+    check_running(call);
+    int class = check_comm(comm, call, &own);
+    if (class == MPI_SUCCESS && info == MPI_INFO_NULL)
+        return raise_on(comm, call, MPI_ERR_INFO, "the info object is MPI_INFO_NULL");
+    return class != MPI_SUCCESS ? class : check_hints(comm, call, info);
+}
+
+int MPI_Comm_get_info(MPI_Comm comm, MPI_Info *info_used) {
+    NOTE_CALLER();
+    static const char call[] = "MPI_Comm_get_info";
+    struct communicator *own;
+    struct info *made;
+    check_running(call);
+    int class = check_comm(comm, call, &own);
+    if (class == MPI_SUCCESS) class = check_result(comm, call, info_used, "info_used");
+    return class != MPI_SUCCESS ? class : add_info(call, &made, info_used);
+}
+
+/* ---- the end ---- */
+
+/* A request of this communicator that isn't at its end, or NULL. */
+static struct request *pending_in(const struct communicator *comm) {
+    for (int place = 0; place < request_places(); place++) {
+        struct request *request = request_at(place);
+        if (request != NULL && !request->is_inactive && request->comm == comm && !is_at_end(request)) return request;
+    }
+    return NULL;
+}
+
+int MPI_Comm_disconnect(MPI_Comm *comm) {
+    NOTE_CALLER();
+    static const char call[] = "MPI_Comm_disconnect";
+    struct communicator *own;
+    struct request *pending;
+    check_running(call);
+    int class = check_result(MPI_COMM_WORLD, call, comm, "comm");
+    if (class == MPI_SUCCESS) class = check_comm(*comm, call, &own);
+    if (class != MPI_SUCCESS) return class;
+    progress();
+    while ((pending = pending_in(own)) != NULL) await_request(pending);
+    return MPI_Comm_free(comm);
+}

@@ -1,0 +1,332 @@
+/* What is told of a run: see steps.h. */
+#include "state.h"
+
+#include <stdarg.h>
+#include <stdlib.h>
+#include <string.h>
+
+struct finding *note(struct steps *s, int rank, enum weight weight, const char *text, ...) {
+    s->findings = room_for(s->findings, (size_t)s->finding_count + 1, sizeof *s->findings);
+    struct finding *it = &s->findings[s->finding_count++];
+    *it = (struct finding){.rank = rank, .number = s->finding_count, .weight = weight};
+    va_list arguments;
+    va_start(arguments, text);
+    vsnprintf(it->text, sizeof it->text, text, arguments);
+    va_end(arguments);
+    return it;
+}
+
+void at_place(struct finding *it, const struct place *place) {
+    if (it->place_count < 2) it->places[it->place_count++] = *place;
+}
+
+void steps_note(struct steps *s, int rank, enum weight weight, const char *text) { note(s, rank, weight, "%s", text); }
+
+static int by_rank(const void *a, const void *b) {
+    const struct finding *x = a, *y = b;
+    return x->rank != y->rank ? x->rank - y->rank : x->number - y->number;
+}
+
+int steps_findings(struct steps *s, const struct finding **findings) {
+    if (s->finding_count > 1) qsort(s->findings, (size_t)s->finding_count, sizeof *s->findings, by_rank);
+    *findings = s->findings;
+    return s->finding_count;
+}
+
+bool steps_has_mismatch(const struct steps *s) { return s->has_mismatch; }
+
+/* A few words at once, for the same line. */
+static char *next_word(void) {
+    static char words[4][24];
+    static int at;
+    at = (at + 1) & 3;
+    return words[at];
+}
+
+const char *peer_word(int32_t peer) {
+    char *word = next_word();
+    if (peer == ENGINE_ANY) return "any rank";
+    snprintf(word, sizeof(char[24]), "rank %d", peer);
+    return word;
+}
+
+const char *tag_word(int32_t tag) {
+    char *word = next_word();
+    if (tag == ENGINE_ANY) return "any tag";
+    snprintf(word, sizeof(char[24]), "tag %d", tag);
+    return word;
+}
+
+/* The peer of a send or a receive, by its rank in `world`. */
+static const char *world_word(struct steps *s, int rank, const struct engine_call *call) {
+    int world = world_rank(s, rank, call->communicator, call->peer);
+    return peer_word(world < 0 ? call->peer : world);
+}
+
+/* ---- what is left over ---- */
+
+static void tell_request(struct steps *s, int rank, uint64_t key) {
+    const struct operation *it = operation_of(s, rank, key);
+    if (it == NULL) {
+        at_place(note(s, rank, LEFT_OVER, "rank %d ended with a request that no call ended, at %%0", rank),
+                 &s->ranks[rank].place);
+        return;
+    }
+    at_place(note(s, rank, LEFT_OVER, "rank %d ended with a request that no call ended: %s %s with %s, begun at %%0",
+                  rank, it->is_send ? "a send to" : "a receive of", world_word(s, rank, &it->call),
+                  tag_word(it->call.tag)),
+             &it->place);
+}
+
+void tell_left(struct steps *s, int rank, const uint8_t *bytes) {
+    const struct rank *own = &s->ranks[rank];
+    struct explorer_left left = {0};
+    for (uint32_t i = 0; i < own->ask.count; i++) tell_request(s, rank, own->entries[i].key);
+    if (own->ask.length < sizeof left) return;
+    memcpy(&left, bytes, sizeof left);
+    for (size_t at = sizeof left; at + sizeof(uint32_t) <= own->ask.length; at += sizeof(uint32_t)) {
+        uint32_t place;
+        memcpy(&place, bytes + at, sizeof place);
+        const struct members *of = members_of(s, rank, place);
+        at_place(note(s, rank, WORTH_KNOWING, "rank %d ended with a communicator never freed, made at %%0", rank),
+                 of == NULL ? &own->place : &of->made_at);
+    }
+    if (left.types > 0)
+        at_place(note(s, rank, WORTH_KNOWING, "rank %d ended with %u types never freed, at %%0", rank, left.types),
+                 &own->place);
+    if (left.messages > 0)
+        at_place(note(s, rank, LEFT_OVER, "rank %d ended with %u messages taken out and never received, at %%0", rank,
+                      left.messages),
+                 &own->place);
+}
+
+void tell_unsafe(struct steps *s, const struct move *moves, int count) {
+    enum { MOST_TOLD = 8 };
+    if (s->is_unsafe_told) return;
+    for (int i = 0; i < count; i++)
+        if (moves[i].kind != MOVE_BUFFER) return;
+    s->is_unsafe_told = true;
+    note(s, -1, LEFT_OVER, "nobody goes on here unless a send is buffered:");
+    for (int i = 0; i < count && i < MOST_TOLD; i++) {
+        const struct operation *it = send_of(s, &moves[i]);
+        if (it == NULL) continue;
+        at_place(note(s, -1, LEFT_OVER, "  rank %u sends to %s with %s at %%0", moves[i].rank,
+                      world_word(s, (int)moves[i].rank, &it->call), tag_word(it->call.tag)),
+                 &it->place);
+    }
+}
+
+/* ---- deadlocks ---- */
+
+/* The ranks that a rank waits for, as bits. */
+static uint64_t bit(int rank) { return UINT64_C(1) << rank; }
+
+static uint64_t members_but(const struct members *of, int rank) {
+    uint64_t all = 0;
+    for (int i = 0; of != NULL && i < of->size; i++) all |= bit(of->of[i]);
+    return all & ~bit(rank);
+}
+
+/* Those of a collective that haven't entered it. */
+static uint64_t absent_members(struct steps *s, int rank) {
+    const struct rank *own = &s->ranks[rank];
+    const struct members *of = members_of(s, rank, own->ask.call.communicator);
+    uint64_t all = 0;
+    for (int i = 0; of != NULL && i < of->size; i++)
+        if (entered_by(&s->ranks[of->of[i]], of->name) < own->entry) all |= bit(of->of[i]);
+    return all & ~bit(rank);
+}
+
+static uint64_t peers_of(struct steps *s, int rank, const struct engine_call *call) {
+    if (call->peer == ENGINE_ANY) return members_but(members_of(s, rank, call->communicator), rank);
+    int world = world_rank(s, rank, call->communicator, call->peer);
+    return world < 0 ? 0 : bit(world);
+}
+
+/* The first request of a list that isn't at its end, or NULL. */
+static const struct operation *first_open(struct steps *s, int rank) {
+    const struct rank *own = &s->ranks[rank];
+    if (own->ask.kind == ASK_WAIT) return operation_of(s, rank, own->ask.call.request.key);
+    for (uint32_t i = 0; i < own->ask.count; i++) {
+        if (own->entries[i].key < EXPLORER_OPEN && !is_done(s, rank, own->entries[i].key))
+            return operation_of(s, rank, own->entries[i].key);
+        if (own->entries[i].other < EXPLORER_OPEN && !is_done(s, rank, own->entries[i].other))
+            return operation_of(s, rank, own->entries[i].other);
+    }
+    for (int key = 0; own->ask.kind == ASK_PAUSE && key < own->operation_count; key++)
+        if (own->operations[key].state != OP_NONE && own->operations[key].is_looked_at) return &own->operations[key];
+    return NULL;
+}
+
+static uint64_t waited_for(struct steps *s, int rank) {
+    const struct rank *own = &s->ranks[rank];
+    uint64_t all = 0;
+    if (own->state != RANK_BLOCKED) return 0;
+    if (own->is_finalized) {
+        for (int other = 0; other < s->options.size; other++)
+            if (!s->ranks[other].is_finalized && s->ranks[other].state != RANK_ENDED) all |= bit(other);
+        return all;
+    }
+    if (own->ask.kind == ASK_CALL) return absent_members(s, rank);
+    if (own->ask.kind == ASK_PROBE) return peers_of(s, rank, &own->ask.call);
+    if (own->ask.kind == ASK_WAITALL || own->ask.kind == ASK_WAIT || own->ask.kind == ASK_PAUSE) {
+        const struct operation *it = first_open(s, rank);
+        return it == NULL ? 0 : peers_of(s, rank, &it->call);
+    }
+    for (uint32_t i = 0; i < own->ask.count; i++) {
+        const struct operation *it =
+            own->entries[i].key < EXPLORER_OPEN ? operation_of(s, rank, own->entries[i].key) : NULL;
+        if (it != NULL) all |= peers_of(s, rank, &it->call);
+    }
+    return all;
+}
+
+/* Ranks of which each waits for the next one and the last for the first: the shortest such row that begins here. */
+static int find_cycle(const uint64_t waits[MOST_RANKS], int size, int from, int cycle[MOST_RANKS]) {
+    int before[MOST_RANKS], row[MOST_RANKS], end = 1;
+    memset(before, -1, sizeof before);
+    row[0] = from;
+    for (int k = 0; k < end; k++) {
+        for (int next = 0; next < size; next++) {
+            if ((waits[row[k]] >> next & 1) == 0) continue;
+            if (next == from) {
+                int count = 0;
+                for (int at = row[k]; at != -1; at = before[at]) cycle[count++] = at;
+                return count;
+            }
+            if (before[next] != -1 || next == from) continue;
+            before[next] = row[k];
+            row[end++] = next;
+        }
+    }
+    return 0;
+}
+
+/* Tells a shortest cycle. Who waits for any rank waits for each of them. */
+static void tell_cycle(struct steps *s) {
+    uint64_t waits[MOST_RANKS];
+    int best[MOST_RANKS], length = 0;
+    for (int rank = 0; rank < s->options.size; rank++) waits[rank] = waited_for(s, rank);
+    for (int rank = 0; rank < s->options.size; rank++) {
+        int cycle[MOST_RANKS], own = find_cycle(waits, s->options.size, rank, cycle);
+        if (own < 2 || (length > 0 && own >= length)) continue;
+        length = own;
+        memcpy(best, cycle, sizeof best);
+    }
+    if (length == 0) return;
+    s->cycle_length = length;
+    for (int i = 0; i < length; i++) s->cycle[i] = best[length - 1 - i];
+    char text[400];
+    size_t at = (size_t)snprintf(text, sizeof text, "a cycle: rank %d", best[length - 1]);
+    for (int i = length - 2; i >= 0 && at < sizeof text; i--)
+        at += (size_t)snprintf(text + at, sizeof text - at, " waits for rank %d, which", best[i]);
+    if (at < sizeof text) snprintf(text + at, sizeof text - at, " waits for rank %d", best[length - 1]);
+    note(s, s->options.size, WRONG, "%s", text);
+}
+
+int steps_cycle(const struct steps *s, int ranks[MOST_RANKS]) {
+    memcpy(ranks, s->cycle, (size_t)s->cycle_length * sizeof *ranks);
+    return s->cycle_length;
+}
+
+static void tell_collective(struct steps *s, int rank) {
+    const struct rank *own = &s->ranks[rank];
+    uint64_t absent = is_collective(own->ask.call.kind) ? absent_members(s, rank) : 0;
+    char who[300] = "";
+    for (int other = 0; other < s->options.size; other++)
+        if (absent >> other & 1) snprintf(who + strlen(who), sizeof who - strlen(who), " %d", other);
+    at_place(note(s, rank, WRONG, "rank %d waits in %s at %%0%s%s%s", rank, own->ask.name, *who ? " for rank" : "", who,
+                  *who ? " to enter" : ""),
+             &own->place);
+}
+
+/* What a rank waits for that has a request, or a list of them. */
+static void tell_request_wait(struct steps *s, int rank) {
+    const struct rank *own = &s->ranks[rank];
+    const struct operation *it = first_open(s, rank);
+    bool is_one = own->ask.kind == ASK_WAIT;
+    const char *doing = is_look(own) ? "asks for ever" : "waits";
+    if (it == NULL) {
+        at_place(note(s, rank, WRONG, "rank %d %s in %s at %%0", rank, doing, own->ask.name), &own->place);
+        return;
+    }
+    const char *peer = world_word(s, rank, &it->call), *tag = tag_word(it->call.tag);
+    char what[120];
+    if (it->is_send) snprintf(what, sizeof what, "its message to %s with %s to be received", peer, tag);
+    else snprintf(what, sizeof what, "a message of %s with %s", peer, tag);
+    struct finding *told = note(s, rank, WRONG, "rank %d %s in %s at %%0 for %s%s (%s at %%1)", rank, doing,
+                                own->ask.name, is_one ? "" : "requests, first ", what, it->place.name);
+    at_place(told, &own->place);
+    at_place(told, &it->place);
+}
+
+static void tell_wait(struct steps *s, int rank) {
+    const struct rank *own = &s->ranks[rank];
+    if (own->is_finalized) {
+        at_place(note(s, rank, WRONG, "rank %d is in MPI_Finalize at %%0", rank), &own->place);
+    } else if (own->ask.kind == ASK_CALL) {
+        tell_collective(s, rank);
+    } else if (own->ask.kind == ASK_PROBE) {
+        at_place(note(s, rank, WRONG, "rank %d %s in %s at %%0 for a message of %s with %s", rank,
+                      is_look(own) ? "asks for ever" : "waits", own->ask.name, world_word(s, rank, &own->ask.call),
+                      tag_word(own->ask.call.tag)),
+                 &own->place);
+    } else {
+        tell_request_wait(s, rank);
+    }
+}
+
+void steps_tell_deadlock(struct steps *s) {
+    for (int rank = 0; rank < s->options.size; rank++)
+        if (s->ranks[rank].state == RANK_BLOCKED) tell_wait(s, rank);
+    tell_cycle(s);
+}
+
+/* ---- messages that nobody received ---- */
+
+enum { MOST_LEFT = 64 };
+
+/* Takes the messages of a source out that are left: how many, and their tags. */
+static int take_left(struct steps *s, int rank, uint32_t communicator, int source, int32_t tags[MOST_LEFT]) {
+    const struct engine_call take = {
+        .kind = ENGINE_IMPROBE, .communicator = communicator, .peer = source, .tag = ENGINE_ANY};
+    int count = 0;
+    while (count < MOST_LEFT) {
+        const struct engine_answer answer = ask_rank(s, rank, take);
+        if (answer.kind != ENGINE_MATCHED) break;
+        tags[count++] = answer.tag;
+    }
+    return count;
+}
+
+/* The last message with these marks before this place: messages of one tag don't overtake, so what is left was sent
+ * last. */
+static const struct sent *sent_before(const struct steps *s, size_t *before, int source, int target, uint64_t name,
+                                      int32_t tag) {
+    while (*before > 0) {
+        const struct sent *it = &s->sent[--*before];
+        if (it->source == source && it->target == target && it->name == name && it->tag == tag) return it;
+    }
+    return NULL;
+}
+
+static void tell_left_of(struct steps *s, int rank, uint32_t communicator, int source) {
+    const struct members *of = &s->ranks[rank].members[communicator];
+    int32_t tags[MOST_LEFT];
+    size_t before = s->sent_count;
+    for (int i = take_left(s, rank, communicator, source, tags) - 1; i >= 0; i--) {
+        const struct sent *found = sent_before(s, &before, of->of[source], rank, of->name, tags[i]);
+        struct finding *it = note(s, rank, LEFT_OVER, "rank %d never received a message of rank %d with tag %d%s", rank,
+                                  of->of[source], tags[i], found == NULL ? "" : ", sent at %0");
+        if (found != NULL) at_place(it, &found->place);
+    }
+}
+
+void steps_tell_rest(struct steps *s) {
+    for (int rank = 0; rank < s->options.size; rank++) {
+        const struct rank *own = &s->ranks[rank];
+        for (uint32_t at = 0; !own->is_in_engine && at < (uint32_t)own->members_count; at++)
+            for (int source = 0; own->members[at].is_made && source < own->members[at].size; source++)
+                tell_left_of(s, rank, at, source);
+    }
+}

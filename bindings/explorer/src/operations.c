@@ -1,0 +1,124 @@
+/* Sends and receives of ranks, from their beginnings to their ends: see state.h. */
+#include "state.h"
+
+#include <string.h>
+
+/* A rank has as many numbers of requests as requests that were open at once. */
+enum { MOST_OPERATIONS = 1 << 20 };
+
+struct operation *operation_of(struct steps *s, int rank, uint64_t key) {
+    struct rank *own = &s->ranks[rank];
+    if (key >= (uint64_t)own->operation_count || own->operations[key].state == OP_NONE) return NULL;
+    return &own->operations[key];
+}
+
+/* The rank picks the number. */
+static int new_operation(struct rank *own, const struct explorer_ask *ask, bool is_send) {
+    int key = (int)(ask->call.request.key % MOST_OPERATIONS);
+    while (own->operation_room <= key) {
+        int room = own->operation_room == 0 ? 16 : 2 * own->operation_room;
+        own->operations = room_for(own->operations, (size_t)room, sizeof *own->operations);
+        memset(own->operations + own->operation_room, 0,
+               (size_t)(room - own->operation_room) * sizeof *own->operations);
+        own->operation_room = room;
+    }
+    if (own->operation_count <= key) own->operation_count = key + 1;
+    own->operations[key] = (struct operation){.is_send = is_send, .at = ++own->begun, .call = ask->call};
+    own->operations[key].place = own->place;
+    return key;
+}
+
+static void begin_send(struct steps *s, int rank, const struct explorer_ask *ask, const uint8_t *bytes) {
+    struct rank *own = &s->ranks[rank];
+    int key = new_operation(own, ask, true);
+    struct operation *it = &own->operations[key];
+    struct engine_call call = ask->call;
+    struct engine_answer answer;
+    it->op = ++own->sends;
+    if (s->options.synchronous || s->options.each) call.kind = ENGINE_ISSEND;
+    call_rank(s, rank, &call, bytes, ask->length, &answer);
+    it->state = answer.kind == ENGINE_STARTED ? OP_POSTED : OP_FAILED;
+    it->number = answer.number;
+    it->own = answer.request;
+    if (it->state == OP_FAILED) return;
+    it->sent_at = log_sent(s, rank, ask);
+}
+
+static void begin_receive(struct steps *s, int rank, const struct explorer_ask *ask) {
+    struct rank *own = &s->ranks[rank];
+    bool is_wild = ask->call.peer == ENGINE_ANY;
+    int key = new_operation(own, ask, false);
+    own->operations[key].state = is_wild ? OP_WILD : OP_HELD;
+    if (is_wild) own->operations[key].op = ++own->ops;
+    log_event(s, rank, EVENT_POST, own->operations[key].at, 0);
+    if (!begin_late(s, rank, key)) post_receive(s, rank, key, ask->call.peer);
+}
+
+void begin_operation(struct steps *s, int rank, const struct explorer_ask *ask, const uint8_t *bytes) {
+    if (ask->call.kind == ENGINE_IRECV) begin_receive(s, rank, ask);
+    else begin_send(s, rank, ask, bytes);
+}
+
+/* Which of a message and the cancel of its receive comes first is no choice of the search: told once a rank. */
+static void tell_cancel(struct steps *s, int rank) {
+    struct rank *own = &s->ranks[rank];
+    if (own->has_cancelled) return;
+    own->has_cancelled = true;
+    at_place(note(s, rank, WORTH_KNOWING,
+                  "rank %d: %s at %%0: whether the message or the cancel comes first is left to chance, "
+                  "and not tried both ways",
+                  rank, own->ask.name),
+             &own->place);
+}
+
+void cancel_operation(struct steps *s, int rank, uint64_t key) {
+    struct rank *own = &s->ranks[rank];
+    struct operation *it = operation_of(s, rank, key);
+    struct engine_answer answer = {.kind = ENGINE_ACCEPTED};
+    if (it != NULL && !it->is_send) tell_cancel(s, rank);
+    if (it != NULL && it->state == OP_POSTED)
+        call_rank(s, rank, &(struct engine_call){.kind = ENGINE_CANCEL, .request = it->own}, NULL, 0, &answer);
+    if (it != NULL && (it->state == OP_WILD || it->state == OP_HELD)) {
+        for (int i = 0; i < own->late_count; i++)
+            if (own->late[i] == (int)key) remove_late(s, rank, i);
+        it->state = OP_CANCELLED;
+    }
+    give(s, rank, &answer);
+}
+
+bool is_done(struct steps *s, int rank, uint64_t key) {
+    if (key == EXPLORER_ENDED) return true;
+    if (key == EXPLORER_OPEN) return false;
+    const struct operation *it = operation_of(s, rank, key);
+    if (it == NULL) return true;
+    if (it->state == OP_WILD || it->state == OP_HELD) return false;
+    if (it->state != OP_POSTED) return true;
+    const struct engine_answer look = ask_rank(s, rank, (struct engine_call){.kind = ENGINE_LOOK, .request = it->own});
+    return look.kind != ENGINE_FACT || look.fact == 1;
+}
+
+bool is_entry_done(struct steps *s, int rank, const struct explorer_entry *entry) {
+    return is_done(s, rank, entry->key) && is_done(s, rank, entry->other);
+}
+
+bool has_moved_on(struct steps *s, int rank) {
+    const struct rank *own = &s->ranks[rank];
+    for (int key = 0; key < own->operation_count; key++) {
+        const struct operation *it = &own->operations[key];
+        if (it->state != OP_NONE && it->is_looked_at && is_done(s, rank, (uint64_t)key)) return true;
+    }
+    return false;
+}
+
+void end_operation(struct steps *s, int rank, struct operation *it, struct engine_answer *answer) {
+    const struct engine_call test = {.kind = ENGINE_TEST, .request = it->own};
+    bool waits = s->options.synchronous || s->options.each || it->call.kind == ENGINE_ISSEND;
+    if (it->state == OP_CANCELLED) answer->outcome = ENGINE_CANCELLED;
+    else if (it->state == OP_BUFFERED) answer->outcome = ENGINE_SENT;
+    else if (it->state == OP_FAILED) *answer = (struct engine_answer){.kind = ENGINE_REFUSED, .number = it->number};
+    else call_rank(s, rank, &test, NULL, 0, answer);
+    if (!it->is_send) log_event(s, rank, EVENT_END, it->at, 0);
+    else if (it->state == OP_POSTED && waits && it->sent_at != NOT_SENT)
+        log_event(s, rank, EVENT_SEND_END, it->sent_at, 0);
+    it->state = OP_NONE;
+}

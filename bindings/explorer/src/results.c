@@ -1,0 +1,302 @@
+/* What the runs came to: see shell.h. */
+#define _GNU_SOURCE
+#include "shell.h"
+
+#include <stdlib.h>
+#include <string.h>
+
+struct result *results;
+int result_count;
+
+const char *ending_word(enum ending ending) {
+    static const char *const words[] = {"all ranks ended", "DEADLOCK",         "ended by an error",
+                                        "cut short",       "a rank is silent", "cut off"};
+    return words[ending];
+}
+
+/* ---- what a run came to ---- */
+
+/* What the ranks printed, each line behind its rank. */
+static char *output_of_ranks(void) {
+    char *all = NULL;
+    size_t room = 0;
+    FILE *into = open_memstream(&all, &room);
+    if (into == NULL) fail(STATUS_START, "no memory", "");
+    for (int rank = 0; rank < set.size; rank++) {
+        size_t length;
+        char *text = output_of(rank, &length);
+        for (char *line = text; line < text + length;) {
+            size_t own = strcspn(line, "\n");
+            fprintf(into, "[%d] %.*s\n", rank, (int)own, line);
+            line += own + 1;
+        }
+        free(text);
+    }
+    fclose(into);
+    return all;
+}
+
+static char *words_of_findings(struct steps *s, int *weight) {
+    const struct finding *findings;
+    int count = steps_findings(s, &findings);
+    char *all = NULL;
+    size_t room = 0;
+    FILE *into = open_memstream(&all, &room);
+    if (into == NULL) fail(STATUS_START, "no memory", "");
+    *weight = 0;
+    for (int i = 0; i < count; i++) {
+        char line[1800];
+        say_finding(&findings[i], line, sizeof line);
+        fprintf(into, "  %s\n", line);
+        if ((int)findings[i].weight > *weight) *weight = (int)findings[i].weight;
+    }
+    fclose(into);
+    return all;
+}
+
+/* A sum of bytes, as FNV-1a has it. */
+static uint64_t summed(uint64_t sum, const void *from, size_t length) {
+    const uint8_t *at = from;
+    for (size_t i = 0; i < length; i++) sum = (sum ^ at[i]) * UINT64_C(1099511628211);
+    return sum;
+}
+
+/* What a run came to, without lines of source: two runs of one key are told as one. */
+static uint64_t key_of(const struct run *run) {
+    const struct finding *findings;
+    int count = steps_findings(run->steps, &findings);
+    uint64_t sum = summed(UINT64_C(14695981039346656037), &run->ending, sizeof run->ending);
+    for (int i = 0; i < count; i++) {
+        sum = summed(sum, findings[i].text, strlen(findings[i].text));
+        for (int k = 0; k < findings[i].place_count; k++) {
+            const struct place *place = &findings[i].places[k];
+            sum = summed(sum, place->name, strlen(place->name));
+            sum = summed(sum, &place->number, sizeof place->number);
+        }
+    }
+    for (int rank = 0; rank < set.size; rank++) {
+        size_t length;
+        char *text = output_of(rank, &length);
+        sum = summed(sum, text, length) + 1;
+        free(text);
+    }
+    return sum;
+}
+
+static void keep_findings(struct result *it, struct steps *s) {
+    const struct finding *findings;
+    free(it->findings);
+    free(it->items);
+    it->finding_count = steps_findings(s, &findings);
+    it->findings = malloc(((size_t)it->finding_count + 1) * sizeof *findings);
+    if (it->findings == NULL) fail(STATUS_START, "no memory", "");
+    if (it->finding_count > 0) memcpy(it->findings, findings, (size_t)it->finding_count * sizeof *findings);
+    it->item_count = steps_picture(s, &it->items);
+    it->cycle_length = steps_cycle(s, it->cycle);
+}
+
+static void add_result(struct run *run, long number, uint64_t key) {
+    int weight;
+    struct result it = {.ending = run->ending, .choices = run->choices, .runs = 1, .first = number, .key = key};
+    it.words = words_of_findings(run->steps, &weight);
+    it.weight = run->ending == ENDED ? weight : WRONG;
+    it.output = output_of_ranks();
+    it.is_early = run->early > 0;
+    it.is_odd = !steps_has_one_order(run->steps);
+    it.has_places = set.places;
+    it.moves = run->moves;
+    it.move_count = run->move_count;
+    keep_findings(&it, run->steps);
+    results = realloc(results, (size_t)(result_count + 1) * sizeof *results);
+    if (results == NULL) fail(STATUS_START, "no memory", "");
+    results[result_count++] = it;
+}
+
+void note_run(struct run *run, long number) {
+    const uint64_t key = key_of(run);
+    struct result *it = NULL;
+    for (int i = 0; i < result_count && it == NULL; i++)
+        if (results[i].key == key) it = &results[i];
+    if (it == NULL) {
+        add_result(run, number, key);
+        return;
+    }
+    it->runs++;
+    it->is_early &= run->early > 0;
+    if (it->is_odd) it->is_odd = !steps_has_one_order(run->steps);
+    free(run->choices);
+    free(run->moves);
+}
+
+static void free_result(struct result *it) {
+    free(it->words);
+    free(it->output);
+    free(it->choices);
+    free(it->moves);
+    free(it->findings);
+    free(it->items);
+}
+
+void free_results(void) {
+    for (int i = 0; i < result_count; i++) free_result(&results[i]);
+    free(results);
+    results = NULL;
+    result_count = 0;
+}
+
+/* ---- once more, with lines of source ---- */
+
+/* Whether the run that was made anew is the one that was told. Where members enter different collectives, it is left
+ * open who is told so. */
+static bool is_same_run(const struct run *again, const struct result *it, const char *output) {
+    if (again->is_astray || again->ending != it->ending) return false;
+    return strcmp(output, it->output) == 0 || steps_has_mismatch(again->steps);
+}
+
+bool find_places(struct result *it, bool synchronous) {
+    struct run again;
+    int weight;
+    if (it->has_places) return true;
+    const bool told_places = set.places;
+    set.places = true;
+    force_moves(it->moves, it->move_count);
+    run_once(&again, synchronous, BY_FILE);
+    set.places = told_places;
+    it->has_places = true;
+    char *output = output_of_ranks();
+    bool is_same = is_same_run(&again, it, output);
+    close_outputs();
+    free(output);
+    if (is_same) {
+        free(it->words), free(it->choices);
+        it->words = words_of_findings(again.steps, &weight);
+        it->choices = again.choices;
+        keep_findings(it, again.steps);
+    } else {
+        free(again.choices);
+    }
+    steps_free(again.steps);
+    free(again.moves);
+    return is_same;
+}
+
+/* ---- where two results part ---- */
+
+/* How many lines of choices two runs share, and what stands behind them. The numbers count, not the words. */
+static int common(const char *a, const char *b, const char **rest_a, const char **rest_b) {
+    for (int lines = 0;; lines++) {
+        size_t own = strcspn(a, "#\n"), other = strcspn(b, "#\n");
+        *rest_a = a;
+        *rest_b = b;
+        if (*a == '\0' || *b == '\0' || own != other || strncmp(a, b, own) != 0) return lines;
+        a += strcspn(a, "\n");
+        b += strcspn(b, "\n");
+        a += *a == '\n';
+        b += *b == '\n';
+    }
+}
+
+bool find_parting(int own, struct parting *parting) {
+    *parting = (struct parting){.other = -1, .choice = 0};
+    for (int i = 0; i < result_count; i++) {
+        const char *mine, *theirs;
+        if (i == own || results[i].choices == NULL || results[own].choices == NULL) continue;
+        int lines = common(results[own].choices, results[i].choices, &mine, &theirs);
+        if (*mine == '\0' || *theirs == '\0' || lines < parting->choice) continue;
+        *parting = (struct parting){i, lines + 1, mine, theirs};
+    }
+    return parting->other >= 0;
+}
+
+/* ---- telling ---- */
+
+static int by_weight(const void *a, const void *b) {
+    const struct result *x = a, *y = b;
+    if (x->weight != y->weight) return y->weight - x->weight;
+    return x->first < y->first ? -1 : 1;
+}
+
+/* Whether a result that was told before reads the same. */
+static bool reads_as_before(int own) {
+    for (int i = 0; i < own; i++)
+        if (results[i].ending == results[own].ending && strcmp(results[i].words, results[own].words) == 0 &&
+            strcmp(results[i].output, results[own].output) == 0)
+            return true;
+    return false;
+}
+
+static void write_choices(const struct result *it, int number) {
+    char name[4200];
+    snprintf(name, sizeof name, "%s/choices%d.txt", set.out, number);
+    FILE *into = fopen(name, "w");
+    if (into == NULL) {
+        fprintf(stderr, "kombazily: %s can't be written\n", name);
+        return;
+    }
+    fprintf(into, "# %d ranks: %s\n", set.size, set.program[0]);
+    for (const char *at = it->choices == NULL ? "" : it->choices; *at != '\0';) {
+        char words[1800];
+        size_t length = say_choice(at, words, sizeof words);
+        fprintf(into, "%.*s# %s\n", (int)strcspn(at, "#\n"), at, words);
+        at += length + (at[length] == '\n');
+    }
+    fclose(into);
+}
+
+static void tell_parting(int own) {
+    struct parting parting;
+    char mine[1800], theirs[1800];
+    if (!find_parting(own, &parting)) return;
+    say_choice(parting.mine, mine, sizeof mine);
+    say_choice(parting.theirs, theirs, sizeof theirs);
+    printf("  it parts from result %d at choice %d: %s\n    and there: %s\n", parting.other + 1, parting.choice, mine,
+           theirs);
+}
+
+const char *said_of(const struct pass *pass) {
+    if (pass->astray != NULL) return pass->astray;
+    if (set.replay != NULL) return "by the choices of the file";
+    return pass->is_all ? "every choice was tried" : "not every choice was tried";
+}
+
+static void tell_head(const struct pass *pass) {
+    printf("%s%d rank%s, %ld run%s: %s (%.2f s, %ld cut short, %lu calls, %lu choices)\n",
+           pass->synchronous ? "with sends and collectives that wait: " : "", set.size, set.size == 1 ? "" : "s",
+           pass->runs, pass->runs == 1 ? "" : "s", said_of(pass), pass->took, pass->cut, (unsigned long)counts.asks,
+           (unsigned long)counts.moves);
+}
+
+static void tell_result(int i, bool synchronous) {
+    struct result *it = &results[i];
+    printf("result %d of %d, in %ld run%s: %s%s%s%s\n", i + 1, result_count, it->runs, it->runs == 1 ? "" : "s",
+           ending_word(it->ending), it->weight == 0 ? ", nothing to tell" : "",
+           it->is_early && it->weight > 0
+               ? " (perhaps: only where a look says no, or tells of one, though more is there)"
+               : "",
+           it->is_odd ? " (perhaps: no one order of arrival gives this, but MPI allows it)" : "");
+    fputs(it->words, stdout);
+    if (result_count > 1 && (i > 0 || it->weight > 0)) {
+        for (int k = 0; k < result_count && k < set.results; k++) find_places(&results[k], synchronous);
+        tell_parting(i);
+    }
+    if (set.shows_output || (result_count > 1 && !set.quiet)) fputs(it->output, stdout);
+}
+
+int tell_results(const struct pass *pass) {
+    int worst = 0, told = 0;
+    if (result_count > 1) qsort(results, (size_t)result_count, sizeof *results, by_weight);
+    tell_head(pass);
+    for (int i = 0; i < result_count && !set.counts_only && told < set.results; i++) {
+        struct result *it = &results[i];
+        bool needs_places = it->weight > 0 || result_count > 1 || set.out != NULL || set.html != NULL;
+        if (needs_places && !find_places(it, pass->synchronous))
+            printf("  (the same choices led elsewhere: it depends on something else, too)\n");
+        if (reads_as_before(i)) continue;
+        told++;
+        if (set.out != NULL) write_choices(it, i + 1);
+        tell_result(i, pass->synchronous);
+    }
+    for (int i = 0; i < result_count; i++)
+        if (results[i].weight > worst) worst = results[i].weight;
+    return pass->astray != NULL && worst < LEFT_OVER ? LEFT_OVER : worst;
+}

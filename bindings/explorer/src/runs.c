@@ -1,0 +1,247 @@
+/* One run of the program: see shell.h. */
+#define _GNU_SOURCE
+#include "shell.h"
+
+#include <math.h>
+#include <poll.h>
+#include <stdlib.h>
+#include <string.h>
+#include <sys/wait.h>
+
+struct counts counts;
+
+static const struct move *forced;
+static int forced_count;
+
+void force_moves(const struct move *moves, int count) {
+    forced = moves;
+    forced_count = count;
+}
+
+/* ---- asks and answers ---- */
+
+/* Rooms for what stands behind an ask. */
+static struct {
+    uint64_t frames[EXPLORER_FRAMES];
+    struct explorer_entry *entries;
+    uint8_t *bytes;
+    size_t entry_room, byte_room;
+} behind;
+
+static void *grown(void *old, size_t *room, size_t count, size_t each) {
+    if (count <= *room) return old;
+    *room = count;
+    void *made = realloc(old, count * each);
+    if (made == NULL) fail(STATUS_START, "no memory", "");
+    return made;
+}
+
+/* Takes in an ask of a rank, whole: whether one came. */
+static bool hear(struct steps *s, int rank) {
+    struct explorer_ask ask;
+    if (!take_in(rank, &ask, sizeof ask) || ask.frame_count > EXPLORER_FRAMES) return false;
+    ask.name[EXPLORER_NAME - 1] = '\0';
+    behind.entries = grown(behind.entries, &behind.entry_room, ask.count, sizeof *behind.entries);
+    behind.bytes = grown(behind.bytes, &behind.byte_room, ask.length, 1);
+    if (!take_in(rank, behind.frames, ask.frame_count * sizeof *behind.frames)) return false;
+    if (!take_in(rank, behind.entries, ask.count * sizeof *behind.entries)) return false;
+    if (!take_in(rank, behind.bytes, ask.length)) return false;
+    counts.asks++;
+    steps_ask(s, rank, &ask, behind.frames, behind.entries, behind.bytes);
+    return true;
+}
+
+static void answer_all(struct steps *s) {
+    const struct explorer_answer *answer;
+    const uint32_t *places;
+    const uint8_t *bytes;
+    int rank;
+    while ((rank = steps_answered(s, &answer, &places, &bytes)) >= 0) {
+        if (socket_of_rank(rank) < 0) continue;
+        bool is_told = put_out(rank, answer, sizeof *answer) && put_out(rank, places, answer->count * sizeof *places) &&
+                       put_out(rank, bytes, answer->answer.bytes);
+        (void)is_told; /* one that is gone is noticed where it is heard */
+    }
+}
+
+/* A rank that talks to the explorer no more: how it ended is looked at once all have. */
+static void lose_rank(struct steps *s, int rank) {
+    close_socket(rank);
+    steps_gone(s, rank);
+}
+
+/* All that a rank posted, and what it waits for. */
+static void hear_all(struct steps *s, int rank) {
+    bool is_there;
+    do is_there = hear(s, rank);
+    while (is_there && has_more(rank));
+    if (!is_there) lose_rank(s, rank);
+}
+
+static void tell_silent(struct steps *s, const int *who, int count) {
+    for (int i = 0; i < count; i++) {
+        char text[200];
+        snprintf(text, sizeof text, "rank %d computes for %.0f s without a call of MPI", who[i], set.patience);
+        steps_note(s, who[i], WRONG, text);
+    }
+}
+
+/* The ranks that run: how many. */
+static int running(const struct steps *s, struct pollfd *sockets, int *who) {
+    int count = 0;
+    for (int rank = 0; rank < set.size; rank++) {
+        if (!steps_is_running(s, rank) || socket_of_rank(rank) < 0) continue;
+        who[count] = rank;
+        sockets[count++] = (struct pollfd){.fd = socket_of_rank(rank), .events = POLLIN};
+    }
+    return count;
+}
+
+static double latest = INFINITY;
+
+void end_runs_at(double time) { latest = time; }
+
+/* Lets ranks run until each is blocked or has ended: false, one stayed silent for too long, or it is too late. */
+static bool run_ranks(struct steps *s) {
+    const int patience = set.debugged >= 0 ? -1 : (int)(set.patience * 1000);
+    for (;;) {
+        struct pollfd sockets[MOST_RANKS];
+        int who[MOST_RANKS];
+        if (now() > latest) return false;
+        answer_all(s);
+        int count = running(s, sockets, who);
+        if (count == 0) {
+            steps_progress(s);
+            if (running(s, sockets, who) == 0) return true;
+            continue;
+        }
+        if (poll(sockets, (nfds_t)count, patience) == 0) {
+            tell_silent(s, who, count);
+            return false;
+        }
+        for (int i = 0; i < count; i++)
+            if (sockets[i].revents != 0) hear_all(s, who[i]);
+        steps_progress(s);
+    }
+}
+
+/* ---- moves ---- */
+
+/* Whether a move says less than it could: no where yes is there, or one where all are. */
+static bool is_early(const struct move *m, const struct move *others, int count) {
+    if (m->kind != MOVE_FALSE && m->kind != MOVE_PLACE) return false;
+    for (int i = 0; i < count; i++) {
+        bool is_more = m->kind == MOVE_FALSE ? others[i].kind != MOVE_FALSE : others[i].kind == MOVE_ALL;
+        if (others[i].rank == m->rank && others[i].op == m->op && others[i].kind != MOVE_MATCH &&
+            others[i].kind != MOVE_BUFFER && is_more)
+            return true;
+    }
+    return false;
+}
+
+static void note_move(struct run *run, const struct move *m, const struct move *others, int count) {
+    if ((run->move_count & (run->move_count + 1)) == 0)
+        run->moves = realloc(run->moves, (size_t)(2 * run->move_count + 2) * sizeof *m);
+    if (run->moves == NULL) fail(STATUS_START, "no memory", "");
+    run->moves[run->move_count++] = *m;
+    run->early += is_early(m, others, count);
+    counts.moves++;
+}
+
+/* Adds a line of choices: numbers, words, and where it is. */
+static void note_choice(struct run *run, const struct move *m, int count) {
+    char text[300], line[1500];
+    struct place place;
+    steps_say_move(run->steps, *m, text, sizeof text, &place);
+    int length = snprintf(line, sizeof line, "%u %u %u %d of %d # %s", m->kind, m->rank, m->op, m->at, count, text);
+    for (uint32_t i = 0; i < place.count; i++)
+        length += snprintf(line + length, sizeof line - (size_t)length, " @%lx", (unsigned long)place.frames[i]);
+    line[length++] = '\n';
+    run->choices = realloc(run->choices, run->choices_length + (size_t)length + 1);
+    if (run->choices == NULL) fail(STATUS_START, "no memory", "");
+    memcpy(run->choices + run->choices_length, line, (size_t)length);
+    run->choices_length += (size_t)length;
+    run->choices[run->choices_length] = '\0';
+}
+
+/* The move that a file, or a result of before, has at this place; the first one behind its end. */
+static const struct move *forced_move(int at, const struct move *moves, int count, bool *is_astray) {
+    if (at >= forced_count) return &moves[0];
+    for (int i = 0; i < count; i++)
+        if (is_same_move(&moves[i], &forced[at])) return &moves[i];
+    *is_astray = true;
+    return NULL;
+}
+
+/* Makes the move that is due at this place: false where there is none. */
+static bool make_move(struct run *run, int at, const struct move *moves, int count, enum choosing choosing) {
+    const struct move *found = choosing == BY_FILE     ? forced_move(at, moves, count, &run->is_astray)
+                               : choosing == BY_CHANCE ? &moves[random() % count]
+                                                       : search_move(moves, count, &run->is_astray);
+    if (found == NULL) return false;
+    const struct move chosen = *found;
+    if (set.places) note_choice(run, &chosen, count);
+    note_move(run, &chosen, moves, count);
+    steps_take(run->steps, chosen);
+    return true;
+}
+
+/* ---- a run ---- */
+
+/* From fence to fence, until the run is at its end. */
+static enum ending play(struct run *run, enum choosing choosing) {
+    static struct move moves[MOST_MOVES];
+    struct steps *s = run->steps;
+    for (int at = 0;;) {
+        if (!run_ranks(s)) return now() > latest ? LATE : SILENT;
+        if (steps_is_over(s)) return steps_is_aborted(s) ? ERROR : ENDED;
+        int count = steps_moves(s, moves, MOST_MOVES);
+        if (count == MOST_MOVES) fail(STATUS_START, "4,096 choices at one place, and more", "");
+        if (count > 0 && !make_move(run, at++, moves, count, choosing)) return CUT;
+        if (count != 0 || steps_say_no(s)) continue;
+        steps_tell_deadlock(s);
+        return DEADLOCK;
+    }
+}
+
+/* Takes a rank's process to its end, and tells how it ended where that is worth it. */
+static void end_process(struct run *run, int rank) {
+    struct steps *s = run->steps;
+    bool by_itself = end_rank(rank, socket_of_rank(rank) >= 0);
+    const int status = status_of_rank(rank);
+    char text[200] = "";
+    enum weight weight = WRONG;
+    close_socket(rank);
+    if (!by_itself) return;
+    if (WIFSIGNALED(status)) {
+        snprintf(text, sizeof text, "rank %d was killed by signal %d (%s)", rank, WTERMSIG(status),
+                 strsignal(WTERMSIG(status)));
+    } else if (!steps_has_finalized(s, rank) && !steps_has_failed(s, rank)) {
+        snprintf(text, sizeof text, "rank %d ended without MPI_Finalize (status %d)", rank, WEXITSTATUS(status));
+    } else if (run->ending == ENDED && WEXITSTATUS(status) != 0) {
+        snprintf(text, sizeof text, "rank %d ended with status %d", rank, WEXITSTATUS(status));
+        weight = LEFT_OVER;
+    }
+    if (text[0] == '\0') return;
+    steps_note(s, rank, weight, text);
+    if (weight == WRONG) run->ending = ERROR;
+}
+
+void run_once(struct run *run, bool synchronous, enum choosing choosing) {
+    const struct steps_options options = {.size = set.size,
+                                          .synchronous = synchronous,
+                                          .each = set.each && !synchronous,
+                                          .patience = set.noes,
+                                          .goes_on = set.goes_on,
+                                          .choices = &choices};
+    search_start_run();
+    *run = (struct run){.steps = steps_new(&options)};
+    for (int rank = 0; rank < set.size; rank++) start_rank(rank);
+    run->ending = play(run, choosing);
+    bool is_through = run->ending != CUT && run->ending != LATE;
+    if (choosing == BY_SEARCH && is_through && !search_end_run()) run->is_astray = true;
+    answer_all(run->steps);
+    for (int rank = 0; rank < set.size; rank++) end_process(run, rank);
+    if (run->ending == ENDED) steps_tell_rest(run->steps);
+    counts.calls += steps_calls(run->steps);
+}

@@ -1,0 +1,161 @@
+/* The shell of the explorer: processes, sockets, files and words. It decides nothing that MPI leaves open. */
+#ifndef EXPLORER_SHELL_H
+#define EXPLORER_SHELL_H
+
+#include "steps.h"
+
+enum { MOST_MOVES = 4096 };
+
+/* Statuses of the program. */
+enum { STATUS_CLEAN = 0, STATUS_FOUND = 1, STATUS_WORDS = 2, STATUS_START = 6 };
+
+/* ---- main.c ---- */
+
+struct settings {
+    int size;
+    bool both, synchronous, each;
+    bool forks, places, goes_on, quiet, shows_output, counts_only, has_no_sleep;
+    long most, results, random;
+    double seconds, patience;
+    int noes;
+    const char *replay, *out, *html, *input;
+    int debugged; /* the rank under gdb, or -1 */
+    char **program;
+};
+extern struct settings set;
+double now(void);
+_Noreturn void fail(int status, const char *cause, const char *detail);
+
+/* ---- words.c ---- */
+
+/* Reads the program's words into `set`. */
+void read_words(int count, char **words);
+
+/* ---- processes.c ---- */
+
+/* Starts the process of a rank for a run. */
+void start_rank(int rank);
+void close_moulds(void);
+/* Takes it to its end. One that talks no more may end by itself: whether it did. */
+bool end_rank(int rank, bool by_force);
+int status_of_rank(int rank);
+int socket_of_rank(int rank);
+void close_socket(int rank);
+/* Takes in bytes of a rank: whether they came. */
+bool take_in(int rank, void *into, size_t length);
+bool has_more(int rank);
+bool put_out(int rank, const void *from, size_t length);
+/* What a rank has printed: the caller frees it. */
+char *output_of(int rank, size_t *length);
+void close_outputs(void);
+
+/* ---- search.c: which moves are made in which run ---- */
+
+/* What the static library holds; a new search, with no run made; a run begins. */
+extern struct choices choices;
+void search_open(void);
+void search_start_run(void);
+void search_close(void);
+/* The move to be made, of these: NULL, all were tried on other ways. `is_astray`: the moves aren't those that were
+ * there before, behind the same ones. */
+const struct move *search_move(const struct move *moves, int count, bool *is_astray);
+/* The run has come to its end: false, there were moves here before, behind the same ones. */
+bool search_end_run(void);
+/* The next run: false, there is none. And whether all was tried. */
+bool search_next(void);
+bool search_tried_all(void);
+
+/* ---- runs.c ---- */
+
+enum ending { ENDED, DEADLOCK, ERROR, CUT, SILENT, LATE };
+
+/* How the moves of a run are chosen. */
+enum choosing { BY_SEARCH, BY_CHANCE, BY_FILE };
+
+struct run {
+    enum ending ending;
+    struct steps *steps;
+    char *choices; /* in words, where places are told */
+    size_t choices_length;
+    struct move *moves;
+    int move_count;
+    int early; /* looks that say no, or name one of several, though more is there */
+    bool is_astray;
+};
+struct counts {
+    uint64_t asks, moves, calls;
+};
+extern struct counts counts;
+
+/* Runs the program once. */
+void run_once(struct run *run, bool synchronous, enum choosing choosing);
+/* At this time a run that lasts is cut off: it is LATE. */
+void end_runs_at(double time);
+/* The moves of the next runs by file. */
+void force_moves(const struct move *moves, int count);
+
+/* ---- lines.c: places in the program's source ---- */
+
+struct source_line {
+    char file[200]; /* with its folders, or empty */
+    char name[120]; /* the last part of it */
+    char function[120];
+    int line;
+};
+/* The calls of a place that stand in the program's own source, innermost first: how many. */
+int source_lines(const uint64_t *frames, uint32_t count, struct source_line *lines, int room);
+void say_place(const uint64_t *frames, uint32_t count, char *into, size_t room);
+void say_finding(const struct finding *finding, char *into, size_t room);
+/* A line of choices in words, or its rest behind them. */
+size_t say_choice(const char *at, char *into, size_t room);
+
+/* ---- results.c ---- */
+
+struct result {
+    enum ending ending;
+    int weight;
+    char *words, *output, *choices;
+    long runs, first;
+    bool is_early, is_odd, has_places;
+    uint64_t key;
+    struct move *moves;
+    int move_count;
+    /* For the page. */
+    struct finding *findings;
+    int finding_count;
+    struct picture_item *items;
+    int item_count;
+    int cycle[MOST_RANKS], cycle_length;
+};
+extern struct result *results;
+extern int result_count;
+/* Counts a run to its result, which is new or was there before. */
+void note_run(struct run *run, long number);
+void free_results(void);
+/* Writes what the runs came to: the weight of what is worst. */
+struct pass {
+    bool synchronous, is_all;
+    bool is_late; /* the time was over while a run lasted */
+    const char *astray;
+    long runs, cut;
+    double took;
+};
+int tell_results(const struct pass *pass);
+/* What was tried, in words. */
+const char *said_of(const struct pass *pass);
+const char *ending_word(enum ending ending);
+/* Where a result parts from the one that is nearest to it: false, there is none. */
+struct parting {
+    int other, choice;
+    const char *mine, *theirs;
+};
+bool find_parting(int own, struct parting *parting);
+/* A result once more, with places: false, the program went another way. */
+bool find_places(struct result *it, bool synchronous);
+
+/* ---- page.c ---- */
+
+/* Adds what a pass came to to the page; writes it. */
+void page_add(const struct pass *pass);
+void page_write(const char *name);
+#endif

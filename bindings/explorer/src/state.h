@@ -1,0 +1,250 @@
+/* What the files of the steps share: see steps.h. */
+#ifndef EXPLORER_STATE_H
+#define EXPLORER_STATE_H
+
+#include "steps.h"
+
+/* ---- a rank ---- */
+
+enum operation_state {
+    OP_NONE,
+    OP_POSTED, /* an engine knows it */
+    OP_WILD,   /* a receive of any source, which no engine knows: it is named by a move */
+    OP_HELD,   /* a receive behind such a one, which might take the same message */
+    OP_CANCELLED,
+    OP_FAILED,  /* the engine refused it, by `number` */
+    OP_BUFFERED /* a send that was buffered by a move */
+};
+
+/* A send or a receive that a rank began and didn't end yet. */
+struct operation {
+    enum operation_state state;
+    bool is_send;
+    bool is_looked_at; /* a LOOK said that it isn't at its end */
+    uint32_t op;       /* as moves name it */
+    uint32_t at;       /* its place among all that the rank began */
+    uint32_t number;
+    uint32_t sent_at; /* its place among all that was sent, or NOT_SENT */
+    struct engine_request own;
+    struct engine_call call;
+    struct place place;
+};
+
+/* A communicator of a rank. */
+struct members {
+    bool is_made;
+    uint64_t name; /* the same at all its members, and no other communicator's */
+    int size, rank;
+    uint16_t *of;
+    uint32_t entered; /* so many collectives */
+    struct place made_at;
+};
+
+/* A receive that was posted, or a probe that saw something: whose message it named. */
+struct taking {
+    uint32_t at;
+    uint64_t name; /* of its communicator */
+    int source;    /* in `world` */
+    int32_t tag;
+    bool is_wild, is_look;
+    int message; /* its place among all that was sent, or -1 */
+    int posted;  /* when it was begun */
+    struct place place;
+};
+
+/* A message that a probe saw: the probe's own source and tag, and the message's. */
+struct pin {
+    uint32_t communicator;
+    int32_t asked, pattern, source, tag;
+};
+
+enum rank_state { RANK_RUNS, RANK_BLOCKED, RANK_ENDED };
+
+struct rank {
+    enum rank_state state;
+    bool is_answered;
+    bool is_in_engine; /* in a call that the engine answers by FINISH */
+    bool is_held;      /* a collective that isn't entered yet */
+    bool is_finalized, has_failed, has_cancelled;
+    /* The ask, and what stands behind it. */
+    struct explorer_ask ask;
+    struct place place;
+    struct explorer_entry *entries;
+    uint8_t *bytes;
+    uint32_t ask_op, ask_at;
+    uint32_t entry; /* the how-many-th collective of its communicator it is */
+    uint32_t asks, ops, sends, begun;
+    int noes; /* in a row */
+    struct operation *operations;
+    int operation_count, operation_room;
+    int *late, late_count, late_room; /* receives that no engine knows, in the order in which they were begun */
+    struct members *members;
+    int members_count;
+    struct pin *pins;
+    int pin_count;
+    struct taking *takings;
+    int taking_count, taking_room;
+    /* The answer, and what stands behind it. */
+    struct explorer_answer answer;
+    uint32_t *places;
+    uint8_t *data;
+    size_t data_room;
+};
+
+/* ---- all ranks ---- */
+
+/* What happened at a rank, in its own order. */
+enum event_kind { EVENT_SEND, EVENT_POST, EVENT_END, EVENT_SEND_END, EVENT_ENTER, EVENT_LEAVE };
+struct event {
+    enum event_kind kind;
+    int rank;
+    uint32_t id; /* a message's place; a receive's place among what its rank began; which collective it is */
+    uint64_t name;
+};
+
+struct sent {
+    uint64_t name;
+    int source, target;
+    int32_t tag;
+    struct place place;
+};
+
+/* A collective that some members have entered: what the first one entered. */
+struct meeting {
+    uint64_t name;
+    uint32_t index, entered, size;
+    int rank;
+    bool is_told;
+    struct engine_call call;
+    struct place place;
+};
+
+struct engines;
+struct steps {
+    struct steps_options options;
+    struct engines *engines;
+    struct rank *ranks;
+    struct finding *findings;
+    int finding_count;
+    int cycle[MOST_RANKS], cycle_length; /* each waits for the next one, and the last one for the first */
+    bool is_aborted, has_mismatch, is_unsafe_told;
+    uint64_t calls;
+    int rounds_of_no;
+    struct sent *sent;
+    size_t sent_count, sent_room;
+    struct event *events;
+    size_t event_count, event_room;
+    struct meeting *meetings;
+    int meeting_count;
+};
+
+/* Memory, or the end of the explorer. */
+void *room_for(void *old, size_t count, size_t each);
+/* One more place in a row of things of this size. */
+void *one_more(void *row, size_t count, size_t *room, size_t each);
+
+/* ---- engines.c: engines and the network between them ---- */
+
+struct engines *engines_new(int size);
+void engines_free(struct engines *all);
+void engines_call(struct engines *all, int rank, const struct engine_call *call, const uint8_t *bytes, size_t length,
+                  struct engine_answer *answer);
+size_t engines_take(struct engines *all, int rank, uint8_t *into, size_t length);
+/* Delivers all that was sent; what is kept back too, if it is told so. */
+void engines_settle(struct engines *all, bool kept_too);
+
+/* A call that counts, and a question. */
+void call_rank(struct steps *s, int rank, const struct engine_call *call, const uint8_t *bytes, size_t length,
+               struct engine_answer *answer);
+struct engine_answer ask_rank(struct steps *s, int rank, struct engine_call call);
+
+/* ---- answers.c ---- */
+
+void give(struct steps *s, int rank, const struct engine_answer *answer);
+void give_fact(struct steps *s, int rank, uint64_t fact);
+void give_places(struct steps *s, int rank, const uint32_t *places, uint32_t count);
+/* The end of one request, and of all of a list. */
+void give_end(struct steps *s, int rank, uint64_t key);
+void give_all_ends(struct steps *s, int rank);
+
+/* ---- members.c ---- */
+
+void learn_members(struct steps *s, int rank, uint32_t place, uint64_t name);
+struct members *members_of(struct steps *s, int rank, uint32_t place);
+/* The rank in `world` of a member, or -1. */
+int world_rank(struct steps *s, int rank, uint32_t place, int32_t member);
+/* How many collectives of the communicator of this name a rank has entered. */
+uint32_t entered_by(const struct rank *own, uint64_t name);
+uint64_t mixed(uint64_t a, uint64_t b);
+
+/* ---- operations.c ---- */
+
+struct operation *operation_of(struct steps *s, int rank, uint64_t key);
+void begin_operation(struct steps *s, int rank, const struct explorer_ask *ask, const uint8_t *bytes);
+void cancel_operation(struct steps *s, int rank, uint64_t key);
+void end_operation(struct steps *s, int rank, struct operation *it, struct engine_answer *answer);
+bool is_done(struct steps *s, int rank, uint64_t key);
+bool is_entry_done(struct steps *s, int rank, const struct explorer_entry *entry);
+/* Whether something is at its end of which a LOOK said that it isn't. */
+bool has_moved_on(struct steps *s, int rank);
+
+/* ---- late.c: receives that no engine knows yet ---- */
+
+bool do_tags_meet(int32_t a, int32_t b);
+/* Whether a receive of this rank that waits would take this message; or one that was begun before this one. */
+bool is_wanted(const struct steps *s, int rank, const struct engine_answer *message, uint32_t communicator);
+bool is_wanted_before(const struct steps *s, int rank, const struct operation *it, const struct engine_answer *message);
+/* A receive begins: whether it waits for a decision. Else it may be posted. */
+bool begin_late(struct steps *s, int rank, int operation);
+void remove_late(struct steps *s, int rank, int place);
+/* The place of a receive of any source that waits, or -1. */
+int late_place(const struct rank *own, uint32_t op);
+/* What an engine says to a probe of this source. */
+struct engine_answer found_by(struct steps *s, int rank, const struct engine_call *call, int32_t source);
+/* Posts a receive of this source. */
+bool post_receive(struct steps *s, int rank, int operation, int32_t source);
+/* Posts those that need wait no longer: whether there was one. */
+bool post_held(struct steps *s, int rank);
+
+/* ---- collectives.c ---- */
+
+bool is_collective(uint32_t kind);
+void begin_collective(struct steps *s, int rank);
+void enter_collective(struct steps *s, int rank);
+void finish_collective(struct steps *s, int rank, const struct engine_answer *answer);
+bool are_all_there(struct steps *s, int rank);
+
+/* ---- looks.c ---- */
+
+bool is_look(const struct rank *own);
+bool is_list(uint32_t kind);
+/* Answers a look whose answer isn't open: whether it did. */
+bool answer_sure_look(struct steps *s, int rank);
+bool answer_sure_probe(struct steps *s, int rank);
+bool may_see(struct steps *s, int rank, int32_t source);
+void give_probe(struct steps *s, int rank, int32_t source);
+const struct pin *pin_for(const struct rank *own, const struct engine_call *call, bool is_whole);
+void drop_pin(struct rank *own, const struct engine_call *call, int32_t source);
+
+/* ---- arrivals.c ---- */
+
+void log_event(struct steps *s, int rank, enum event_kind kind, uint32_t id, uint64_t name);
+/* The message's place among all that was sent, or NOT_SENT: it goes to no rank. */
+#define NOT_SENT UINT32_MAX
+uint32_t log_sent(struct steps *s, int rank, const struct explorer_ask *ask);
+void log_taking(struct steps *s, int rank, uint32_t at, const struct engine_call *call, int32_t source, bool is_look,
+                const struct place *place);
+
+/* ---- findings.c ---- */
+
+struct finding *note(struct steps *s, int rank, enum weight weight, const char *text, ...)
+    __attribute__((format(printf, 4, 5)));
+void at_place(struct finding *it, const struct place *place);
+struct place nowhere(void);
+const char *peer_word(int32_t peer);
+const char *tag_word(int32_t tag);
+void tell_left(struct steps *s, int rank, const uint8_t *bytes);
+const char *collective_word(uint32_t kind);
+void tell_unsafe(struct steps *s, const struct move *moves, int count);
+struct operation *send_of(struct steps *s, const struct move *move);
+#endif

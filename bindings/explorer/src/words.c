@@ -1,0 +1,142 @@
+/* The words of `kombazily check`: see shell.h. */
+#include "shell.h"
+
+#include <stdlib.h>
+#include <string.h>
+#include <unistd.h>
+
+struct settings set = {
+    .size = 2, .most = 10000, .results = 10, .seconds = 60, .patience = 10, .noes = 1, .debugged = -1};
+
+static const char usage[] =
+    "usage: kombazily check -n RANKS [WORD ..] PROGRAM [ARGUMENT ..]\n"
+    "\n"
+    "Runs a C program of MPI again and again, and makes the choices that MPI leaves open each time otherwise,\n"
+    "until all were made or a bound is met. PROGRAM is linked with this library, best with -g.\n"
+    "\n"
+    "  -n RANKS         how many ranks, 1 to 64\n"
+    "  --both           a second pass, in which each standard send waits for its receive, and each collective for all\n"
+    "  --synchronous    that pass alone\n"
+    "  --each           whether a send waits is a choice of its own: what rests on buffers is told\n"
+    "  --most RUNS      so many runs at most (10000)\n"
+    "  --seconds S      so long at most (60)\n"
+    "  --random RUNS    so many runs by chance, where the bounds were met\n"
+    "  --noes K         so many looks in a row may say no though something is there (1)\n"
+    "  --fork           each process is started once, and copied in MPI_Init for each run\n"
+    "  --out FOLDER     the choices of each result go there, as choices1.txt ..\n"
+    "  --replay FILE    one run, by the choices of such a file\n"
+    "  --debug RANK     this rank under gdb\n"
+    "  --html FILE      a page of all that was found\n"
+    "  --go-on          an error that would end the program is told, and returned\n"
+    "  --results K      so many results are told (10)\n"
+    "  --output         what the program printed is shown, also of one result\n"
+    "  --quiet          it isn't shown\n"
+    "  --count          results are counted and not shown\n"
+    "  --patience S     so long a rank may compute without a call (10)\n"
+    "  --stdin FILE     rank 0 reads it\n"
+    "\n"
+    "The status is 0: nothing; 1: something is wrong or left over; 2: these words are wrong; 6: the program\n"
+    "can't be run. What it finds, misses and says falsely: docs/CHECKING.md. That no choice that matters is left\n"
+    "out is argued and tested, and not proved.\n";
+
+/* A word, and where its number or its text goes. */
+struct word {
+    const char *name;
+    enum { TAKES_NOTHING, TAKES_WHOLE, TAKES_LONG, TAKES_SECONDS, TAKES_TEXT } takes;
+    void *into;
+};
+static const struct word known[] = {
+    {"-n", TAKES_WHOLE, &set.size},
+    {"--both", TAKES_NOTHING, &set.both},
+    {"--synchronous", TAKES_NOTHING, &set.synchronous},
+    {"--each", TAKES_NOTHING, &set.each},
+    {"--most", TAKES_LONG, &set.most},
+    {"--seconds", TAKES_SECONDS, &set.seconds},
+    {"--random", TAKES_LONG, &set.random},
+    {"--noes", TAKES_WHOLE, &set.noes},
+    {"--fork", TAKES_NOTHING, &set.forks},
+    {"--out", TAKES_TEXT, &set.out},
+    {"--replay", TAKES_TEXT, &set.replay},
+    {"--debug", TAKES_WHOLE, &set.debugged},
+    {"--html", TAKES_TEXT, &set.html},
+    {"--go-on", TAKES_NOTHING, &set.goes_on},
+    {"--results", TAKES_LONG, &set.results},
+    {"--output", TAKES_NOTHING, &set.shows_output},
+    {"--quiet", TAKES_NOTHING, &set.quiet},
+    {"--count", TAKES_NOTHING, &set.counts_only},
+    {"--patience", TAKES_SECONDS, &set.patience},
+    {"--stdin", TAKES_TEXT, &set.input},
+    {"--places", TAKES_NOTHING, &set.places},
+    {"--no-sleep", TAKES_NOTHING, &set.has_no_sleep},
+};
+
+static const struct word *word_of(const char *name) {
+    for (size_t i = 0; i < sizeof known / sizeof *known; i++)
+        if (strcmp(known[i].name, name) == 0) return &known[i];
+    return NULL;
+}
+
+/* Puts what stands behind a word where it goes: whether it fits. */
+static bool read_value(const struct word *word, const char *text) {
+    char *end;
+    const double number = strtod(text, &end);
+    const bool is_number = end != text && *end == '\0' && number >= 0 && number <= 1e9;
+    const bool is_whole = is_number && number == (double)(long)number;
+    switch (word->takes) {
+    case TAKES_WHOLE:
+        if (is_whole) *(int *)word->into = (int)number;
+        return is_whole;
+    case TAKES_LONG:
+        if (is_whole) *(long *)word->into = (long)number;
+        return is_whole;
+    case TAKES_SECONDS:
+        if (is_number) *(double *)word->into = number;
+        return is_number;
+    default:
+        *(const char **)word->into = text;
+        return true;
+    }
+}
+
+/* Reads one word: how many of the words it took. */
+static int read_word(char **words) {
+    const struct word *word = word_of(words[0]);
+    if (word == NULL) fail(STATUS_WORDS, "no such word: ", words[0]);
+    if (word->takes == TAKES_NOTHING) {
+        *(bool *)word->into = true;
+        return 1;
+    }
+    if (words[1] == NULL) fail(STATUS_WORDS, "something has to stand behind ", words[0]);
+    if (!read_value(word, words[1])) fail(STATUS_WORDS, "no such number: ", words[1]);
+    return 2;
+}
+
+/* A program of this folder is found without `./`, too. */
+static void find_program(void) {
+    static char name[4200];
+    if (strchr(*set.program, '/') != NULL || access(*set.program, X_OK) != 0) return;
+    snprintf(name, sizeof name, "./%s", *set.program);
+    *set.program = name;
+}
+
+void read_words(int count, char **words) {
+    int at = 1;
+    if (count < 2) {
+        fputs(usage, stderr);
+        exit(STATUS_WORDS);
+    }
+    while (words[at] != NULL && words[at][0] == '-') {
+        if (strcmp(words[at], "-h") == 0 || strcmp(words[at], "--help") == 0) {
+            fputs(usage, stdout);
+            exit(STATUS_CLEAN);
+        }
+        at += read_word(words + at);
+    }
+    set.program = words + at;
+    if (*set.program == NULL) fail(STATUS_WORDS, "a program has to stand there", "");
+    find_program();
+    if (set.size < 1 || set.size > MOST_RANKS) fail(STATUS_WORDS, "1 to 64 ranks", "");
+    if (set.debugged >= set.size) fail(STATUS_WORDS, "there is no such rank to debug", "");
+    if (set.debugged >= 0) set.forks = false;
+    if (set.replay != NULL) set.places = true;
+}

@@ -1,0 +1,4 @@
+pub mod Grids
+pub mod Moves
+pub mod Parts
+pub mod Balance

@@ -1,0 +1,7 @@
+mod RunProofs
+mod ExchangeProofs
+mod PlanLoops
+mod AheadProofs
+mod StarProofs
+mod ChainProofs
+mod FoldProofs

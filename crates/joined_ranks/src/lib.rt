@@ -1,0 +1,9 @@
+//! All ranks of a job in one world, told by records of numbers: what one of them is asked is a step of the world, and
+//! what they send comes at once, each datagram once and in order.
+#![tactic(auto)]
+
+mod part;
+mod ranks;
+
+pub use part::RankPart;
+pub use ranks::JoinedRanks;

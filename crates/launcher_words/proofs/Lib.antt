@@ -1,0 +1,4 @@
+pub mod CutLaws
+pub mod PairLaws
+pub mod PlaceLaws
+pub mod RangeLaws

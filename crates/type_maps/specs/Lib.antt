@@ -1,0 +1,11 @@
+pub mod Maps
+pub mod Summaries
+pub mod Constructors
+pub mod Entries
+pub mod Refusals
+pub mod Types
+pub mod Members
+pub mod Packing
+pub mod Examples
+pub mod Distributions
+pub mod Parts
