@@ -173,7 +173,7 @@ fn undisturbed_text(explored: &Explored) -> &'static str {
     if has_failed {
         "No rank waits for ever; what a rank that failed would have done behind that isn't known.\n"
     } else {
-        "No rank waits for ever: nothing rests on messages that are buffered.\n"
+        "No rank waits for ever, whether all sends are buffered or none is.\n"
     }
 }
 
