@@ -1,0 +1,1 @@
+"""The programs, each in a module of its own."""
