@@ -35,7 +35,7 @@ class Program:
     """A program: its archive in Debian's pool with the checksum (SHA-256), the shell line that builds it, and its runs. In the line
     `mpicc`, `mpicxx`, `mpirun` and `mpiexec` are those of the MPI for which it is built, and $JOBS is a number for `make -j`. `needs`
     names commands, headers and libraries of the system, each with the package of Debian that has it; `files` are written into the tree
-    first."""
+    first. `programs` are patterns of what has to be there at the end, and to speak MPI by that MPI."""
 
     name: str
     version: str
@@ -44,6 +44,7 @@ class Program:
     build: str
     runs: list
     judged: str
+    programs: list
     needs: dict = field(default_factory=dict)
     files: dict = field(default_factory=dict)
 

@@ -110,5 +110,5 @@ PROGRAM = Program(
     "make -j$JOBS arch=here && mpicc -O2 -DAdd_ -DF77_INTEGER=int -DStringSunStyle -Iinclude -Ihpl/include xhpl.c "
     "hpl/lib/here/libhpl.a -lblas -lm -o xhpl",
     [challenge(2, 1, 2), challenge(4, 2, 2), linpack(2), linpack(3), linpack(4), linpack(6)],
-    "HPCC's own Success=1 with its residuals and errors; each of HPL's residual checks",
+    "HPCC's own Success=1 with its residuals and errors; each of HPL's residual checks", ["hpcc", "xhpl"],
     {"-lblas": "libblas-dev"}, {"hpl/Make.here": MAKE, "xhpl.c": MAIN})
