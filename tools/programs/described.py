@@ -91,6 +91,17 @@ def near(pattern, tolerance):
     return judge
 
 
+def small(pattern, bound, times=1):
+    """A judge: this pattern finds so many texts at least, and no number in them is farther from 0 than this."""
+    def judge(printed, _):
+        texts = re.findall(pattern, printed.output, re.M)
+        numbers = [float(it) for text in texts for it in re.findall(r"[-+]?\d+\.\d+(?:e[-+]?\d+)?", text)]
+        far = [it for it in numbers if not abs(it) <= bound]
+        lacks = [] if len(texts) >= times and numbers else ["%r stands there %d times" % (pattern, len(texts))]
+        return lacks + (["%r: %r" % (pattern, far[0])] if far else [])
+    return judge
+
+
 def together(*judges):
     """A judge: the faults of all of these."""
     return lambda printed, other: [fault for it in judges for fault in it(printed, other)]
