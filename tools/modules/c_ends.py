@@ -43,6 +43,17 @@ STUCK = {
              "MPI_Recv waits for a message of rank %d with any tag in a communicator of 2 without a name, where it is rank 1"],
     "named": ["MPI_Recv waits for a message of rank %d with any tag in 'turned?', where it is rank 0",
               "MPI_Recv waits for a message of rank %d with any tag in 'turned?', where it is rank 1"],
+    # Communicators that a group makes alone, and intercommunicators.
+    "group_entered": ["MPI_Recv waits for a message of rank 1 with tag 1 " + WORLD,
+                      "MPI_Comm_create_group waits for rank 0 to enter it " + WORLD],
+    "group_copied": ["MPI_Recv waits for a message of rank 1 with tag 1 " + WORLD, "MPI_Wait waits for rank 0 to enter it " + WORLD],
+    "group_alone": ["MPI_Recv waits for a message of rank %%d with tag 2 in a communicator of 2 without a name, where it is rank %d" % it
+                    for it in (1, 0)],
+    "group_leader": ["MPI_Intercomm_create waits for rank 1 to enter it " + WORLD,
+                     "MPI_Recv waits for a message of rank 0 with tag 1 " + WORLD],
+    "group_paired": ["MPI_Recv waits for a message of rank %d with tag 2 in an intercommunicator of 1 and 1 without a name, where it is rank 0"]
+    * 2,
+    "group_entry": ["MPI_Barrier waits for rank 1 to enter it in 'pair'", "MPI_Recv waits for a message of rank 0 with tag 1 " + WORLD],
     # A rank that computes is ended at once, and says nothing.
     "computes": ["MPI_Finalize waits for the other ranks of MPI_COMM_WORLD", None],
 }

@@ -51,6 +51,7 @@ typedef struct MPI_Status {
 #define MPI_ANY_SOURCE (-1)
 #define MPI_ANY_TAG (-1)
 #define MPI_PROC_NULL (-2)
+#define MPI_ROOT (-3)
 #define MPI_UNDEFINED (-32766)
 
 /* Lengths of texts, with the byte behind them. */

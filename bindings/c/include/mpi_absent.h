@@ -16,13 +16,5 @@
 #endif
 
 
-/* Groups and communicators (6.3, 6.4, 6.6). */
-int MPI_Comm_create_group(MPI_Comm comm, MPI_Group group, int tag, MPI_Comm *newcomm) KOMBAZILY_ABSENT;
-int MPI_Comm_remote_group(MPI_Comm comm, MPI_Group *group) KOMBAZILY_ABSENT;
-int MPI_Comm_remote_size(MPI_Comm comm, int *size) KOMBAZILY_ABSENT;
-int MPI_Intercomm_create(MPI_Comm local_comm, int local_leader, MPI_Comm peer_comm, int remote_leader, int tag,
-    MPI_Comm *newintercomm) KOMBAZILY_ABSENT;
-int MPI_Intercomm_merge(MPI_Comm intercomm, int high, MPI_Comm *newintracomm) KOMBAZILY_ABSENT;
-
 
 #endif

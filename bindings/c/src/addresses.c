@@ -59,9 +59,14 @@ int sender_of(const unsigned char *datagram, size_t len) {
     return len < SENDER + 2 ? -1 : datagram[SENDER] << 8 | datagram[SENDER + 1];
 }
 
-bool is_of_job(const unsigned char *datagram, size_t len, uint64_t job) {
+bool read_job(const unsigned char *datagram, size_t len, uint64_t *job) {
     if (len < JOB + JOB_BYTES) return false;
-    for (int at = 0; at < JOB_BYTES; at++)
-        if (datagram[JOB + at] != (job >> 8 * (JOB_BYTES - 1 - at) & LARGEST)) return false;
+    *job = 0;
+    for (int at = 0; at < JOB_BYTES; at++) *job = *job << 8 | datagram[JOB + at];
     return true;
+}
+
+bool is_of_job(const unsigned char *datagram, size_t len, uint64_t job) {
+    uint64_t named;
+    return read_job(datagram, len, &named) && named == job;
 }

@@ -35,7 +35,8 @@ bool is_at(const struct addresses *job, int rank, uint32_t address, uint16_t por
 /* The rank that a datagram names as its sender (docs/FORMAT.md), or -1 where it is too short for that. */
 int sender_of(const unsigned char *datagram, size_t len);
 
-/* Whether it names this job. */
+/* The number of the job that it names: false where it is too short for that. And whether it names this one. */
+bool read_job(const unsigned char *datagram, size_t len, uint64_t *job);
 bool is_of_job(const unsigned char *datagram, size_t len, uint64_t job);
 
 #endif

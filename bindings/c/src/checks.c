@@ -1,5 +1,6 @@
 /* Checks of what calls are given: see errors.h. */
 #include "errors.h"
+#include "intercommunicators.h"
 #include "internal.h"
 #include "lines.h"
 
@@ -25,7 +26,8 @@ void check_running(const char *call) {
 
 int check_comm(MPI_Comm comm, const char *call, struct communicator **found) {
     *found = communicator_of(comm);
-    if (*found != NULL) return MPI_SUCCESS;
+    if (*found != NULL && (*found)->world != NULL) return MPI_SUCCESS;
+    if (*found != NULL) return raise_on(MPI_COMM_WORLD, call, MPI_ERR_COMM, "a copy whose request isn't at its end");
     if (comm == MPI_COMM_NULL) return raise_on(MPI_COMM_WORLD, call, MPI_ERR_COMM, "the communicator is MPI_COMM_NULL");
     return raise_on(MPI_COMM_WORLD, call, MPI_ERR_COMM, "no such communicator");
 }
@@ -51,11 +53,12 @@ int check_buffer(MPI_Comm comm, const char *call, const void *buf, int count, co
 /* Tells of a rank that the communicator hasn't. */
 static int no_such_rank(MPI_Comm comm, const char *call, const struct communicator *in, int class, int rank) {
     const char *what = class == MPI_ERR_ROOT ? "root" : "rank";
+    if (is_inter(in)) return raise_on(comm, call, class, "%s %d of a remote group of %d", what, rank, peers_of(in));
     return raise_on(comm, call, class, "%s %d of a communicator of %d", what, rank, in->size);
 }
 
 int check_target(MPI_Comm comm, const char *call, const struct communicator *in, int rank) {
-    if (rank == MPI_PROC_NULL || (rank >= 0 && rank < in->size)) return MPI_SUCCESS;
+    if (rank == MPI_PROC_NULL || (rank >= 0 && rank < peers_of(in))) return MPI_SUCCESS;
     if (rank == MPI_ANY_SOURCE) return raise_on(comm, call, MPI_ERR_RANK, "the destination is MPI_ANY_SOURCE");
     return no_such_rank(comm, call, in, MPI_ERR_RANK, rank);
 }
@@ -66,7 +69,9 @@ int check_source(MPI_Comm comm, const char *call, const struct communicator *in,
 }
 
 int check_root(MPI_Comm comm, const char *call, const struct communicator *in, int rank) {
-    return rank >= 0 && rank < in->size ? MPI_SUCCESS : no_such_rank(comm, call, in, MPI_ERR_ROOT, rank);
+    if (rank >= 0 && rank < peers_of(in)) return MPI_SUCCESS;
+    if (is_inter(in) && (rank == MPI_ROOT || rank == MPI_PROC_NULL)) return MPI_SUCCESS;
+    return no_such_rank(comm, call, in, MPI_ERR_ROOT, rank);
 }
 
 int check_tag(MPI_Comm comm, const char *call, int tag) {

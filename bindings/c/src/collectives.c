@@ -1,5 +1,6 @@
 /* Barrier, broadcast, gather and scatter (MPI 3.1, 5.3 to 5.6). */
 #include "errors.h"
+#include "intercollectives.h"
 #include "internal.h"
 #include "rows.h"
 
@@ -77,6 +78,7 @@ static int check_apart(MPI_Comm comm, const char *call, const void *sendbuf, con
 int MPI_Barrier(MPI_Comm comm) {
     NOTE_CALLER();
     struct communicator *own;
+    if (is_of_inter(comm)) return inter_barrier(BLOCKING("MPI_Barrier", comm));
     check_running("MPI_Barrier");
     int class = check_comm(comm, "MPI_Barrier", &own);
     if (class != MPI_SUCCESS) return class;
@@ -91,6 +93,9 @@ int MPI_Bcast(void *buffer, int count, MPI_Datatype datatype, int root, MPI_Comm
     struct communicator *own;
     struct items items;
     struct arrival arrival;
+    if (is_of_inter(comm))
+        return inter_broadcast(BLOCKING(call, comm), root,
+                               &(struct blocks){.at = buffer, .count = count, .type = datatype});
     int class = check_rooted(comm, call, root, &own);
     if (class == MPI_SUCCESS) class = check_items(comm, call, buffer, count, datatype, &items);
     if (class != MPI_SUCCESS) return class;
@@ -127,6 +132,10 @@ int MPI_Gather(const void *sendbuf, int sendcount, MPI_Datatype sendtype, void *
     const char *call = "MPI_Gather";
     struct communicator *own;
     struct items sent, received;
+    if (is_of_inter(comm))
+        return inter_gather(BLOCKING(call, comm), root,
+                            &(struct blocks){.at = sendbuf, .count = sendcount, .type = sendtype},
+                            &(struct blocks){.at = recvbuf, .count = recvcount, .type = recvtype});
     int class = check_rooted(comm, call, root, &own);
     if (class != MPI_SUCCESS) return class;
     if (own->rank != root) {
@@ -173,6 +182,10 @@ int MPI_Scatter(const void *sendbuf, int sendcount, MPI_Datatype sendtype, void 
     struct communicator *own;
     struct items sent = {0}, received;
     bool stays = recvbuf == MPI_IN_PLACE;
+    if (is_of_inter(comm))
+        return inter_scatter(BLOCKING(call, comm), root,
+                             &(struct blocks){.at = sendbuf, .count = sendcount, .type = sendtype},
+                             &(struct blocks){.at = recvbuf, .count = recvcount, .type = recvtype});
     int class = check_rooted(comm, call, root, &own);
     if (class != MPI_SUCCESS) return class;
     if (own->rank != root) {

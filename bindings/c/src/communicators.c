@@ -3,8 +3,10 @@
 
 #include "attributes.h"
 #include "errors.h"
+#include "group_lists.h"
 #include "groups.h"
 #include "handlers.h"
+#include "intercommunicators.h"
 #include "internal.h"
 #include "names.h"
 #include "plan_runs.h"
@@ -12,6 +14,7 @@
 #include "table.h"
 #include "topologies.h"
 #include "turns.h"
+#include "worlds.h"
 
 #include <stdlib.h>
 
@@ -42,8 +45,7 @@ static int fact_of(uint32_t place, enum engine_call_kind question) {
     return (int)answer.fact;
 }
 
-/* Makes room for a communicator, which isn't one yet; NULL: there is no memory. */
-static struct communicator *new_communicator(MPI_Comm *handle) {
+struct communicator *new_communicator(MPI_Comm *handle) {
     struct communicator *made = calloc(1, sizeof *made);
     int64_t number = made == NULL ? 0 : table_add(&communicators, made);
     if (number == 0) {
@@ -51,6 +53,7 @@ static struct communicator *new_communicator(MPI_Comm *handle) {
         return NULL;
     }
     made->uses = 1;
+    made->place = ENGINE_NO_COMMUNICATOR;
     *handle = made->handle = (MPI_Comm)(intptr_t)number;
     return made;
 }
@@ -66,17 +69,19 @@ void release_communicator(struct communicator *comm) {
     release_handler(comm->errhandler);
     forget_attributes(&comm->attributes);
     forget_number(comm);
+    free_groups(comm->groups);
+    if (comm->world != NULL) release_world(comm->world);
     free(comm);
 }
 
 void drop_communicator(MPI_Comm comm) { release_communicator(table_remove(&communicators, (intptr_t)comm)); }
 
-/* Says which communicator of the engine it is. */
-static void place_communicator(struct communicator *made, uint32_t place, MPI_Errhandler errhandler) {
+void place_communicator(struct communicator *made, uint32_t place, const struct communicator *parent) {
     made->place = place;
-    made->rank = fact_of(place, ENGINE_RANK);
-    made->size = fact_of(place, ENGINE_SIZE);
-    made->errhandler = hold_handler(errhandler);
+    made->world = hold_world(world_of_place(place));
+    made->rank = made->all_rank = fact_of(place, ENGINE_RANK);
+    made->size = made->all_size = fact_of(place, ENGINE_SIZE);
+    made->errhandler = hold_handler(parent == NULL ? MPI_ERRORS_ARE_FATAL : parent->errhandler);
 }
 
 int open_communicators(void) {
@@ -85,7 +90,7 @@ int open_communicators(void) {
         MPI_Comm handle;
         struct communicator *made = new_communicator(&handle);
         if (made == NULL) return MPI_ERR_NO_MEM;
-        place_communicator(made, place, MPI_ERRORS_ARE_FATAL);
+        place_communicator(made, place, NULL);
         copy_name(made->name, names[place]);
         made->number = place;
     }
@@ -121,6 +126,43 @@ int MPI_Comm_rank(MPI_Comm comm, int *rank) {
     return class;
 }
 
+/* Of two intracommunicators of one world. */
+static int compare_in_engine(MPI_Comm comm1, const char *call, const struct communicator *second, int *result) {
+    static const int comparisons[] = {[ENGINE_IDENT] = MPI_IDENT,
+                                      [ENGINE_CONGRUENT] = MPI_CONGRUENT,
+                                      [ENGINE_SIMILAR] = MPI_SIMILAR,
+                                      [ENGINE_UNEQUAL] = MPI_UNEQUAL};
+    struct engine_answer answer;
+    const struct engine_call compare = {
+        .kind = ENGINE_COMPARE, .communicator = communicator_of(comm1)->place, .other = second->place};
+    call_engine(&compare, NULL, 0, &answer);
+    if (answer.kind != ENGINE_FACT) return raise_number(comm1, call, answer.number);
+    *result = comparisons[answer.fact & 3];
+    return MPI_SUCCESS;
+}
+
+/* Of two others, neither of which is the other one: by their groups, or by both groups of each. */
+static int compare_lists(MPI_Comm comm1, MPI_Comm comm2, const char *call, int *result) {
+    const struct communicator *first = communicator_of(comm1), *second = communicator_of(comm2);
+    bool are_same = true, are_similar = true;
+    int class = MPI_SUCCESS;
+    for (int turn = 0; class == MPI_SUCCESS && turn < (is_inter(first) ? 2 : 1); turn++) {
+        uint16_t *one =
+            turn == 0 ? members_of_communicator(comm1, call, &class) : members_of_other(comm1, call, &class);
+        uint16_t *two = one == NULL ? NULL
+                        : turn == 0 ? members_of_communicator(comm2, call, &class)
+                                    : members_of_other(comm2, call, &class);
+        const struct members left = {one, turn == 0 ? first->size : first->groups->other_size};
+        const struct members right = {two, turn == 0 ? second->size : second->groups->other_size};
+        are_same &= two != NULL && are_same_lists(left, right);
+        are_similar &= two != NULL && are_same_members(left, right);
+        free(one);
+        free(two);
+    }
+    *result = are_same ? MPI_CONGRUENT : are_similar ? MPI_SIMILAR : MPI_UNEQUAL;
+    return class;
+}
+
 int MPI_Comm_compare(MPI_Comm comm1, MPI_Comm comm2, int *result) {
     NOTE_CALLER();
     const char *call = "MPI_Comm_compare";
@@ -130,30 +172,12 @@ int MPI_Comm_compare(MPI_Comm comm1, MPI_Comm comm2, int *result) {
     if (class == MPI_SUCCESS) class = check_comm(comm2, call, &second);
     if (class == MPI_SUCCESS) class = check_result(comm1, call, result, "result");
     if (class != MPI_SUCCESS) return class;
-    static const int comparisons[] = {[ENGINE_IDENT] = MPI_IDENT,
-                                      [ENGINE_CONGRUENT] = MPI_CONGRUENT,
-                                      [ENGINE_SIMILAR] = MPI_SIMILAR,
-                                      [ENGINE_UNEQUAL] = MPI_UNEQUAL};
-    struct engine_answer answer;
-    struct engine_call compare = {.kind = ENGINE_COMPARE, .communicator = first->place, .other = second->place};
-    call_engine(&compare, NULL, 0, &answer);
-    if (answer.kind != ENGINE_FACT) return raise_number(comm1, call, answer.number);
-    *result = comparisons[answer.fact & 3];
-    return MPI_SUCCESS;
-}
-
-uint16_t *members_of_communicator(MPI_Comm comm, const char *call, int *class) {
-    const struct communicator *own = communicator_of(comm);
-    struct engine_answer answer;
-    call_engine(&(struct engine_call){.kind = ENGINE_MEMBERS, .communicator = own->place}, NULL, 0, &answer);
-    if (answer.kind != ENGINE_FACT) {
-        *class = raise_number(comm, call, answer.number);
-        return NULL;
-    }
-    uint16_t *members = malloc((size_t)own->size * sizeof *members);
-    if (members == NULL) *class = raise_on(comm, call, MPI_ERR_NO_MEM, "no memory for a group");
-    else take_from_engine(0, (uint8_t *)members, (size_t)own->size * sizeof *members);
-    return members;
+    if (first->world == second->world && !is_inter(first) && !is_inter(second))
+        return compare_in_engine(comm1, call, second, result);
+    *result = MPI_UNEQUAL;
+    if (first == second) *result = MPI_IDENT;
+    else if (is_inter(first) == is_inter(second)) class = compare_lists(comm1, comm2, call, result);
+    return class;
 }
 
 int MPI_Comm_group(MPI_Comm comm, MPI_Group *group) {
@@ -181,13 +205,14 @@ int make_communicator(MPI_Comm comm, const char *call, struct engine_call *entry
     *newcomm = MPI_COMM_NULL;
     uint32_t number = begin_turn(own, -1);
     if (number == 0) number = enter_engine(entry, NULL, 0, &answer);
-    bool is_made = number == 0 && answer.communicator != ENGINE_NO_COMMUNICATOR;
-    if (is_made) {
-        place_communicator(made, answer.communicator, own->errhandler);
+    bool is_none = number != 0 || answer.communicator == ENGINE_NO_COMMUNICATOR;
+    if (!is_none) {
+        place_communicator(made, answer.communicator, own);
         number = number_communicator(made);
+        if (number == 0 && is_inter(own)) number = part_groups(made, own, &is_none);
     }
     end_turn();
-    if (is_made && number == 0) *newcomm = handle;
+    if (!is_none && number == 0) *newcomm = handle;
     else drop_communicator(handle);
     if (number == 0) return MPI_SUCCESS;
     return raise_limited(comm, call, number, "4,094 communicators were made, or no number is left for another one");
@@ -241,16 +266,6 @@ int MPI_Comm_free(MPI_Comm *comm) {
     drop_communicator(*comm);
     *comm = MPI_COMM_NULL;
     return MPI_SUCCESS;
-}
-
-int MPI_Comm_test_inter(MPI_Comm comm, int *flag) {
-    NOTE_CALLER();
-    struct communicator *own;
-    check_running("MPI_Comm_test_inter");
-    int class = check_comm(comm, "MPI_Comm_test_inter", &own);
-    if (class == MPI_SUCCESS) class = check_result(comm, "MPI_Comm_test_inter", flag, "flag");
-    if (class == MPI_SUCCESS) *flag = 0;
-    return class;
 }
 
 int MPI_Comm_get_name(MPI_Comm comm, char *comm_name, int *resultlen) {

@@ -10,12 +10,18 @@
 
 struct attribute;
 struct topology;
+struct two_groups;
+struct world;
 
 /* A communicator. */
 struct communicator {
-    uint32_t place; /* how the engine names it */
+    uint32_t place; /* how the engine names it, and its world (worlds.h) */
     int rank;       /* the own rank in it */
     int size;
+    int all_rank; /* the same in the engine's communicator, which has both groups of an intercommunicator */
+    int all_size;
+    struct world *world;       /* whose engine that is; held, or NULL before it is there */
+    struct two_groups *groups; /* of intercommunicators.h: of an intercommunicator; else NULL */
     MPI_Errhandler errhandler;
     int uses; /* by the program's handle, and by operations that aren't at their end */
     char name[MPI_MAX_OBJECT_NAME];
@@ -24,9 +30,8 @@ struct communicator {
     struct topology *topology;    /* of topologies.h, or NULL */
     struct attribute *attributes; /* of attributes.h */
 
-    /* Of plan_places.c: the members' ranks in MPI_COMM_WORLD (NULL: they are their ranks here), the number that all
-     * members know it by, how many plans were begun in it; under an explorer the engine's communicator for them, or
-     * 0. */
+    /* Of plan_places.c: the ranks in the world of all members (NULL: they are their ranks here), the number that all of
+     * them know it by, how many plans were begun in it; under an explorer the engine's communicator for them, or 0. */
     uint16_t *members;
     uint32_t number, plans, explored_plans;
 };
@@ -49,10 +54,16 @@ void release_communicator(struct communicator *comm);
 int make_communicator(MPI_Comm comm, const char *call, struct engine_call *entry, MPI_Comm *newcomm);
 /* The same of a copy, which has what is kept with a communicator, too (6.4.2). */
 int copy_communicator(MPI_Comm comm, const char *call, MPI_Comm *newcomm);
+/* Makes one that is nowhere yet, with its handle; NULL: there is no memory. And says where it is: at a place of the
+ * engine's, as its handler's heir of another one. */
+struct communicator *new_communicator(MPI_Comm *handle);
+void place_communicator(struct communicator *made, uint32_t place, const struct communicator *parent);
 /* Takes a handle away, and what is kept with its communicator. */
 void drop_communicator(MPI_Comm comm);
-/* The members of a communicator, by their ranks in MPI_COMM_WORLD, in order: NULL, and the class of an error. */
+/* The members of a communicator, or of the own group of an intercommunicator, or of the other one, by their ranks in
+ * MPI_COMM_WORLD, in order: NULL, and the class of an error. */
 uint16_t *members_of_communicator(MPI_Comm comm, const char *call, int *class);
+uint16_t *members_of_other(MPI_Comm comm, const char *call, int *class);
 
 /* Makes MPI_COMM_WORLD and MPI_COMM_SELF, as the engine has them: 0, or the class of an error. */
 int open_communicators(void);

@@ -257,15 +257,15 @@ static void clear_heard(int count) {
     }
 }
 
-/* Hands over a packet, if it has bytes and was sent by a rank of the job: whether it was. */
+/* Hands over a packet: whether any of it was taken. */
 static bool hand_on(device_hearer *hearer, int packet) {
     const struct sockaddr_in *from = &heard_from[packet];
     size_t len = heard[packet].msg_len;
-    int source = sender_of(heard_room[packet], len);
-    if (!is_at(addresses, source, ntohl(from->sin_addr.s_addr), ntohs(from->sin_port))) return false;
-    hearer(source, heard_room[packet], len, length_of_each(&heard[packet].msg_hdr, len));
-    return true;
+    return hearer(ntohl(from->sin_addr.s_addr), ntohs(from->sin_port), heard_room[packet], len,
+                  length_of_each(&heard[packet].msg_hdr, len));
 }
+
+bool device_is_at(int rank, uint32_t address, uint16_t port) { return is_at(addresses, rank, address, port); }
 
 bool device_hear(device_hearer *hearer) {
     /* Mostly one packet comes at a time: it is looked for more where there was as much as was looked for. */

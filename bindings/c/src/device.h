@@ -36,11 +36,13 @@ void device_flush(int copies);
 /* The system's number of an error of the socket that no network makes, or 0. */
 int device_error(void);
 
-/* Who is handed what came: some bytes, in which datagrams of `each` bytes stand behind one another, of which the last
- * may be shorter; and the rank at whose address and port they were sent. What comes from elsewhere is dropped. */
-typedef void device_hearer(int source, const unsigned char *bytes, size_t len, size_t each);
-/* Hands over what has come, if anything has, and doesn't wait: whether anything had. */
+/* Who is handed what came: the address and port that it comes from, and some bytes, in which datagrams of `each` bytes
+ * stand behind one another, of which the last may be shorter: whether it takes any. */
+typedef bool device_hearer(uint32_t address, uint16_t port, const unsigned char *bytes, size_t len, size_t each);
+/* Hands over what has come, if anything has, and doesn't wait: whether any of it was taken. */
 bool device_hear(device_hearer *hearer);
+/* Whether there is such a rank, and it has this address and port. */
+bool device_is_at(int rank, uint32_t address, uint16_t port);
 /* Waits until something comes, or so many milliseconds. */
 void device_sleep(int milliseconds);
 

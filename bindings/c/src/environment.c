@@ -11,6 +11,7 @@
 #include "handlers.h"
 #include "info.h"
 #include "internal.h"
+#include "invitations.h"
 #include "leftovers.h"
 #include "own_operations.h"
 #include "pmi.h"
@@ -20,6 +21,7 @@
 #include "transfers.h"
 #include "types.h"
 #include "wait_lines.h"
+#include "worlds.h"
 
 #include <errno.h>
 #include <stdarg.h>
@@ -30,7 +32,6 @@
 #include <unistd.h>
 
 struct process process = {.size = 1, .call = "MPI_Init"};
-struct engine_rank engine;
 static struct addresses addresses;
 static thrd_t main_thread;
 
@@ -57,12 +58,9 @@ int first_neighbour(void) {
 }
 
 static void open_engine(void) {
-    const struct engine_place place = {.job = process.job,
-                                       .message_limit = ENGINE_GREATEST_LIMIT,
-                                       .rank = (uint16_t)process.rank,
-                                       .size = (uint16_t)process.size,
-                                       .incarnation = (uint16_t)process.incarnation};
-    uint32_t number = kombazily_new(&engine, &place);
+    first_world.rank = process.rank;
+    first_world.size = process.size;
+    uint32_t number = make_engine(&first_world, OF_PROGRAMS);
     if (number != 0) refuse_start(STATUS_PLACE, "the engine refuses its place: ", cause_of(number));
 }
 
@@ -181,6 +179,7 @@ int MPI_Finalize(void) {
     close_requests();
     close_buffer();
     close_messages();
+    close_invitations();
     close_communicators();
     close_type_values();
     close_types();
@@ -190,9 +189,8 @@ int MPI_Finalize(void) {
     close_infos();
     close_operations();
     device_close();
-    kombazily_free(&engine);
+    close_worlds();
     pmi_close();
-    progress_close();
     process.phase = FINALIZED;
     return class != MPI_SUCCESS ? class : left;
 }

@@ -1,5 +1,6 @@
 /* Collectives in which each hands blocks to each (MPI 3.1, 5.7 and 5.8), blocking and nonblocking (5.12). */
 #include "errors.h"
+#include "intercollectives.h"
 #include "plan_calls.h"
 
 /* ---- allgather ---- */
@@ -7,6 +8,7 @@
 /* Block j of each result is what member j hands in. */
 static int allgather(struct asked *asked, const struct blocks *send, const struct blocks *receive) {
     struct plan_call call = {.kind = PLAN_ALLGATHER};
+    if (is_of_inter(asked->handle)) return inter_allgather(asked, send, receive);
     int class = check_asked(asked);
     if (class == MPI_SUCCESS) class = list_blocks(asked, receive, asked->comm->size, &call.got);
     if (class != MPI_SUCCESS) return class;
@@ -60,6 +62,7 @@ int MPI_Iallgatherv(const void *sendbuf, int sendcount, MPI_Datatype sendtype, v
 /* Block j of a member's result is what member j hands in for it. */
 static int alltoall(struct asked *asked, const struct blocks *send, const struct blocks *receive) {
     struct plan_call call = {.kind = PLAN_ALLTOALL};
+    if (is_of_inter(asked->handle)) return inter_alltoall(asked, send, receive);
     int class = check_asked(asked);
     if (class == MPI_SUCCESS) class = list_blocks(asked, receive, asked->comm->size, &call.got);
     if (class != MPI_SUCCESS) return class;

@@ -48,9 +48,6 @@ static inline void leave_call(const bool *has_lock) {
     if (*has_lock) unlock_library();
 }
 
-/* The engine of this rank. */
-extern struct engine_rank engine;
-
 /* The statuses of a rank whose place is told wrongly, of one whose socket fails, and of one that gave up, as of every
  * program here. */
 enum { STATUS_PLACE = 2, STATUS_SOCKET, STATUS_PATIENCE };
@@ -66,13 +63,14 @@ _Noreturn void end_job(int status);
 
 /* ---- progress.c ---- */
 
-/* Asks the engine, once it is free: see matched_receives.c. Data may be NULL where there are none. */
+/* Asks the engine of the world that the call's communicator or request is of (worlds.h), once it is free: see
+ * matched_receives.c. Data may be NULL where there are none. */
 void call_engine(const struct engine_call *call, const void *data, size_t len, struct engine_answer *answer);
 /* The same, whether it is free or not: then most calls are refused with 6. */
 void ask_engine(const struct engine_call *call, const void *data, size_t len, struct engine_answer *answer);
 /* Copies data out that an answer brought: as kombazily_take, which nothing else calls. */
 size_t take_from_engine(uint64_t first, uint8_t *into, size_t len);
-/* The same two of the engine of plans, which is never blocked: plan_runs.c alone. */
+/* The same two of the engine of plans, which is never blocked: for plans, and whatever else goes beside the program. */
 void ask_plans(const struct engine_call *call, const void *data, size_t len, struct engine_answer *answer);
 size_t take_from_plans(uint8_t *into, size_t len);
 /* The answer of a call that was BLOCKED, once it is there: for collectives, and receives of matched messages. An answer
@@ -94,9 +92,8 @@ void progress_until_idle(void);
 void progress_last_words(void);
 /* From now on all is sent several times: before that barrier, since a rank behind it can't be asked again. */
 void progress_say_often(void);
-/* At the start of the process, once its place is known; and at its end. */
+/* At the start of the process, once its place is known. */
 void progress_open(void);
-void progress_close(void);
 
 /* ---- requests.c ---- */
 
@@ -130,7 +127,15 @@ struct request_kind {
 extern const struct request_kind send_kind, receive_kind, matched_kind;
 
 /* Numbers of the engine that C tells apart (docs/NUMBERS.md). */
-enum { NUMBER_COUNT = 1, NUMBER_TYPE, NUMBER_TRUNCATED = 10, NUMBER_MISMATCH = 12, NUMBER_LIMIT, NUMBER_NO_MEMORY };
+enum {
+    NUMBER_COUNT = 1,
+    NUMBER_TYPE,
+    NUMBER_COMM = 4,
+    NUMBER_TRUNCATED = 10,
+    NUMBER_MISMATCH = 12,
+    NUMBER_LIMIT,
+    NUMBER_NO_MEMORY
+};
 
 /* The longest cause of an error, in bytes. */
 enum { LONGEST_CAUSE = 400 };
@@ -221,8 +226,8 @@ bool is_engine_free(void);
 /* Waits until it is. */
 void free_engine(void);
 
-/* What a probe tells, or an operation that ended. */
-MPI_Status status_of(const struct engine_answer *answer);
+/* What a probe in a communicator tells, or an operation that ended. */
+MPI_Status status_of(const struct communicator *comm, const struct engine_answer *answer);
 /* The status of null requests (3.7.3); and to fill one with it, if one is wanted. */
 MPI_Status empty_status(void);
 void put_empty(MPI_Status *status);

@@ -53,7 +53,7 @@ static void tell_messages_of(const struct communicator *comm) {
         struct engine_answer answer;
         call_engine(&take, NULL, 0, &answer);
         if (answer.kind != ENGINE_MATCHED) break;
-        const MPI_Status status = status_of(&answer);
+        const MPI_Status status = status_of(comm, &answer);
         if (++found <= MOST_TOLD) tell_message(comm, &status);
     }
     tell_others(found, "messages");

@@ -3,6 +3,8 @@
 #include "lines.h"
 
 #include "explored.h"
+#include "intercommunicators.h"
+#include "plan_runs.h"
 #include "where.h"
 
 #include <signal.h>
@@ -37,13 +39,16 @@ void add_comm(struct line *line, const struct communicator *comm) {
     if (comm == NULL) add_text(line, "a communicator that was freed");
     else if (comm->place == ENGINE_WORLD) add_text(line, "MPI_COMM_WORLD");
     else if (comm->place == ENGINE_SELF) add_text(line, "MPI_COMM_SELF");
-    else if (comm->name[0] == '\0') add_text(line, "a communicator of %d without a name", comm->size);
-    else add_name(line, comm->name);
+    else if (comm->name[0] != '\0') add_name(line, comm->name);
+    else if (is_inter(comm))
+        add_text(line, "an intercommunicator of %d and %d without a name", comm->size, peers_of(comm));
+    else add_text(line, "a communicator of %d without a name", comm->size);
 }
 
-/* The number in MPI_COMM_WORLD of a member; its own number where that can't be had. */
+/* The number in MPI_COMM_WORLD of one of all members; its own number where that can't be had. */
 static int rank_in_world(const struct communicator *comm, int member) {
     if (comm == NULL || comm->place == ENGINE_WORLD || member < 0) return member;
+    if (!is_explored) return world_rank(comm, member);
     struct engine_answer answer;
     uint16_t rank = 0;
     ask_engine(&(struct engine_call){.kind = ENGINE_MEMBERS, .communicator = comm->place}, NULL, 0, &answer);
@@ -52,9 +57,13 @@ static int rank_in_world(const struct communicator *comm, int member) {
     return rank;
 }
 
+void add_member(struct line *line, const struct communicator *comm, int member) {
+    add_text(line, "rank %d", rank_in_world(comm, member));
+}
+
 void add_rank(struct line *line, const struct communicator *comm, int member) {
     if (member == MPI_PROC_NULL) add_text(line, "MPI_PROC_NULL");
-    else add_text(line, "rank %d", rank_in_world(comm, member));
+    else add_member(line, comm, comm == NULL ? member : member_of(comm, member));
 }
 
 void add_place(struct line *line, const struct communicator *comm, int member, int tag) {

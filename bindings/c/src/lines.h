@@ -25,8 +25,9 @@ void add_comm(struct line *line, const struct communicator *comm);
 /* `a message of rank 1 with tag 5 in MPI_COMM_WORLD`: the source and the tag as a receive names them. */
 void add_message(struct line *line, const struct communicator *comm, int source, int tag);
 
-/* A member of a communicator: `rank 1`, or MPI_PROC_NULL. */
+/* A rank of a communicator, as a program names it: `rank 1`, or MPI_PROC_NULL. And one of all members of it. */
 void add_rank(struct line *line, const struct communicator *comm, int member);
+void add_member(struct line *line, const struct communicator *comm, int member);
 
 /* ` with tag 5 in 'row', where it is rank 0`: the tag, the communicator, and which number the member has there. */
 void add_place(struct line *line, const struct communicator *comm, int member, int tag);

@@ -101,6 +101,7 @@ static int drop_call(struct plan_call *call, int class) {
     free_places(&call->given);
     free_places(&call->got);
     free(call->steps);
+    free(call->spare);
     return class;
 }
 

@@ -2,6 +2,7 @@
 #include "explored.h"
 #include "plan_runs.h"
 #include "rows.h"
+#include "worlds.h"
 
 #include <stdlib.h>
 #include <string.h>
@@ -35,18 +36,16 @@ void free_places(struct places *places) {
 
 /* ---- members ---- */
 
-/* A communicator's number is part of its messages' tags. */
-enum { NUMBERS = 4096, WORDS = NUMBERS / 64 };
-/* Those that are taken: MPI_COMM_WORLD has 0, MPI_COMM_SELF 1. */
-static uint64_t taken[WORDS] = {3};
-
-int world_rank(const struct communicator *comm, int member) {
+int plan_rank(const struct communicator *comm, int member) {
+    if (comm->all_size == 1) return comm->world->rank;
     return comm->members == NULL ? member : comm->members[member];
 }
 
+int world_rank(const struct communicator *comm, int member) { return first_rank(comm->world, plan_rank(comm, member)); }
+
 /* Asks the engine for the members. */
 static uint32_t find_members(struct communicator *comm) {
-    const size_t bytes = (size_t)comm->size * sizeof *comm->members;
+    const size_t bytes = (size_t)comm->all_size * sizeof *comm->members;
     struct engine_answer answer;
     comm->members = malloc(bytes);
     if (comm->members == NULL) return NUMBER_NO_MEMORY;
@@ -57,22 +56,22 @@ static uint32_t find_members(struct communicator *comm) {
 }
 
 /* The numbers that all members have free. */
-static uint32_t find_free(const struct communicator *comm, uint64_t free_numbers[WORDS]) {
-    for (int at = 0; at < WORDS; at++) free_numbers[at] = ~taken[at];
+static uint32_t find_free(const struct communicator *comm, uint64_t free_numbers[PLAN_WORDS]) {
+    for (int at = 0; at < PLAN_WORDS; at++) free_numbers[at] = ~comm->world->taken[at];
     const struct collective all = {comm, 0, ENGINE_UINT64, sizeof *free_numbers};
-    return allreduce_rows(all, ENGINE_BAND, free_numbers, sizeof taken, free_numbers);
+    return allreduce_rows(all, ENGINE_BAND, free_numbers, sizeof comm->world->taken, free_numbers);
 }
 
 uint32_t number_communicator(struct communicator *comm) {
-    uint64_t free_numbers[WORDS];
+    uint64_t free_numbers[PLAN_WORDS];
     /* A member alone sends nothing; nor does one whose calls an explorer answers. */
-    if (comm->size == 1 || is_explored) return 0;
+    if (comm->all_size == 1 || is_explored) return 0;
     uint32_t number = find_members(comm);
     if (number == 0) number = find_free(comm, free_numbers);
     if (number != 0) return number;
-    for (uint32_t at = 0; at < NUMBERS; at++) {
+    for (uint32_t at = 0; at < PLAN_NUMBERS; at++) {
         if ((free_numbers[at / 64] >> at % 64 & 1) == 0) continue;
-        taken[at / 64] |= UINT64_C(1) << at % 64;
+        comm->world->taken[at / 64] |= UINT64_C(1) << at % 64;
         comm->number = at;
         return 0;
     }
@@ -89,6 +88,6 @@ uint32_t open_explored_plans(struct communicator *comm) {
 }
 
 void forget_number(struct communicator *comm) {
-    if (comm->number > ENGINE_SELF) taken[comm->number / 64] &= ~(UINT64_C(1) << comm->number % 64);
+    if (comm->number > ENGINE_SELF) comm->world->taken[comm->number / 64] &= ~(UINT64_C(1) << comm->number % 64);
     free(comm->members);
 }

@@ -6,7 +6,9 @@
 #include "device.h"
 #include "errors.h"
 #include "explored.h"
+#include "intercommunicators.h"
 #include "lines.h"
+#include "worlds.h"
 
 #include <stdio.h>
 #include <stdlib.h>
@@ -77,8 +79,8 @@ static uint32_t tag_of(const struct plan_run *run, enum plan_kind kind) {
 static struct engine_call message_of(const struct plan_run *run, enum engine_call_kind kind, uint32_t peer) {
     const struct communicator *comm = run->call.comm;
     return (struct engine_call){.kind = kind,
-                                .communicator = is_explored ? comm->explored_plans : ENGINE_WORLD,
-                                .peer = is_explored ? (int32_t)peer : world_rank(comm, (int)peer),
+                                .communicator = is_explored ? comm->explored_plans : comm->world->base,
+                                .peer = is_explored ? (int32_t)peer : plan_rank(comm, (int)peer),
                                 .tag = (int32_t)tag_of(run, run->call.kind),
                                 .basic = ENGINE_BYTE};
 }
@@ -149,7 +151,7 @@ static uint32_t end_receive(struct place into, const struct engine_answer *answe
 /* Notes the end of a send or a receive. */
 static void note_end(struct plan_run *run, size_t at, const struct engine_answer *answer) {
     const struct plan_step *step = &run->steps[at];
-    struct fault fault = {.member = (int)step->peer};
+    struct fault fault = {.member = rank_of_member(run->call.comm, (int)step->peer)};
     uint32_t number = 0;
     run->messages[at].is_ended = true;
     if (answer->kind == ENGINE_REFUSED || answer->outcome == ENGINE_REPLACED) number = answer->number;
@@ -228,7 +230,7 @@ static bool have_all_passed(struct plan_run *run) {
 /* Whether a message of another collective of the same number came from a member that this one waits for: then the two
  * entered different ones, since members enter the collectives of a communicator in one order (5.12). */
 static bool find_other_kind(struct plan_run *run, int member) {
-    for (uint32_t kind = PLAN_ALLTOALL; kind <= PLAN_NEIGHBOURS; kind++) {
+    for (uint32_t kind = PLAN_ALLTOALL; kind <= PLAN_COPY; kind++) {
         if (kind == (uint32_t)run->call.kind) continue;
         struct engine_call probe = message_of(run, ENGINE_IPROBE, (uint32_t)member);
         struct engine_answer answer;
@@ -236,7 +238,7 @@ static bool find_other_kind(struct plan_run *run, int member) {
         ask_plans(&probe, NULL, 0, &answer);
         if (answer.kind != ENGINE_PROBED) continue;
         run->number = NUMBER_MISMATCH;
-        run->fault = (struct fault){.member = member, .kind = (enum plan_kind)kind};
+        run->fault = (struct fault){.member = rank_of_member(run->call.comm, member), .kind = (enum plan_kind)kind};
         return true;
     }
     return false;
@@ -326,6 +328,7 @@ void say_plan_end(const struct plan_run *run, char *text) {
         [PLAN_ALLREDUCE] = "an allreduce",
         [PLAN_BARRIER] = "a barrier",
         [PLAN_NEIGHBOURS] = "an exchange with neighbours",
+        [PLAN_COPY] = "a copy",
     };
     const struct fault *fault = &run->fault;
     if (run->number == NUMBER_MISMATCH)
@@ -441,6 +444,7 @@ void end_plan(struct plan_run *run) {
     free_places(&run->call.given);
     free_places(&run->call.got);
     release_communicator(run->call.comm);
+    free(run->call.spare);
     free(run->room);
     free(run->steps);
     free(run->messages);
@@ -481,7 +485,7 @@ static void say_wait(struct line *line, struct request *request) {
     int member = awaited_member(run);
     if (member < 0) add_text(line, "the other ranks of ");
     else {
-        add_rank(line, request->comm, member);
+        add_member(line, request->comm, member);
         add_text(line, " to enter it in ");
     }
     add_comm(line, request->comm);

@@ -22,8 +22,9 @@ struct places {
     struct place *list;
 };
 
-/* The kind of exchanges with neighbours (neighbours.c), behind those of engine_plans.h. */
-enum { PLAN_NEIGHBOURS = PLAN_BARRIER + 1 };
+/* The kinds of exchanges with neighbours (neighbours.c) and of copies (later_copies.c), behind those of engine_plans.h.
+ */
+enum { PLAN_NEIGHBOURS = PLAN_BARRIER + 1, PLAN_COPY };
 
 /* A collective as it is to be carried out. */
 struct plan_call {
@@ -33,8 +34,9 @@ struct plan_call {
     int root;
     struct places given, got;
     struct folding folding;  /* by what blocks are folded */
-    struct plan_step *steps; /* of PLAN_NEIGHBOURS alone: its steps, which are freed with the plan */
-    size_t step_count;
+    struct plan_step *steps; /* NULL: those that the engine's plan has; else freed with the plan. Of an */
+    size_t step_count;       /* intercommunicator they name all members */
+    void *spare;             /* room that some places are in, or NULL: freed with the plan */
 };
 
 /* The requests of collectives: their state is a run. */
@@ -68,8 +70,9 @@ const void *place_row(struct place from, void **room);
 
 void free_places(struct places *places);
 
-/* The rank of a member in MPI_COMM_WORLD. */
+/* The rank of a member in MPI_COMM_WORLD, and in the communicator's own world (worlds.h). */
 int world_rank(const struct communicator *comm, int member);
+int plan_rank(const struct communicator *comm, int member);
 /* Numbers a communicator that was just made, at all its members at once: 0, or a number. What holds of it ends with
  * forget_number. */
 uint32_t number_communicator(struct communicator *comm);

@@ -1,6 +1,7 @@
 /* Sends and receives (MPI 3.1, 3.2, 3.4, 3.7 and 3.10). Which message a receive takes, and when a send is at its end,
  * the engine decides; here arguments become its calls. */
 #include "errors.h"
+#include "intercommunicators.h"
 #include "internal.h"
 #include "transfers.h"
 #include "types.h"
@@ -24,7 +25,7 @@ uint32_t begin_send(struct request *request, struct communicator *comm, bool is_
     if (row == NULL && len > 0) return NUMBER_NO_MEMORY;
     const struct engine_call send = {.kind = is_synchronous ? ENGINE_ISSEND : ENGINE_ISEND,
                                      .communicator = comm->place,
-                                     .peer = target == MPI_PROC_NULL ? ENGINE_NULL : target,
+                                     .peer = target == MPI_PROC_NULL ? ENGINE_NULL : member_of(comm, target),
                                      .tag = tag,
                                      .basic = type->basic};
     struct engine_answer answer;
@@ -48,7 +49,7 @@ uint32_t begin_receive(struct request *request, struct communicator *comm, void 
                                         .communicator = comm->place,
                                         .peer = source == MPI_PROC_NULL    ? ENGINE_NULL
                                                 : source == MPI_ANY_SOURCE ? ENGINE_ANY
-                                                                           : source,
+                                                                           : member_of(comm, source),
                                         .tag = tag == MPI_ANY_TAG ? ENGINE_ANY : tag,
                                         .basic = type->basic,
                                         .count = engine_elements(type, request->room)};

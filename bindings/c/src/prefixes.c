@@ -3,19 +3,11 @@
 #include "prefixes.h"
 
 #include "errors.h"
+#include "intercollectives.h"
+#include "intercommunicators.h"
 
-/* What is folded: so many items of a type, by an operation. */
-struct folded {
-    const void *sendbuf;
-    void *recvbuf;
-    int count;
-    MPI_Datatype type;
-    MPI_Op op;
-};
-
-/* Checks the operation, for the type of these places. */
-static int check_folding(const struct asked *asked, const struct folded *it, struct plan_call *call,
-                         const struct places *places) {
+int check_folding(const struct asked *asked, const struct folded *it, struct plan_call *call,
+                  const struct places *places) {
     call->folding.handle = it->type;
     return check_operation(asked->handle, asked->name, it->op, places->list[0].type, &call->folding.operation);
 }
@@ -31,7 +23,9 @@ static int drop(struct plan_call *call, int class) {
 static int fold_one(struct asked *asked, enum plan_kind kind, const struct folded *it) {
     struct plan_call call = {.kind = kind};
     const bool is_in_place = it->sendbuf == MPI_IN_PLACE;
+    if (kind == PLAN_ALLREDUCE && is_of_inter(asked->handle)) return inter_allreduce(asked, it);
     int class = check_asked(asked);
+    if (class == MPI_SUCCESS) class = check_intra(asked->handle, asked->name, asked->comm);
     if (class == MPI_SUCCESS)
         class =
             list_blocks(asked, &(struct blocks){.at = it->recvbuf, .count = it->count, .type = it->type}, 1, &call.got);
@@ -85,6 +79,7 @@ int allreduce_by_plan(const void *sendbuf, void *recvbuf, int count, MPI_Datatyp
 
 static int fold_to_root(struct asked *asked, int root, const struct folded *it) {
     struct plan_call call = {.kind = PLAN_REDUCE, .root = root};
+    if (is_of_inter(asked->handle)) return inter_reduce(asked, root, it);
     int class = check_asked(asked);
     if (class == MPI_SUCCESS) class = check_root(asked->handle, asked->name, asked->comm, root);
     if (class != MPI_SUCCESS) return class;
@@ -118,6 +113,7 @@ int reduce_by_plan(const void *sendbuf, void *recvbuf, int count, MPI_Datatype d
 /* Each gets the fold of what all hand in for it: `counts` items, or as many each. */
 static int fold_each(struct asked *asked, const int counts[], const struct folded *it) {
     struct plan_call call = {.kind = PLAN_REDUCE_SCATTER};
+    if (is_of_inter(asked->handle)) return inter_reduce_scatter(asked, counts, it);
     const bool is_in_place = it->sendbuf == MPI_IN_PLACE;
     int class = check_asked(asked);
     if (class == MPI_SUCCESS && counts == NULL && it->count < 0)

@@ -1,6 +1,7 @@
 /* Probes, and receives of the messages that matching probes took out (MPI 3.1, 3.8). */
 #include "errors.h"
 #include "explored.h"
+#include "intercommunicators.h"
 #include "internal.h"
 #include "table.h"
 #include "types.h"
@@ -47,7 +48,7 @@ static void look_once(const struct look *it, const struct communicator *comm, st
                                       .communicator = comm->place,
                                       .peer = it->source == MPI_PROC_NULL    ? ENGINE_NULL
                                               : it->source == MPI_ANY_SOURCE ? ENGINE_ANY
-                                                                             : it->source,
+                                                                             : member_of(comm, it->source),
                                       .tag = it->tag == MPI_ANY_TAG ? ENGINE_ANY : it->tag};
     if (is_explored) explored_probe(&probe, it->waits, answer);
     else call_engine(&probe, NULL, 0, answer);
@@ -96,7 +97,7 @@ static int probe(const struct look *it, MPI_Status *status) {
     int class = look(it, &answer);
     if (class != 0) return class;
     bool is_found = answer.kind != ENGINE_NOTHING;
-    const MPI_Status found = status_of(&answer);
+    const MPI_Status found = status_of(communicator_of(it->comm), &answer);
     if (is_found) put_status(status, &found);
     if (it->flag != NULL) *it->flag = is_found;
     return it->takes_out ? hand_message(it, &answer) : MPI_SUCCESS;

@@ -1,4 +1,4 @@
-/* Progress: datagrams are carried between the device and the engine, and the engine is told the time. */
+/* Progress: datagrams are carried between the device and the engines, and the engines are told the time. */
 #include "device.h"
 #include "errors.h"
 #include "explored.h"
@@ -6,6 +6,7 @@
 #include "plan_runs.h"
 #include "standstill.h"
 #include "wait_lines.h"
+#include "worlds.h"
 
 #include <stdio.h>
 #include <string.h>
@@ -23,14 +24,7 @@ enum {
     COPIES_OF_LAST = 3       /* so often a rank that ends says what it says: it may be gone before it is asked again */
 };
 
-/* The second engine of this rank, over which plans go (plan_runs.h); it is made when it is needed. An engine takes no
- * call while one of its collectives is blocked: plans go on then. Its job has another number, so that its datagrams,
- * which go over the same socket, are told from the others. */
-static struct engine_rank plans;
-static bool has_plans;
-#define PLANS_JOB (process.job ^ UINT64_C(1) << 63)
-
-/* What both engines were told last, in nanoseconds, and until when one keeps an acknowledgement back (0: none does). */
+/* What the engines were told last, in nanoseconds, and until when one keeps an acknowledgement back (0: none does). */
 static uint64_t told, kept_until;
 /* When an engine took a datagram last. */
 static uint64_t heard;
@@ -47,33 +41,53 @@ void progress_open(void) {
     kept_until = 0;
 }
 
-/* The engine is told the time, each millisecond once, and when what it keeps back is to go: whether it was. It is told
- * before whatever may make it send, and before datagrams that came: by that it measures round trips. */
+/* The engines in which something goes on. Of the others nothing is to go out, all is acknowledged, and so they needn't
+ * be told the time. */
+static struct carried *busy;
+
+/* Tells an engine the time. For want of memory nothing goes out again now: it does the next time. */
+static void tick(struct carried *own) {
+    (void)kombazily_tick(&own->rank, told);
+    own->told = told;
+    own->is_due = true;
+}
+
+/* The engines are told the time, each millisecond once, and when what one keeps back is to go: whether they were. */
 static bool tell_time(void) {
     uint64_t now = device_nanoseconds();
     bool is_due = kept_until != 0 && now >= kept_until;
     if (!is_due && now / MILLISECOND == told / MILLISECOND) return false;
     told = now;
-    /* For want of memory nothing goes out again now: it does the next time. */
-    (void)kombazily_tick(&engine, now);
-    if (has_plans) (void)kombazily_tick(&plans, now);
+    for (struct carried *it = busy; it != NULL; it = it->next) tick(it);
     return true;
 }
 
-/* Makes the second engine, where it isn't there: whether it is. */
-static bool need_plans(void) {
-    const struct engine_place place = {.job = PLANS_JOB,
-                                       .message_limit = ENGINE_GREATEST_LIMIT,
-                                       .rank = (uint16_t)process.rank,
-                                       .size = (uint16_t)process.size,
-                                       .incarnation = (uint16_t)process.incarnation};
-    if (has_plans) return true;
-    has_plans = kombazily_new(&plans, &place) == 0;
-    if (has_plans) (void)kombazily_tick(&plans, told);
-    return has_plans;
+/* One is told the time before whatever may make it send, and before datagrams that came: by that it measures round
+ * trips. From now on something may go on in it. */
+static void tell_before(struct carried *own) {
+    tell_time();
+    if (own->told / MILLISECOND != told / MILLISECOND) tick(own);
+    own->is_due = true;
+    if (own->is_busy) return;
+    own->is_busy = true;
+    own->next = busy;
+    busy = own;
 }
 
-static bool are_idle(void) { return kombazily_is_idle(&engine) && (!has_plans || kombazily_is_idle(&plans)); }
+void drop_carried(struct carried *own) {
+    for (struct carried **at = &busy; own->is_busy && *at != NULL; at = &(*at)->next) {
+        if (*at != own) continue;
+        *at = own->next;
+        own->is_busy = false;
+        return;
+    }
+}
+
+static bool are_idle(void) {
+    for (struct carried *it = busy; it != NULL; it = it->next)
+        if (!kombazily_is_idle(&it->rank)) return false;
+    return true;
+}
 
 /* Without its socket a rank can't go on. */
 static _Noreturn void refuse_device(int error) {
@@ -82,42 +96,68 @@ static _Noreturn void refuse_device(int error) {
     end_job(STATUS_SOCKET);
 }
 
-/* Sends what is to go out of an engine: until when it keeps an acknowledgement back. */
-static uint64_t send_from(struct engine_rank *own, bool kept_too) {
-    struct engine_outgoing out = {0};
-    for (;;) {
+/* Sends what is to go out of an engine, what it keeps back too, if it is said so; and notes until when it does. */
+static void send_from(struct carried *own, bool kept_too) {
+    struct engine_outgoing out = {.kept_until = own->kept_until};
+    size_t len = own->is_due || (kept_too && own->kept_until != 0);
+    while (len != 0) {
         size_t room;
         unsigned char *into = device_room(&room);
-        size_t len = kombazily_next(own, device_most(), kept_too, &out, into, room);
-        if (len == 0) return out.kept_until;
-        device_put(out.target, out.count, out.each, len);
+        len = kombazily_next(&own->rank, device_most(), kept_too, &out, into, room);
+        if (len != 0) device_put((uint16_t)first_rank(own->world, out.target), out.count, out.each, len);
     }
+    own->is_due = false;
+    own->kept_until = out.kept_until;
+    if (out.kept_until != 0 && (kept_until == 0 || out.kept_until < kept_until)) kept_until = out.kept_until;
 }
 
-/* Sends what is to go out; what is kept back too, if it is told so. */
+/* Sends what is to go out of all; what is kept back too, if it is told so. */
 static void send_out(bool kept_too) {
     if (!device_is_open()) return;
-    kept_until = send_from(&engine, kept_too);
-    uint64_t other = has_plans ? send_from(&plans, kept_too) : 0;
-    if (other != 0 && (kept_until == 0 || other < kept_until)) kept_until = other;
+    kept_until = 0;
+    for (struct carried **at = &busy; *at != NULL;) {
+        struct carried *it = *at;
+        send_from(it, kept_too);
+        it->is_busy = it->kept_until != 0 || !kombazily_is_idle(&it->rank);
+        if (it->is_busy) at = &it->next;
+        else *at = it->next;
+    }
     device_flush(copies);
     if (device_error() != 0) refuse_device(device_error());
 }
 
 void progress_out(void) { send_out(false); }
 
-/* Takes in some datagrams of a rank. One that names another rank is dropped; so is one that the engine refuses: it is
- * none of this job's, or comes again. */
-static void hear(int source, const unsigned char *bytes, size_t len, size_t each) {
-    tell_time();
-    for (size_t at = 0; at < len; at += each) {
-        size_t rest = len - at, own = rest < each ? rest : each;
-        if (sender_of(bytes + at, own) != source) continue;
-        bool is_of_plans = is_of_job(bytes + at, own, PLANS_JOB);
-        if (is_of_plans && !need_plans()) continue;
-        if (kombazily_datagram(is_of_plans ? &plans : &engine, bytes + at, own) == 0) heard = told, note_news();
-    }
-    send_out(false);
+/* Hands a datagram to the engine that it is for, unless it comes from elsewhere than the rank that it names; the engine
+ * refuses what comes again. One for an engine that may come soon is kept. Whether it came from such a rank. */
+static bool hear_one(uint32_t address, uint16_t port, const unsigned char *bytes, size_t len) {
+    uint64_t job;
+    int kind;
+    if (!read_job(bytes, len, &job)) return false;
+    struct world *world = world_of_job(job, &kind);
+    if (world == NULL && may_be_ours(job)) keep_datagram(address, port, bytes, len);
+    if (world == NULL || !device_is_at(first_rank(world, sender_of(bytes, len)), address, port)) return false;
+    if (!need_engine(world, kind)) return false;
+    tell_before(&world->engines[kind]);
+    if (kombazily_datagram(&world->engines[kind].rank, bytes, len) == 0) heard = told, note_news();
+    return true;
+}
+
+/* Takes in some datagrams. */
+static bool hear(uint32_t address, uint16_t port, const unsigned char *bytes, size_t len, size_t each) {
+    bool is_ours = false;
+    for (size_t at = 0; at < len; at += each)
+        is_ours |= hear_one(address, port, bytes + at, len - at < each ? len - at : each);
+    if (is_ours) send_out(false);
+    return is_ours;
+}
+
+static void take_one(uint32_t address, uint16_t port, const unsigned char *bytes, size_t len) {
+    (void)hear_one(address, port, bytes, len);
+}
+
+void take_kept(const struct world *world) {
+    for (int kind = 0; kind < ENGINES; kind++) hand_kept(job_of(world, kind), take_one);
 }
 
 /* Whether something came in, which was handed to the engine. */
@@ -127,6 +167,7 @@ void progress(void) {
     if (!is_explored) tell_time(), take_in();
     plans_go_on();
     move_requests();
+    worlds_go_on();
     if (!is_explored) send_out(false);
 }
 
@@ -209,6 +250,7 @@ void progress_wait(void) {
     else wait_a_while(), lose_patience();
     plans_go_on();
     move_requests();
+    worlds_go_on();
 }
 
 void progress_begin_wait(void) {
@@ -221,7 +263,10 @@ void progress_until_idle(void) {
     while (!are_idle()) progress_wait();
 }
 
-void progress_say_often(void) { copies = COPIES_OF_LAST; }
+void progress_say_often(void) {
+    copies = COPIES_OF_LAST;
+    stop_worlds();
+}
 
 void progress_last_words(void) {
     uint64_t until = device_nanoseconds() + LAST_WORDS;
@@ -249,43 +294,68 @@ static bool may_send(enum engine_call_kind kind) {
     }
 }
 
-void ask_engine(const struct engine_call *call, const void *data, size_t len, struct engine_answer *answer) {
+/* Whether a call names a request, and so no communicator. */
+static bool names_request(enum engine_call_kind kind) {
+    return kind == ENGINE_TEST || kind == ENGINE_LOOK || kind == ENGINE_CANCEL || kind == ENGINE_MRECV;
+}
+
+/* The engine that answered last of each kind, and that in which a collective or a receive waits. */
+static struct carried *answered[ENGINES];
+static struct world *blocked;
+
+/* The world that a call is for. */
+static struct world *world_of_call(const struct engine_call *call) {
+    if (call->kind == ENGINE_FINISH) return blocked;
+    return names_request(call->kind) ? world_of_key(call->request.key) : world_of_place(call->communicator);
+}
+
+/* Asks an engine of a world, which knows nothing of others: what names its communicators and requests is turned. */
+static void ask_world(struct world *world, int kind, struct engine_call call, const void *data, size_t len,
+                      struct engine_answer *answer) {
     static const unsigned char nothing[1];
+    struct carried *own = answered[kind] = &world->engines[kind];
+    const uint64_t key_base = (uint64_t)(world->base >> PLACE_BITS) << KEY_BITS;
+    call.communicator -= names_request(call.kind) ? 0 : world->base;
+    call.other -= call.kind == ENGINE_COMPARE ? world->base : 0;
+    call.request.key -= names_request(call.kind) && call.request.key != UINT64_MAX ? key_base : 0;
+    if (may_send(call.kind)) tell_before(own);
+    kombazily_call(&own->rank, &call, data == NULL || len == 0 ? nothing : data, len, answer);
+    if (answer->request.key != UINT64_MAX) answer->request.key += key_base;
+    if (answer->communicator != ENGINE_NO_COMMUNICATOR) answer->communicator += world->base;
+    if (answer->kind == ENGINE_BLOCKED) blocked = world;
+}
+
+/* Asks the engine of a kind that the call is for. */
+static void ask(int kind, const struct engine_call *call, const void *data, size_t len, struct engine_answer *answer) {
+    struct world *world = world_of_call(call);
+    *answer = (struct engine_answer){.kind = ENGINE_REFUSED, .number = world == NULL ? NUMBER_COMM : NUMBER_NO_MEMORY};
+    if (world != NULL && need_engine(world, kind)) ask_world(world, kind, *call, data, len, answer);
+}
+
+void ask_engine(const struct engine_call *call, const void *data, size_t len, struct engine_answer *answer) {
     if (is_explored) {
         explored_call(call, data, len, answer);
         return;
     }
-    if (may_send(call->kind)) tell_time();
-    kombazily_call(&engine, call, data == NULL || len == 0 ? nothing : data, len, answer);
+    ask(OF_PROGRAMS, call, data, len, answer);
     if (call->kind == ENGINE_CANCEL || call->kind == ENGINE_MRECV) note_news();
 }
 
 size_t take_from_engine(uint64_t first, uint8_t *into, size_t len) {
-    return is_explored ? explored_take(first, into, len) : kombazily_take(&engine, first, into, len);
+    if (is_explored) return explored_take(first, into, len);
+    return kombazily_take(&answered[OF_PROGRAMS]->rank, first, into, len);
 }
 
 void ask_plans(const struct engine_call *call, const void *data, size_t len, struct engine_answer *answer) {
-    static const unsigned char nothing[1];
-    if (is_explored) {
-        explored_call(call, data, len, answer);
-        return;
-    }
-    *answer = (struct engine_answer){.kind = ENGINE_REFUSED, .number = NUMBER_NO_MEMORY};
-    if (!need_plans()) return;
-    if (may_send(call->kind)) tell_time();
-    kombazily_call(&plans, call, data == NULL || len == 0 ? nothing : data, len, answer);
+    if (is_explored) explored_call(call, data, len, answer);
+    else ask(OF_PLANS, call, data, len, answer);
 }
 
 size_t take_from_plans(uint8_t *into, size_t len) {
-    return is_explored ? explored_take(0, into, len) : kombazily_take(&plans, 0, into, len);
+    return is_explored ? explored_take(0, into, len) : kombazily_take(&answered[OF_PLANS]->rank, 0, into, len);
 }
 
-void progress_close(void) {
-    kombazily_free(&plans);
-    has_plans = false;
-}
-
-/* The engine is in a collective, and answers nothing but FINISH and LOOK. */
+/* An engine is in a collective, and answers nothing but FINISH and LOOK. */
 static bool is_in_collective;
 
 bool is_engine_in_collective(void) { return is_in_collective; }

@@ -1,6 +1,7 @@
 /* Reductions (MPI 3.1, 5.9): by the engine, but of long doubles, which C folds in the order of the ranks, and those
  * that the engine doesn't know, which go by plans. */
 #include "errors.h"
+#include "intercollectives.h"
 #include "internal.h"
 #include "own_operations.h"
 #include "prefixes.h"
@@ -57,7 +58,8 @@ int MPI_Reduce(const void *sendbuf, void *recvbuf, int count, MPI_Datatype datat
                MPI_Comm comm) {
     NOTE_CALLER();
     const char *call = "MPI_Reduce";
-    if (is_for_plans(op, datatype)) return reduce_by_plan(sendbuf, recvbuf, count, datatype, op, root, comm);
+    if (is_of_inter(comm) || is_for_plans(op, datatype))
+        return reduce_by_plan(sendbuf, recvbuf, count, datatype, op, root, comm);
     struct reduction of;
     const void *row = sendbuf;
     int class = check_reduction(comm, call, count, datatype, op, &of);
@@ -78,7 +80,8 @@ int MPI_Reduce(const void *sendbuf, void *recvbuf, int count, MPI_Datatype datat
 int MPI_Allreduce(const void *sendbuf, void *recvbuf, int count, MPI_Datatype datatype, MPI_Op op, MPI_Comm comm) {
     NOTE_CALLER();
     const char *call = "MPI_Allreduce";
-    if (is_for_plans(op, datatype)) return allreduce_by_plan(sendbuf, recvbuf, count, datatype, op, comm);
+    if (is_of_inter(comm) || is_for_plans(op, datatype))
+        return allreduce_by_plan(sendbuf, recvbuf, count, datatype, op, comm);
     struct reduction of;
     const void *row;
     int class = check_reduction(comm, call, count, datatype, op, &of);

@@ -1,6 +1,7 @@
 /* Requests: operations that were begun, until the program was told of their ends (MPI 3.1, 3.7 and 3.8.4). */
 #include "errors.h"
 #include "explored.h"
+#include "intercommunicators.h"
 #include "internal.h"
 #include "plan_runs.h"
 #include "table.h"
@@ -27,9 +28,9 @@ static MPI_Count size_of_basic(uint32_t basic) {
     return basic < sizeof sizes ? sizes[basic] : 0;
 }
 
-MPI_Status status_of(const struct engine_answer *answer) {
+MPI_Status status_of(const struct communicator *comm, const struct engine_answer *answer) {
     MPI_Status status = empty_status();
-    status.MPI_SOURCE = answer->source == ENGINE_NULL ? MPI_PROC_NULL : answer->source;
+    status.MPI_SOURCE = answer->source == ENGINE_NULL ? MPI_PROC_NULL : rank_of_member(comm, answer->source);
     status.MPI_TAG = answer->tag == ENGINE_ANY ? MPI_ANY_TAG : answer->tag;
     status.reserved_bytes = (MPI_Count)answer->count * size_of_basic(answer->basic);
     return status;
@@ -74,7 +75,8 @@ static void note_end(struct request *request, const struct engine_answer *answer
     if (answer->kind != ENGINE_DONE) return;
     if (answer->outcome == ENGINE_CANCELLED) request->end.reserved_cancelled = 1;
     if (answer->outcome == ENGINE_REPLACED) request->number = answer->number;
-    if (answer->outcome == ENGINE_RECEIVED || answer->outcome == ENGINE_FAILED) request->end = status_of(answer);
+    if (answer->outcome == ENGINE_RECEIVED || answer->outcome == ENGINE_FAILED)
+        request->end = status_of(request->comm, answer);
     /* A message that is too long has the type of its receive. */
     if (answer->outcome == ENGINE_FAILED && answer->number == NUMBER_TRUNCATED)
         request->end.reserved_bytes = (MPI_Count)(answer->count * request->type->unit);
@@ -210,7 +212,7 @@ bool let_go(const struct request *request) {
     struct request *own = malloc(sizeof *own);
     if (own == NULL) return false;
     *own = *request;
-    own->comm = NULL;
+    if (own->comm != NULL) hold_communicator(own->comm);
     own->next = freed;
     freed = own;
     settle_freed();

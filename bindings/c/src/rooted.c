@@ -1,6 +1,7 @@
 /* Collectives of a root that go by plans (MPI 3.1, 5.4 to 5.6): those with a block of its own length for each member,
  * and the nonblocking ones (5.12). */
 #include "errors.h"
+#include "intercollectives.h"
 #include "plan_calls.h"
 
 static int check_rooted(struct asked *asked, int root) {
@@ -30,6 +31,7 @@ static int list_at_root(struct asked *asked, int root, const struct blocks *all,
 /* Block j of the root's result is what member j hands in. */
 static int gather(struct asked *asked, int root, const struct blocks *send, const struct blocks *receive) {
     struct plan_call call = {.kind = PLAN_GATHER, .root = root};
+    if (is_of_inter(asked->handle)) return inter_gather(asked, root, send, receive);
     int class = check_rooted(asked, root);
     if (class != MPI_SUCCESS) return class;
     class = asked->comm->rank == root ? list_at_root(asked, root, receive, &call.got, send, &call.given)
@@ -64,6 +66,7 @@ int MPI_Igather(const void *sendbuf, int sendcount, MPI_Datatype sendtype, void 
 /* A member's result is what the root hands in for it. */
 static int scatter(struct asked *asked, int root, const struct blocks *send, const struct blocks *receive) {
     struct plan_call call = {.kind = PLAN_SCATTER, .root = root};
+    if (is_of_inter(asked->handle)) return inter_scatter(asked, root, send, receive);
     int class = check_rooted(asked, root);
     if (class != MPI_SUCCESS) return class;
     class = asked->comm->rank == root ? list_at_root(asked, root, send, &call.given, receive, &call.got)
@@ -99,6 +102,7 @@ int MPI_Iscatter(const void *sendbuf, int sendcount, MPI_Datatype sendtype, void
 static int broadcast(struct asked *asked, int root, void *buffer, int count, MPI_Datatype datatype) {
     struct plan_call call = {.kind = PLAN_BROADCAST, .root = root};
     const struct blocks own = {.at = buffer, .count = count, .type = datatype};
+    if (is_of_inter(asked->handle)) return inter_broadcast(asked, root, &own);
     int class = check_rooted(asked, root);
     if (class == MPI_SUCCESS) class = list_blocks(asked, &own, 1, &call.got);
     if (class == MPI_SUCCESS) class = list_again(asked, &call.got, 0, 1, &call.given);
@@ -111,6 +115,7 @@ int MPI_Ibcast(void *buffer, int count, MPI_Datatype datatype, int root, MPI_Com
 }
 
 static int barrier(struct asked *asked) {
+    if (is_of_inter(asked->handle)) return inter_barrier(asked);
     int class = check_asked(asked);
     return class == MPI_SUCCESS ? carry_out(asked, &(struct plan_call){.kind = PLAN_BARRIER}) : class;
 }

@@ -1,9 +1,9 @@
-/* Communicators of groups, of machines, and copies whose request is asked for (MPI 3.1, 6.4.2), and their end (10.5.4).
- * They go by the engine's DUP and SPLIT. */
+/* Communicators of groups, of machines (MPI 3.1, 6.4.2), and their end (10.5.4). They go by the engine's SPLIT. */
 #include "errors.h"
 #include "group_lists.h"
 #include "groups.h"
 #include "info.h"
+#include "intercommunicators.h"
 #include "internal.h"
 
 #include <stdlib.h>
@@ -22,7 +22,9 @@ static int place_group(MPI_Comm comm, const char *call, struct members group, st
             class =
                 raise_on(comm, call, MPI_ERR_GROUP, "rank %d of MPI_COMM_WORLD is in the group alone", group.list[at]);
     entry->order = place_in(group, (uint16_t)process.rank);
-    entry->colour = entry->order < 0 ? ENGINE_NO_COLOUR : place_in(all, group.list[0]);
+    /* Of an intercommunicator both groups' parts become one. */
+    if (entry->order < 0) entry->colour = ENGINE_NO_COLOUR;
+    else entry->colour = is_inter(communicator_of(comm)) ? 0 : place_in(all, group.list[0]);
     free(list);
     return class;
 }
@@ -57,49 +59,6 @@ int MPI_Comm_split_type(MPI_Comm comm, int split_type, int key, MPI_Info info, M
         return raise_on(comm, call, MPI_ERR_ARG, "split type %d", split_type);
     if (split_type == MPI_COMM_TYPE_SHARED) entry.colour = first_neighbour();
     return make_communicator(comm, call, &entry, newcomm);
-}
-
-/* ---- copies with a request ---- */
-
-static void say_copied(struct line *line, struct request *request) {
-    (void)line;
-    (void)request;
-}
-
-/* The request of a call that has done all when it returns: it is at its end at once. */
-static const struct request_kind done_kind = {.say_wait = say_copied, .say_left = say_copied};
-
-static int begin_copy(const char *call, MPI_Comm comm, MPI_Info info, MPI_Comm *newcomm, MPI_Request *request) {
-    struct communicator *own;
-    check_running(call);
-    int class = check_comm(comm, call, &own);
-    if (class == MPI_SUCCESS) class = check_hints(comm, call, info);
-    if (class == MPI_SUCCESS) class = check_result(comm, call, newcomm, "newcomm");
-    if (class == MPI_SUCCESS) class = check_result(comm, call, request, "request");
-    if (class != MPI_SUCCESS) return class;
-    MPI_Request handle = open_request();
-    if (handle == MPI_REQUEST_NULL) return raise_number(comm, call, NUMBER_NO_MEMORY);
-    struct request *made = request_of(handle);
-    made->kind = &done_kind;
-    made->comm = hold_communicator(own);
-    made->caller = process.caller;
-    made->age = next_age();
-    made->end = empty_status();
-    made->is_ended = true;
-    class = copy_communicator(comm, call, newcomm);
-    if (class != MPI_SUCCESS) close_request(&handle);
-    *request = handle;
-    return class;
-}
-
-int MPI_Comm_idup(MPI_Comm comm, MPI_Comm *newcomm, MPI_Request *request) {
-    NOTE_CALLER();
-    return begin_copy("MPI_Comm_idup", comm, MPI_INFO_NULL, newcomm, request);
-}
-
-int MPI_Comm_idup_with_info(MPI_Comm comm, MPI_Info info, MPI_Comm *newcomm, MPI_Request *request) {
-    NOTE_CALLER();
-    return begin_copy("MPI_Comm_idup_with_info", comm, info, newcomm, request);
 }
 
 /* ---- hints, of which none is used ---- */

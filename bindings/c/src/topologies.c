@@ -2,6 +2,7 @@
 #include "topologies.h"
 
 #include "errors.h"
+#include "intercommunicators.h"
 #include "internal.h"
 
 #include <stdlib.h>
@@ -45,7 +46,8 @@ int make_with_topology(MPI_Comm comm, const char *call, int size, struct topolog
     const struct communicator *own = communicator_of(comm);
     struct engine_call entry = {.kind = ENGINE_SPLIT, .order = own->rank};
     entry.colour = own->rank < size ? 0 : ENGINE_NO_COLOUR;
-    int class = make_communicator(comm, call, &entry, newcomm);
+    int class = check_intra(comm, call, own);
+    if (class == MPI_SUCCESS) class = make_communicator(comm, call, &entry, newcomm);
     if (class == MPI_SUCCESS && *newcomm != MPI_COMM_NULL) communicator_of(*newcomm)->topology = topology;
     else release_topology(topology);
     return class;

@@ -4,6 +4,7 @@
 #include "internal.h"
 #include "plan_runs.h"
 #include "wait_lines.h"
+#include "worlds.h"
 
 /* What the messages say, by their tags: that a member is there; that all are, and those before the receiver have kept
  * their engines; that all have. A tag has the communicator's number, and then a kind that no plan has. */
@@ -21,8 +22,8 @@ static _Thread_local int depth;
 /* Begins a send or a receive of no data, and waits for its end. */
 static uint32_t carry_out(enum engine_call_kind kind, const struct communicator *comm, int member, int tag) {
     struct engine_call call = {.kind = kind,
-                               .communicator = ENGINE_WORLD,
-                               .peer = world_rank(comm, member),
+                               .communicator = comm->world->base,
+                               .peer = plan_rank(comm, member),
                                .tag = (int32_t)(comm->number << COMM_SHIFT | TURNS) + tag,
                                .basic = ENGINE_BYTE};
     struct engine_answer answer;
@@ -51,7 +52,7 @@ static uint32_t hear(const struct communicator *comm, int member, int tag) {
  */
 static int neighbour(const struct communicator *comm, int rank, bool is_above) {
     int found = -1;
-    for (int member = 0; member < comm->size; member++) {
+    for (int member = 0; member < comm->all_size; member++) {
         const int own = world_rank(comm, member), best = found < 0 ? 0 : world_rank(comm, found);
         if (is_above ? own <= rank : own >= rank) continue;
         if (found < 0 || (is_above ? own < best : own > best)) found = member;
@@ -66,10 +67,10 @@ static int last_member(const struct communicator *comm) { return neighbour(comm,
 
 /* All members are there. */
 static uint32_t come_together(const struct communicator *comm, int first) {
-    if (comm->rank != first) return tell(comm, first, TAG_THERE);
+    if (comm->all_rank != first) return tell(comm, first, TAG_THERE);
     uint32_t number = 0;
-    for (int member = 0; member < comm->size && number == 0; member++)
-        if (member != comm->rank) number = hear(comm, member, TAG_THERE);
+    for (int member = 0; member < comm->all_size && number == 0; member++)
+        if (member != comm->all_rank) number = hear(comm, member, TAG_THERE);
     return number;
 }
 
@@ -84,13 +85,13 @@ static uint32_t keep_in_order(const struct communicator *comm) {
         number = tell(comm, behind, TAG_KEEP);
         return number != 0 ? number : hear(comm, last_member(comm), TAG_GO);
     }
-    for (int member = 0; member < comm->size && number == 0; member++)
-        if (member != comm->rank) number = tell(comm, member, TAG_GO);
+    for (int member = 0; member < comm->all_size && number == 0; member++)
+        if (member != comm->all_rank) number = tell(comm, member, TAG_GO);
     return number;
 }
 
 uint32_t begin_turn(const struct communicator *comm, int root) {
-    if (depth++ > 0 || !process.is_threaded || comm->size == 1) return 0;
+    if (depth++ > 0 || !process.is_threaded || comm->all_size == 1) return 0;
     begin_wait(&(struct wait){.kind = WAIT_COLLECTIVE, .place = comm->place, .root = root});
     uint32_t number = come_together(comm, first_member(comm));
     if (number == 0) number = keep_in_order(comm);

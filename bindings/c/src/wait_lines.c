@@ -53,6 +53,11 @@ static struct line wait_line(void) {
     case WAIT_MESSAGE:
         add_message(&line, communicator_of(it->comm), it->rank, it->tag);
         break;
+    case WAIT_MEMBER:
+        add_member(&line, communicator_of(it->comm), it->rank);
+        add_text(&line, " to enter it in ");
+        add_comm(&line, communicator_of(it->comm));
+        break;
     case WAIT_DATA:
         add_text(&line, "the data of its message");
         break;

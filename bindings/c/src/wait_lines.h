@@ -14,6 +14,7 @@ enum wait_kind {
     WAIT_ALL,        /* all of `list` */
     WAIT_ANY,        /* one of `list` */
     WAIT_MESSAGE,    /* a message of `rank` with `tag` in `comm`: a probe */
+    WAIT_MEMBER,     /* one of all members of `comm`, `rank`, to enter the same call */
     WAIT_DATA,       /* the data of a message that was matched */
     WAIT_COLLECTIVE, /* the other members of the communicator at `place`; `root` is there or -1 */
     WAIT_SENT        /* all that it sent is to be received: at its end */

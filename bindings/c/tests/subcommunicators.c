@@ -84,7 +84,7 @@ static void check_requests(void) {
     MPI_Request requests[3];
     int result = -1;
     for (int at = 0; at < 3; at++) {
-        MPI_Comm parent = at == 0 ? MPI_COMM_WORLD : copies[at - 1];
+        MPI_Comm parent = at == 0 ? MPI_COMM_WORLD : copies[0];
         if (at == 2) MPI_Comm_idup_with_info(parent, MPI_INFO_NULL, &copies[at], &requests[at]);
         else MPI_Comm_idup(parent, &copies[at], &requests[at]);
         CHECK(requests[at] != MPI_REQUEST_NULL);

@@ -57,6 +57,37 @@ static void wait_in_threads(void) {
     if (thrd_create(&thread, receive, NULL) == thrd_success) receive(NULL);
 }
 
+/* Communicators that a group makes alone, and two groups. */
+static MPI_Comm pair_up(int remote_leader) {
+    MPI_Comm own, pair = world_of_none;
+    MPI_Comm_dup(MPI_COMM_SELF, &own);
+    MPI_Intercomm_create(own, 0, MPI_COMM_WORLD, remote_leader, 7, &pair);
+    return pair;
+}
+static void make_of_group(const char *what) {
+    MPI_Group all;
+    MPI_Comm made = world_of_none;
+    MPI_Request request;
+    MPI_Comm_group(MPI_COMM_WORLD, &all);
+    if (strcmp(what, "entered") == 0 && rank == 1) MPI_Comm_create_group(MPI_COMM_WORLD, all, 3, &made);
+    if (strcmp(what, "copied") == 0 && rank == 1) {
+        MPI_Comm_idup(MPI_COMM_WORLD, &made, &request);
+        MPI_Wait(&request, MPI_STATUS_IGNORE);
+    }
+    if (strcmp(what, "alone") == 0) {
+        MPI_Comm_create_group(MPI_COMM_WORLD, all, 3, &made);
+        MPI_Recv(row, 1, MPI_INT, other, 2, made, MPI_STATUS_IGNORE);
+    }
+    if (strcmp(what, "leader") == 0 && rank == 0) (void)pair_up(1);
+    if (strcmp(what, "paired") == 0) MPI_Recv(row, 1, MPI_INT, 0, 2, pair_up(other), MPI_STATUS_IGNORE);
+    if (strcmp(what, "entry") == 0) {
+        made = pair_up(other);
+        MPI_Comm_set_name(made, "pair");
+        if (rank == 0) MPI_Barrier(made);
+    }
+    MPI_Recv(row, 1, MPI_INT, other, 1, MPI_COMM_WORLD, MPI_STATUS_IGNORE);
+}
+
 static void wait_for_ever(const char *what) {
     MPI_Status status;
     MPI_Message message;
@@ -86,6 +117,7 @@ int main(int argc, char **argv) {
     printf("rank %d begins\n", rank);
     if (strcmp(what, "all") == 0 || strcmp(what, "any") == 0 || strcmp(what, "one") == 0) begin_lists(what);
     else if (strcmp(what, "part") == 0 || strcmp(what, "named") == 0) begin_in_part(what);
+    else if (strncmp(what, "group_", 6) == 0) make_of_group(what + 6);
     else wait_for_ever(what);
     if (strcmp(what, "small_send") == 0) MPI_Recv(row, 1, MPI_INT, other, 0, MPI_COMM_WORLD, MPI_STATUS_IGNORE);
     if (strcmp(what, "barrier") == 0 || strcmp(what, "broadcast") == 0 || strcmp(what, "split") == 0)

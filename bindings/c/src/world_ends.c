@@ -1,0 +1,94 @@
+/* The ends of worlds that were left (worlds.h). A member that has left one may be asked again for an acknowledgement
+ * that was lost, as long as another one waits for it. So each says to the first member when all that it sent there is
+ * acknowledged; once all have said so that one tells them, and the engines go. These messages go by the first world's
+ * engine of plans, which stays until the end. */
+#include "internal.h"
+#include "worlds.h"
+
+/* Tags of messages that are of no communicator's plans: kind 0 of MPI_COMM_WORLD (plan_runs.c). */
+enum { TAG_LEFT = 1, TAG_GONE };
+
+/* Those that were left and haven't ended; whether none ends any more. */
+static struct world *left;
+static bool is_stopped;
+
+/* ---- messages: a world's number each ---- */
+
+static void tell(int rank, int tag, uint64_t number) {
+    struct engine_call call = {
+        .kind = ENGINE_ISEND, .communicator = ENGINE_WORLD, .peer = rank, .tag = tag, .basic = ENGINE_BYTE};
+    struct engine_answer answer;
+    ask_plans(&call, &number, sizeof number, &answer);
+    call = (struct engine_call){.kind = ENGINE_TEST, .request = answer.request};
+    if (answer.kind == ENGINE_STARTED) ask_plans(&call, NULL, 0, &answer);
+}
+
+/* Whether one has come; and takes it. */
+static bool hear(int tag, uint64_t *number) {
+    struct engine_call call = {
+        .kind = ENGINE_IPROBE, .communicator = ENGINE_WORLD, .peer = ENGINE_ANY, .tag = tag, .basic = ENGINE_BYTE};
+    struct engine_answer answer;
+    ask_plans(&call, NULL, 0, &answer);
+    if (answer.kind != ENGINE_PROBED) return false;
+    call.kind = ENGINE_IRECV;
+    call.count = sizeof *number;
+    ask_plans(&call, NULL, 0, &answer);
+    if (answer.kind != ENGINE_STARTED) return false;
+    call = (struct engine_call){.kind = ENGINE_TEST, .request = answer.request};
+    ask_plans(&call, NULL, 0, &answer);
+    return answer.outcome == ENGINE_RECEIVED && take_from_plans((uint8_t *)number, sizeof *number) == sizeof *number;
+}
+
+/* ---- ends ---- */
+
+static void end_left(struct world *world) {
+    struct world **at = &left;
+    while (*at != world) at = &(*at)->next_left;
+    *at = world->next_left;
+    end_world(world);
+}
+
+static void hear_all(void) {
+    uint64_t number;
+    struct world *it;
+    while (hear(TAG_LEFT, &number))
+        if ((it = world_numbered(number)) != NULL) it->have_left++;
+    while (hear(TAG_GONE, &number))
+        if ((it = world_numbered(number)) != NULL && it->has_said) end_left(it);
+}
+
+/* Whether all that was sent in it is acknowledged. */
+static bool is_quiet(struct world *world) {
+    for (int kind = 0; kind < ENGINES; kind++)
+        if (!kombazily_is_idle(&world->engines[kind].rank)) return false;
+    return true;
+}
+
+static void go_on(struct world *world) {
+    if (world->has_said || !is_quiet(world)) return;
+    if (world->rank != 0) {
+        world->has_said = true;
+        tell(first_rank(world, 0), TAG_LEFT, world->number);
+    } else if (world->have_left == world->size - 1) {
+        for (int rank = 1; rank < world->size; rank++) tell(first_rank(world, rank), TAG_GONE, world->number);
+        end_left(world);
+    }
+}
+
+void worlds_go_on(void) {
+    if (left == NULL || is_stopped) return;
+    hear_all();
+    for (struct world *it = left, *next; it != NULL; it = next) {
+        next = it->next_left;
+        go_on(it);
+    }
+}
+
+void stop_worlds(void) { is_stopped = true; }
+
+void release_world(struct world *world) {
+    if (--world->uses > 0 || world == &first_world) return;
+    world->next_left = left;
+    left = world;
+    worlds_go_on();
+}
