@@ -6,7 +6,8 @@ from described import Program, Run, ends_well
 # library doesn't have.
 SC = "allgather arrays builtin darray_work dmatrix dmatrix_pool io_sink keyvalue notify reduce search sort sortb".split()
 FLAT = ("comm hash order quadrants partition coarsen valid loadsave load ghost conn_transformation search brick partition_corr "
-        "conn_complete replace join conn_reduce subcomm balance balance_type iterate lnodes balance_seeds wrap plex connrefine nodes").split()
+        "conn_complete replace join conn_reduce subcomm balance balance_type iterate lnodes balance_seeds wrap plex connrefine "
+        "nodes").split()
 SOLID = "face_transform edge_face_corners quadrants partition coarsen valid ghost conn_complete search join".split()
 
 
