@@ -11,8 +11,18 @@ BASIC = {
     "LONG_DOUBLE": (16, 16, "byte", 16, "long double"), "C_BOOL": (1, 1, "u1", 1, "truth"), "UINT16_T": (2, 2, "u2", 2, "unsigned"),
     "C_DOUBLE_COMPLEX": (16, 8, "f8", 8, "turned"), "BYTE": (1, 1, "byte", 1, "turned"),
     "WCHAR": (4, 4, "i4", 2, "unsigned"), "UNSIGNED_LONG": (8, 8, "u8", 4, "unsigned"),
+    "SIGNED_CHAR": (1, 1, "i1", 1, "signed"), "UNSIGNED_CHAR": (1, 1, "u1", 1, "unsigned"),
+    "UNSIGNED_SHORT": (2, 2, "u2", 2, "unsigned"), "UNSIGNED": (4, 4, "u4", 4, "unsigned"),
+    "LONG_LONG_INT": (8, 8, "i8", 8, "signed"), "UNSIGNED_LONG_LONG": (8, 8, "u8", 8, "unsigned"),
+    "INT8_T": (1, 1, "i1", 1, "signed"), "INT16_T": (2, 2, "i2", 2, "signed"), "INT32_T": (4, 4, "i4", 4, "signed"),
+    "INT64_T": (8, 8, "i8", 8, "signed"), "UINT8_T": (1, 1, "u1", 1, "unsigned"), "UINT32_T": (4, 4, "u4", 4, "unsigned"),
+    "UINT64_T": (8, 8, "u8", 8, "unsigned"), "AINT": (8, 8, "i8", 8, "signed"), "COUNT": (8, 8, "i8", 8, "signed"),
+    "OFFSET": (8, 8, "i8", 8, "signed"), "C_FLOAT_COMPLEX": (8, 4, "f4", 8, "turned"),
+    "C_LONG_DOUBLE_COMPLEX": (32, 16, "byte", 32, "long double"),
 }
-PAIRS = {"SHORT_INT": (("SHORT", 0), ("INT", 4)), "DOUBLE_INT": (("DOUBLE", 0), ("INT", 8))}
+PAIRS = {"SHORT_INT": (("SHORT", 0), ("INT", 4)), "DOUBLE_INT": (("DOUBLE", 0), ("INT", 8)),
+         "FLOAT_INT": (("FLOAT", 0), ("INT", 4)), "LONG_INT": (("LONG", 0), ("INT", 8)), "2INT": (("INT", 0), ("INT", 4)),
+         "LONG_DOUBLE_INT": (("LONG_DOUBLE", 0), ("INT", 16))}
 # As answers.c numbers them, from 1000 on.
 NAMES = ["CHAR", "SHORT", "INT", "LONG", "FLOAT", "DOUBLE", "LONG_DOUBLE", "C_BOOL", "UINT16_T", "C_DOUBLE_COMPLEX", "BYTE", "SHORT_INT",
          "DOUBLE_INT", "WCHAR", "UNSIGNED_LONG"]
