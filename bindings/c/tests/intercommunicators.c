@@ -131,11 +131,10 @@ static void check_merge(MPI_Comm inter) {
 }
 
 /* Copies and parts of an intercommunicator are intercommunicators. */
-static void check_parts(MPI_Comm inter) {
-    MPI_Comm copy, later, part;
+static void check_copies(MPI_Comm inter) {
+    MPI_Comm copy, later;
     MPI_Request request;
-    MPI_Group all, some;
-    int result = -1, size = -1;
+    int result = -1;
     MPI_Comm_dup(inter, &copy);
     check_facts(copy);
     check_messages(copy);
@@ -145,6 +144,14 @@ static void check_parts(MPI_Comm inter) {
     check_messages(later);
     MPI_Comm_compare(inter, later, &result);
     CHECK(result == MPI_CONGRUENT);
+    MPI_Comm_free(&copy);
+    MPI_Comm_disconnect(&later);
+}
+
+static void check_parts(MPI_Comm inter) {
+    MPI_Comm part;
+    MPI_Group all, some;
+    int result = -1, size = -1;
     /* Those with an even rank, in the other order: first of each group alone. */
     MPI_Comm_split(inter, own_rank % 2 == 0 ? 3 : MPI_UNDEFINED, -own_rank, &part);
     if (own_rank % 2 == 0) {
@@ -175,8 +182,6 @@ static void check_parts(MPI_Comm inter) {
     CHECK(part == MPI_COMM_NULL);
     MPI_Group_free(&all);
     MPI_Group_free(&some);
-    MPI_Comm_free(&copy);
-    MPI_Comm_disconnect(&later);
 }
 
 /* Of the first members alone, who know one another in an intercommunicator: ranks of the peer are those of its other
@@ -224,6 +229,7 @@ int main(int argc, char **argv) {
     check_messages(inter);
     check_kinds(inter);
     check_merge(inter);
+    check_copies(inter);
     check_parts(inter);
     check_peer(inter);
     for (int turn = 0; turn < 20; turn++) {
