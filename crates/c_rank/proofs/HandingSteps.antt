@@ -1,27 +1,7 @@
 -- Steps of handing out what a rank has.
-use Rattle.std.proofs.Common.{
-  ◌≡◌,
-  ℕ,
-  zero,
-  suc,
-  ◌<◌,
-  ◌≤◌,
-  Bool,
-  true,
-  false,
-  List,
-  [],
-  ◌∷◌,
-  ◌++◌,
-  length,
-  drop,
-  refl,
-  sym,
-  ap,
-  subst,
-}
+use Rattle.std.proofs.Common.{◌≡◌, ℕ, zero, suc, ◌≤◌, Bool, true, false, List, [], ◌∷◌, ◌++◌, length, drop, refl, sym, ap, subst}
 use Rattle.std.proofs.Common.{◌∙◌, arith, inl, inr, append_assoc}
-use Rattle.std.specs.Prelude.{◌⊎◌, ◌||◌, ◌/◌, if◌then◌else◌, nat_lt, not, Option, None, Some, max}
+use Rattle.std.specs.Prelude.{◌||◌, ◌/◌, if◌then◌else◌, nat_lt, not, Option, None, Some, max}
 use Rattle.std.proofs.lemmas.List.{append-nil}
 use Rattle.delayed_acknowledgements.specs.declared.delayed.DelayedAcknowledgement.{DelayedAcknowledgement}
 use Rattle.engine_calls.specs.EngineState.{EngineState, without_out}
@@ -31,16 +11,17 @@ use Rattle.outgoing_datagrams.specs.HandedDatagrams.{
   HandsOut,
   HandsOutKept,
   NoneFits,
+  SendingState,
   kept_going,
   kept_in,
   late_at,
 }
-use Rattle.outgoing_datagrams.specs.Runs.{Stands, joined}
+use Rattle.outgoing_datagrams.specs.Runs.{Stands}
 use Rattle.outgoing_datagrams.specs.declared.record.OutgoingRecord.{OutgoingRecord}
 use Rattle.outgoing_datagrams.proofs.HandedSteps.{hands_joined}
 use Rattle.round_trips.specs.declared.round_trip.RoundTrip.{RoundTrip}
 use Rattle.c_rank.specs.Clocks.{after_all, going}
-use Rattle.c_rank.specs.OutgoingDatagrams.{HandsFirst, KeepsRest, TakesOver, pending, trips_begun}
+use Rattle.c_rank.specs.OutgoingDatagrams.{HandsFirst, KeepsRest, StaysSo, TakesOver, pending, trips_begun}
 use Rattle.engine.specs.Places.{place_fault}
 use Rattle.incarnation.specs.declared.place.Place.{Place}
 use Rattle.point_to_point_calls.specs.Refusals.{IsRefusal}
@@ -242,6 +223,55 @@ kept_first a s b c most len more kept_too o p old mid new f none is h engine tri
       rest = rest_joined a s c f.rest
           (subst (λ (x : RankState). KeepsRest x c) is (inl (engine, trips), received, told, h.time));
     }
+
+front_empty : (xs ys : List Parcel) → xs ++ ys ≡ [] → xs ≡ []
+front_empty [] ys is = refl
+front_empty (x ∷ xs) ys is = absurd cc
+
+-- a refill changes nothing where nothing pends
+refill_stays : (a r : RankState) → pending r ≡ pending a → pending a ≡ [] →
+    r.sending ≡ record a.sending { waiting = r.sending.waiting } → r.sending ≡ a.sending
+refill_stays a r same none is =
+    let old : a.sending.waiting ≡ [] = front_empty a.sending.waiting (emitted a) none in
+    let new : r.sending.waiting ≡ [] = front_empty r.sending.waiting (emitted r) (same ∙ none) in
+    is ∙ ap (λ (w : List Parcel). record a.sending { waiting = w }) (new ∙ sym old)
+
+-- nothing goes behind a refill where nothing pends
+pub none_goes : (a r b : RankState) (s : SendingState) (o : OutgoingRecord) → b ≡ r → pending r ≡ pending a →
+    r.sending ≡ record a.sending { waiting = r.sending.waiting } →
+    (b.sending.waiting ≡ [] → (o.count ≡ 0) × (s ≡ b.sending)) → pending a ≡ [] → (o.count ≡ 0) × (s ≡ a.sending)
+none_goes a r b s o is same sending stays none =
+    let empty : pending b ≡ [] = ap pending is ∙ same ∙ none in
+    let gone = stays (front_empty b.sending.waiting (emitted b) empty) in
+    (gone.0, gone.1 ∙ ap (λ (x : RankState). x.sending) is ∙ refill_stays a r same none sending)
+
+-- the same of a second refill
+pub none_goes_again : (a r b q d : RankState) (m s : SendingState) (o p : OutgoingRecord) → b ≡ r → pending r ≡ pending a →
+    r.sending ≡ record a.sending { waiting = r.sending.waiting } →
+    (b.sending.waiting ≡ [] → (o.count ≡ 0) × (m ≡ b.sending)) →
+    d ≡ q → pending q ≡ pending (record b { sending = m }) → q.sending ≡ record m { waiting = q.sending.waiting } →
+    (d.sending.waiting ≡ [] → (p.count ≡ 0) × (s ≡ d.sending)) → pending a ≡ [] → (p.count ≡ 0) × (s ≡ a.sending)
+none_goes_again a r b q d m s o p is same sending stays after left again last none =
+    let empty : pending b ≡ [] = ap pending is ∙ same ∙ none in
+    let waiting : b.sending.waiting ≡ [] = front_empty b.sending.waiting (emitted b) empty in
+    let first = stays waiting in
+    let pends : pending (record b { sending = m }) ≡ [] =
+    ap (λ (t : SendingState). t.waiting ++ emitted b) first.1 ∙ empty in
+    let second = none_goes (record b { sending = m }) q d s p after left again last pends in
+    let before = none_goes a r b m o is same sending stays none in
+    (second.0, second.1 ∙ before.1)
+
+-- what isn't late stays kept back
+pub stays_back : (a s b : RankState) (t : SendingState) (kept_too : Bool) (o p : OutgoingRecord) → StaysSo a o s → b ≡ s →
+    (kept_too ≡ false → nat_lt b.sending.time (late_at b.sending.kept b.sending.since) ≡ true →
+    (p.count ≡ 0) × (t ≡ b.sending)) →
+    pending a ≡ [] → kept_too ≡ false → nat_lt a.sending.time (late_at a.sending.kept a.sending.since) ≡ true →
+    (p.count ≡ 0) × (t ≡ a.sending)
+stays_back a s b t kept_too o p first is stays none back late =
+    let same : b.sending ≡ a.sending = ap (λ (x : RankState). x.sending) is ∙ (first none).1 in
+    let gone = stays back
+    (subst (λ (u : SendingState). nat_lt u.time (late_at u.kept u.since) ≡ true) (sym same) late) in
+    (gone.0, gone.1 ∙ same)
 
 -- where there is a place and memory is wanting
 pub no_memory : (p : PlaceRecord) (limit : MessageLimit) (place : Place) (n : ℕ) → limit_of limit ≡ p.message_limit →

@@ -1,5 +1,5 @@
 -- Steps of what a call means.
-use Rattle.std.proofs.Common.{◌≡◌, ℕ, true, refl, inl, inr}
+use Rattle.std.proofs.Common.{ℕ, true, refl, inl, inr}
 use Rattle.std.specs.Prelude.{Result, Ok, Err}
 use Rattle.c_rank.specs.declared.meaning.Meant.{Meant}
 use Rattle.c_rank.specs.Meanings.{IsMeant, IsMeantBy}

@@ -1,5 +1,5 @@
 -- What the engine of a rank is told of the time, and what goes out by the round trips that were measured.
-use Rattle.std.specs.Prelude.{◌≡◌, ◌/◌, ℕ, suc, List, [], ◌∷◌, filter, map, take, Result, Ok, Err}
+use Rattle.std.specs.Prelude.{ℕ, suc, List, [], ◌∷◌, filter, map, take, Result, Ok, Err}
 use Rattle.datagram.specs.ByteMeanings.{datagram_of}
 use Rattle.engine.specs.Ticks.{after_wait}
 use Rattle.engine_calls.specs.EngineState.{EngineState}

@@ -1,5 +1,5 @@
 -- What a rank hands out: the datagrams that its engine emitted, in order.
-use Rattle.std.specs.Prelude.{◌≡◌, ◌⊎◌, ◌≤◌, ◌<◌, ◌/◌, ℕ, Bool, true, List, ◌++◌, length, max, None}
+use Rattle.std.specs.Prelude.{◌≡◌, ◌⊎◌, ◌≤◌, ◌<◌, ◌/◌, ℕ, Bool, true, false, nat_lt, List, [], ◌++◌, length, max, None}
 use Rattle.engine_calls.specs.EngineState.{without_out}
 use Rattle.port_transport.specs.Wires.{Parcel}
 use Rattle.outgoing_datagrams.specs.HandedDatagrams.{HandsOn, NoneFits, late_at}
@@ -42,6 +42,17 @@ pub record HandsFirst (old : RankState) (most len : ℕ) (o : OutgoingRecord) (i
   pub none : o.count ≡ 0 → NoneFits (pending new) (length into_old)
   pub rest : KeepsRest old new
 
+-- where nothing pends, nothing is handed out, and what is kept back stays
+abbrev pub StaysSo : RankState → OutgoingRecord → RankState → Type 0
+StaysSo old o new = pending old ≡ [] → (o.count ≡ 0) × (new.sending ≡ old.sending)
+
+-- WHAT IS KEPT BACK STAYS: where nothing pends, not all is to go and what is kept back isn't late, nothing is handed out
+abbrev pub KeepsBack : (old : RankState) (kept_too : Bool) → OutgoingRecord → RankState → Type 0
+KeepsBack old kept_too o new =
+    pending old ≡ [] → kept_too ≡ false →
+    nat_lt old.sending.time (late_at old.sending.kept old.sending.since) ≡ true →
+    (o.count ≡ 0) × (new.sending ≡ old.sending)
+
 -- the same where what is kept back goes too, if nothing else does and it is late or all is to go; and it is told when
 -- what is kept back is late
 abbrev pub HandsAll : (old : RankState) (most : ℕ) (kept_too : Bool) (len : ℕ) (o : OutgoingRecord) (into_old into_new : List ℕ)
@@ -50,6 +61,7 @@ HandsAll old most kept_too len o into_old into_new new =
     HandsFirst old most len o into_old into_new new
     × (o.count ≡ 0 → kept_too ≡ true → new.sending.kept ≡ None)
     × (o.kept_until ≡ late_at new.sending.kept new.sending.since)
+    × KeepsBack old kept_too o new
 
 -- Where the slice may be too short for a datagram, nothing goes and nothing changes.
 pub record HandsNext (old : RankState) (most : ℕ) (kept_too : Bool) (len : ℕ) (o : OutgoingRecord)

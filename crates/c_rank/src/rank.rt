@@ -10,7 +10,7 @@ ghost use Rattle.requests.specs.Table.{finished_at};
 ghost use Rattle.sessions.specs.Peers.{IsIdlePeer};
 ghost use Rattle.c_rank.specs.Clocks.{after_all, going, told_waits, trips_behind, waits_in};
 ghost use Rattle.c_rank.specs.Calls.{Answers, AnswersMeant, Tells, TellsReply, look_told, type_out};
-ghost use Rattle.c_rank.specs.OutgoingDatagrams.{HandsFirst, HandsNext, KeepsRest, pending};
+ghost use Rattle.c_rank.specs.OutgoingDatagrams.{HandsFirst, HandsNext, KeepsBack, KeepsRest, StaysSo, pending};
 ghost use Rattle.c_rank.specs.State.{IsNoLimit, IsNoPlace, IsOpening, IsSameTime, TellsTime, Ticks, number_of_result};
 ghost use Rattle.c_rank.specs.State.{place_said};
 ghost use Rattle.c_rank.specs.AnswerCopies.{Takes, TakesOf};
@@ -347,6 +347,7 @@ impl Rank {
     fn refill(&mut self)
         ensures pending { pending self.new ≡ pending self.old }
         ensures kept { self.new.sending.kept ≡ self.old.sending.kept }
+        ensures sending { self.new.sending ≡ record self.old.sending { waiting = self.new.sending.waiting } }
         ensures empty { self.old.sending.waiting ≡ [] → self.new.engine.sessions.out ≡ [] }
         ensures rest { KeepsRest self.old self.new }
     {
@@ -362,7 +363,8 @@ impl Rank {
     /// Hands out what goes next, but for what is kept back.
     fn hand_out(&mut self, most: u32, outgoing: &mut OutgoingRecord, into: &mut [u8]) -> usize
         requires { 40 ≤ length into.old }
-        ensures { HandsFirst self.old most result outgoing.new into.old into.new self.new }
+        ensures went { HandsFirst self.old most result outgoing.new into.old into.new self.new }
+        ensures stays { StaysSo self.old outgoing.new self.new }
     {
         self.refill();
         let len = self.sending.hand_out(most, outgoing, into);
@@ -384,6 +386,7 @@ impl Rank {
         requires { 40 ≤ length into.old }
         ensures went { HandsFirst self.old most result outgoing.new into.old into.new self.new }
         ensures all { outgoing.new.count ≡ 0 → kept_too ≡ true → self.new.sending.kept ≡ None }
+        ensures back { KeepsBack self.old kept_too outgoing.new self.new }
     {
         let len = self.hand_out(most, outgoing, into);
         if outgoing.count > 0 {

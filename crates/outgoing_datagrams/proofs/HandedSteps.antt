@@ -495,6 +495,22 @@ pub one_fewer : (ws us : List Parcel) (counter end : ℕ) → us ≡ drop 1 ws �
 one_fewer ws us counter end is size more =
     let len = ap length is ∙ length-drop 1 ws in omega (arith, len, size, more)
 
+-- where nothing waits and nothing was passed, there is no further place
+pub none_behind : (s f : SendingState) (counter end : ℕ) → s ≡ f → f.waiting ≡ [] →
+    length s.waiting + counter ≡ end → counter < end → ⊥
+none_behind s f counter end is empty size more =
+    let len = ap (λ (t : SendingState). length t.waiting) is ∙ ap length empty in omega (arith, len, size, more)
+
+-- where nothing waits, no run goes out, and nothing changes
+pub none_out : (s m t : SendingState) (most : ℕ) (r : Run) (o : OutgoingRecord) (old new : List ℕ) → m ≡ s →
+    s.waiting ≡ [] → IsRun most m.waiting r old new → t ≡ record m { waiting = drop r.count m.waiting } →
+    o.count ≡ r.count → (o.count ≡ 0) × (t ≡ s)
+none_out s m t most r o old new is empty run rest count =
+    let few = run.count in
+    let len = ap (λ (u : SendingState). length u.waiting) is ∙ ap length empty in
+    let zero : r.count ≡ 0 = omega (arith, few, len) in
+    (count ∙ zero, rest ∙ ap (λ n. record m { waiting = drop n m.waiting }) zero ∙ is)
+
 -- all that stands behind a place
 take_whole : {A : Type 0} (list : List A) (n : ℕ) → length list ≤ n → take n list ≡ list
 take_whole [] zero le = refl

@@ -1,25 +1,6 @@
 -- What a rank hands out of what its engine emitted.
-use Rattle.std.specs.Prelude.{
-  ◌≡◌,
-  ◌⊎◌,
-  ◌+◌,
-  ◌-◌,
-  ◌<◌,
-  ◌≤◌,
-  ◌^◌,
-  ℕ,
-  Bool,
-  true,
-  false,
-  nat_lt,
-  min,
-  max,
-  List,
-  [],
-  ◌∷◌,
-  ◌++◌,
-}
-use Rattle.std.specs.Prelude.{length, drop, slice_get, Option, Some, None, ◌||◌, not, if◌then◌else◌}
+use Rattle.std.specs.Prelude.{◌≡◌, ◌⊎◌, ◌+◌, ◌-◌, ◌<◌, ◌≤◌, ◌^◌, ℕ, Bool, true, nat_lt, min, max, List, [], ◌∷◌, ◌++◌}
+use Rattle.std.specs.Prelude.{length, slice_get, Option, Some, None, ◌||◌, not, if◌then◌else◌}
 use Rattle.delayed_acknowledgements.specs.declared.acknowledgements.Acknowledgement.{Acknowledgement}
 use Rattle.delayed_acknowledgements.specs.declared.delay.Delay.{Delay}
 use Rattle.delayed_acknowledgements.specs.declared.delayed.DelayedAcknowledgement.{DelayedAcknowledgement}
@@ -47,6 +28,17 @@ kept_in (Some k) = (k.target, k.bytes) ∷ []
 abbrev pub late_at : Option DelayedAcknowledgement → (since : ℕ) → ℕ
 late_at None since = 0
 late_at (Some k) since = min (since + 1000000) (2 ^ 64 - 1)
+
+-- since when an acknowledgement is kept back behind one more: where one was kept back before it takes its place, and the
+-- millisecond of that one goes on
+abbrev pub since_behind : Option DelayedAcknowledgement → (since time : ℕ) → ℕ
+since_behind None since time = time
+since_behind (Some k) since time = since
+
+-- for how many acknowledgements it stands then
+abbrev pub stands_behind : Option DelayedAcknowledgement → (before : ℕ) → ℕ
+stands_behind None before = 1
+stands_behind (Some k) before = min (before + 1) 4294967295
 
 -- Of what was kept back and waited, these datagrams went, in order. Those in front were taken. Each of them that is no
 -- acknowledgement went. Of the acknowledgements, the one that was kept back before in front, each went or is kept back

@@ -1,11 +1,11 @@
 //! What a rank sends: the datagrams that its engine emitted, of which an acknowledgement may be kept back.
 
 ghost use Rattle.std.specs.Prelude.{◌≡◌, ◌≤◌, ◌<◌, ◌⊎◌, ◌↔◌, ◌∷◌, ◌-◌, ◌/◌, ◌^◌, [], None, Some, IfSome, IsTrue, List};
-ghost use Rattle.std.specs.Prelude.{drop, false, length, max, min, slice_get};
-ghost use Rattle.delayed_acknowledgements.specs.Acknowledgements.{Covers};
+ghost use Rattle.std.specs.Prelude.{drop, false, true, length, max, min, nat_lt, slice_get};
+ghost use Rattle.delayed_acknowledgements.specs.Acknowledgements.{Covers, IsUrgent};
 ghost use Rattle.port_transport.specs.Ports.{IsAcknowledgement, is_short};
 ghost use Rattle.port_transport.specs.Wires.{Parcel};
-ghost use Rattle.outgoing_datagrams.specs.HandedDatagrams.{HandsOn, HandsOut, HandsOutKept, SendingState, kept_in, late_at};
+ghost use Rattle.outgoing_datagrams.specs.HandedDatagrams.{HandsOn, HandsOut, HandsOutKept, SendingState, kept_in, late_at, since_behind, stands_behind};
 ghost use Rattle.outgoing_datagrams.specs.Runs.{IsRun, Stands};
 
 use crate::record::OutgoingRecord;
@@ -166,7 +166,10 @@ impl Sending {
     /// Keeps an acknowledgement back, in the place of another one if there is one.
     fn keep(&mut self, next: DelayedAcknowledgement)
         requires { IsAcknowledgement next }
-        ensures { (self.new.kept ≡ Some next) × (self.new.waiting ≡ self.old.waiting) × (self.new.time ≡ self.old.time) }
+        ensures kept { (self.new.kept ≡ Some next) × (self.new.waiting ≡ self.old.waiting) × (self.new.time ≡ self.old.time) }
+        ensures last { self.new.last ≡ self.old.last }
+        ensures since { self.new.since ≡ since_behind self.old.kept self.old.since self.old.time }
+        ensures many { self.new.delay.stands_for ≡ stands_behind self.old.kept self.old.delay.stands_for }
     {
         if self.kept.is_some() {
             self.delay = self.delay.with_one_more();
@@ -214,6 +217,10 @@ impl Sending {
         ensures waiting { self.new.waiting ≡ drop 1 self.old.waiting }
         ensures kept { ((result ≡ None) × (self.new.kept ≡ Some next)) ⊎ ((result ≡ Some next) × (self.new.kept ≡ None)) }
         ensures time { self.new.time ≡ self.old.time }
+        ensures urgent { IsUrgent self.old.last next.said → result ≡ Some next }
+        ensures over { 16 ≤ stands_behind self.old.kept self.old.delay.stands_for → result ≡ Some next }
+        ensures last { self.new.last ≡ Some next.said }
+        ensures since { self.new.since ≡ since_behind self.old.kept self.old.since self.old.time }
     {
         let is_urgent = is_urgent(self.last, next.said);
         self.last = Some(next.said);
@@ -258,6 +265,7 @@ impl Sending {
         ensures none { result ≡ None → (p : Parcel) → (rest : List Parcel) → self.new.waiting ≡ p ∷ rest →
             is_short p ≡ false }
         ensures time { self.new.time ≡ self.old.time }
+        ensures stays { self.old.waiting ≡ [] → (result ≡ None) × (self.new ≡ self.old) }
     {
         for _ in self.next..self.out.len() {
             let next = self.next_acknowledgement()?;
@@ -283,7 +291,8 @@ impl Sending {
     #[tactic(auto, using(crate::proofs::HandedSteps::out_one, crate::proofs::HandedSteps::out_run))]
     pub fn hand_out(&mut self, most: u32, outgoing: &mut OutgoingRecord, into: &mut [u8]) -> usize
         requires { 40 ≤ length into.old }
-        ensures { HandsOut self.old most result outgoing.new into.old into.new self.new }
+        ensures went { HandsOut self.old most result outgoing.new into.old into.new self.new }
+        ensures stays { self.old.waiting ≡ [] → (outgoing.new.count ≡ 0) × (self.new ≡ self.old) }
     {
         if let Some(going) = self.pass_all() {
             return put_acknowledgement(going, outgoing, into);
@@ -302,7 +311,9 @@ impl Sending {
         into: &mut [u8],
     ) -> usize
         requires { 40 ≤ length into.old }
-        ensures { HandsOutKept self.old kept_too result outgoing.new into.old into.new self.new }
+        ensures went { HandsOutKept self.old kept_too result outgoing.new into.old into.new self.new }
+        ensures stays { kept_too ≡ false → nat_lt self.old.time (late_at self.old.kept self.old.since) ≡ true →
+            (outgoing.new.count ≡ 0) × (self.new ≡ self.old) }
     {
         outgoing.count = 0;
         outgoing.each = 0;

@@ -1,6 +1,5 @@
 -- What went of datagrams of which some may stay out.
-use Rattle.std.proofs.Common.{◌≡◌, List, [], ◌∷◌, ◌++◌, refl, sym, ap, subst, ◌∙◌, inl, inr}
-use Rattle.std.specs.Prelude.{◌⊎◌}
+use Rattle.std.proofs.Common.{◌≡◌, List, [], ◌∷◌, ◌++◌, refl, sym, ap, subst, inl, inr}
 use Rattle.port_transport.specs.Wires.{Parcel}
 use Rattle.port_transport.specs.Ports.{IsCoveredByNext, Thins}
 

@@ -4,14 +4,13 @@ use Rattle.std.proofs.lemmas.List.{append-nil}
 use Rattle.std.specs.Prelude.{◌⊎◌, map, not, is_some, option_map, Option, Some, None, IfSome, IsSomeAnd, OnOk, Result}
 use Rattle.std.specs.Prelude.{Ok, Err, if◌then◌else◌}
 use Rattle.delayed_acknowledgements.specs.Acknowledgements.{Covers, short_acknowledgement}
-use Rattle.delayed_acknowledgements.specs.declared.acknowledgements.Acknowledgement.{Acknowledgement}
 use Rattle.delayed_acknowledgements.specs.declared.delay.Delay.{Delay}
 use Rattle.delayed_acknowledgements.specs.declared.delayed.DelayedAcknowledgement.{DelayedAcknowledgement}
 use Rattle.port_transport.specs.declared.wire.WireEvent.{WireEvent}
-use Rattle.port_transport.specs.declared.wire.WireEvent.TheVariants.{Went, Came, Wrote}
+use Rattle.port_transport.specs.declared.wire.WireEvent.TheVariants.{Went}
 use Rattle.port_transport.specs.Wires.{Parcel, arrived, come, gone, written}
-use Rattle.port_transport.specs.Ports.{GoesOrStays, IsAcknowledgement, IsCovered, Passes, PortState, Thins, at_port}
-use Rattle.port_transport.specs.Ports.{going, is_short, kept_at, plain_in, port_of, received_in, short_in, with_end}
+use Rattle.port_transport.specs.Ports.{GoesOrStays, IsAcknowledgement, Passes, PortState, Thins, at_port}
+use Rattle.port_transport.specs.Ports.{going, is_short, kept_at, plain_in, port_of, short_in, with_end}
 use Rattle.port_transport.proofs.OmittedDatagrams.{all_go}
 
 -- one datagram among the acknowledgements, or among all others

@@ -1,6 +1,6 @@
 //! A rank's transport over ports.
 
-ghost use Rattle.std.specs.Prelude.{◌≡◌, ◌⊎◌, ◌↔◌, ◌∷◌, ◌++◌, ◌≤◌, [], Some, None, length, IfOk, IfSome, IsTrue, OnOk};
+ghost use Rattle.std.specs.Prelude.{◌≡◌, ◌⊎◌, ◌↔◌, ◌∷◌, ◌++◌, ◌≤◌, ◌+◌, ◌||◌, [], Some, None, true, length, min, nat_le, IfOk, IfSome, IsTrue, OnOk};
 ghost use Rattle.delayed_acknowledgements.specs.Acknowledgements.{Covers, IsUrgent};
 ghost use Rattle.port_transport.specs.declared.wire.WireEvent.TheVariants.{Went, Wrote};
 ghost use Rattle.port_transport.specs.Wires.{arrived};
@@ -161,6 +161,8 @@ impl<W: Wire> PortTransport<W> {
     fn flush_if_over(&mut self) -> Result<(), WireFault>
         ensures wire { OnOk result (GoesOrStays W.did self.old self.new) }
         ensures is { IfSome self.old.kept IsAcknowledgement }
+        ensures over { (nat_le 16 self.old.delay.stands_for || nat_le 128 self.old.delay.receives) ≡ true →
+            self.new.kept ≡ None }
         ensures others { (self.new.first ≡ self.old.first) × (self.new.delay ≡ self.old.delay) ×
             (self.new.last ≡ self.old.last) }
     {
@@ -268,6 +270,10 @@ impl<W: Wire> PortTransport<W> {
     fn begin_receive(&mut self) -> Result<(), WireFault>
         ensures wire { OnOk result (GoesOrStays W.did self.old self.new) }
         ensures is { IfSome self.old.kept IsAcknowledgement }
+        ensures counted { IfSome self.old.kept (λ _. self.new.delay.receives ≡ min (self.old.delay.receives + 1) 4294967295) }
+        ensures over { 127 ≤ self.old.delay.receives → self.new.kept ≡ None }
+        ensures others { (self.new.delay.stands_for ≡ self.old.delay.stands_for) ×
+            (self.new.delay.since ≡ self.old.delay.since) }
     {
         if self.kept.is_none() {
             return Ok(());
@@ -358,7 +364,8 @@ impl<W: Wire> PortTransport<W> {
 
     /// Lets what is kept back go, and then waits.
     fn flush_and_sleep(&mut self, most: u64) -> Result<(), WireFault>
-        ensures { OnOk result (Passes W.did self.old [] [] [] self.new) }
+        ensures passes { OnOk result (Passes W.did self.old [] [] [] self.new) }
+        ensures none { self.new.kept ≡ None }
     {
         self.flush()?;
         self.sleep(most)

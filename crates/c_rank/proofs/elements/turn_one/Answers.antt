@@ -1,4 +1,4 @@
-use Rattle.std.proofs.Common.{ℕ, ◌*◌, ◌-◌, ◌<◌, length, take, drop, arith}
+use Rattle.std.proofs.Common.{◌*◌, ◌-◌, length, take, drop, arith}
 use Rattle.byteorder.specs.Numbers.{little_from-lt}
 use Rattle.datatypes.specs.ContentLaws.{IsBytes-drop, IsBytes-take}
 use Rattle.c_rank.proofs.elements.turn_one.Goals as goal

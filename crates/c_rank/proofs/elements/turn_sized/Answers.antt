@@ -1,4 +1,4 @@
-use Rattle.std.proofs.Common.{◌≡◌, ℕ, ◌/◌, length, arith}
+use Rattle.std.proofs.Common.{◌≡◌, ◌/◌, length, arith}
 use Rattle.c_rank.proofs.ByteOrderLaws.{turned_all, turned_step}
 use Rattle.c_rank.proofs.elements.turn_sized.Goals as goal
 

@@ -1,4 +1,4 @@
-use Rattle.std.proofs.Common.{◌≡◌, List, sym, ap, ◌∙◌}
+use Rattle.std.proofs.Common.{List, sym, ap, ◌∙◌}
 use Rattle.datagram.specs.ByteMeanings.{datagram_of}
 use Rattle.port_transport.specs.Wires.{Parcel}
 use Rattle.round_trips.specs.Trips.{after_sent}

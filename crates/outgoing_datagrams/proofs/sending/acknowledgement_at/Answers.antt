@@ -1,4 +1,4 @@
-use Rattle.std.proofs.Common.{rules, ◌≡◌, ◌<◌, length}
+use Rattle.std.proofs.Common.{rules, ◌<◌, length}
 use Rattle.outgoing_datagrams.proofs.HandedSteps.{read_at}
 use Rattle.outgoing_datagrams.proofs.RunSteps.{at_place}
 use Rattle.outgoing_datagrams.proofs.sending.acknowledgement_at.Goals as goal

@@ -1,4 +1,4 @@
-use Rattle.std.proofs.Common.{◌≡◌, refl, ap, ◌∙◌}
+use Rattle.std.proofs.Common.{refl, ap, ◌∙◌}
 use Rattle.engine_calls.specs.EngineState.{opening}
 use Rattle.incarnation.specs.declared.place.Place.{Place}
 use Rattle.round_trips.specs.Trips.{near}

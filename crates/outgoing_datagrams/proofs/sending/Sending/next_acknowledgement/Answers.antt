@@ -1,4 +1,4 @@
-use Rattle.std.proofs.Common.{◌≡◌, List, drop, ap, ◌∙◌}
+use Rattle.std.proofs.Common.{List, drop, ap, ◌∙◌}
 use Rattle.port_transport.specs.Wires.{Parcel}
 use Rattle.outgoing_datagrams.specs.HandedDatagrams.{SendingState}
 use Rattle.outgoing_datagrams.proofs.HandedSteps.{first_waits, next_of}

@@ -1,7 +1,7 @@
-use Rattle.std.proofs.Common.{rules, ◌≡◌, ◌+◌, [], ◌∷◌, length, subst, ◌∙◌}
+use Rattle.std.proofs.Common.{rules, refl, ◌≡◌, [], ◌∷◌, subst, ◌∙◌}
 use Rattle.std.specs.Prelude.{None}
 use Rattle.outgoing_datagrams.specs.HandedDatagrams.{HandsOn, kept_in}
-use Rattle.outgoing_datagrams.proofs.HandedSteps.{hands_joined, one_fewer}
+use Rattle.outgoing_datagrams.proofs.HandedSteps.{hands_joined, none_behind, one_fewer}
 use Rattle.outgoing_datagrams.proofs.sending.Sending.pass_all.Goals as goal
 
 pub returns-in-Some-clause-hands : goal.returns-in-Some-clause-hands
@@ -21,4 +21,22 @@ loop-preserved c =
       c.pass.ensures.time ∙ l.invariant.1,
       one_fewer l.self.waiting after.waiting l.counter c.len-end.result (c.pass.ensures.passed none) l.invariant.2
           (search rules),
+      λ empty.
+          absurd (none_behind l.self c.args.self.now l.counter c.len-end.result (l.invariant.3 empty) empty l.invariant.2
+          (search rules)),
     )
+
+pub returns-in_err-next-clause-stays : goal.returns-in_err-next-clause-stays
+returns-in_err-next-clause-stays c =
+    let none : c.from_residual.result ≡ None = search rules in
+    λ empty. (none, c.loop.invariant.3 empty)
+
+pub returns-in-Some-clause-stays : goal.returns-in-Some-clause-stays
+returns-in-Some-clause-stays c =
+    let l = c.loop in
+    λ empty.
+    absurd (none_behind l.self c.args.self.now l.counter c.len-end.result (l.invariant.3 empty) empty l.invariant.2
+    (search rules))
+
+pub returns-clause-stays : goal.returns-clause-stays
+returns-clause-stays c = λ empty. (refl, c.loop.invariant.3 empty)

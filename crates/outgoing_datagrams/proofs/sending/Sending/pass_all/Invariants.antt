@@ -1,4 +1,4 @@
-use Rattle.std.proofs.Common.{◌≡◌, ◌+◌, ◌≤◌, List, [], length}
+use Rattle.std.proofs.Common.{◌≡◌, ◌+◌, [], length}
 use Rattle.outgoing_datagrams.specs.HandedDatagrams.{HandsOn}
 use Rattle.outgoing_datagrams.proofs.sending.Sending.pass_all.Given as goal
 
@@ -7,3 +7,4 @@ invariant-loop l =
     HandsOn l.fn.self.kept l.fn.self.waiting [] l.self.kept l.self.waiting
     × (l.self.time ≡ l.fn.self.time)
     × (length l.self.waiting + l.counter ≡ l.end)
+    × (l.fn.self.waiting ≡ [] → l.self ≡ l.fn.self)

@@ -1,5 +1,4 @@
-use Rattle.std.proofs.Common.{◌≡◌, ℕ, List, drop, ap, subst, ◌∙◌}
-use Rattle.std.specs.Prelude.{max}
+use Rattle.std.proofs.Common.{ℕ, List, drop, ap, subst, ◌∙◌}
 use Rattle.port_transport.specs.Wires.{Parcel}
 use Rattle.outgoing_datagrams.specs.HandedDatagrams.{SendingState}
 use Rattle.outgoing_datagrams.specs.Runs.{IsRun}

@@ -3,8 +3,8 @@ use Rattle.port_transport.proofs.PortSteps.{passes_joined}
 use Rattle.port_transport.proofs.Steps.{goes, on_ok, stays}
 use Rattle.port_transport.proofs.transport.PortTransport.flush_and_sleep.Goals as goal
 
-pub returns : goal.returns
-returns g c =
+pub returns-clause-passes : goal.returns-clause-passes
+returns-clause-passes g c =
     on_ok c.sleep.result
     (λ wire. passes_joined g.W.Wire.did g.met.W.Wire.joined c.args.self.now c.flush.new.self c.sleep.new.self [] [] [] [] []
     []
