@@ -51,6 +51,7 @@ sys.path.insert(0, str(Path(__file__).resolve().parent / "modules"))
 import bounds
 import c_programs
 import explorer
+import recorded
 import ports
 import programs
 
@@ -339,10 +340,19 @@ def exploration_of_c(request):
 def check(words):
     """Explores a C program that is compiled."""
     if words in (["-h"], ["--help"]) and not programs.RELEASED:
-        print(explorer.usage(), end="")
+        print(explorer.usage() + recorded.USAGE, end="")
         return 0
     try:
+        named = recorded.program_of(words)
+        kind, library = recorded.kind_of(named) if named else (None, None)
+        if named and kind is None:
+            recorded.refuse_static(named)
         program = str(explorer.taken(say))
+        if kind is not None:
+            return recorded.check(words, kind, library, program, say)
+    except recorded.Fault as why:
+        say(why)
+        return why.status
     except (c_programs.Fault, programs.NotBuilt) as why:
         say(why)
         return OWN_FAILURE

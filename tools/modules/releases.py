@@ -13,6 +13,7 @@ from pathlib import Path
 import c_programs
 import explorer
 import programs
+import recorded
 
 TOP = programs.TOP
 # Programs by their names in a release: there `mpiexec` is another name of `mpirun`.
@@ -92,6 +93,14 @@ class Parts:
             raise Fault("the explorer wasn't made:\n" + made.stdout + made.stderr)
         subprocess.run(["strip", self.explorer()], check=True)
 
+    def make_player(self):
+        """The player of records of other MPIs, over the same library."""
+        flags = "-O2 '-ffile-prefix-map=%s=.'" % recorded.FOLDER
+        subprocess.run(["strip", recorded.make_player(self.room / "record", flags, self.room)], check=True)
+
+    def player(self):
+        return self.room / "record" / recorded.PLAYER
+
     def explorer(self):
         return self.room / "explorer" / explorer.PROGRAM.name
 
@@ -140,10 +149,12 @@ def binaries(parts):
     return found | {"include/" + it.name: Copy(it) for it in sorted((c_programs.BINDING / "include").iterdir())}
 
 
-def own_files():
+def own_files(parts):
     """What `kombazily` is made of: ./run, and what that needs; and the examples."""
     found = {OWN + "run": Copy(TOP / "run", 0o755), **{OWN + it: Copy(TOP / it) for it in ("VERSION", "tools/run.py")}}
     found |= {OWN + "tools/modules/" + it.name: Copy(it) for it in modules_of(TOP / "tools" / "run.py")}
+    found |= {OWN + recorded.PLAYER: Copy(parts.player(), 0o755), OWN + "bindings/record/Makefile": Copy(recorded.FOLDER / "Makefile")}
+    found |= below("bindings/record/src", OWN + "bindings/record/src/", (".c", ".h"))
     return found | below("examples", OWN + "examples/", (".md", ".txt", ".out", ".err", ".c", ".svg"))
 
 
@@ -212,7 +223,7 @@ def built(parts, table):
 
 def table_of(parts, kit_crates):
     """A whole release."""
-    found = binaries(parts) | own_files() | manuals() | completions() | documents() | licences(kit_crates)
+    found = binaries(parts) | own_files(parts) | manuals() | completions() | documents() | licences(kit_crates)
     return found | {DOCS + "BUILT": Text(built(parts, found))}
 
 

@@ -97,8 +97,10 @@ void explored_free_key(uint64_t key) {
 
 static void tell(struct explorer_ask *ask, const struct explorer_entry *entries, const void *bytes) {
     uint64_t frames[EXPLORER_FRAMES];
-    strncpy(ask->name, process.call, sizeof ask->name - 1);
-    ask->frame_count = explored_frames(frames);
+    const char *name = process.call;
+    if (kombazily_played_place != NULL) ask->frame_count = kombazily_played_place(frames, &name);
+    else ask->frame_count = explored_frames(frames);
+    strncpy(ask->name, name, sizeof ask->name - 1);
     put_later(ask, sizeof *ask);
     put_later(frames, ask->frame_count * sizeof *frames);
     put_later(entries, ask->count * sizeof *entries);

@@ -22,6 +22,9 @@ _Noreturn void explored_lose(void);
 int explored_socket(void);
 /* Whether the explorer wants to know where calls stand; and where the last one does, innermost first: how many. */
 uint32_t explored_frames(uint64_t frames[EXPLORER_FRAMES]);
+/* A program that plays calls of another one (bindings/record/player) has this function: where the call stands in that
+ * program, and its name. */
+extern uint32_t kombazily_played_place(uint64_t frames[EXPLORER_FRAMES], const char **name) __attribute__((weak));
 
 /* ---- explored.c ---- */
 

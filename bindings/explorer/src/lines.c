@@ -19,7 +19,8 @@ static bool open_addr2line(void) {
     int in[2], out[2];
     pid_t pid;
     posix_spawn_file_actions_t actions;
-    char *words[] = {"addr2line", "-f", "-C", "-e", set.program[0], NULL};
+    const char *source = set.played != NULL ? set.played : set.program[0];
+    char *words[] = {"addr2line", "-f", "-C", "-e", (char *)source, NULL};
     if (asked != NULL) return true;
     if (pipe2(in, O_CLOEXEC) != 0 || pipe2(out, O_CLOEXEC) != 0) return false;
     posix_spawn_file_actions_init(&actions);

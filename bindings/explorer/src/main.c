@@ -75,15 +75,17 @@ static void explore(struct pass *pass) {
     pass->took = now() - began;
 }
 
-/* Reads the moves of a file of choices. */
-static int read_choices(const char *name, struct move **moves) {
+/* Reads the moves of a file of choices; of one of a recorded run they have no kind. */
+static int read_choices(const char *name, bool is_recorded, struct move **moves) {
     FILE *from = fopen(name, "r");
     char line[2000];
     int count = 0;
     if (from == NULL) fail(STATUS_WORDS, "it can't be read: ", name);
     while (fgets(line, sizeof line, from) != NULL) {
-        struct move m;
-        if (sscanf(line, "%u %u %u %d", &m.kind, &m.rank, &m.op, &m.at) != 4) continue;
+        struct move m = {.kind = 0};
+        bool is_move = is_recorded ? sscanf(line, "%u %u %d", &m.rank, &m.op, &m.at) == 3
+                                   : sscanf(line, "%u %u %u %d", &m.kind, &m.rank, &m.op, &m.at) == 4;
+        if (!is_move) continue;
         *moves = realloc(*moves, (size_t)(count + 1) * sizeof m);
         if (*moves == NULL) fail(STATUS_START, "no memory", "");
         (*moves)[count++] = m;
@@ -96,10 +98,11 @@ static void replay(struct pass *pass) {
     struct move *moves = NULL;
     const double began = now();
     search_open();
-    int count = read_choices(set.replay, &moves);
+    const bool is_recorded = set.followed != NULL;
+    int count = read_choices(is_recorded ? set.followed : set.replay, is_recorded, &moves);
     force_moves(moves, count);
     pass->runs = 1;
-    (void)run_and_note(pass, BY_FILE);
+    (void)run_and_note(pass, is_recorded ? BY_RECORD : BY_FILE);
     if (pass->astray != NULL) pass->astray = "stopped, since the choices of the file don't fit the program";
     pass->took = now() - began;
     free(moves);
@@ -109,7 +112,7 @@ static void replay(struct pass *pass) {
 static int make_pass(bool synchronous) {
     struct pass pass = {.synchronous = synchronous};
     counts = (struct counts){0};
-    if (set.replay != NULL) replay(&pass);
+    if (set.replay != NULL || set.followed != NULL) replay(&pass);
     else explore(&pass);
     int worst = tell_results(&pass);
     if (set.html != NULL) page_add(&pass);
@@ -123,7 +126,7 @@ int main(int count, char **words) {
     signal(SIGPIPE, SIG_IGN);
     if (set.out != NULL) mkdir(set.out, 0777);
     int worst = make_pass(set.synchronous);
-    if (set.both && !set.synchronous && set.replay == NULL) {
+    if (set.both && !set.synchronous && set.replay == NULL && set.followed == NULL) {
         int second = make_pass(true);
         if (second > worst) worst = second;
     }

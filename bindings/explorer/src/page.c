@@ -53,9 +53,9 @@ static void open_page(void) {
     fputs(head, page);
     put_arrowheads(page);
     fputs("<h1>What <code>", page);
-    const char *folder = strrchr(set.program[0], '/');
-    put_escaped(page, folder != NULL ? folder + 1 : set.program[0]);
-    for (char **word = set.program + 1; *word != NULL; word++) {
+    const char *name = set.played != NULL ? set.played : set.program[0], *folder = strrchr(name, '/');
+    put_escaped(page, folder != NULL ? folder + 1 : name);
+    for (char **word = set.program + 1; set.played == NULL && *word != NULL; word++) {
         fputc(' ', page);
         put_escaped(page, *word);
     }

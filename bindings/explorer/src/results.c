@@ -9,8 +9,8 @@ struct result *results;
 int result_count;
 
 const char *ending_word(enum ending ending) {
-    static const char *const words[] = {"all ranks ended", "DEADLOCK",         "ended by an error",
-                                        "cut short",       "a rank is silent", "cut off"};
+    static const char *const words[] = {
+        "all ranks ended", "DEADLOCK", "ended by an error", "cut short", "a rank is silent", "cut off", "open"};
     return words[ending];
 }
 
@@ -255,7 +255,7 @@ static void tell_parting(int own) {
 
 const char *said_of(const struct pass *pass) {
     if (pass->astray != NULL) return pass->astray;
-    if (set.replay != NULL) return "by the choices of the file";
+    if (set.replay != NULL || set.followed != NULL) return "by the choices of the file";
     return pass->is_all ? "every choice was tried" : "not every choice was tried";
 }
 

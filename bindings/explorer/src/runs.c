@@ -149,11 +149,12 @@ static void note_move(struct run *run, const struct move *m, const struct move *
 }
 
 /* Adds a line of choices: numbers, words, and where it is. */
-static void note_choice(struct run *run, const struct move *m, int count) {
+static void note_choice(struct run *run, const char *head, const struct move *m, int count) {
     char text[300], line[1500];
     struct place place;
     steps_say_move(run->steps, *m, text, sizeof text, &place);
-    int length = snprintf(line, sizeof line, "%u %u %u %d of %d # %s", m->kind, m->rank, m->op, m->at, count, text);
+    int length =
+        snprintf(line, sizeof line, "%s%u %u %u %d of %d # %s", head, m->kind, m->rank, m->op, m->at, count, text);
     for (uint32_t i = 0; i < place.count; i++)
         length += snprintf(line + length, sizeof line - (size_t)length, " @%lx", (unsigned long)place.frames[i]);
     line[length++] = '\n';
@@ -173,14 +174,32 @@ static const struct move *forced_move(int at, const struct move *moves, int coun
     return NULL;
 }
 
+/* The first move that was made in the recorded run, or the first one of all. */
+static const struct move *recorded_move(const struct move *moves, int count) {
+    for (int i = 0; i < count; i++)
+        for (int k = 0; k < forced_count; k++)
+            if (moves[i].rank == forced[k].rank && moves[i].op == forced[k].op && moves[i].at == forced[k].at)
+                return &moves[i];
+    return &moves[0];
+}
+
+/* What the same receive or probe might have taken in place of what it takes. */
+static void note_others(struct run *run, const struct move *m, const struct move *moves, int count) {
+    for (int i = 0; i < count; i++)
+        if (moves[i].kind == m->kind && moves[i].rank == m->rank && moves[i].op == m->op && moves[i].at != m->at)
+            note_choice(run, "or ", &moves[i], count);
+}
+
 /* Makes the move that is due at this place: false where there is none. */
 static bool make_move(struct run *run, int at, const struct move *moves, int count, enum choosing choosing) {
     const struct move *found = choosing == BY_FILE     ? forced_move(at, moves, count, &run->is_astray)
                                : choosing == BY_CHANCE ? &moves[random() % count]
+                               : choosing == BY_RECORD ? recorded_move(moves, count)
                                                        : search_move(moves, count, &run->is_astray);
     if (found == NULL) return false;
     const struct move chosen = *found;
-    if (set.places) note_choice(run, &chosen, count);
+    if (set.places) note_choice(run, "", &chosen, count);
+    if (choosing == BY_RECORD) note_others(run, &chosen, moves, count);
     note_move(run, &chosen, moves, count);
     steps_take(run->steps, chosen);
     return true;
@@ -213,7 +232,12 @@ static void end_process(struct run *run, int rank) {
     enum weight weight = WRONG;
     close_socket(rank);
     if (!by_itself) return;
-    if (WIFSIGNALED(status)) {
+    const bool is_open = set.played != NULL && WIFEXITED(status) && WEXITSTATUS(status) == STATUS_OPEN_END;
+    if (is_open) {
+        snprintf(text, sizeof text, "what was recorded of rank %d ends here", rank);
+        weight = WORTH_KNOWING;
+        run->has_open_end = true;
+    } else if (WIFSIGNALED(status)) {
         snprintf(text, sizeof text, "rank %d was killed by signal %d (%s)", rank, WTERMSIG(status),
                  strsignal(WTERMSIG(status)));
     } else if (!steps_has_finalized(s, rank) && !steps_has_failed(s, rank)) {
@@ -225,6 +249,14 @@ static void end_process(struct run *run, int rank) {
     if (text[0] == '\0') return;
     steps_note(s, rank, weight, text);
     if (weight == WRONG) run->ending = ERROR;
+}
+
+/* Where a record is over, it isn't known what its rank would do for those that wait; but those of a cycle wait for each
+ * other. */
+static void leave_open(struct run *run) {
+    int cycle[MOST_RANKS];
+    const bool is_sure = run->ending == DEADLOCK && steps_cycle(run->steps, cycle) > 0;
+    if (run->has_open_end && (run->ending == ENDED || run->ending == DEADLOCK) && !is_sure) run->ending = OPEN_END;
 }
 
 void run_once(struct run *run, bool synchronous, enum choosing choosing) {
@@ -242,6 +274,7 @@ void run_once(struct run *run, bool synchronous, enum choosing choosing) {
     if (choosing == BY_SEARCH && is_through && !search_end_run()) run->is_astray = true;
     answer_all(run->steps);
     for (int rank = 0; rank < set.size; rank++) end_process(run, rank);
+    leave_open(run);
     if (run->ending == ENDED) steps_tell_rest(run->steps);
     counts.calls += steps_calls(run->steps);
 }

@@ -6,8 +6,8 @@
 
 enum { MOST_MOVES = 4096 };
 
-/* Statuses of the program. */
-enum { STATUS_CLEAN = 0, STATUS_FOUND = 1, STATUS_WORDS = 2, STATUS_START = 6 };
+/* Statuses of the program; and of a rank that plays a record (--plays), which was over before its program was. */
+enum { STATUS_CLEAN = 0, STATUS_FOUND = 1, STATUS_WORDS = 2, STATUS_START = 6, STATUS_OPEN_END = 96 };
 
 /* ---- main.c ---- */
 
@@ -19,7 +19,9 @@ struct settings {
     double seconds, patience;
     int noes;
     const char *replay, *out, *html, *input;
-    int debugged; /* the rank under gdb, or -1 */
+    const char *played;   /* the program whose record is played, or NULL */
+    const char *followed; /* what was matched in its run, which one run follows */
+    int debugged;         /* the rank under gdb, or -1 */
     char **program;
 };
 extern struct settings set;
@@ -67,10 +69,10 @@ bool search_tried_all(void);
 
 /* ---- runs.c ---- */
 
-enum ending { ENDED, DEADLOCK, ERROR, CUT, SILENT, LATE };
+enum ending { ENDED, DEADLOCK, ERROR, CUT, SILENT, LATE, OPEN_END };
 
 /* How the moves of a run are chosen. */
-enum choosing { BY_SEARCH, BY_CHANCE, BY_FILE };
+enum choosing { BY_SEARCH, BY_CHANCE, BY_FILE, BY_RECORD };
 
 struct run {
     enum ending ending;
@@ -81,6 +83,7 @@ struct run {
     int move_count;
     int early; /* looks that say no, or name one of several, though more is there */
     bool is_astray;
+    bool has_open_end; /* what was recorded of a rank was over before its program was */
 };
 struct counts {
     uint64_t asks, moves, calls;
@@ -91,7 +94,7 @@ extern struct counts counts;
 void run_once(struct run *run, bool synchronous, enum choosing choosing);
 /* At this time a run that lasts is cut off: it is LATE. */
 void end_runs_at(double time);
-/* The moves of the next runs by file. */
+/* The moves of the next runs by file; of those by record, in any order. */
 void force_moves(const struct move *moves, int count);
 
 /* ---- lines.c: places in the program's source ---- */

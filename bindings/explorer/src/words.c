@@ -66,6 +66,8 @@ static const struct word known[] = {
     {"--count", TAKES_NOTHING, &set.counts_only},
     {"--patience", TAKES_SECONDS, &set.patience},
     {"--stdin", TAKES_TEXT, &set.input},
+    {"--plays", TAKES_TEXT, &set.played},
+    {"--follow", TAKES_TEXT, &set.followed},
     {"--places", TAKES_NOTHING, &set.places},
     {"--no-sleep", TAKES_NOTHING, &set.has_no_sleep},
 };
@@ -138,5 +140,5 @@ void read_words(int count, char **words) {
     if (set.size < 1 || set.size > MOST_RANKS) fail(STATUS_WORDS, "1 to 64 ranks", "");
     if (set.debugged >= set.size) fail(STATUS_WORDS, "there is no such rank to debug", "");
     if (set.debugged >= 0) set.forks = false;
-    if (set.replay != NULL) set.places = true;
+    if (set.replay != NULL || set.followed != NULL) set.places = true;
 }
