@@ -152,6 +152,26 @@ static void check_freed(void) {
     MPI_Group_free(&group);
 }
 
+/* A send is at its end before its data have come: they come though its communicator is freed at once. */
+static void check_sent(void) {
+    enum { LENGTH = 4 << 20 };
+    MPI_Group group;
+    MPI_Comm comm;
+    char *row = calloc(LENGTH, 1);
+    MPI_Comm_group(MPI_COMM_WORLD, &group);
+    MPI_Comm_create_group(MPI_COMM_WORLD, group, 1, &comm);
+    if (test_rank % 2 == 1) {
+        MPI_Recv(row, LENGTH, MPI_CHAR, test_rank - 1, 0, comm, MPI_STATUS_IGNORE);
+        CHECK(is_filled(row, LENGTH, 8));
+    } else if (test_rank + 1 < test_size) {
+        fill(row, LENGTH, 8);
+        MPI_Send(row, LENGTH, MPI_CHAR, test_rank + 1, 0, comm);
+    }
+    MPI_Comm_free(&comm);
+    MPI_Group_free(&group);
+    free(row);
+}
+
 static void check_errors(void) {
     MPI_Group group;
     MPI_Comm self, comm = MPI_COMM_WORLD;
@@ -185,6 +205,7 @@ int main(int argc, char **argv) {
     check_alone();
     check_early();
     check_freed();
+    check_sent();
     check_errors();
     return test_end();
 }
