@@ -19,7 +19,7 @@ class Printed:
 class Run:
     """A shell line that is run in a folder of its own. In it $RUN is the launcher with the number of ranks, and $TREE the folder in which
     the program was built. It has to end with status 0. A judge gets what it printed and, where it is `beside` MPICH, what the same line
-    printed there; it answers with the faults that it found."""
+    printed there, on as many ranks or, with `alone`, on one; it answers with the faults that it found."""
 
     name: str
     line: str
@@ -27,6 +27,7 @@ class Run:
     ranks: tuple = (2, 4)
     files: dict = field(default_factory=dict)
     beside: bool = False
+    alone: bool = False
     seconds: int = 120
 
 
