@@ -61,6 +61,14 @@ class Making(blocks.Block):
         groups = [list(reversed(it)) if turned else it for it in old.groups]
         return ["MPI_Comm_split_type(old, MPI_COMM_TYPE_SHARED, %s, MPI_INFO_NULL, %s);" % ("-me" if turned else "0", self.new())], groups, None
 
+    def by_create_group(self, draft, old):
+        """The same by those alone who become members (6.4.2)."""
+        lines, groups, topology = self.by_create(draft, old)
+        at = next(i for i, it in enumerate(lines) if it.startswith("MPI_Comm_create("))
+        lines[at:at + 1] = ["int rank_there;", "MPI_Group_rank(some, &rank_there);",
+                            "if (rank_there != MPI_UNDEFINED) MPI_Comm_create_group(old, some, %d, %s);" % (self.number, self.new())]
+        return lines, groups, topology
+
     def by_create(self, draft, old):
         """Members of a range, with some left out, turned or not."""
         self.begin(draft)

@@ -6,6 +6,7 @@ import blocks
 import collective_calls
 import communicators
 import errors
+import intercommunicators
 import objects
 import rounds
 import threads
@@ -72,7 +73,7 @@ class Draft:
 
     def add_communicator(self):
         if len(self.comms) < 7:
-            how = self.chance.choice(("dup", "idup", "dup_with_info", "split", "split", "split_type", "create"))
+            how = self.chance.choice(("dup", "idup", "dup_with_info", "split", "split", "split_type", "create", "create_group"))
             self.blocks.append(communicators.Making(self, self.a_comm(), how))
 
     def free_communicator(self):
@@ -116,7 +117,9 @@ class Draft:
         self.blocks.append(kind(self, self.a_comm()) if takes_comm else kind(self))
 
     def add_errors(self):
-        self.blocks.append(self.chance.choice((errors.Errors, errors.Errors, errors.Truncated))(self, self.a_comm()))
+        comm = self.a_comm()
+        if comm.topology is None:
+            self.blocks.append(self.chance.choice((errors.Errors, errors.Errors, errors.Truncated))(self, comm))
 
     def add_types(self):
         self.blocks.append(type_answers.TypeAnswers(self) if self.chance.random() < .7 else type_answers.Packed(self, self.a_comm()))
@@ -125,11 +128,15 @@ class Draft:
         if self.level == "MPI_THREAD_MULTIPLE":
             self.blocks.append(threads.Threads(self, self.a_comm()))
 
+    def add_halves(self):
+        self.blocks.append(intercommunicators.Halves(self, self.a_comm()))
+
     def add_rounds(self):
         self.blocks.append(rounds.Rounds(self, self.a_comm()))
 
     KINDS = {"add_grid": 1, "add_part_of_grid": 1, "add_graph": 1, "add_neighbours": 2, "add_dimensions": .3, "add_objects": 4,
-             "add_errors": 1, "add_types": 2, "add_threads": 1.5, "add_rounds": 1, "add_traffic": 6, "end_traffic": 2, "add_any_source": 1,
+             "add_errors": 1, "add_types": 2, "add_threads": 1.5, "add_halves": 1, "add_rounds": 1, "add_traffic": 6, "end_traffic": 2,
+             "add_any_source": 1,
              "add_shift": 1, "add_collectives": 6, "add_communicator": 3, "free_communicator": 1, "add_comparison": 1}
 
     def draw(self, title):

@@ -97,7 +97,7 @@ class Jobs:
     def compiled(self, source, mpi):
         """Where the program stands for an MPI, or for the library."""
         made = source.with_suffix("." + (mpi or "ours"))
-        words = ["-std=gnu11", "-g", "-O0", "-w", "-pthread", source, "-o", made]
+        words = ["-std=gnu11", "-O0", "-w", "-pthread", source, "-o", made]
         if mpi:
             words = [*OTHERS[mpi][0], *["-DFAULT_" + it for it in sorted(known.of(mpi))], *words, "-lm"]
         else:

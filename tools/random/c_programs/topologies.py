@@ -163,7 +163,7 @@ class Graph(blocks.Block):
             lines.append("MPI_Dist_graph_create(old, 1, &me, &outward, to, %s, MPI_INFO_NULL, 0, &%s);" % (weights[1], made))
         lines += ["MPI_Topo_test(%s, &kind);" % made, "MPI_Dist_graph_neighbors_count(%s, &in, &outward, &is_weighted);" % made,
                   'observe("kind %d in %d out %d weighted %d", kind == MPI_DIST_GRAPH, in, outward, is_weighted != 0);',
-                  "MPI_Dist_graph_neighbors(%s, 64, told_in, %s, 64, told_out, %s);" % (made, *weights)]
+                  "MPI_Dist_graph_neighbors(%s, in, told_in, %s, outward, told_out, %s);" % (made, *weights)]
         if self.kind == "adjacent":
             lines += ['for (int i = 0; i < in; i++) observe("from %%d %%d", told_in[i], %s);' % ("in_weights[i]" if self.has_weights else "0"),
                       'for (int i = 0; i < outward; i++) observe("to %%d %%d", told_out[i], %s);' % (
