@@ -13,7 +13,7 @@
 /* ---- groups ---- */
 
 int rank_of_member(const struct communicator *comm, int member) {
-    if (!is_inter(comm)) return member;
+    if (comm == NULL || !is_inter(comm)) return member;
     for (int rank = 0; rank < comm->groups->other_size; rank++)
         if (comm->groups->other[rank] == member) return rank;
     return member;

@@ -12,7 +12,9 @@
 #define OTHER_BIT (UINT64_C(1) << 62)
 enum { MEMBER_SHIFT = 52, MOST_MEMBERS = 1024, SERIAL_SHIFT = 20 };
 
-struct world first_world = {.taken = {3}}; /* MPI_COMM_WORLD has 0, MPI_COMM_SELF 1 */
+/* In each world the communicator of all ranks has the number 0, and that of the rank alone 1. */
+#define FIRST_TAKEN UINT64_C(3)
+struct world first_world = {.taken = {FIRST_TAKEN}};
 
 /* The others, each at the place that stands in its communicators' places; the first place is that of the first world.
  * Below `lowest` none is free. */
@@ -138,7 +140,7 @@ struct world *open_world(uint64_t number, uint16_t *members, int size) {
         return NULL;
     }
     *made = (struct world){.base = place << PLACE_BITS, .number = number, .members = members, .size = size, .uses = 1};
-    made->taken[0] = first_world.taken[0] & 3;
+    made->taken[0] = FIRST_TAKEN;
     made->rank = rank_in(made, process.rank);
     if (!need_engine(made, OF_PROGRAMS)) {
         free_world(made);
