@@ -13,6 +13,7 @@ usage: ./run                            two ranks play ping-pong
        ./run .. -                       what stands on the standard input, in place of a file
        ./run [-n N] FILE.c [WORD ..]    compiles a C program (tools/mpicc) and runs it with these words; without -n 2 ranks.
                                         Lines come as they are printed; rank 0 has the standard input
+       ./run .. FILE.f90 ..             the same two of a program in Fortran (tools/mpifort)
        ./run build                      builds the programs, and runs nothing: in the repository alone
        ./run --proved [..]              as above, by proved programs alone; proves them first: there, too
        ./run --help, ./run --version
@@ -87,6 +88,11 @@ def say(text):
     print("\n".join("%s: %s" % (CALLED.removeprefix("./"), it) for it in str(text).splitlines()), file=sys.stderr, flush=True)
 
 
+def is_program(file):
+    """Whether it is the source of a program in C or Fortran."""
+    return Path(file).suffix in c_programs.COMPILERS
+
+
 class Request:
     """What the words of the command line ask for."""
 
@@ -94,7 +100,7 @@ class Request:
         self.ranks, self.options, self.shown, self.words, self.is_proved = None, {}, [], [], False
         self.svg, self.is_verbose = None, False
         words, files = list(words), []
-        own = next((place for place, it in enumerate(words) if it.endswith(".c")), len(words))
+        own = next((place for place, it in enumerate(words) if is_program(it)), len(words))
         self.view = next((it for it in words[:own] if it in VIEWS), None)
         self.shows = EXPLORING_C if self.view == "--explore" and own < len(words) else SHOWING.get(self.view, {})
         self.builds_only = [it for it in words if it != "--proved"] == ["build"]
@@ -120,7 +126,7 @@ class Request:
 
     def is_c(self, words):
         """Whether a C program is named; behind it stand its own words, among which `-n N` may stand first."""
-        if not words or not words[0].endswith(".c"):
+        if not words or not is_program(words[0]):
             return False
         while len(words) > 1 and words[1] in OPTIONS_OF_C and self.ranks is None:
             option = [words.pop(1) for _ in words[1:3]]
@@ -256,7 +262,7 @@ def judge(rank_main, ranks, file):
 
 def command(request):
     """The words to run."""
-    if request.file.suffix == ".c":
+    if is_program(request.file):
         return command_of_c(request)
     request.file = taken(request.file)
     lines = lines_of(request.file)

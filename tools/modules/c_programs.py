@@ -21,6 +21,10 @@ LIBRARY, ENGINE = OUT / "lib" / "libmpi.a", OUT / "libengine.a"
 PROVED = TOP / "crates" / CRATE / "out" / ("lib%s.a" % CRATE)
 UNPROVED = programs.UNPROVED / ("lib%s.a" % CRATE)
 BUILDER = TOP / "tools" / "build" / "unproved_static"
+FORTRAN = TOP / "bindings" / "fortran"
+MODULE = OUT / "include" / "mpi.mod"
+# Programs that are compiled here: by the ends of their names, the compiler.
+COMPILERS = {".c": "mpicc", **{it: "mpifort" for it in (".f90", ".F90", ".f", ".F", ".f95", ".f03", ".f08")}}
 
 
 class Fault(Exception):
@@ -32,12 +36,22 @@ def sources():
     own = [it for part in ("src", "include") for it in sorted((BINDING / part).iterdir())]
     crates = programs.crates_of(CRATE) if CRATE in programs.dependencies() else []
     made_by = [BINDING / it for it in ("Makefile", "exported.map", "kombazily.pc.in")]
-    return [*own, *made_by, TOP / "VERSION", *programs.files_of(crates, ("src",))]
+    return [*own, *made_by, *fortran_sources(), TOP / "VERSION", *programs.files_of(crates, ("src",))]
+
+
+def fortran_sources():
+    """The same of Fortran's calls."""
+    tool = [TOP / "tools" / "fortran_calls", *sorted((TOP / "tools" / "modules").glob("fortran_*.py"))]
+    return [*tool, *(FORTRAN / it for it in ("Makefile", "exported.map", "table.txt")), *sorted((FORTRAN / "src").iterdir())]
+
+
+def has_fortran():
+    return shutil.which("gfortran") is not None
 
 
 def may_be_old():
     """Whether some source is newer than the library, or there is none."""
-    if not LIBRARY.is_file():
+    if not LIBRARY.is_file() or has_fortran() and not MODULE.is_file():
         return True
     made = LIBRARY.stat().st_mtime_ns
     return any(os.stat(it).st_mtime_ns >= made for it in sources())
@@ -148,23 +162,29 @@ def make_library_alone(say, wants_proved):
         else:
             build_unproved(say)
             put_engine(UNPROVED, say, "libmpi.a is made of an engine that was built before any proof ('./run --proved' proves it first)")
-    # Named from there, since make takes no name with a blank.
-    out = "OUT=%s" % os.path.relpath(OUT, BINDING)
-    words = ["make", "-s", "-j%d" % (os.cpu_count() or 1), "-C", BINDING, out]
-    made = subprocess.run(words, stdin=subprocess.DEVNULL, stdout=subprocess.PIPE, stderr=subprocess.STDOUT)
-    if made.returncode != 0:
-        raise Fault("libmpi.a wasn't made:\n%s" % made.stdout.decode(errors="replace"))
+    run_make(BINDING, OUT, "libmpi.a")
+    if has_fortran():
+        run_make(FORTRAN, OUT, "libmpifort.a")
     os.utime(LIBRARY)
     return proved
 
 
+def run_make(folder, out, what, *words):
+    """Makes a library into a folder, which is named from where make runs, since it takes no name with a blank."""
+    command = ["make", "-s", "-j%d" % (os.cpu_count() or 1), "-C", folder, "OUT=%s" % os.path.relpath(out, folder), *words]
+    made = subprocess.run(command, stdin=subprocess.DEVNULL, stdout=subprocess.PIPE, stderr=subprocess.STDOUT)
+    if made.returncode != 0:
+        raise Fault("%s wasn't made:\n%s" % (what, made.stdout.decode(errors="replace")))
+
+
 def compiled(say, source, wants_proved=False):
-    """Compiles a C program, and returns where it stands."""
+    """Compiles a program in C or Fortran, and returns where it stands."""
+    name = COMPILERS[source.suffix]
     if programs.RELEASED:
-        compiler, folder = programs.RELEASED / "mpicc", Path(os.environ.get("XDG_CACHE_HOME") or Path.home() / ".cache") / "kombazily"
+        compiler, folder = programs.RELEASED / name, Path(os.environ.get("XDG_CACHE_HOME") or Path.home() / ".cache") / "kombazily"
     else:
         make_library(say, wants_proved)
-        compiler, folder = TOP / "tools" / "mpicc", OUT / "programs"
+        compiler, folder = TOP / "tools" / name, OUT / "programs"
     program = folder / source.stem
     folder.mkdir(parents=True, exist_ok=True)
     made = subprocess.run([compiler, "-O2", "-g", "-Wall", source, "-o", program, "-lm"], stdout=subprocess.DEVNULL)

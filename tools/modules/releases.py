@@ -19,7 +19,8 @@ TOP = programs.TOP
 # Programs by their names in a release: there `mpiexec` is another name of `mpirun`.
 NAMES = {**{it: it for it in programs.NAMES}, "mpiexec": programs.JOINING}
 IN_CXX = ("mpicxx", "mpic++", "mpiCC")
-COMMANDS = (*NAMES.values(), "mpiexec", "mpicc", *IN_CXX, "kombazily", "kombazily-check")
+IN_FORTRAN = ("mpifort", "mpif77", "mpif90")
+COMMANDS = (*NAMES.values(), "mpiexec", "mpicc", *IN_CXX, *IN_FORTRAN, "kombazily", "kombazily-check")
 OWN, DOCS, MANUALS = "share/kombazily/", "share/doc/kombazily/", "share/man/man1/"
 COMPLETIONS = "share/bash-completion/completions/"
 # What a release in an archive has at its top, too.
@@ -74,14 +75,16 @@ class Parts:
         """The library for C, in which no path of this machine stands."""
         if c_programs.make_library(say, wants_proved):
             self.proved.append("libmpi")
-        flags = "CFLAGS=-O2 '-ffile-prefix-map=%s=.'" % c_programs.BINDING
-        # Named from there, since make takes no name with a blank.
-        out, engine = (os.path.relpath(it, c_programs.BINDING) for it in (self.room, c_programs.ENGINE))
-        words = ["make", "-s", "-j%d" % os.cpu_count(), "-C", c_programs.BINDING, "OUT=" + out, "ENGINE=" + engine, flags]
-        made = subprocess.run(words, capture_output=True, text=True)
-        if made.returncode != 0:
-            raise Fault("the library wasn't made:\n" + made.stdout + made.stderr)
+        engine = "ENGINE=%s" % os.path.relpath(c_programs.ENGINE, c_programs.BINDING)
+        self.make_part(c_programs.BINDING, "the library", engine)
+        if c_programs.has_fortran():
+            self.make_part(c_programs.FORTRAN, "Fortran's library", "FFLAGS=-O2 '-ffile-prefix-map=%s=.'" % c_programs.FORTRAN)
+        else:
+            say("there is no Fortran in it: gfortran isn't here")
         subprocess.run(["strip", "--strip-debug", *(self.room / "lib").glob("lib*.*[a0]")], check=True)
+
+    def make_part(self, folder, what, *words):
+        c_programs.run_make(folder, self.room, what, "CFLAGS=-O2 '-ffile-prefix-map=%s=.'" % folder, *words)
 
     def make_explorer(self, say):
         """The explorer of C programs, over the same engine."""
@@ -138,7 +141,7 @@ def binaries(parts):
     """Programs, libraries, and what compiles with them."""
     found = {"bin/" + NAMES[name]: Copy(file, 0o755) for name, file in parts.programs.items()}
     found |= {"bin/kombazily-check": Copy(parts.explorer(), 0o755)}
-    found |= {"bin/mpicc": Copy(TOP / "tools" / "mpicc", 0o755), **{"bin/" + it: Link("mpicc") for it in IN_CXX}}
+    found |= {"bin/mpicc": Copy(TOP / "tools" / "mpicc", 0o755), **{"bin/" + it: Link("mpicc") for it in (*IN_CXX, *IN_FORTRAN)}}
     found |= {"bin/mpiexec": Link("mpirun"), "bin/kombazily": Link("../" + OWN + "run")}
     for it in sorted((parts.room / "lib").rglob("*")):
         name = "lib/" + str(it.relative_to(parts.room / "lib"))
@@ -146,7 +149,7 @@ def binaries(parts):
             found[name] = Link(os.readlink(it))
         elif it.is_file():
             found[name] = Copy(it)
-    return found | {"include/" + it.name: Copy(it) for it in sorted((c_programs.BINDING / "include").iterdir())}
+    return found | {"include/" + it.name: Copy(it) for it in sorted((parts.room / "include").iterdir())}
 
 
 def own_files(parts):
@@ -155,7 +158,7 @@ def own_files(parts):
     found |= {OWN + "tools/modules/" + it.name: Copy(it) for it in modules_of(TOP / "tools" / "run.py")}
     found |= {OWN + recorded.PLAYER: Copy(parts.player(), 0o755), OWN + "bindings/record/Makefile": Copy(recorded.FOLDER / "Makefile")}
     found |= below("bindings/record/src", OWN + "bindings/record/src/", (".c", ".h"))
-    return found | below("examples", OWN + "examples/", (".md", ".txt", ".out", ".err", ".c", ".svg"))
+    return found | below("examples", OWN + "examples/", (".md", ".txt", ".out", ".err", ".c", ".f90", ".svg"))
 
 
 def manual_of_joining():
@@ -168,7 +171,7 @@ def manual_of_joining():
 def manuals():
     found = {MANUALS + it.name: Copy(it) for it in sorted((TOP / "docs" / "man").glob("*.1"))}
     found |= {MANUALS + programs.JOINING + ".1": Text(manual_of_joining())}
-    others = {"mpiexec": "mpirun", **{it: "mpicc" for it in IN_CXX}}
+    others = {"mpiexec": "mpirun", **{it: "mpicc" for it in (*IN_CXX, *IN_FORTRAN)}}
     return found | {MANUALS + one + ".1": Text(".so man1/%s.1\n" % other) for one, other in others.items()}
 
 

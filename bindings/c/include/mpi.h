@@ -31,7 +31,7 @@ typedef struct kombazily_request *MPI_Request;
 typedef ptrdiff_t MPI_Aint;
 typedef long long MPI_Count;
 typedef long long MPI_Offset;
-/* A Fortran integer; there is no Fortran binding, but its handles can be had as numbers (17.2.4). */
+/* An INTEGER of Fortran (17.2.4); mpif.h and the module mpi are made of this file and its parts. */
 typedef int MPI_Fint;
 
 /* What is known of a message (3.2.5). The last two members are the library's. */
@@ -632,6 +632,8 @@ int MPI_Status_c2f(const MPI_Status *c_status, MPI_Fint *f_status);
 int MPI_Status_f2c(const MPI_Fint *f_status, MPI_Status *c_status);
 int MPI_Status_c2f08(const MPI_Status *c_status, MPI_F08_status *f08_status);
 int MPI_Status_f082c(const MPI_F08_status *f08_status, MPI_Status *c_status);
+/* What the library of Fortran's calls has of this one; no program uses it. */
+extern const struct kombazily_for_fortran *MPI_F_LIBRARY;
 
 /* Processes, windows and files (10, 11, 13): what programs name which have them as an option. None is supported: see
  * mpi_unsupported.h. No process of a job was started by another one, so none has a parent. */

@@ -4,6 +4,7 @@
 #include "errors.h"
 #include "table.h"
 
+#include <stdint.h>
 #include <stdlib.h>
 
 static struct table keyvals = TABLE_OF(KIND_KEYVAL);
@@ -78,15 +79,46 @@ static void remove_attribute(struct attribute **list, struct attribute *attribut
     free(attribute);
 }
 
+void take_numbers(int number) {
+    struct keyval *own = keyval_of(number);
+    if (own != NULL) own->takes_numbers = true;
+}
+
+struct attribute *find_attribute(struct attribute *list, int number) {
+    const struct keyval *keyval = keyval_of(number);
+    return keyval == NULL ? NULL : attribute_of(list, keyval);
+}
+
+/* From now on the value is this number, whose address C gets. */
+static void become_number(struct attribute *it, MPI_Aint number) {
+    it->number = number;
+    it->is_number = true;
+    it->value = &it->number;
+}
+
+void keep_number(struct attribute *it) {
+    if (it != NULL) become_number(it, (MPI_Aint)(intptr_t)it->value);
+}
+
+MPI_Aint value_as_number(const struct attribute *it) {
+    if (it == NULL) return 0;
+    return it->is_number ? it->number : (MPI_Aint)(intptr_t)it->value;
+}
+
+/* A value as the functions of its key take it. */
+static void *handed(const struct attribute *it) {
+    return it->keyval->takes_numbers ? (void *)(intptr_t)value_as_number(it) : it->value;
+}
+
 /* Calls the delete function of a key with a value. */
 static int call_delete(struct owner owner, const struct attribute *it) {
     const struct keyval *key = it->keyval;
     if (key->is_of_types) {
         if (key->functions.type.delete == NULL) return MPI_SUCCESS;
-        return key->functions.type.delete(owner.type, key->number, it->value, key->extra_state);
+        return key->functions.type.delete(owner.type, key->number, handed(it), key->extra_state);
     }
     if (key->functions.comm.delete == NULL) return MPI_SUCCESS;
-    return key->functions.comm.delete(owner.comm, key->number, it->value, key->extra_state);
+    return key->functions.comm.delete(owner.comm, key->number, handed(it), key->extra_state);
 }
 
 /* Calls the copy function of a key with a value. */
@@ -95,10 +127,10 @@ static int call_copy(struct owner owner, const struct attribute *it, void **valu
     *flag = 0;
     if (key->is_of_types) {
         if (key->functions.type.copy == NULL) return MPI_SUCCESS;
-        return key->functions.type.copy(owner.type, key->number, key->extra_state, it->value, value, flag);
+        return key->functions.type.copy(owner.type, key->number, key->extra_state, handed(it), value, flag);
     }
     if (key->functions.comm.copy == NULL) return MPI_SUCCESS;
-    return key->functions.comm.copy(owner.comm, key->number, key->extra_state, it->value, value, flag);
+    return key->functions.comm.copy(owner.comm, key->number, key->extra_state, handed(it), value, flag);
 }
 
 int delete_attribute(struct owner owner, struct attribute **list, struct attribute *attribute) {
@@ -130,6 +162,7 @@ int set_attribute(struct owner owner, struct attribute **list, struct keyval *ke
     int answer = call_delete(owner, own);
     own->is_leaving = false;
     if (answer == MPI_SUCCESS) own->value = value;
+    if (answer == MPI_SUCCESS) own->is_number = false;
     return answer;
 }
 
@@ -137,6 +170,15 @@ int delete_attributes(struct owner owner, struct attribute **list) {
     int answer = MPI_SUCCESS;
     while (answer == MPI_SUCCESS && *list != NULL) answer = delete_attribute(owner, list, *list);
     return answer;
+}
+
+/* Puts the copy of a value in front of a list. It is a number where the value is one that Fortran's function copied, or
+ * that was handed on as it is. */
+static bool put_copy(struct attribute **list, const struct attribute *of, void *value) {
+    const bool is_same = value == handed(of), is_number = of->is_number && (of->keyval->takes_numbers || is_same);
+    if (!put_attribute(list, of->keyval, value)) return false;
+    if (is_number) become_number(*list, is_same ? of->number : (MPI_Aint)(intptr_t)value);
+    return true;
 }
 
 /* Copies a value and, before it, those that were set before it. */
@@ -147,7 +189,7 @@ static int copy_from(struct owner from, struct attribute *it, struct attribute *
     int answer = copy_from(from, it->next, copies);
     if (answer == MPI_SUCCESS) answer = call_copy(from, it, &value, &flag);
     if (answer != MPI_SUCCESS || !flag) return answer;
-    return put_attribute(copies, it->keyval, value) ? MPI_SUCCESS : -1;
+    return put_copy(copies, it, value) ? MPI_SUCCESS : -1;
 }
 
 int copy_attributes(struct owner from, struct attribute *list, struct owner to, struct attribute **copies) {

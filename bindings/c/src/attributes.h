@@ -18,6 +18,7 @@ struct keyval {
     int number; /* as the program has it */
     int uses;   /* by the program, until it frees it, and by values */
     bool is_freed;
+    bool takes_numbers; /* its functions are of Fortran, which have values as numbers (17.2.7) */
     void *extra_state;
     union {
         struct {
@@ -35,6 +36,8 @@ struct keyval {
 struct attribute {
     struct keyval *keyval;
     void *value;
+    MPI_Aint number; /* of a value that Fortran set: `value` is its address (17.2.7) */
+    bool is_number;
     bool is_leaving; /* its delete function is being called: nobody finds it any more */
     struct attribute *next;
 };
@@ -50,6 +53,16 @@ int free_keyval(const char *call, int *number, bool is_of_types);
 
 /* The value under a key, or NULL. */
 struct attribute *attribute_of(struct attribute *list, const struct keyval *keyval);
+
+/* For Fortran (17.2.7): the functions of this key have values as numbers; the value under a key of the program's, or
+ * NULL; a value that was just set is a number; a value as a number, which is an address where C set it. The last two
+ * take NULL for none. */
+void take_numbers(int number);
+struct attribute *find_attribute(struct attribute *list, int number);
+void keep_number(struct attribute *attribute);
+MPI_Aint value_as_number(const struct attribute *attribute);
+/* The values that are kept with a type. */
+struct attribute *values_of_type(MPI_Datatype type);
 
 /* Each of these answers 0, or what a function of the program's answered, which makes the call fail. */
 /* Sets a value; the one that was there is deleted first. -1: there is no memory. */

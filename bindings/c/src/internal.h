@@ -4,6 +4,7 @@
 #define KOMBAZILY_INTERNAL_H
 
 #include "engine.h"
+#include "for_fortran.h"
 #include "library_lock.h"
 #include "mpi.h"
 
@@ -35,13 +36,14 @@ struct process {
 };
 extern struct process process;
 
-/* To stand first in each function of MPI: notes where it was called, and until it returns no other thread is in one. */
+/* To stand first in each function of MPI: notes where it was called (where Fortran called it), and until it returns no
+ * other thread is in one. */
 #define NOTE_CALLER()                                                                                                  \
     __attribute__((cleanup(leave_call), unused)) const bool has_lock = enter_call(__builtin_return_address(0))
 static inline bool enter_call(const void *caller) {
     const bool is_threaded = process.is_threaded;
     if (is_threaded) lock_library();
-    process.caller = caller;
+    process.caller = fortran_caller == NULL ? caller : fortran_caller;
     return is_threaded;
 }
 static inline void leave_call(const bool *has_lock) {

@@ -1,5 +1,6 @@
 /* Exchanges with neighbours (MPI 3.1, 7.6, 7.7): each member sends a block to each rank that its edges go to, in their
  * order, and receives one of each rank that they come from. They are carried out as plans are. */
+#include "neighbours.h"
 #include "engine_grids.h"
 #include "errors.h"
 #include "plan_calls.h"
@@ -47,6 +48,12 @@ static struct neighbours count_neighbours(const struct communicator *comm) {
         count.destinations = topology->edges.destinations;
     }
     return count;
+}
+
+void count_neighbours_of(const struct communicator *comm, int *sources, int *destinations) {
+    const struct neighbours count = comm->topology == NULL ? (struct neighbours){0} : count_neighbours(comm);
+    *sources = count.sources;
+    *destinations = count.destinations;
 }
 
 /* Finds them, in their order: 0, or the class of an error, of which it has told the handler. */

@@ -24,7 +24,7 @@ static struct kept *kept_with(MPI_Datatype type) {
     return it;
 }
 
-static struct attribute *values_of(MPI_Datatype type) {
+struct attribute *values_of_type(MPI_Datatype type) {
     const struct kept *own = kept_with(type);
     return own == NULL ? NULL : own->values;
 }
@@ -93,7 +93,7 @@ int MPI_Type_get_attr(MPI_Datatype datatype, int type_keyval, void *attribute_va
     if (class == MPI_SUCCESS) class = check_result(MPI_COMM_WORLD, call, attribute_val, "attribute_val");
     if (class == MPI_SUCCESS) class = check_result(MPI_COMM_WORLD, call, flag, "flag");
     if (class != MPI_SUCCESS) return class;
-    const struct attribute *it = attribute_of(values_of(datatype), keyval);
+    const struct attribute *it = attribute_of(values_of_type(datatype), keyval);
     *flag = it != NULL;
     if (it != NULL) memcpy(attribute_val, &it->value, sizeof it->value);
     return MPI_SUCCESS;
@@ -107,14 +107,14 @@ int MPI_Type_delete_attr(MPI_Datatype datatype, int type_keyval) {
     int class = check_owner(call, datatype, &own);
     if (class == MPI_SUCCESS) class = check_keyval(call, type_keyval, true, &keyval);
     if (class != MPI_SUCCESS) return class;
-    struct attribute *it = attribute_of(values_of(datatype), keyval);
+    struct attribute *it = attribute_of(values_of_type(datatype), keyval);
     if (it == NULL) return raise_on(MPI_COMM_WORLD, call, MPI_ERR_KEYVAL, "no value under the key");
     return raise_attribute(MPI_COMM_WORLD, call,
                            delete_attribute(owner_of(datatype), &kept_with(datatype)->values, it));
 }
 
 int copy_type_values(MPI_Datatype from, const char *call, MPI_Datatype to) {
-    struct attribute *values = values_of(from);
+    struct attribute *values = values_of_type(from);
     if (values == NULL) return MPI_SUCCESS;
     struct kept *copies = keep_with(to);
     int answer = copies == NULL ? -1 : copy_attributes(owner_of(from), values, owner_of(to), &copies->values);

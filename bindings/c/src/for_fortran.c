@@ -1,0 +1,52 @@
+/* What Fortran's calls have of the library: see for_fortran.h. */
+#include "for_fortran.h"
+
+#include "attributes.h"
+#include "errors.h"
+#include "internal.h"
+#include "neighbours.h"
+
+_Thread_local const void *fortran_caller;
+
+static const void **caller(void) { return &fortran_caller; }
+
+static int raise(const char *call, int error_class, const char *cause) {
+    return raise_on(MPI_COMM_WORLD, call, error_class, "%s", cause);
+}
+
+static int entries(MPI_Comm comm, enum list list) {
+    const struct communicator *own = communicator_of(comm);
+    int sources = 0, destinations = 0;
+    if (own == NULL) return 0;
+    if (list == LIST_OF_MEMBERS) return own->size;
+    count_neighbours_of(own, &sources, &destinations);
+    return list == LIST_OF_SOURCES ? sources : destinations;
+}
+
+static void keep_number_of_comm(MPI_Comm comm, int keyval) {
+    const struct communicator *own = communicator_of(comm);
+    if (own != NULL) keep_number(find_attribute(own->attributes, keyval));
+}
+
+static void keep_number_of_type(MPI_Datatype type, int keyval) {
+    keep_number(find_attribute(values_of_type(type), keyval));
+}
+
+static MPI_Aint number_of_comm(MPI_Comm comm, int keyval) {
+    const struct communicator *own = communicator_of(comm);
+    return own == NULL ? 0 : value_as_number(find_attribute(own->attributes, keyval));
+}
+
+static MPI_Aint number_of_type(MPI_Datatype type, int keyval) {
+    return value_as_number(find_attribute(values_of_type(type), keyval));
+}
+
+static const struct kombazily_for_fortran library = {.caller = caller,
+                                                     .raise = raise,
+                                                     .entries = entries,
+                                                     .take_numbers = take_numbers,
+                                                     .keep_number_of_comm = keep_number_of_comm,
+                                                     .keep_number_of_type = keep_number_of_type,
+                                                     .number_of_comm = number_of_comm,
+                                                     .number_of_type = number_of_type};
+const struct kombazily_for_fortran *MPI_F_LIBRARY = &library;
