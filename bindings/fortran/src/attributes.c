@@ -1,5 +1,5 @@
-/* Attributes (MPI 3.1, 6.7, 15, 17.2.7): Fortran has their values as numbers, of the size of an address or, by the names
- * of MPI-1, as INTEGERs. */
+/* Attributes (MPI 3.1, 6.7, 15, 17.2.7): Fortran has their values as numbers, of the size of an address or, by the
+ * names of MPI-1, as INTEGERs. */
 #include "callbacks.h"
 
 /* The functions of a key, and whether they are of MPI-1. They are kept until the end, since nothing tells when the
@@ -49,12 +49,11 @@ static int copy(const struct functions *own, MPI_Fint handle, int keyval, void *
     return ierror;
 }
 
-static int delete(const struct functions *own, MPI_Fint handle, int keyval, void *of) {
+static int delete (const struct functions *own, MPI_Fint handle, int keyval, void *of) {
     MPI_Aint value = (MPI_Aint)(intptr_t)of;
     MPI_Fint ierror = MPI_SUCCESS;
     const MPI_Fint old_value = (MPI_Fint)value, old_state = (MPI_Fint)own->extra_state;
-    if (own->are_old)
-        ((old_delete_function *)own->delete)(&handle, &keyval, &old_value, &old_state, &ierror);
+    if (own->are_old) ((old_delete_function *)own->delete)(&handle, &keyval, &old_value, &old_state, &ierror);
     else own->delete (&handle, &keyval, &value, &own->extra_state, &ierror);
     return ierror;
 }
@@ -99,8 +98,7 @@ void pmpi_keyval_create_(old_copy_function *copy_fn, old_delete_function *delete
     NOTE_FORTRAN_CALLER();
     struct functions *own = keep_functions(
         (struct functions){(copy_function *)copy_fn, (delete_function *)delete_fn, true, *extra_state, NULL});
-    *ierror = own == NULL ? no_room("MPI_Keyval_create")
-                          : MPI_Keyval_create(copy_of_comm, delete_of_comm, keyval, own);
+    *ierror = own == NULL ? no_room("MPI_Keyval_create") : MPI_Keyval_create(copy_of_comm, delete_of_comm, keyval, own);
     if (*ierror == MPI_SUCCESS) MPI_F_LIBRARY->take_numbers(*keyval);
 }
 #pragma weak mpi_keyval_create_ = pmpi_keyval_create_

@@ -1,4 +1,5 @@
-/* Begin, end and surroundings (MPI 3.1, 8), by hand: Fortran's calls have other arguments than C's, or are functions. */
+/* Begin, end and surroundings (MPI 3.1, 8), by hand: Fortran's calls have other arguments than C's, or are functions.
+ * */
 #include "callbacks.h"
 #include "wrappers.h"
 

@@ -1,5 +1,5 @@
-/* Types by the names of MPI-1 (MPI 3.1, 15.1, 16.1), whose displacements and sizes are INTEGERs in Fortran, and the contents
- * of types. */
+/* Types by the names of MPI-1 (MPI 3.1, 15.1, 16.1), whose displacements and sizes are INTEGERs in Fortran, and the
+ * contents of types. */
 #include "wrappers.h"
 
 /* Puts a number that has to fit an INTEGER. */
@@ -18,9 +18,8 @@ void pmpi_type_hvector_(const MPI_Fint *count, const MPI_Fint *blocklength, cons
 }
 #pragma weak mpi_type_hvector_ = pmpi_type_hvector_
 
-void pmpi_type_hindexed_(const MPI_Fint *count, MPI_Fint *array_of_blocklengths,
-                         const MPI_Fint *array_of_displacements, const MPI_Fint *oldtype, MPI_Fint *newtype,
-                         MPI_Fint *ierror) {
+void pmpi_type_hindexed_(const MPI_Fint *count, MPI_Fint *array_of_blocklengths, const MPI_Fint *array_of_displacements,
+                         const MPI_Fint *oldtype, MPI_Fint *newtype, MPI_Fint *ierror) {
     NOTE_FORTRAN_CALLER();
     MPI_Datatype own = (MPI_Datatype)(intptr_t)UNTOUCHED;
     ROOM(MPI_Aint, places, *count);

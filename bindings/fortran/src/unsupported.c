@@ -21,8 +21,8 @@ void pmpi_comm_spawn_multiple_(const MPI_Fint *count, const char *array_of_comma
     NOTE_FORTRAN_CALLER();
     MPI_Comm own = (MPI_Comm)(intptr_t)UNTOUCHED;
     (void)array_of_commands, (void)array_of_argv, (void)array_of_info;
-    *ierror = MPI_Comm_spawn_multiple(*count, NULL, MPI_ARGVS_NULL, array_of_maxprocs, NULL, *root,
-                                      MPI_Comm_f2c(*comm), &own, codes_of(array_of_errcodes));
+    *ierror = MPI_Comm_spawn_multiple(*count, NULL, MPI_ARGVS_NULL, array_of_maxprocs, NULL, *root, MPI_Comm_f2c(*comm),
+                                      &own, codes_of(array_of_errcodes));
     put_comm(intercomm, own);
 }
 #pragma weak mpi_comm_spawn_multiple_ = pmpi_comm_spawn_multiple_

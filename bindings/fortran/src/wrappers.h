@@ -1,5 +1,6 @@
-/* How Fortran's arguments become those of C and back (MPI 3.1, 17.2): for the wrappers, which tools/fortran_calls makes,
- * and for those that are written by hand. INTEGER, LOGICAL and the kinds are gfortran's: kinds.f90 looks at them. */
+/* How Fortran's arguments become those of C and back (MPI 3.1, 17.2): for the wrappers, which tools/fortran_calls
+ * makes, and for those that are written by hand. INTEGER, LOGICAL and the kinds are gfortran's: kinds.f90 looks at
+ * them. */
 #ifndef KOMBAZILY_WRAPPERS_H
 #define KOMBAZILY_WRAPPERS_H
 
