@@ -3,6 +3,7 @@
 
 #include "attributes.h"
 #include "errors.h"
+#include "intercommunicators.h"
 #include "internal.h"
 #include "neighbours.h"
 
@@ -18,7 +19,7 @@ static int entries(MPI_Comm comm, enum list list) {
     const struct communicator *own = communicator_of(comm);
     int sources = 0, destinations = 0;
     if (own == NULL) return 0;
-    if (list == LIST_OF_MEMBERS) return own->size;
+    if (list == LIST_OF_MEMBERS) return peers_of(own);
     count_neighbours_of(own, &sources, &destinations);
     return list == LIST_OF_SOURCES ? sources : destinations;
 }

@@ -4,7 +4,7 @@
 
 #include "mpi.h"
 
-/* Which lists a call of all members or neighbours takes: an entry for each of them. */
+/* Which lists a call of all members (of the other group, 6.6) or neighbours takes: an entry for each of them. */
 enum list { LIST_OF_MEMBERS, LIST_OF_SOURCES, LIST_OF_DESTINATIONS };
 
 struct kombazily_for_fortran {
