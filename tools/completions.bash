@@ -13,7 +13,7 @@ _kombazily() {
         ;;
     esac
 }
-complete -o bashdefault -o default -F _kombazily mpirun mpiexec kombazily-mpiexec mpicc mpicxx mpic++ mpiCC
+complete -o bashdefault -o default -F _kombazily mpirun mpiexec kombazily-mpiexec mpicc mpicxx mpic++ mpiCC mpifort mpif77 mpif90
 complete -o bashdefault -o default -F _kombazily mpisim mpiexplore mpidraw rank_main kombazily kombazily-check
 # In a clone of the repository: source tools/completions.bash
 case ${BASH_SOURCE[0]} in *.bash) complete -o bashdefault -o default -F _kombazily run ;; esac
