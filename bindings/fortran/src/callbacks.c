@@ -49,14 +49,14 @@ struct generalised {
     query_function *query;
     free_function *free;
     cancel_function *cancel;
-    MPI_Aint extra_state;
+    MPI_Aint *extra_state; /* the program's variable itself, as in other MPIs: its functions may change it */
 };
 
 static int query(void *state, MPI_Status *status) {
     struct generalised *it = state;
     MPI_Fint own[STATUS_SIZE], ierror = MPI_SUCCESS;
     memcpy(own, status, sizeof *status);
-    it->query(&it->extra_state, own, &ierror);
+    it->query(it->extra_state, own, &ierror);
     memcpy(status, own, sizeof *status);
     return ierror;
 }
@@ -64,7 +64,7 @@ static int query(void *state, MPI_Status *status) {
 static int release(void *state) {
     struct generalised *it = state;
     MPI_Fint ierror = MPI_SUCCESS;
-    it->free(&it->extra_state, &ierror);
+    it->free(it->extra_state, &ierror);
     free(it);
     return ierror;
 }
@@ -72,12 +72,12 @@ static int release(void *state) {
 static int cancel(void *state, int complete) {
     struct generalised *it = state;
     MPI_Fint flag = complete != 0, ierror = MPI_SUCCESS;
-    it->cancel(&it->extra_state, &flag, &ierror);
+    it->cancel(it->extra_state, &flag, &ierror);
     return ierror;
 }
 
 void pmpi_grequest_start_(query_function *query_fn, free_function *free_fn, cancel_function *cancel_fn,
-                          const MPI_Aint *extra_state, MPI_Fint *request, MPI_Fint *ierror) {
+                          MPI_Aint *extra_state, MPI_Fint *request, MPI_Fint *ierror) {
     NOTE_FORTRAN_CALLER();
     MPI_Request own = (MPI_Request)(intptr_t)UNTOUCHED;
     struct generalised *made = malloc(sizeof *made);
@@ -85,7 +85,7 @@ void pmpi_grequest_start_(query_function *query_fn, free_function *free_fn, canc
         *ierror = no_room("MPI_Grequest_start");
         return;
     }
-    *made = (struct generalised){query_fn, free_fn, cancel_fn, *extra_state};
+    *made = (struct generalised){query_fn, free_fn, cancel_fn, extra_state};
     *ierror = MPI_Grequest_start(query, release, cancel, made, &own);
     if (*ierror != MPI_SUCCESS) free(made);
     put_request(request, own);

@@ -18,6 +18,7 @@ contains
     integer(kind=MPI_ADDRESS_KIND) :: extra_state
     integer :: ierror
     freed = freed + int(extra_state)
+    extra_state = 0
     ierror = MPI_SUCCESS
   end subroutine
 
@@ -134,9 +135,11 @@ contains
   end subroutine
 
   subroutine generalised
+    integer(kind=MPI_ADDRESS_KIND), volatile :: state
     integer :: request, status(MPI_STATUS_SIZE), count
     logical :: flag
-    call MPI_GREQUEST_START(query, release, cancel, 5_MPI_ADDRESS_KIND, request, ierror)
+    state = 5
+    call MPI_GREQUEST_START(query, release, cancel, state, request, ierror)
     call MPI_CANCEL(request, ierror)
     call check(cancelled == 5, 'the function that cancels')
     call MPI_GREQUEST_COMPLETE(request, ierror)
@@ -144,6 +147,7 @@ contains
     call MPI_GET_COUNT(status, MPI_INTEGER, count, ierror)
     call MPI_TEST_CANCELLED(status, flag, ierror)
     call check(queried == 5 .and. freed == 5, 'the functions that query and free')
+    call check(state == 0, 'what a function changed')
     call check(status(MPI_TAG) == 42 .and. count == 3 .and. flag, 'the status that was set')
   end subroutine
 
