@@ -3,6 +3,7 @@
 
 #include "attributes.h"
 #include "errors.h"
+#include "explored.h"
 #include "group_lists.h"
 #include "groups.h"
 #include "handlers.h"
@@ -195,10 +196,14 @@ int MPI_Comm_group(MPI_Comm comm, MPI_Group *group) {
     return class;
 }
 
+/* So many of one communicator are the engine's, before further ones have worlds of their own. */
+enum { MOST_IN_ENGINE = 1000 };
+
 int make_communicator(MPI_Comm comm, const char *call, struct engine_call *entry, MPI_Comm *newcomm) {
     struct communicator *own = communicator_of(comm);
     MPI_Comm handle;
     struct engine_answer answer;
+    if (++own->made > MOST_IN_ENGINE && !is_explored) return make_further(comm, call, entry, newcomm);
     struct communicator *made = new_communicator(&handle);
     if (made == NULL) return raise_on(comm, call, MPI_ERR_NO_MEM, "no memory for a communicator");
     entry->communicator = own->place;

@@ -22,6 +22,7 @@ struct communicator {
     int all_size;
     struct world *world;       /* whose engine that is; held, or NULL before it is there */
     struct two_groups *groups; /* of intercommunicators.h: of an intercommunicator; else NULL */
+    uint32_t made;             /* how many the members were to make of it, together */
     MPI_Errhandler errhandler;
     int uses; /* by the program's handle, and by operations that aren't at their end */
     char name[MPI_MAX_OBJECT_NAME];
@@ -52,6 +53,8 @@ void release_communicator(struct communicator *comm);
 /* Enters the call of the engine that makes a communicator of another one; its error handler goes on with it. A member
  * that isn't in the new one gets MPI_COMM_NULL. 0, or the class of an error, of which it has told the handler. */
 int make_communicator(MPI_Comm comm, const char *call, struct engine_call *entry, MPI_Comm *newcomm);
+/* The same of a communicator of which many were made (further_parts.c). */
+int make_further(MPI_Comm comm, const char *call, const struct engine_call *entry, MPI_Comm *newcomm);
 /* The same of a copy, which has what is kept with a communicator, too (6.4.2). */
 int copy_communicator(MPI_Comm comm, const char *call, MPI_Comm *newcomm);
 /* Makes one that is nowhere yet, with its handle; NULL: there is no memory. And says where it is: at a place of the

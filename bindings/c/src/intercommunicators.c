@@ -45,9 +45,9 @@ void take_groups(struct communicator *made, struct two_groups *groups) {
 }
 
 /* Whether a member of the new one was of its parent's own group. */
-static bool was_own(const struct communicator *parent, int rank_in_world) {
-    for (int rank = 0; rank < parent->groups->size; rank++)
-        if (plan_rank(parent, parent->groups->own[rank]) == rank_in_world) return true;
+static bool was_own(const struct communicator *parent, int rank) {
+    for (int at = 0; at < parent->groups->size; at++)
+        if (world_rank(parent, parent->groups->own[at]) == rank) return true;
     return false;
 }
 
@@ -56,7 +56,7 @@ uint32_t part_groups(struct communicator *made, const struct communicator *paren
     *is_none = false;
     if (groups == NULL) return NUMBER_NO_MEMORY;
     for (int member = 0; member < made->all_size; member++) {
-        if (was_own(parent, plan_rank(made, member))) groups->own[groups->size++] = (uint16_t)member;
+        if (was_own(parent, world_rank(made, member))) groups->own[groups->size++] = (uint16_t)member;
         else groups->other[groups->other_size++] = (uint16_t)member;
     }
     *is_none = groups->size == 0 || groups->other_size == 0;
