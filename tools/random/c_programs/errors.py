@@ -27,7 +27,6 @@ LOCAL = (
     ("no grid", "MPI_Cart_rank(comm, &x, &y)"),
     ("no grid's coordinates", "MPI_Cart_coords(comm, 0, 1, &x)"),
     ("no graph", "MPI_Graph_neighbors_count(comm, 0, &x)"),
-    ("a key that isn't", "MPI_Comm_set_attr(comm, MPI_KEYVAL_INVALID, &x)"),
     ("a key that isn't got", "MPI_Comm_get_attr(comm, MPI_KEYVAL_INVALID, &p, &flag)"),
     ("sendrecv to a rank too high", "MPI_Sendrecv(&x, 1, MPI_INT, size + 3, 0, &y, 1, MPI_INT, 0, 0, comm, &status)"),
     ("a persistent send to a rank too high", "MPI_Send_init(&x, 1, MPI_INT, size + 3, 0, comm, &q)"),

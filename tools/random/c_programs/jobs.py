@@ -15,6 +15,7 @@ import programs
 STRIDE = 40       # from the ports of a rank to those of the next, over a network that loses
 OTHERS = {"mpich": (["mpicc.mpich"], ["mpiexec.mpich"]),
           "openmpi": (["mpicc.openmpi"], ["mpiexec.openmpi", "--allow-run-as-root", "--oversubscribe"])}
+LATE = "it took more than"
 SANITIZERS = ["-fsanitize=address,undefined", "-fno-sanitize-recover=all"]
 
 
@@ -67,7 +68,7 @@ def finished(started, seconds):
         statuses.append(it.returncode)
     text = " | ".join("".join(said).strip().splitlines()[:12])[:1500]
     if is_late:
-        return "it took more than %d s: %s" % (seconds, text)
+        return "%s %d s: %s" % (LATE, seconds, text)
     return "statuses %s: %s" % (statuses, text) if any(statuses) else None
 
 
@@ -77,9 +78,10 @@ def start(words, **more):
 
 
 def make_library(room, engine, flags=()):
-    """The library in a folder of its own."""
+    """The static library in a folder of its own."""
+    targets = [room / "lib" / "libmpi.a", *(room / "include" / it.name for it in (c_programs.BINDING / "include").glob("*.h"))]
     words = ["make", "-s", "-j%d" % (os.cpu_count() or 1), "-C", c_programs.BINDING, "OUT=%s" % room, "ENGINE=%s" % Path(engine).resolve()]
-    made = subprocess.run([*words, *(["CFLAGS=-g -O1 %s" % " ".join(flags)] if flags else [])], stdin=subprocess.DEVNULL,
+    made = subprocess.run([*words, *map(str, targets), *(["CFLAGS=-g -O1 %s" % " ".join(flags)] if flags else [])], stdin=subprocess.DEVNULL,
                           stdout=subprocess.PIPE, stderr=subprocess.STDOUT, text=True)
     if made.returncode != 0:
         raise Fault(made.stdout[-2000:])
@@ -120,9 +122,14 @@ class Jobs:
             return Ended(folder, size, finished([job], self.seconds))
 
     def under(self, mpi, program, size):
+        """Once more with more time where it takes long: others poll, which on a busy machine takes tens of seconds."""
+        ended = self.once_under(mpi, program, size, self.seconds)
+        return self.once_under(mpi, program, size, 4 * self.seconds) if LATE in (ended.fault or "") else ended
+
+    def once_under(self, mpi, program, size, seconds):
         folder = self.folder(program)
-        job = start([*OTHERS[mpi][1], "-n", size, program, "details", folder], env={**os.environ, "OMPI_MCA_btl_vader_single_copy_mechanism": "none"})
-        return Ended(folder, size, finished([job], self.seconds))
+        job = start([*OTHERS[mpi][1], "-n", size, program, "details", folder])
+        return Ended(folder, size, finished([job], seconds))
 
     def over_loss(self, program, size):
         """The network between the ranks loses one datagram of ten, repeats one of twenty, and has each wait up to a millisecond."""
