@@ -1,9 +1,10 @@
 -- One step more, told.
-use Rattle.std.proofs.Common.{◌≡◌, ℕ, suc, length, List, [], ◌∷◌, ◌++◌, Option, Some, None, refl, ap, append_assoc}
+use Rattle.std.proofs.Common.{◌≡◌, ℕ, suc, length, List, [], ◌∷◌, ◌++◌, Option, Some, None, refl, ap, ap₂, ◌∙◌}
+use Rattle.std.proofs.Common.{append_assoc, drop, nat_le, if◌then◌else◌, Ok}
 use Rattle.std.proofs.Common.{append-nil}
 use Rattle.collective_plans.specs.declared.plan.Step.{Step}
 use Rattle.plan_rows.specs.declared.records.StepRecord.{StepRecord}
-use Rattle.plan_rows.specs.Rows.{joins, rows_told, step_told, told_before, told_last}
+use Rattle.plan_rows.specs.Rows.{IsPut, joins, rows_told, step_told, told_before, told_last}
 
 -- a step that isn't told yet, and those behind it
 abbrev pub with_before : Option Step → List Step → List Step
@@ -24,3 +25,15 @@ last_then old (Some y) = refl
 pub rows_long : (plan : List Step) → length (rows_told plan) ≡ length plan
 rows_long [] = refl
 rows_long (x ∷ xs) = ap (λ (n : ℕ). suc n) (rows_long xs)
+
+-- records that are put are the plan's
+pub put_gives : (plan : List Step) (rows old new : List StepRecord) (count : ℕ) → rows ≡ rows_told plan →
+    count ≡ length rows → new ≡ (if nat_le (length rows) (length old) then rows ++ drop (length rows) old else old) →
+    IsPut (Ok plan) old new count
+put_gives plan rows old new count is n h = (
+  n ∙ long,
+  h ∙ ap₂ (λ (k : ℕ) (rs : List StepRecord). if nat_le k (length old) then rs ++ drop k old else old) long is,
+)
+  where
+    long : length rows ≡ length plan
+    long = ap (λ (rs : List StepRecord). length rs) is ∙ rows_long plan

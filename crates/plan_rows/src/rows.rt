@@ -1,6 +1,6 @@
 //! Plans as rows of records.
 
-ghost use Rattle.std.specs.Prelude.{◌≡◌, ◌<◌, ◌≤◌, ◌++◌, length, drop, Ok, IfOk, IfErr, OnOk};
+ghost use Rattle.std.specs.Prelude.{◌≡◌, ◌<◌, ◌≤◌, ◌++◌, length, drop, nat_le, if◌then◌else◌, Ok, IfOk, IfErr, OnOk};
 ghost use Rattle.plan_rows.specs.Rows.{IsPut, IsRefused, joins, plan_for, plan_meant, rows_told, slot_told, step_told};
 ghost use Rattle.plan_rows.specs.Rows.{told_before, told_last};
 
@@ -211,9 +211,20 @@ fn put_front(from: &[StepRecord], into: &mut [StepRecord])
     into[..from.len()].copy_from_slice(from);
 }
 
+/// Puts the records over the first ones, where there is room for all of them; answers how many they are.
+fn put_rows(rows: &[StepRecord], into: &mut [StepRecord]) -> usize
+    ensures count { result ≡ length rows.now }
+    ensures put { into.new ≡ (if nat_le (length rows.now) (length into.old)
+        then rows.now ++ drop (length rows.now) into.old else into.old) }
+{
+    if rows.len() <= into.len() {
+        put_front(rows, into);
+    }
+    rows.len()
+}
+
 /// Puts the plan that is asked for over the first records, where there is room for all of its steps; answers how many
 /// steps it has. Refused as `plan_of` is; then the records are as they were.
-#[tactic(auto, using(crate::proofs::RowLoops::rows_long))]
 pub fn put_plan(alloc: Global, asked: &PlanRecord, into: &mut [StepRecord]) -> Result<usize, u8>
     ensures ok { IfOk result (λ count. IsPut (plan_meant asked.now) into.old into.new count) }
     ensures err { IfErr result (λ number. IsRefused (plan_meant asked.now) number × (into.new ≡ into.old)) }
@@ -225,8 +236,5 @@ pub fn put_plan(alloc: Global, asked: &PlanRecord, into: &mut [StepRecord]) -> R
     let Ok(rows) = rows_of(alloc, plan.as_slice()) else {
         return Err(OUT_OF_MEMORY);
     };
-    if rows.len() <= into.len() {
-        put_front(rows.as_slice(), into);
-    }
-    Ok(rows.len())
+    Ok(put_rows(rows.as_slice(), into))
 }
