@@ -27,6 +27,8 @@ struct plan_asked {
     uint32_t size; /* how many members there are: 65,536 at most */
     uint32_t rank;
     uint32_t root;
+    uint32_t regroups; /* 1 where the operation of a reduction is associative on the elements (kombazily_regroups) */
+    uint64_t bytes;    /* of each block of all members, where all have as many and know so; else UINT64_MAX */
 };
 
 /* A block that a step names: a place among those that the member hands in, those of its result, or those of the room
@@ -45,8 +47,9 @@ enum plan_step_kind {
     STEP_FOLD      /* from (of lower ranks), high, into */
 };
 struct plan_step {
-    uint32_t kind; /* a plan_step_kind */
-    uint32_t peer; /* a rank in the communicator */
+    uint32_t kind;   /* a plan_step_kind */
+    uint32_t peer;   /* a rank in the communicator */
+    uint32_t joined; /* 1: the block of the next step, which has the same kind and peer, is in the same message */
     struct plan_slot from, high, into;
 };
 
@@ -60,5 +63,9 @@ uint32_t kombazily_plan(const struct plan_asked *asked, struct plan_step *steps,
  * it isn't defined on the type), 1 (lengths), 14, in this order; then `high` is as it was. */
 uint32_t kombazily_fold(uint32_t operation, uint32_t basic, const uint8_t *low, size_t low_length, uint8_t *high,
                         size_t high_length);
+
+/* Whether an operation is associative on elements of a basic type: 1, or 0, also where there is no such operation or
+ * type. */
+uint32_t kombazily_regroups(uint32_t operation, uint32_t basic);
 
 #endif

@@ -79,22 +79,25 @@ FIELD(told_place, address, 8, 4);
 FIELD(told_place, port, 12, 2);
 FIELD(told_place, has_job, 14, 1);
 
-RECORD(plan_asked, 16, 4);
+RECORD(plan_asked, 32, 8);
 FIELD(plan_asked, kind, 0, 4);
 FIELD(plan_asked, size, 4, 4);
 FIELD(plan_asked, rank, 8, 4);
 FIELD(plan_asked, root, 12, 4);
+FIELD(plan_asked, regroups, 16, 4);
+FIELD(plan_asked, bytes, 24, 8);
 
 RECORD(plan_slot, 8, 4);
 FIELD(plan_slot, kind, 0, 4);
 FIELD(plan_slot, place, 4, 4);
 
-RECORD(plan_step, 32, 4);
+RECORD(plan_step, 36, 4);
 FIELD(plan_step, kind, 0, 4);
 FIELD(plan_step, peer, 4, 4);
-FIELD(plan_step, from, 8, 8);
-FIELD(plan_step, high, 16, 8);
-FIELD(plan_step, into, 24, 8);
+FIELD(plan_step, joined, 8, 4);
+FIELD(plan_step, from, 12, 8);
+FIELD(plan_step, high, 20, 8);
+FIELD(plan_step, into, 28, 8);
 
 /* The kinds of calls. */
 NUMBER(ENGINE_ISEND, 1);
@@ -245,3 +248,4 @@ size_t kombazily_place_text(const struct told_place *, uint8_t *, size_t);
 bool kombazily_read_place(const uint8_t *, size_t, uint16_t, struct told_place *);
 uint32_t kombazily_plan(const struct plan_asked *, struct plan_step *, size_t, uint64_t *);
 uint32_t kombazily_fold(uint32_t, uint32_t, const uint8_t *, size_t, uint8_t *, size_t);
+uint32_t kombazily_regroups(uint32_t, uint32_t);

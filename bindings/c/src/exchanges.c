@@ -7,7 +7,7 @@
 
 /* Block j of each result is what member j hands in. */
 static int allgather(struct asked *asked, const struct blocks *send, const struct blocks *receive) {
-    struct plan_call call = {.kind = PLAN_ALLGATHER};
+    struct plan_call call = {.kind = PLAN_ALLGATHER, .are_alike = receive->counts == NULL};
     if (is_of_inter(asked->handle)) return inter_allgather(asked, send, receive);
     int class = check_asked(asked);
     if (class == MPI_SUCCESS) class = list_blocks(asked, receive, asked->comm->size, &call.got);
@@ -61,7 +61,7 @@ int MPI_Iallgatherv(const void *sendbuf, int sendcount, MPI_Datatype sendtype, v
 
 /* Block j of a member's result is what member j hands in for it. */
 static int alltoall(struct asked *asked, const struct blocks *send, const struct blocks *receive) {
-    struct plan_call call = {.kind = PLAN_ALLTOALL};
+    struct plan_call call = {.kind = PLAN_ALLTOALL, .are_alike = receive->counts == NULL};
     if (is_of_inter(asked->handle)) return inter_alltoall(asked, send, receive);
     int class = check_asked(asked);
     if (class == MPI_SUCCESS) class = list_blocks(asked, receive, asked->comm->size, &call.got);

@@ -17,7 +17,6 @@ bool is_of_inter(MPI_Comm comm) {
 
 /* ---- steps ---- */
 
-static const struct plan_slot none = {SLOT_NONE, 0};
 static struct plan_slot given(int place) { return (struct plan_slot){SLOT_GIVEN, (uint32_t)place}; }
 static struct plan_slot got(int place) { return (struct plan_slot){SLOT_GOT, (uint32_t)place}; }
 static struct plan_slot kept(int place) { return (struct plan_slot){SLOT_KEPT, (uint32_t)place}; }
@@ -25,10 +24,10 @@ static struct plan_slot kept(int place) { return (struct plan_slot){SLOT_KEPT, (
 static void put(struct plan_call *call, struct plan_step step) { call->steps[call->step_count++] = step; }
 
 static void put_send(struct plan_call *call, int member, struct plan_slot from) {
-    put(call, (struct plan_step){STEP_SEND, (uint32_t)member, from, none, none});
+    put(call, (struct plan_step){.kind = STEP_SEND, .peer = (uint32_t)member, .from = from});
 }
 static void put_receive(struct plan_call *call, int member, struct plan_slot into) {
-    put(call, (struct plan_step){STEP_RECEIVE, (uint32_t)member, none, none, into});
+    put(call, (struct plan_step){.kind = STEP_RECEIVE, .peer = (uint32_t)member, .into = into});
 }
 
 /* Receives a block of each of the other group, and folds them into the result. */
@@ -37,7 +36,10 @@ static void put_folds(struct plan_call *call) {
     const int last = groups->other_size - 1;
     for (int rank = 0; rank <= last; rank++) put_receive(call, groups->other[rank], last == 0 ? got(0) : kept(rank));
     for (int rank = 1; rank <= last; rank++)
-        put(call, (struct plan_step){STEP_FOLD, 0, kept(rank - 1), kept(rank), rank == last ? got(0) : kept(rank)});
+        put(call, (struct plan_step){.kind = STEP_FOLD,
+                                     .from = kept(rank - 1),
+                                     .high = kept(rank),
+                                     .into = rank == last ? got(0) : kept(rank)});
 }
 
 /* What is wrong, or the plan. */
@@ -232,8 +234,8 @@ static void put_parts(struct plan_call *call) {
     const struct two_groups *groups = call->comm->groups;
     put_folds(call);
     /* The parts stand in the whole: it has to be there first. */
-    put(call, (struct plan_step){STEP_COPY, 0, got(0), none, got(0)});
-    put(call, (struct plan_step){STEP_COPY, 0, given(1), none, got(1)});
+    put(call, (struct plan_step){.kind = STEP_COPY, .from = got(0), .into = got(0)});
+    put(call, (struct plan_step){.kind = STEP_COPY, .from = given(1), .into = got(1)});
     for (int rank = 1; rank < groups->size; rank++) put_send(call, groups->own[rank], given(rank + 1));
 }
 

@@ -75,6 +75,19 @@ int check_operation(MPI_Comm comm, const char *call, MPI_Op op, const struct dat
 
 /* ---- folds ---- */
 
+/* Whether C folds the items itself, and not the engine's definitions. */
+static bool is_folded_here(const struct operation *operation, const struct datatype *type) {
+    if (!is_predefined(operation) || operation->number > ENGINE_BXOR) return true;
+    if (type->family == FAMILY_COMPLEX && operation->number == ENGINE_PROD) return true;
+    return type->basic == ENGINE_BYTE && (type->family == FAMILY_FLOATING || type->family == FAMILY_COMPLEX);
+}
+
+bool folds_regroup(const struct folding *folding, const struct datatype *type) {
+    const struct operation *operation = folding->operation;
+    if (operation == NULL || type == NULL || is_folded_here(operation, type)) return false;
+    return kombazily_regroups((uint32_t)operation->number, type->basic) == 1;
+}
+
 uint32_t fold_items(const struct folding *folding, const void *low, void *high, size_t count,
                     const struct datatype *type) {
     const struct operation *operation = folding->operation;

@@ -44,5 +44,8 @@ struct folding {
  * 0, or a number. By the crate `reductions` where the engine knows the numbers. */
 uint32_t fold_items(const struct folding *folding, const void *low, void *high, size_t count,
                     const struct datatype *type);
+/* Whether such folds are known to be associative, so that a reduction may fold any two that stand beside one another
+ * first. All members say so alike: it hangs on the operation and the type. */
+bool folds_regroup(const struct folding *folding, const struct datatype *type);
 
 #endif

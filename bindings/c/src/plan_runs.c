@@ -53,10 +53,16 @@ static struct plan_run *on_their_way;
 
 /* ---- blocks ---- */
 
-/* Room is like what one gets: a block that is folded into it, or that goes on. */
+/* Room is like what one gets, or where that is nothing, like what one hands in: a block that is folded into it, or that
+ * goes on. */
+static struct place room_like(const struct plan_call *call) {
+    if (call->got.count > 0) return call->got.list[0];
+    return call->given.count > 0 ? call->given.list[0] : (struct place){0};
+}
+
 static struct place kept_place(const struct plan_run *run, uint32_t number) {
     if (run->room == NULL) return (struct place){0};
-    struct place like = run->call.got.list[0];
+    struct place like = room_like(&run->call);
     like.at = run->room + number * run->room_of_each + run->room_before;
     return like;
 }
@@ -95,6 +101,41 @@ static uint32_t begin_message(struct message *message, const struct engine_call 
     return 0;
 }
 
+/* So many steps from this one on are one message: each but the last is joined to the next one. */
+static size_t joined_steps(const struct plan_run *run, size_t at) {
+    size_t end = at;
+    while (run->steps[end].joined != 0) end++;
+    return end + 1 - at;
+}
+
+/* The step whose message has the block of this one. */
+static size_t head_of(const struct plan_run *run, size_t at) {
+    while (at > 0 && run->steps[at - 1].joined != 0) at--;
+    return at;
+}
+
+/* Sends the blocks of several steps as one message. */
+static uint32_t send_joined(struct plan_run *run, const struct plan_step *steps, size_t count,
+                            struct message *message) {
+    struct engine_call send = message_of(run, ENGINE_ISEND, steps->peer);
+    size_t len = 0, behind = 0;
+    for (size_t at = 0; at < count; at++) len += place_length(place_of(run, steps[at].from));
+    if (len > ENGINE_GREATEST_LIMIT) return NUMBER_COUNT;
+    if (len == 0) return begin_message(message, &send, NULL, 0);
+    unsigned char *row = malloc(len);
+    if (row == NULL) return NUMBER_NO_MEMORY;
+    for (size_t at = 0; at < count; at++) {
+        struct place from = place_of(run, steps[at].from);
+        if (place_length(from) == 0) continue;
+        pack(&from.type->layout, from.at, from.count, row + behind);
+        behind += place_length(from);
+        send.basic = from.type->basic;
+    }
+    uint32_t number = begin_message(message, &send, row, len);
+    free(row);
+    return number;
+}
+
 static uint32_t send_block(struct plan_run *run, const struct plan_step *step, struct message *message) {
     struct place from = place_of(run, step->from);
     struct engine_call send = message_of(run, ENGINE_ISEND, step->peer);
@@ -108,6 +149,27 @@ static uint32_t send_block(struct plan_run *run, const struct plan_step *step, s
     uint32_t number = begin_message(message, &send, row, len);
     free(room);
     return number;
+}
+
+/* Bytes of the blocks that come into several steps' slots. */
+static size_t joined_length(const struct plan_run *run, const struct plan_step *steps, size_t count) {
+    size_t len = 0;
+    for (size_t at = 0; at < count; at++) len += place_length(place_of(run, steps[at].into));
+    return len;
+}
+
+/* Receives the blocks of several steps as one message. */
+static uint32_t receive_joined(struct plan_run *run, const struct plan_step *steps, size_t count,
+                               struct message *message) {
+    struct engine_call receive = message_of(run, ENGINE_IRECV, steps->peer);
+    size_t len = joined_length(run, steps, count);
+    for (size_t at = 0; at < count && len > 0; at++) {
+        struct place into = place_of(run, steps[at].into);
+        if (place_length(into) == 0) continue;
+        receive.basic = into.type->basic;
+        receive.count = engine_elements(into.type, len);
+    }
+    return begin_message(message, &receive, NULL, 0);
 }
 
 static uint32_t receive_block(struct plan_run *run, const struct plan_step *step, struct message *message) {
@@ -136,16 +198,35 @@ static uint32_t take_block(struct place into, size_t bytes) {
     return 0;
 }
 
-/* Why a receive that ended so is no block of the plan, or 0: its data are taken then. */
-static uint32_t end_receive(struct place into, const struct engine_answer *answer, struct fault *fault) {
-    fault->wanted = place_length(into);
+/* Puts the data of several blocks where they belong. */
+static uint32_t take_joined(struct plan_run *run, const struct plan_step *steps, size_t count, size_t bytes) {
+    unsigned char *row = malloc(bytes);
+    size_t behind = 0;
+    if (row == NULL) return NUMBER_NO_MEMORY;
+    take_from_plans(row, bytes);
+    for (size_t at = 0; at < count; at++) {
+        struct place into = place_of(run, steps[at].into);
+        size_t len = place_length(into);
+        if (len > 0) unpack(&into.type->layout, row + behind, len, into.at);
+        behind += len;
+    }
+    free(row);
+    return 0;
+}
+
+/* Why a receive that ended so is no message of the plan, or 0: its data are taken then. */
+static uint32_t end_receive(struct plan_run *run, size_t at, const struct engine_answer *answer, struct fault *fault) {
+    const struct plan_step *step = &run->steps[at];
+    const size_t count = joined_steps(run, at);
+    fault->wanted = joined_length(run, step, count);
     fault->came = answer->outcome == ENGINE_RECEIVED ? (size_t)answer->bytes : 0;
     bool is_empty = answer->outcome != ENGINE_REPLACED && answer->count == 0;
     if (is_empty) return fault->wanted == 0 ? 0 : NUMBER_COUNT;
     /* Where nothing is wanted, any data are too many. */
     if (fault->wanted == 0 && answer->number == NUMBER_TYPE) return NUMBER_TRUNCATED;
     if (answer->outcome != ENGINE_RECEIVED) return answer->number;
-    return fault->came == fault->wanted ? take_block(into, fault->came) : NUMBER_COUNT;
+    if (fault->came != fault->wanted) return NUMBER_COUNT;
+    return count > 1 ? take_joined(run, step, count, fault->came) : take_block(place_of(run, step->into), fault->came);
 }
 
 /* Notes the end of a send or a receive. */
@@ -155,14 +236,15 @@ static void note_end(struct plan_run *run, size_t at, const struct engine_answer
     uint32_t number = 0;
     run->messages[at].is_ended = true;
     if (answer->kind == ENGINE_REFUSED || answer->outcome == ENGINE_REPLACED) number = answer->number;
-    else if (step->kind == STEP_RECEIVE) number = end_receive(place_of(run, step->into), answer, &fault);
+    else if (step->kind == STEP_RECEIVE) number = end_receive(run, at, answer, &fault);
     if (number == 0 || run->number != 0) return;
     run->number = number;
     run->fault = fault;
 }
 
 /* Whether a send or a receive is at its end; where it is, that is noted. */
-static bool has_passed(struct plan_run *run, size_t at) {
+static bool has_passed(struct plan_run *run, size_t step) {
+    const size_t at = head_of(run, step);
     struct message *message = &run->messages[at];
     if (!message->is_begun || message->is_ended) return true;
     struct engine_call call = {.kind = ENGINE_LOOK, .request = message->own};
@@ -195,27 +277,45 @@ static uint32_t fold_blocks(struct plan_run *run, const struct plan_step *step) 
     return fold_items(&run->call.folding, place_of(run, step->from).at, into.at, into.count, into.type);
 }
 
-/* Takes the next step: false where a block isn't there yet. */
+/* Whether what was to come into the blocks of all these steps is there. */
+static bool are_there(struct plan_run *run, const struct plan_step *steps, size_t count) {
+    for (size_t at = 0; at < count; at++)
+        if (!is_there(run, steps[at].from) || !is_there(run, steps[at].high) || !is_there(run, steps[at].into))
+            return false;
+    return true;
+}
+
+static uint32_t send_steps(struct plan_run *run, const struct plan_step *step, size_t count) {
+    struct message *message = &run->messages[run->next];
+    return count > 1 ? send_joined(run, step, count, message) : send_block(run, step, message);
+}
+
+static uint32_t receive_steps(struct plan_run *run, const struct plan_step *step, size_t count) {
+    struct message *message = &run->messages[run->next];
+    return count > 1 ? receive_joined(run, step, count, message) : receive_block(run, step, message);
+}
+
+/* Takes the next step, with those that are joined to it: false where a block isn't there yet. */
 static bool take_step(struct plan_run *run) {
     const struct plan_step *step = &run->steps[run->next];
-    struct message *message = &run->messages[run->next];
-    if (!is_there(run, step->from) || !is_there(run, step->high) || !is_there(run, step->into)) return false;
+    const size_t count = joined_steps(run, run->next);
+    if (!are_there(run, step, count)) return false;
     if (run->number != 0) return true;
     switch (step->kind) {
     case STEP_COPY:
         run->number = copy_place(place_of(run, step->from), place_of(run, step->into));
         break;
     case STEP_SEND:
-        run->number = send_block(run, step, message);
+        run->number = send_steps(run, step, count);
         break;
     case STEP_RECEIVE:
-        run->number = receive_block(run, step, message);
+        run->number = receive_steps(run, step, count);
         break;
     case STEP_FOLD:
         run->number = fold_blocks(run, step);
         break;
     }
-    run->next++;
+    run->next += count;
     return true;
 }
 
@@ -360,8 +460,12 @@ static uint32_t take_steps(struct plan_run *run) {
 static uint32_t find_steps(struct plan_run *run) {
     const struct plan_call *call = &run->call;
     if (call->steps != NULL) return take_steps(run);
-    const struct plan_asked asked = {(uint32_t)call->kind, (uint32_t)call->comm->size, (uint32_t)call->comm->rank,
-                                     (uint32_t)call->root};
+    const struct plan_asked asked = {.kind = (uint32_t)call->kind,
+                                     .size = (uint32_t)call->comm->size,
+                                     .rank = (uint32_t)call->comm->rank,
+                                     .root = (uint32_t)call->root,
+                                     .bytes = call->are_alike ? place_length(call->got.list[0]) : UINT64_MAX,
+                                     .regroups = folds_regroup(&call->folding, room_like(call).type)};
     struct plan_step none;
     uint64_t count = 0;
     uint32_t number = kombazily_plan(&asked, &none, 0, &count);
@@ -382,8 +486,8 @@ static uint32_t find_room(struct plan_run *run) {
     uint32_t kept = 0;
     for (size_t at = 0; at < run->count; at++)
         kept = most_kept(most_kept(kept, run->steps[at].from), run->steps[at].into);
-    if (kept == 0 || run->call.got.count == 0 || place_length(run->call.got.list[0]) == 0) return 0;
-    const struct place like = run->call.got.list[0];
+    const struct place like = room_like(&run->call);
+    if (kept == 0 || place_length(like) == 0) return 0;
     const struct layout *layout = &like.type->layout;
     /* An extent may be negative. */
     ptrdiff_t last = (ptrdiff_t)(like.count - 1) * layout->extent;

@@ -33,6 +33,7 @@ struct plan_call {
     struct communicator *comm;
     int root;
     struct places given, got;
+    bool are_alike;          /* all blocks of all members have as many bytes, and all members know so */
     struct folding folding;  /* by what blocks are folded */
     struct plan_step *steps; /* NULL: those that the engine's plan has; else freed with the plan. Of an */
     size_t step_count;       /* intercommunicator they name all members */

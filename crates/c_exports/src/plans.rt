@@ -1,9 +1,10 @@
 //! What C calls to carry out collectives: plans, and folds.
 
 ghost use Rattle.plan_rows.specs.Rows.{PlanGives, plan_meant};
-ghost use Rattle.c_folds.specs.Folds.{Folds};
+ghost use Rattle.std.specs.Prelude.{◌≡◌, if◌then◌else◌};
+ghost use Rattle.c_folds.specs.Folds.{Folds, regroups};
 
-use c_folds::fold_elements;
+use c_folds::{fold_elements, regroups};
 use plan_rows::{PlanRecord, StepRecord, put_plan};
 use std::alloc::Global;
 
@@ -40,4 +41,12 @@ pub extern "C" fn kombazily_fold(
     ensures { Folds operation basic low.now high.old result high.new }
 {
     u32::from(fold_elements(alloc, operation, basic, low, high))
+}
+
+/// Whether the operation is associative on the elements: 1, or 0, also where a code names no operation or no type.
+#[unsafe(no_mangle)]
+pub extern "C" fn kombazily_regroups(operation: u32, basic: u32) -> u32
+    ensures { result ≡ (if regroups operation basic then 1 else 0) }
+{
+    u32::from(regroups(operation, basic))
 }

@@ -1,10 +1,10 @@
 -- What a fold of two rows of elements gives.
-use Rattle.std.specs.Prelude.{◌≡◌, ◌⊎◌, ◌==◌, ◌%◌, ◌&&◌, ℕ, List, length, if◌then◌else◌}
+use Rattle.std.specs.Prelude.{◌≡◌, ◌⊎◌, ◌==◌, ◌%◌, ◌&&◌, ℕ, Bool, false, List, length, if◌then◌else◌}
 use Rattle.std.specs.Prelude.{Option, Some, None, Result, Ok, Err}
 use Rattle.datatypes.specs.Contents.{bytes_of}
 use Rattle.datatypes.specs.Combinations.{combined_values}
 use Rattle.vocabulary.specs.BasicTypes.{size_of, type_at}
-use Rattle.vocabulary.specs.Operations.{is_defined, operation_at}
+use Rattle.vocabulary.specs.Operations.{is_associative, is_defined, operation_at}
 use Rattle.vocabulary.specs.declared.basic_type.BasicType.{BasicType}
 use Rattle.vocabulary.specs.declared.operation.Operation.{Operation}
 use Rattle.reductions.specs.Operations.{combined}
@@ -47,3 +47,13 @@ FoldGives (Err fault) old number new = (number ≡ fault) × (new ≡ old)
 abbrev pub Folds : (operation basic : ℕ) → (low old : List ℕ) → (number : ℕ) → (new : List ℕ) → Type 0
 Folds operation basic low old number new =
     FoldGives (fold_meant (type_at basic) (operation_at operation) low old) old number new
+
+-- whether an operation is associative on a type's elements
+abbrev pub regroups_on : Option Operation → Option BasicType → Bool
+regroups_on None basic = false
+regroups_on (Some op) None = false
+regroups_on (Some op) (Some basic) = is_associative op basic
+
+-- those that two codes name
+abbrev pub regroups : (operation basic : ℕ) → Bool
+regroups operation basic = regroups_on (operation_at operation) (type_at basic)

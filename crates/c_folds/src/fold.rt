@@ -3,7 +3,7 @@
 ghost use Rattle.std.specs.Prelude.{◌≡◌, ◌⊎◌, ◌%◌, length};
 ghost use Rattle.vocabulary.specs.BasicTypes.{size_of, type_at};
 ghost use Rattle.vocabulary.specs.Operations.{operation_at};
-ghost use Rattle.c_folds.specs.Folds.{FoldGives, Folds, folded_bytes, operation_fold, typed_fold};
+ghost use Rattle.c_folds.specs.Folds.{FoldGives, Folds, folded_bytes, operation_fold, regroups, typed_fold};
 
 use c_rank::{elements_in, turn_elements};
 use reductions::{Reduction, accumulate};
@@ -99,4 +99,18 @@ pub fn fold_elements(alloc: Global, operation: u32, basic: u32, low: &[u8], high
         return NOT_DEFINED;
     };
     fold_typed(alloc, operation, basic, low, high)
+}
+
+/// Whether it makes no difference which of three elements that stand beside one another are folded first: whether the
+/// operation is associative on the elements. It isn't where a code names no operation, or no type.
+pub fn regroups(operation: u32, basic: u32) -> bool
+    ensures { result ≡ regroups operation basic }
+{
+    let Some(operation) = operation_of(operation) else {
+        return false;
+    };
+    let Some(basic) = basic_of(basic) else {
+        return false;
+    };
+    operation.is_associative_on(basic)
 }

@@ -3,4 +3,4 @@
 
 mod fold;
 
-pub use fold::fold_elements;
+pub use fold::{fold_elements, regroups};

@@ -4,4 +4,14 @@ mod PlanLoops
 mod AheadProofs
 mod StarProofs
 mod ChainProofs
-mod FoldProofs
+mod ScriptProofs
+mod EnteringProofs
+mod PartProofs
+mod TreeProofs
+mod OrderedProofs
+mod BarrierProofs
+mod TreeLoops
+mod OrderedLoops
+mod RoundProofs
+mod BruckProofs
+mod RoundLoops

@@ -1,4 +1,4 @@
--- What gather, scatter and broadcast give.
+-- What gather and scatter give.
 use Rattle.std.proofs.Common.{◌≡◌, ◌<◌, ◌≤◌, inl, inr, ℕ, suc, ◌-◌, Bool, true, false, not, ◌&&◌, List, []}
 use Rattle.std.proofs.Common.{◌∷◌, if◌then◌else◌, ◌==◌, nat_lt, refl, sym, ap, ◌∙◌, append-nil, arith, ne_eqb}
 use Rattle.std.proofs.lemmas.Bool.{eqb-true, eq-eqb, lt-ltb, ltb-true, ltb-false}
@@ -11,7 +11,7 @@ use Rattle.collective_plans.specs.Networks.{Folding}
 use Rattle.collective_plans.specs.Meanings.{Inbox, IsTalk, Talk, ends_with, first_of, said_to, told}
 use Rattle.collective_plans.specs.Exchanges.{all_receives, all_sends, falling, receivers, senders}
 use Rattle.collective_plans.specs.PlanLaws.{among}
-use Rattle.collective_plans.specs.Stars.{BroadcastGives, GatherGives, ScatterGives, broadcast, gather, scatter}
+use Rattle.collective_plans.specs.Stars.{GatherGives, ScatterGives, gather, scatter}
 use Rattle.collective_plans.proofs.ExchangeProofs.{AreOneKind, both_give, copies_of}
 use Rattle.collective_plans.proofs.ExchangeProofs.{ends_receives, ends_sends, got_is_one_kind}
 use Rattle.collective_plans.proofs.ExchangeProofs.{inbox_after, inbox_out, memory_after, memory_append, memory_in}
@@ -152,57 +152,3 @@ scatter_gives f n root given r lo lr =
         (eq-eqb root root refl)
         ∙ ap (λ (t : Bool). first_of (if t && not (r == root) then given root (Given r) ∷ [] else [])) (lt-ltb r n lr)
         ∙ ap (λ (t : Bool). first_of (if not t then given root (Given r) ∷ [] else [])) e
-
--- BROADCAST
-
-abbrev broadcasted : (n root : ℕ) → (given : ℕ → Memory) → Talk
-broadcasted n root given s d =
-    if nat_lt s n && ((s == root) && (nat_lt d n && not (d == s))) then given s (Given 0) ∷ [] else []
-
-broadcast_is_talk : (f : Folding) (n root : ℕ) (given : ℕ → Memory) →
-    IsTalk f (among n (broadcast n root)) given (broadcasted n root given)
-broadcast_is_talk f n root given s d = go (nat_lt s n) refl (s == root)
-  where
-    at_root : s < n → said_to f d (told (broadcasted n root given) s) (with_block (given s) (Got 0) (given s (Given 0)))
-        (all_sends (λ x. Given 0) (receivers n s)) ≡ (if nat_lt d n && not (d == s) then given s (Given 0) ∷ [] else [])
-    at_root lt = ap (λ (ss : List Step). said_to f d (told (broadcasted n root given) s)
-        (with_block (given s) (Got 0) (given s (Given 0))) ss) (sym (append-nil (all_sends (λ x. Given 0)
-        (receivers n s))))
-        ∙ said_sends f d (told (broadcasted n root given) s) (with_block (given s) (Got 0) (given s (Given 0)))
-        (λ x. Given 0)
-        (receivers n s) []
-        ∙ append-nil _
-        ∙ copies_of n s d (given s (Given 0)) lt
-
-    go : (a : Bool) → nat_lt s n ≡ a → (b : Bool) → said_to f d (told (broadcasted n root given) s) (given s)
-        (if a then (if b then Copy (Given 0) (Got 0) ∷ all_sends (λ x. Given 0) (receivers n s) else Receive root
-        (Got 0) ∷ [])
-        else []) ≡ (if a && (b && (nat_lt d n && not (d == s))) then given s (Given 0) ∷ [] else [])
-    go false e b = refl
-    go true e true = at_root (ltb-true s n e)
-    go true e false = refl
-
-pub broadcast_gives : BroadcastGives
-broadcast_gives f n root given r lo lr =
-    (both_give f n (broadcast n root) given (broadcasted n root given) (broadcast_is_talk f n root given) r (Got 0)
-    (given root (Given 0)) (ap (λ (t : Bool). ends_with f (told (broadcasted n root given) r) (given r)
-    (if t then broadcast n root r else []) (Got 0)) (lt-ltb r n lr) ∙ go (r == root) refl)).1
-  where
-    go : (b : Bool) → (r == root) ≡ b → ends_with f (told (broadcasted n root given) r) (given r)
-        (if b then Copy (Given 0) (Got 0) ∷ all_sends (λ x. Given 0) (receivers n r) else Receive root (Got 0) ∷ [])
-        (Got 0) ≡
-        given root (Given 0)
-    go true e =
-        ap (λ (ss : List Step). ends_with f (told (broadcasted n root given) r)
-        (with_block (given r) (Got 0) (given r (Given 0))) ss (Got 0)) (sym (append-nil (all_sends (λ x. Given 0)
-        (receivers n r))))
-        ∙ ap (λ (m : Memory). m (Got 0)) (ends_sends f (told (broadcasted n root given) r)
-        (with_block (given r) (Got 0) (given r (Given 0))) (λ x. Given 0) (receivers n r) [])
-        ∙ ap (λ (x : ℕ). given x (Given 0)) (eqb-true r root e)
-    go false e =
-        ap (λ (t : Bool). first_of (if t && ((root == root) && (nat_lt r n && not (r == root))) then
-        given root (Given 0) ∷ [] else [])) (lt-ltb root n lo)
-        ∙ ap (λ (t : Bool). first_of (if t && (nat_lt r n && not (r == root)) then given root (Given 0) ∷ [] else []))
-        (eq-eqb root root refl)
-        ∙ ap (λ (t : Bool). first_of (if t && not (r == root) then given root (Given 0) ∷ [] else [])) (lt-ltb r n lr)
-        ∙ ap (λ (t : Bool). first_of (if not t then given root (Given 0) ∷ [] else [])) e

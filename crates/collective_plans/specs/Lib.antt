@@ -6,3 +6,8 @@ pub mod PlanLaws
 pub mod Ahead
 pub mod Chains
 pub mod Stars
+pub mod Scripts
+pub mod Entering
+pub mod Trees
+pub mod Ordered
+pub mod Rounds

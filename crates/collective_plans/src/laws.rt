@@ -4,7 +4,7 @@ ghost use Rattle.collective_plans.specs.Ahead.{AheadGives, InPlaceGives};
 ghost use Rattle.collective_plans.specs.PlanLaws.{AllgatherGives, AlltoallGives, ReduceScatterGives, RunsAreMeant};
 ghost use Rattle.collective_plans.specs.PlanLaws.{ExchangesGoOn, NoOneWaitsForWhoWaits, ScanGives};
 ghost use Rattle.collective_plans.specs.Chains.{ExscanGives, ScanInPlaceGives};
-ghost use Rattle.collective_plans.specs.Stars.{AllreduceGives, BroadcastGives, GatherGives, ReduceGives, ScatterGives};
+ghost use Rattle.collective_plans.specs.Stars.{GatherGives, ScatterGives};
 
 /// States the laws of plans. It does nothing when it is called.
 ///
@@ -24,7 +24,4 @@ pub fn plans_do_what_they_say()
     ensures in_place { InPlaceGives }
     ensures gather { GatherGives }
     ensures scatter { ScatterGives }
-    ensures broadcast { BroadcastGives }
-    ensures reduce { ReduceGives }
-    ensures allreduce { AllreduceGives }
 {}

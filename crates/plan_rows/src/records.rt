@@ -14,6 +14,10 @@ pub struct PlanRecord {
     pub rank: u32,
     /// The root; only gather, scatter, broadcast and reduce have one.
     pub root: u32,
+    /// 1 where the operation of a reduction is associative on the elements, else 0; what all members say alike.
+    pub regroups: u32,
+    /// How many bytes each block of all members has, where all have as many and know so; else the greatest number.
+    pub bytes: u64,
 }
 
 /// A block that a step names.
@@ -34,6 +38,8 @@ pub struct StepRecord {
     pub kind: u32,
     /// The member that a block goes to or comes from.
     pub peer: u32,
+    /// 1 where the next step's block is in the same message, else 0.
+    pub joined: u32,
     /// The block that is copied or sent, or the one of lower ranks that is folded.
     pub from: SlotRecord,
     /// The other block that is folded.

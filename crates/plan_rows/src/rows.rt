@@ -1,13 +1,16 @@
 //! Plans as rows of records.
 
-ghost use Rattle.std.specs.Prelude.{◌≡◌, ◌<◌, ◌≤◌, ◌++◌, length, drop, map, Ok, IfOk, IfErr};
-ghost use Rattle.plan_rows.specs.Rows.{IsPut, IsRefused, plan_for, plan_meant, slot_told, step_told};
+ghost use Rattle.std.specs.Prelude.{◌≡◌, ◌<◌, ◌≤◌, ◌++◌, length, drop, nat_le, if◌then◌else◌, Ok, IfOk, IfErr, OnOk};
+ghost use Rattle.plan_rows.specs.Rows.{IsPut, IsRefused, joins, plan_for, plan_meant, rows_told, slot_told, step_told};
+ghost use Rattle.plan_rows.specs.Rows.{told_before, told_last};
 
+use crate::form::{Known, PlanForm, which_plan};
 use crate::kind::PlanKind;
 use crate::records::{PlanRecord, SlotRecord, StepRecord};
 use collective_plans::{
-    Slot, Step, allgather, allreduce, alltoall, barrier, broadcast, exscan, gather, reduce,
-    reduce_scatter_block, scan, scatter,
+    Slot, Step, allgather, alltoall, exscan, gather, ordered_allreduce, ordered_reduce,
+    reduce_scatter_block, round_allgather, round_alltoall, scan, scatter, tree_allreduce,
+    tree_barrier, tree_broadcast, tree_reduce,
 };
 use std::alloc::{AllocError, Global};
 
@@ -40,14 +43,16 @@ fn slot_told(slot: Slot) -> SlotRecord
     }
 }
 
-/// A step, told.
-fn step_told(step: Step) -> StepRecord
-    ensures { result ≡ step_told step }
+/// A step, told, and whether the next one is joined to it.
+fn step_told(joined: bool, step: Step) -> StepRecord
+    ensures { result ≡ step_told joined step }
 {
+    let joined = u32::from(joined);
     match step {
         Step::Copy(from, into) => StepRecord {
             kind: 1,
             peer: 0,
+            joined,
             from: slot_told(from),
             high: NO_SLOT,
             into: slot_told(into),
@@ -55,6 +60,7 @@ fn step_told(step: Step) -> StepRecord
         Step::Send(peer, from) => StepRecord {
             kind: 2,
             peer,
+            joined,
             from: slot_told(from),
             high: NO_SLOT,
             into: NO_SLOT,
@@ -62,6 +68,7 @@ fn step_told(step: Step) -> StepRecord
         Step::Receive(peer, into) => StepRecord {
             kind: 3,
             peer,
+            joined,
             from: NO_SLOT,
             high: NO_SLOT,
             into: slot_told(into),
@@ -69,6 +76,7 @@ fn step_told(step: Step) -> StepRecord
         Step::Fold(low, high, into) => StepRecord {
             kind: 4,
             peer: 0,
+            joined,
             from: slot_told(low),
             high: slot_told(high),
             into: slot_told(into),
@@ -76,30 +84,53 @@ fn step_told(step: Step) -> StepRecord
     }
 }
 
-/// The plan of a kind.
+/// Whether the blocks of two steps that stand beside one another are in one message: both go to one member, or come
+/// from one.
+fn joins(step: Step, next: Step) -> bool
+    ensures { result ≡ joins step next }
+{
+    match step {
+        Step::Send(to, _) => match next {
+            Step::Send(other, _) => to == other,
+            _ => false,
+        },
+        Step::Receive(from, _) => match next {
+            Step::Receive(other, _) => from == other,
+            _ => false,
+        },
+        _ => false,
+    }
+}
+
+/// The plan of a form.
 fn plan_for(
     alloc: Global,
-    kind: PlanKind,
+    form: PlanForm,
     size: u32,
     root: u32,
     rank: u32,
 ) -> Result<Vec<Step>, AllocError>
     requires size { size ≤ 65536 }
     requires rank { rank < size }
-    ensures { IfOk result (λ plan. plan.items ≡ plan_for kind size root rank) }
+    requires root { root < size }
+    ensures { IfOk result (λ plan. plan.items ≡ plan_for form size root rank) }
 {
-    match kind {
-        PlanKind::Alltoall => alltoall(alloc, size, rank),
-        PlanKind::Allgather => allgather(alloc, size, rank),
-        PlanKind::ReduceScatter => reduce_scatter_block(alloc, size, rank),
-        PlanKind::Scan => scan(alloc, size, rank),
-        PlanKind::Exscan => exscan(alloc, size, rank),
-        PlanKind::Gather => gather(alloc, size, root, rank),
-        PlanKind::Scatter => scatter(alloc, size, root, rank),
-        PlanKind::Broadcast => broadcast(alloc, size, root, rank),
-        PlanKind::Reduce => reduce(alloc, size, root, rank),
-        PlanKind::Allreduce => allreduce(alloc, size, rank),
-        PlanKind::Barrier => barrier(alloc, size, rank),
+    match form {
+        PlanForm::AlltoallExchange => alltoall(alloc, size, rank),
+        PlanForm::AlltoallRounds => round_alltoall(alloc, size, rank),
+        PlanForm::AllgatherExchange => allgather(alloc, size, rank),
+        PlanForm::AllgatherRounds => round_allgather(alloc, size, rank),
+        PlanForm::ReduceScatterExchange => reduce_scatter_block(alloc, size, rank),
+        PlanForm::ScanChain => scan(alloc, size, rank),
+        PlanForm::ExscanChain => exscan(alloc, size, rank),
+        PlanForm::GatherStar => gather(alloc, size, root, rank),
+        PlanForm::ScatterStar => scatter(alloc, size, root, rank),
+        PlanForm::BroadcastTree => tree_broadcast(alloc, size, root, rank),
+        PlanForm::ReduceTree => tree_reduce(alloc, size, root, rank),
+        PlanForm::ReduceInOrder => ordered_reduce(alloc, size, root, rank),
+        PlanForm::AllreduceTree => tree_allreduce(alloc, size, rank),
+        PlanForm::AllreduceInOrder => ordered_allreduce(alloc, size, rank),
+        PlanForm::BarrierTree => tree_barrier(alloc, size, rank),
     }
 }
 
@@ -121,17 +152,55 @@ pub fn plan_of(alloc: Global, asked: &PlanRecord) -> Result<Vec<Step>, u8>
     if asked.root >= asked.size {
         return Err(NO_SUCH_ROOT);
     }
-    match plan_for(alloc, kind, asked.size, asked.root, asked.rank) {
+    let known = Known {
+        size: asked.size,
+        bytes: asked.bytes,
+        regroups: asked.regroups == 1,
+    };
+    let form = which_plan(kind, known);
+    match plan_for(alloc, form, asked.size, asked.root, asked.rank) {
         Ok(plan) => Ok(plan),
         Err(_) => Err(OUT_OF_MEMORY),
     }
 }
 
-/// The steps, told.
-fn rows_of(alloc: Global, plan: &[Step]) -> Result<Vec<StepRecord>, AllocError>
-    ensures { IfOk result (λ rows. rows.items ≡ map step_told plan.now) }
+/// Adds the step before this one, told, where there is one.
+fn push_before(
+    rows: &mut Vec<StepRecord>,
+    before: Option<Step>,
+    step: Step,
+) -> Result<(), AllocError>
+    ensures { OnOk result (rows.new.items ≡ rows.old.items ++ told_before before step) }
 {
-    plan.iter().map(|step| step_told(*step)).collect(alloc)
+    if let Some(before) = before {
+        rows.push(step_told(joins(before, step), before))?;
+    }
+    Ok(())
+}
+
+/// Adds the last step, told, where there is one.
+fn push_last(rows: &mut Vec<StepRecord>, last: Option<Step>) -> Result<(), AllocError>
+    ensures { OnOk result (rows.new.items ≡ rows.old.items ++ told_last last) }
+{
+    if let Some(last) = last {
+        rows.push(step_told(false, last))?;
+    }
+    Ok(())
+}
+
+/// The steps, told.
+#[tactic(auto, using(crate::proofs::RowLoops::before_then, crate::proofs::RowLoops::last_then))]
+fn rows_of(alloc: Global, plan: &[Step]) -> Result<Vec<StepRecord>, AllocError>
+    ensures { IfOk result (λ rows. rows.items ≡ rows_told plan.now) }
+{
+    let mut rows = Vec::new(alloc);
+    let mut before = None;
+    for step in plan.iter() {
+        push_before(&mut rows, before, *step)?;
+        before = Some(*step);
+    }
+    push_last(&mut rows, before)?;
+    Ok(rows)
 }
 
 /// Puts the records over the first ones.
@@ -140,6 +209,18 @@ fn put_front(from: &[StepRecord], into: &mut [StepRecord])
     ensures { into.new ≡ from.now ++ drop (length from.now) into.old }
 {
     into[..from.len()].copy_from_slice(from);
+}
+
+/// Puts the records over the first ones, where there is room for all of them; answers how many they are.
+fn put_rows(rows: &[StepRecord], into: &mut [StepRecord]) -> usize
+    ensures count { result ≡ length rows.now }
+    ensures put { into.new ≡ (if nat_le (length rows.now) (length into.old)
+        then rows.now ++ drop (length rows.now) into.old else into.old) }
+{
+    if rows.len() <= into.len() {
+        put_front(rows, into);
+    }
+    rows.len()
 }
 
 /// Puts the plan that is asked for over the first records, where there is room for all of its steps; answers how many
@@ -155,8 +236,5 @@ pub fn put_plan(alloc: Global, asked: &PlanRecord, into: &mut [StepRecord]) -> R
     let Ok(rows) = rows_of(alloc, plan.as_slice()) else {
         return Err(OUT_OF_MEMORY);
     };
-    if rows.len() <= into.len() {
-        put_front(rows.as_slice(), into);
-    }
-    Ok(rows.len())
+    Ok(put_rows(rows.as_slice(), into))
 }

@@ -3,8 +3,7 @@ use Rattle.collective_plans.proofs.RunProofs.{no_one_waits_for_who_waits, runs_a
 use Rattle.collective_plans.proofs.ExchangeProofs.{allgather_gives, alltoall_gives, exchanges_go_on, in_place_gives}
 use Rattle.collective_plans.proofs.ExchangeProofs.{reduce_scatter_gives}
 use Rattle.collective_plans.proofs.ChainProofs.{ahead_gives, exscan_gives, scan_gives, scan_in_place_gives}
-use Rattle.collective_plans.proofs.FoldProofs.{allreduce_gives, reduce_gives}
-use Rattle.collective_plans.proofs.StarProofs.{broadcast_gives, gather_gives, scatter_gives}
+use Rattle.collective_plans.proofs.StarProofs.{gather_gives, scatter_gives}
 use Rattle.collective_plans.proofs.laws.plans_do_what_they_say.Goals as goal
 
 pub returns-clause-meant : goal.returns-clause-meant
@@ -45,12 +44,3 @@ returns-clause-scan_in_place c = scan_in_place_gives
 
 pub returns-clause-exscan : goal.returns-clause-exscan
 returns-clause-exscan c = exscan_gives
-
-pub returns-clause-broadcast : goal.returns-clause-broadcast
-returns-clause-broadcast c = broadcast_gives
-
-pub returns-clause-reduce : goal.returns-clause-reduce
-returns-clause-reduce c = reduce_gives
-
-pub returns-clause-allreduce : goal.returns-clause-allreduce
-returns-clause-allreduce c = allreduce_gives
