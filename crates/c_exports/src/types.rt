@@ -5,7 +5,8 @@ ghost use Rattle.type_maps.specs.Constructors.{block, resized};
 ghost use Rattle.type_maps.specs.Maps.{Map, copied, copied_numbers, joined, no_elements, places};
 ghost use Rattle.type_maps.specs.Packing.{whole_items};
 ghost use Rattle.type_maps.specs.Summaries.{extent, summary_of};
-ghost use Rattle.type_runs.specs.Making.{AddTells, BlockFits, Copy, EndFits, ItemsTell, ResizeFits, RowsFit, Stand, Tell, Tells};
+ghost use Rattle.type_runs.specs.Making.{AddTells, BlockFits, Copy, EndFits, ItemsTell, ResizeFits, RowsFit, Stand};
+ghost use Rattle.type_runs.specs.Making.{Tell, Tells};
 ghost use Rattle.type_runs.specs.Records.{meant};
 ghost use Rattle.type_runs.specs.Runs.{Are, Bodies, Is};
 ghost use Rattle.type_runs.specs.Shares.{ShareTells};
@@ -74,7 +75,10 @@ pub extern "C" fn kombazily_type_rows(
         (record { numbers = numbers.old; row = row.old; used = used.old })
         (record { numbers = numbers.new; row = row.new; used = used.new }) result }
 {
-    add_rows(numbers, row, used, item, runs, body, at, count, stride, unit).number()
+    add_rows(
+        numbers, row, used, item, runs, body, at, count, stride, unit,
+    )
+    .number()
 }
 
 /// Marks both bounds in place of the markers that there are (4.1.7): 0 or 96.

@@ -1,5 +1,7 @@
 -- What numbers and runs stand for once copies were added.
-use Rattle.std.proofs.Common.{◌≡◌, ℕ, zero, suc, ◌+◌, ◌≤◌, ◌<◌, refl, sym, ◌∙◌, ap, subst, List, [], ◌∷◌, ◌++◌, length, take, arith, inl, inr, true, if◌then◌else◌}
+use Rattle.std.proofs.Common.{◌≡◌, ℕ, zero, suc, ◌+◌, ◌≤◌, ◌<◌, refl, sym, ◌∙◌, ap, subst, List, [], ◌∷◌, ◌++◌}
+use Rattle.std.proofs.Common.{length, take, arith, inl, inr, Bool, true, false, ◌==◌, if◌then◌else◌}
+use Rattle.std.proofs.lemmas.Bool.{ne_eqb}
 use Rattle.std.specs.Prelude.{Some, None}
 use Rattle.std.proofs.Math.IntN.{ℤ, pos, ◌+ℤ◌, ◌*ℤ◌}
 use Rattle.std.proofs.lemmas.Int.{ints}
@@ -13,7 +15,7 @@ use Rattle.type_runs.specs.declared.adding.Added.{Added}
 use Rattle.type_runs.specs.declared.adding.Added.TheVariants as answers
 use Rattle.type_runs.specs.declared.records.TypeRecord.{TypeRecord}
 use Rattle.type_runs.specs.declared.records.RunRecord.{RunRecord}
-use Rattle.type_runs.specs.Making.{AddGives, AddTells, Asked, Copy, HasNoRoom, IsAdded, IsShared, IsTooLarge, Stand}
+use Rattle.type_runs.specs.Making.{AddGives, AddTells, Asked, IsAdded, IsShared, ResizeFits}
 use Rattle.type_runs.specs.Making.{number_of, step_in, with_copies}
 use Rattle.type_maps.specs.Constructors.{resized}
 use Rattle.type_runs.specs.Records.{content_meant, meant}
@@ -72,7 +74,8 @@ moved_once p xs one = one_copy p.at p.stride p.count xs one
 
 -- one copy at 0 behind nothing has the bytes of what is copied
 pub shared_bytes : (bodies : Bodies) (m n : Map) (p : Places) (runs : List RunRecord) (used : ℕ) → used ≡ 0 → p.at ≡ pos
-    0 → p.count ≡ 1 → Are bodies (take used runs) (bytes_of m.elements) → bytes_of (with_copies m n p).elements ≡ bytes_of
+    0 → p.count ≡ 1 → Are bodies (take used runs) (bytes_of m.elements) →
+    bytes_of (with_copies m n p).elements ≡ bytes_of
     n.elements
 shared_bytes bodies m n p runs used none at one a = whole_bytes m n p ∙
     (λ t. nothing t ++ moved_once p (bytes_of n.elements) one t) ∙
@@ -83,7 +86,8 @@ shared_bytes bodies m n p runs used none at one a = whole_bytes m n p ∙
 
 -- what is given for copies is given for the same ones that are told in other words
 pub add_under : (bodies : Bodies) (fits other : Type 0) (whole same n : Map) (needed : ℕ) (old new : Asked)
-    (a : Added) → (other → fits) → whole ≡ same → AddGives bodies fits whole n needed old new a → AddGives bodies other same
+    (a : Added) → (other → fits) → whole ≡ same → AddGives bodies fits whole n needed old new a →
+    AddGives bodies other same
     n needed old new a
 add_under bodies fits other whole same n needed old new answers.Appended f e h =
     subst (λ (x : Map). IsAdded bodies x new) e h
@@ -93,7 +97,8 @@ add_under bodies fits other whole same n needed old new answers.NoRoom f e h = h
 add_under bodies fits other whole same n needed old new answers.TooLarge f e h =
     record { same = h.same; why = λ g. h.why (f g) }
 
-pub told : (bodies : Bodies) (fits : Type 0) (whole n : Map) (needed : ℕ) (old new : Asked) (a : Added) → AddGives bodies
+pub told : (bodies : Bodies) (fits : Type 0) (whole n : Map) (needed : ℕ) (old new : Asked) (a : Added) →
+    AddGives bodies
     fits whole n needed old new a → AddTells bodies fits whole n needed old new (number_of a)
 told bodies fits whole n needed old new answers.Appended h = inl (refl, h)
 told bodies fits whole n needed old new answers.Shared h = inr (inl (refl, h))
@@ -104,7 +109,10 @@ told bodies fits whole n needed old new answers.TooLarge h = inr (inr (inr (refl
 pub same_rows : (a s u : ℤ) (k : ℕ) → places a k (step_in k s u) ≡ places a k (s *ℤ u)
 same_rows a s u zero = refl
 same_rows a s u (suc zero) = refl
-same_rows a s u (suc (suc k)) = refl
+same_rows a s u (suc (suc k)) = ap (λ (b : Bool). places a (suc (suc k)) (if b then pos 0 else s *ℤ u)) (not_one k)
+  where
+    not_one : (k : ℕ) → (suc (suc k) == 1) ≡ false
+    not_one k = ne_eqb (suc (suc k)) 1 (λ e. omega (arith, e))
 
 -- both bounds marked anew
 pub resized_told : (r s : TypeRecord) (m : Map) (l e : ℤ) → s.size ≡ r.size → s.elements ≡ r.elements → s.true_lower ≡
@@ -120,3 +128,8 @@ resized_told r s m l e size elements lower upper low high alignment kinds kind s
   alignment = (alignment ∙ (λ i. (h i).alignment)) t;
   content = ((λ i. content_meant (kinds i) (kind i)) ∙ (λ i. (h i).content)) t;
 }
+
+pub same_resize : (l c u x y z : ℤ) → l ≡ x → c ≡ y → u ≡ z → ResizeFits l c u → ResizeFits x y z
+same_resize l c u x y z p q r f =
+    subst (λ (a : ℤ). ResizeFits a y z) p (subst (λ (a : ℤ). ResizeFits l a z) q
+    (subst (λ (a : ℤ). ResizeFits l c a) r f))

@@ -1,5 +1,6 @@
 -- Runs: copies of them, runs that go on with one another, and rows of them.
-use Rattle.std.proofs.Common.{◌≡◌, ℕ, zero, suc, ◌+◌, ◌*◌, ◌<◌, ◌≤◌, ◌==◌, refl, sym, ◌∙◌, ap, subst, List, [], ◌∷◌, ◌++◌}
+use Rattle.std.proofs.Common.{◌≡◌, ℕ, zero, suc, ◌+◌, ◌*◌, ◌<◌, ◌≤◌, ◌==◌, refl, sym, ◌∙◌, ap, subst, List, [], ◌∷◌}
+use Rattle.std.proofs.Common.{◌++◌}
 use Rattle.std.proofs.Common.{length, take, set, get_or, arith, true, if◌then◌else◌}
 use Rattle.std.proofs.Math.IntN.{ℤ, pos, ◌+ℤ◌, ◌*ℤ◌, *ℤ-one, one}
 use Rattle.std.proofs.lemmas.Int.{ints}
@@ -128,7 +129,8 @@ goes_on bodies r s t bytes more same_length same_body rp sp next at count length
 
 -- ---- moved
 
-pub moved_run : (bodies : Bodies) (by : ℤ) (r s : RunRecord) (bytes : List ℤ) → s.at ≡ by +ℤ r.at → s.length ≡ r.length →
+pub moved_run : (bodies : Bodies) (by : ℤ) (r s : RunRecord) (bytes : List ℤ) → s.at ≡ by +ℤ r.at →
+    s.length ≡ r.length →
     s.count ≡ r.count → s.stride ≡ r.stride → s.body ≡ r.body → Is bodies r bytes → Is bodies s (moved_numbers by bytes)
 moved_run bodies by r s bytes at length_is count stride body is = record {
   bytes_are =
@@ -240,7 +242,8 @@ one_more_moved bodies start runs done after i d s by bytes more less before move
     (append_assoc bytes (moved_numbers by first) (moved_numbers by last) ∙
     ap (λ xs. bytes ++ xs) (sym (map-append (λ x. by +ℤ x) first last) ∙ ap (moved_numbers by) (sym parts.1.1))) all
 
-pub none_moved : (bodies : Bodies) (row : List RunRecord) (by : ℤ) (bytes more : List ℤ) → Are bodies row bytes → Are bodies []
+pub none_moved : (bodies : Bodies) (row : List RunRecord) (by : ℤ) (bytes more : List ℤ) →
+    Are bodies row bytes → Are bodies []
     more → Are bodies row (bytes ++ moved_numbers by more)
 none_moved bodies row by bytes more a b =
     subst (λ (xs : List ℤ). Are bodies row xs) (sym (ap (λ xs. bytes ++ moved_numbers by xs) (sym b.bytes_are) ∙

@@ -1,12 +1,14 @@
 //! Copies of a type behind what there is of another one.
 
-ghost use Rattle.std.specs.Prelude.{◌≡◌, ◌++◌, ◌+◌, ◌<◌, ◌≤◌, List, IfSome, IfNone, MatchResult, length, take, ℕ, ℤ, ◌*ℤ◌, max};
+ghost use Rattle.std.specs.Prelude.{◌≡◌, ◌++◌, ◌+◌, ◌<◌, ◌≤◌, List, IfSome, IfNone, MatchResult, length, take, ℕ};
+ghost use Rattle.std.specs.Prelude.{ℤ, ◌*ℤ◌, max};
 ghost use Rattle.type_maps.specs.Constructors.{block};
 ghost use Rattle.type_maps.specs.Maps.{Map, copied, copied_numbers, joined, places, places_of};
 ghost use Rattle.type_maps.specs.Refusals.{GivesNumber};
 ghost use Rattle.type_maps.specs.Summaries.{extent, summary_of};
 ghost use Rattle.type_maps.specs.Types.{AddFits};
-ghost use Rattle.type_runs.specs.Making.{AddGives, Asked, BlockFits, Copy, RowsFit, Stand, number_of, step_in, with_copies};
+ghost use Rattle.type_runs.specs.Making.{AddGives, Asked, BlockFits, Copy, RowsFit, Stand, number_of, step_in};
+ghost use Rattle.type_runs.specs.Making.{with_copies};
 ghost use Rattle.type_runs.specs.Records.{meant};
 ghost use Rattle.type_runs.specs.Runs.{Are, Bodies};
 
@@ -70,7 +72,8 @@ fn put_copies(
     ensures put { IfSome result (λ count. (bodies : Bodies) (bytes more : List ℤ) →
         Are bodies (take used into.old) bytes → Are bodies runs.now more → (body ≡ 0 → ⊥) → bodies body ≡ more →
         size ≡ length more →
-        Are bodies (take count into.new) (bytes ++ copied_numbers (places_of at.now) more) × (count ≤ length into.new)) }
+        Are bodies (take count into.new) (bytes ++ copied_numbers (places_of at.now) more) ×
+        (count ≤ length into.new)) }
     ensures room { IfNone result ((into.new ≡ into.old) × (length into.old < used + max (length runs.now) 1)) }
 {
     if used >= into.len() || into.len() - used < runs.len() {
@@ -83,8 +86,8 @@ fn put_copies(
     }
 }
 
-/// Adds copies of a type, which has these runs, and whose runs are the body of this number, behind what there is: numbers,
-/// and the first runs of a row.
+/// Adds copies of a type, which has these runs, and whose runs are the body of this number, behind what there is:
+/// numbers, and the first runs of a row.
 pub(crate) fn add_copies(
     made: &mut TypeRecord,
     into: &mut [RunRecord],

@@ -1,7 +1,7 @@
 //! Types as C keeps them: the numbers of a type map, and the runs of bytes that its data are (MPI 3.1, 4.1).
 //!
-//! A run is a row of bytes, or a body, at regular places. A body is the runs of another type, which C keeps and names by
-//! a number: so types that are made of one another share their runs. What C gets is tied to the map of 4.1 that the
+//! A run is a row of bytes, or a body, at regular places. A body is the runs of another type, which C keeps under a
+//! number: so types that are made of one another share their runs. What C gets is tied to the map of 4.1 that the
 //! crate `type_maps` defines: `specs/Runs.antt` says which bytes runs are, `specs/Making.antt` when numbers and runs
 //! stand for a map.
 #![tactic(auto)]

@@ -23,7 +23,8 @@ impl RunRecord {
 
     /// The same pieces at other places.
     fn with_places(&self, places: &Places) -> RunRecord
-        ensures { result ≡ record self.now { at = places.now.at; count = places.now.count; stride = places.now.stride } }
+        ensures { result ≡
+            record self.now { at = places.now.at; count = places.now.count; stride = places.now.stride } }
     {
         RunRecord {
             at: places.at,

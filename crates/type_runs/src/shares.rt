@@ -27,8 +27,8 @@ fn parts_of(left: u64, block: u64, round: u64) -> Share
     }
 }
 
-/// What a process has of a dimension: `None` where blocks have no index, there is no such process, or a round isn't within
-/// 64 bits.
+/// What a process has of a dimension: `None` where blocks have no index, there is no such process, or a round isn't
+/// within 64 bits.
 pub fn share_of(of: &Distribution) -> Option<Share>
     ensures own { IfSome result (AreOwn of.now) }
     ensures none { IfNone result (HasShare of.now → ⊥) }

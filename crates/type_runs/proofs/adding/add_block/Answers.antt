@@ -5,6 +5,7 @@ use mir.Val.{SFits}
 use Rattle.type_maps.specs.declared.places.Places.{Places}
 use Rattle.type_maps.specs.Maps.{Map}
 use Rattle.type_maps.specs.Summaries.{extent}
+use Rattle.type_maps.specs.Refusals.{Fits}
 use Rattle.type_maps.specs.Types.{AddFits, in_a_row}
 use Rattle.type_runs.specs.Making.{Stand, with_copies}
 use Rattle.type_runs.proofs.MakingLaws.{add_under, no_copies}
@@ -12,6 +13,10 @@ use Rattle.type_runs.proofs.adding.add_block.Goals as goal
 
 pub returns : goal.returns
 returns c = λ bodies m n a within b e.
+    let fa : SFits w64 c.args.at = search rules in
+    let fu : SFits w64 c.args.unit = search rules in
+    let place : to_z w64 (of_z w64 c.args.at) *ℤ to_z w64 (of_z w64 c.args.unit) ≡ c.args.at *ℤ c.args.unit =
+    λ t. to_z-of_z w64 c.args.at fa t *ℤ to_z-of_z w64 c.args.unit fu t in
     let f : SFits w64 c.in-Ok.first = search rules in
     let g : SFits w64 c.args.item.now.extent = search rules in
     let same : record {
@@ -21,7 +26,7 @@ returns c = λ bodies m n a within b e.
           c.args.item.now.extent);
     } ≡ in_a_row (c.args.at *ℤ c.args.unit) c.args.count n =
     λ t. record {
-      at = (to_z-of_z w64 c.in-Ok.first f ∙ c.in-Ok.ensures) t;
+      at = (to_z-of_z w64 c.in-Ok.first f ∙ c.in-Ok.ensures ∙ place) t;
       count = c.args.count;
       stride = (to_z-of_z w64 c.args.item.now.extent g ∙ e) t;
     } in
@@ -37,4 +42,9 @@ returns-then-count-eq0 c = λ bodies m n a within b e. record {
 }
 
 pub returns-in_default : goal.returns-in_default
-returns-in_default c = λ bodies m n a within b e. record { same = refl; why = λ f. c.in_default.ensures.1 f.place }
+returns-in_default c = λ bodies m n a within b e.
+    let fa : SFits w64 c.args.at = search rules in
+    let fu : SFits w64 c.args.unit = search rules in
+    let place : to_z w64 (of_z w64 c.args.at) *ℤ to_z w64 (of_z w64 c.args.unit) ≡ c.args.at *ℤ c.args.unit =
+    λ t. to_z-of_z w64 c.args.at fa t *ℤ to_z-of_z w64 c.args.unit fu t in
+    record { same = refl; why = λ f. c.in_default.ensures.1 (subst (λ (z : ℤ). Fits z) (sym place) f.place) }

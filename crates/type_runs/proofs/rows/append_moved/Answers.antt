@@ -1,8 +1,13 @@
-use Rattle.std.proofs.Common.{◌≡◌, ◌≤◌, ◌<◌, ◌+◌, ℕ, List, length, take, refl, sym, ◌∙◌, subst, arith}
+use Rattle.std.proofs.Common.{rules, w64, to_z, of_z, ◌++◌, ◌≡◌, ◌≤◌, ◌<◌, ◌+◌, ℕ, List, length, take, refl, sym}
+use Rattle.std.proofs.Common.{◌∙◌, subst, arith}
+use Rattle.std.proofs.Math.IntN.{ℤ}
+use Rattle.std.proofs.lemmas.Int.{to_z-of_z}
 use Rattle.std.proofs.lemmas.List.{take_all}
+use mir.Val.{SFits}
+use Rattle.type_maps.specs.Maps.{moved_numbers}
 use Rattle.type_runs.specs.declared.records.RunRecord.{RunRecord}
-use Rattle.type_runs.specs.Runs.{Are}
-use Rattle.type_runs.proofs.RunLaws.{none_moved, one_more_moved}
+use Rattle.type_runs.specs.Runs.{Are, MayMove}
+use Rattle.type_runs.proofs.RunLaws.{may_move_at, none_moved, one_more_moved}
 use Rattle.type_runs.proofs.rows.append_moved.Goals as goal
 
 pub loop-run-init : goal.loop-run-init
@@ -23,8 +28,16 @@ loop-run-preserved c =
           (λ x y. c.append-count.ensures.runs bodies x y) a b,
     )
 
+pub moved-moved-requires : goal.moved-moved-requires
+moved-moved-requires c =
+    let g : SFits w64 c.args.by = search rules in
+    may_move_at (to_z w64 (of_z w64 c.args.by)) c.args.runs.now c.loop-run.run-index _ c.loop-run-test.true
+    (subst (λ (z : ℤ). MayMove z c.args.runs.now) (sym (to_z-of_z w64 c.args.by g)) c.requires.places)
+
 pub returns-clause-runs : goal.returns-clause-runs
 returns-clause-runs c = λ bodies bytes more a b.
-    c.loop-run.invariant.2 bodies bytes more a
-    (subst (λ (xs : List RunRecord). Are bodies xs more)
-    (sym (take_all c.loop-run.run-index c.args.runs.now c.loop-run-test.false)) b)
+    let g : SFits w64 c.args.by = search rules in
+    subst (λ (z : ℤ). Are bodies (take c.loop-run.count c.loop-run.into) (bytes ++ moved_numbers z more))
+    (to_z-of_z w64 c.args.by g)
+    (c.loop-run.invariant.2 bodies bytes more a (subst (λ (xs : List RunRecord). Are bodies xs more)
+    (sym (take_all c.loop-run.run-index c.args.runs.now c.loop-run-test.false)) b))
