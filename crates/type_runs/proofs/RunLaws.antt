@@ -1,10 +1,10 @@
 -- Runs: copies of them, runs that go on with one another, and rows of them.
-use Rattle.std.proofs.Common.{◌≡◌, ℕ, zero, suc, ◌+◌, ◌*◌, ◌<◌, ◌≤◌, ◌==◌, refl, sym, ◌∙◌, ap, subst, List, [], ◌∷◌}
+use Rattle.std.proofs.Common.{◌≡◌, ℕ, zero, suc, ◌+◌, ◌*◌, ◌<◌, ◌==◌, refl, sym, ◌∙◌, ap, subst, List, [], ◌∷◌}
 use Rattle.std.proofs.Common.{◌++◌}
-use Rattle.std.proofs.Common.{length, take, set, get_or, arith, true, if◌then◌else◌}
+use Rattle.std.proofs.Common.{length, take, set, get_or, arith, if◌then◌else◌}
 use Rattle.std.proofs.Math.IntN.{ℤ, pos, ◌+ℤ◌, ◌*ℤ◌, *ℤ-one, one}
 use Rattle.std.proofs.lemmas.Int.{ints}
-use Rattle.std.proofs.lemmas.List.{append-nil, append_assoc, map-append, take_all, take_more, take_more_set}
+use Rattle.std.proofs.lemmas.List.{append-nil, append_assoc, map-append, take_more, take_more_set}
 use Rattle.std.proofs.lemmas.List.Concat.{flat_map-append}
 use Rattle.type_maps.specs.declared.places.Places.{Places}
 use Rattle.type_maps.specs.Maps.{copied_numbers, moved_numbers, places, places_of, row}
@@ -12,7 +12,7 @@ use Rattle.type_maps.specs.Refusals.{Fits}
 use Rattle.type_maps.proofs.EntryLaws.{entries_have_bytes}
 use Rattle.type_maps.proofs.PlaceLaws.{copied_numbers_append, moved_number_copies, places_append, places_moved}
 use Rattle.type_runs.specs.declared.records.RunRecord.{RunRecord}
-use Rattle.type_runs.specs.Runs.{Are, AreLong, Bodies, Is, IsLong, MayMove, bytes_of_runs, piece, run_bytes, run_places}
+use Rattle.type_runs.specs.Runs.{Are, AreLong, Bodies, Is, MayMove, bytes_of_runs, piece, run_bytes, run_places}
 
 -- ---- copies
 

@@ -1,13 +1,9 @@
 -- What a process has of a dimension, as whole blocks and a part of one.
-use Rattle.std.proofs.Common.{◌≡◌, ℕ, zero, suc, ◌+◌, ◌*◌, ◌/◌, ◌%◌, ◌<◌, ◌≤◌, min, refl, sym, ◌∙◌, ap, subst, []}
-use Rattle.std.proofs.Common.{◌++◌, arith}
-use Rattle.std.specs.List.{range_with_len}
+use Rattle.std.proofs.Common.{◌≡◌, ℕ, zero, suc, ◌+◌, ◌*◌, ◌/◌, ◌%◌, ◌<◌, ◌≤◌, sym, ◌∙◌, ap, subst}
+use Rattle.std.proofs.Common.{arith}
 use Rattle.std.proofs.lemmas.Nat.{div-add-mod', mod_below}
 use Rattle.type_maps.specs.declared.blocks.Distribution.{Distribution}
-use Rattle.type_maps.specs.Constructors.{own_indices}
-use Rattle.type_maps.specs.Distributions.{blocks_from}
 use Rattle.type_maps.proofs.OwnIndices.{own_indices_are_blocks}
-use Rattle.type_runs.specs.declared.shares.Share.{Share}
 use Rattle.type_runs.specs.Shares.{AreOwn, parts_of}
 
 few : (over round : ℕ) → over < round → over ≤ round

@@ -1,5 +1,5 @@
 -- Which indices of a dimension a process has (MPI 3.1, 4.1.4), as blocks and a part of one.
-use Rattle.std.specs.Prelude.{◌≡◌, ◌⊎◌, ℕ, ◌+◌, ◌-◌, ◌*◌, ◌/◌, ◌%◌, ◌<◌, ◌^◌, min, ◌++◌}
+use Rattle.std.specs.Prelude.{◌≡◌, ◌⊎◌, ℕ, ◌+◌, ◌*◌, ◌/◌, ◌%◌, ◌<◌, ◌^◌, min, ◌++◌}
 use Rattle.std.specs.List.{range_with_len}
 use Rattle.type_maps.specs.declared.blocks.Distribution.{Distribution}
 use Rattle.type_maps.specs.Constructors.{own_indices}

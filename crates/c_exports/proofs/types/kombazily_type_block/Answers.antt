@@ -22,5 +22,8 @@ returns c = λ bodies m n a within b e.
     (subst (λ (u : ℤ). AddTells bodies (BlockFits m n (to_z w64 (of_z w64 c.args.at)) u c.args.count)
     (joined m (block (to_z w64 (of_z w64 c.args.at) *ℤ u) c.args.count n)) n (length c.args.runs.now) old new
     c.number.result) (to_z-of_z w64 c.args.unit fu)
-    (subst (λ (k : ℕ). AddTells bodies _ _ n (length c.args.runs.now) old new k) (sym c.number.ensures)
+    (subst (λ (k : ℕ). AddTells bodies
+    (BlockFits m n (to_z w64 (of_z w64 c.args.at)) (to_z w64 (of_z w64 c.args.unit)) c.args.count)
+    (joined m (block (to_z w64 (of_z w64 c.args.at) *ℤ to_z w64 (of_z w64 c.args.unit)) c.args.count n)) n
+    (length c.args.runs.now) old new k) (sym c.number.ensures)
     (told bodies _ _ n _ _ _ c.add_block.result (c.add_block.ensures bodies m n a within b e))))

@@ -26,5 +26,9 @@ returns c = λ bodies m n a within b.
     (joined m (copied (places (to_z w64 (of_z w64 c.args.at) *ℤ u) c.args.count
     (to_z w64 (of_z w64 c.args.stride) *ℤ u)) n)) n (length c.args.runs.now) old new c.number.result)
     (to_z-of_z w64 c.args.unit fu)
-    (subst (λ (k : ℕ). AddTells bodies _ _ n (length c.args.runs.now) old new k) (sym c.number.ensures)
+    (subst (λ (k : ℕ). AddTells bodies
+    (RowsFit m n (to_z w64 (of_z w64 c.args.at)) c.args.count (to_z w64 (of_z w64 c.args.stride))
+    (to_z w64 (of_z w64 c.args.unit)))
+    (joined m (copied (places (to_z w64 (of_z w64 c.args.at) *ℤ to_z w64 (of_z w64 c.args.unit)) c.args.count
+    (to_z w64 (of_z w64 c.args.stride) *ℤ to_z w64 (of_z w64 c.args.unit))) n)) n (length c.args.runs.now) old new k) (sym c.number.ensures)
     (told bodies _ _ n _ _ _ c.add_rows.result (c.add_rows.ensures bodies m n a within b)))))

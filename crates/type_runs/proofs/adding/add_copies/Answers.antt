@@ -1,7 +1,6 @@
-use Rattle.std.proofs.Common.{rules, ◌≡◌, ◌+◌, ◌<◌, ℕ, List, length, take, refl, sym, ap, ◌∙◌, subst, arith, nat_eq}
+use Rattle.std.proofs.Common.{rules, ◌≡◌, List, length, take, refl, sym, ◌∙◌, subst, arith}
 use Rattle.std.proofs.Math.IntN.{ℤ, pos}
 use Rattle.type_maps.specs.Maps.{Map, bytes_of}
-use Rattle.type_maps.specs.declared.summary.Summary.{Summary}
 use Rattle.type_runs.specs.Making.{Stand}
 use Rattle.type_runs.specs.Runs.{Are}
 use Rattle.type_runs.proofs.MakingLaws.{bytes_long, no_copies, shared_bytes, whole_bytes, without_runs}

@@ -1,4 +1,4 @@
-use Rattle.std.proofs.Common.{rules, w64, ◌≡◌, ◌++◌, ◌≤◌, ◌+◌, ◌<◌, List, length, take, sym, ap, subst, arith}
+use Rattle.std.proofs.Common.{rules, w64, ◌++◌, ◌≤◌, List, length, take, sym, subst, arith}
 use Rattle.std.proofs.Math.IntN.{ℤ}
 use Rattle.std.proofs.lemmas.Int.{to_z-of_z}
 use mir.Val.{SFits}

@@ -1,4 +1,4 @@
-use Rattle.std.proofs.Common.{refl, ◌∙◌}
+use Rattle.std.proofs.Common.{◌∙◌}
 use Rattle.type_runs.proofs.making.begin.Goals as goal
 
 pub returns : goal.returns

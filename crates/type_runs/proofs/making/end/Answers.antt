@@ -1,5 +1,5 @@
 use Rattle.std.proofs.Common.{rules, ◌≡◌, ◌∙◌, sym, ap, subst, w64}
-use Rattle.std.proofs.Math.IntN.{ℤ, ◌-ℤ◌}
+use Rattle.std.proofs.Math.IntN.{◌-ℤ◌}
 use Rattle.std.proofs.lemmas.Int.{to_z-of_z}
 use mir.Val.{SFits}
 use Rattle.type_maps.specs.declared.summary.Summary.{Summary}

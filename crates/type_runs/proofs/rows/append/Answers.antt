@@ -1,5 +1,4 @@
-use Rattle.std.proofs.Common.{◌≡◌, ℕ, ◌+◌, ◌-◌, ◌<◌, sym, ap, subst, take, slice_set, arith, List, length, ◌++◌}
-use Rattle.type_runs.specs.declared.records.RunRecord.{RunRecord}
+use Rattle.std.proofs.Common.{◌≡◌, ℕ, ◌+◌, ◌-◌, ◌<◌, sym, subst, take, slice_set, arith, length, ◌++◌}
 use Rattle.type_runs.specs.Runs.{Are}
 use Rattle.type_runs.proofs.RunLaws.{last_joined, put_behind}
 use Rattle.type_runs.proofs.rows.append.Goals as goal

@@ -1,4 +1,4 @@
-use Rattle.std.proofs.Common.{◌≡◌, ◌≤◌, ◌+◌, ◌++◌, ℕ, List, length, take}
+use Rattle.std.proofs.Common.{◌≡◌, ◌≤◌, ◌+◌, ◌++◌, List, length, take}
 use Rattle.std.proofs.Math.IntN.{ℤ}
 use Rattle.type_maps.specs.Maps.{moved_numbers}
 use Rattle.type_runs.specs.Runs.{Are, Bodies}

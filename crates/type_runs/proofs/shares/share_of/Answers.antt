@@ -1,4 +1,4 @@
-use Rattle.std.proofs.Common.{rules, ◌≡◌, ◌+◌, ◌-◌, ◌*◌, ◌<◌, ◌≤◌, sym, subst, arith}
+use Rattle.std.proofs.Common.{rules, ◌≡◌, ◌+◌, ◌-◌, ◌*◌, ◌<◌, ◌≤◌, sym, subst}
 use Rattle.type_maps.proofs.OwnIndices.{own_indices_are_blocks}
 use Rattle.type_runs.specs.declared.shares.Share.{Share}
 use Rattle.type_runs.specs.Shares.{AreOwn}

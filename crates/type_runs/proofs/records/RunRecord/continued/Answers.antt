@@ -2,7 +2,6 @@ use Rattle.std.proofs.Common.{rules, ◌≡◌, ◌+◌, refl, sym, ◌∙◌, a
 use Rattle.std.proofs.Math.IntN.{ℤ, pos, ◌+ℤ◌, ◌*ℤ◌}
 use Rattle.std.proofs.lemmas.Int.{to_z-of_z, ints}
 use mir.Val.{SFits}
-use Rattle.type_maps.specs.Maps.{places}
 use Rattle.type_maps.proofs.Words.{same_word, word_product}
 use Rattle.type_runs.proofs.RunLaws.{goes_on}
 use Rattle.type_runs.proofs.records.RunRecord.continued.Goals as goal

@@ -1,4 +1,4 @@
-use Rattle.std.proofs.Common.{◌≡◌, sym, ◌∙◌, ap, subst}
+use Rattle.std.proofs.Common.{◌≡◌, subst}
 use Rattle.type_maps.specs.declared.places.Places.{Places}
 use Rattle.type_maps.specs.Maps.{copied_numbers, places_of}
 use Rattle.type_runs.proofs.RunLaws.{copied_run}

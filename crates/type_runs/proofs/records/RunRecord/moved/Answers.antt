@@ -1,6 +1,6 @@
 use Rattle.std.proofs.Common.{rules, ◌≡◌, refl, w64, to_z, of_z}
-use Rattle.std.proofs.Math.IntN.{ℤ, ◌+ℤ◌}
-use Rattle.std.proofs.lemmas.Int.{to_z-of_z, ints}
+use Rattle.std.proofs.Math.IntN.{◌+ℤ◌}
+use Rattle.std.proofs.lemmas.Int.{to_z-of_z}
 use mir.Val.{SFits}
 use Rattle.type_runs.proofs.RunLaws.{moved_run}
 use Rattle.type_runs.proofs.records.RunRecord.moved.Goals as goal
