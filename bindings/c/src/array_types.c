@@ -8,38 +8,20 @@
 /* The part of one dimension: `count` blocks of `length` places, each `stride` places behind the one before it, then
  * `rest` places; the first one from place `from` on, of `size` places. */
 struct slice {
-    long long from, count, length, stride, rest, size;
+    ptrdiff_t from, size, stride;
+    size_t count, length, rest;
 };
-
-/* A slice of items of this extent, whose places are told in bytes: `rest` items are at `last`. False where a number is
- * too large. */
-struct slice_bytes {
-    ptrdiff_t from, stride, last, size;
-};
-static bool in_bytes(struct slice slice, ptrdiff_t extent, struct slice_bytes *made) {
-    bool has_stride = slice.count > 1 || slice.rest > 0;
-    *made = (struct slice_bytes){0};
-    if (!bytes_product(slice.from, extent, &made->from) || !bytes_product(slice.size, extent, &made->size))
-        return false;
-    if (has_stride && !bytes_product(slice.stride, extent, &made->stride)) return false;
-    if (slice.rest == 0) return true;
-    return bytes_product(slice.count, made->stride, &made->last) && bytes_sum(made->from, made->last, &made->last);
-}
 
 /* The type of a slice of items of an older type, which is given up: 0, or the class of the error, of which was told.
  * Its bounds are those of all places. */
 static int slice_type(const char *call, struct datatype *old, struct slice slice, struct datatype **made) {
     struct maker maker;
-    struct slice_bytes bytes;
+    const ptrdiff_t extent = old->layout.numbers.extent;
     maker_begin(&maker, call, MPI_COMBINER_NAMED, 0, 0, 1);
     maker_note_type(&maker, old);
-    if (in_bytes(slice, old->layout.extent, &bytes)) {
-        maker_add_blocks(&maker, old, bytes.from, (size_t)slice.count, (size_t)slice.length, bytes.stride);
-        maker_add(&maker, old, bytes.last, (size_t)slice.rest, old->layout.extent);
-        making_bound(&maker.making, 0, bytes.size);
-    } else {
-        maker_is_too_large(&maker);
-    }
+    maker_blocks(&maker, old, slice.from, slice.count, slice.length, slice.stride, extent);
+    maker_block(&maker, old, slice.from + (ptrdiff_t)slice.count * slice.stride, extent, slice.rest);
+    making_resize(&maker.making, 0, slice.size, extent);
     int class = maker_end(&maker, made);
     release_type(old);
     return class;
@@ -67,7 +49,7 @@ static int hand_out_array(struct maker *maker, struct datatype *old, const struc
         return class;
     }
     maker_note_type(maker, old);
-    maker_add(maker, part, 0, 1, 0);
+    maker_copy(maker, part);
     release_type(part);
     return maker_hand_out(maker, newtype);
 }
@@ -95,7 +77,7 @@ static int find_part(const char *call, int at, int size, int subsize, int start,
     int class = check_entry(call, "array_of_sizes", at, size, 1, INT32_MAX);
     if (class == MPI_SUCCESS) class = check_entry(call, "array_of_subsizes", at, subsize, 1, size);
     if (class == MPI_SUCCESS) class = check_entry(call, "array_of_starts", at, start, 0, size - subsize);
-    *found = (struct slice){.from = start, .rest = subsize, .size = size};
+    *found = (struct slice){.from = start, .rest = (size_t)subsize, .size = size};
     return class;
 }
 
@@ -147,19 +129,21 @@ static int check_distribution(const char *call, int at, struct distributed of) {
     return check_entry(call, "array_of_dargs", at, of.darg, least, INT32_MAX);
 }
 
-/* What the process at a place of the grid has of a dimension: cyclic blocks, of which it has every psize-th one. */
+/* What the process at a place of the grid has of a dimension: blocks, of which it has every psize-th one. The numbers
+ * were checked, so there is such a share. */
 static struct slice share_of(struct distributed of, int place) {
-    long long length = of.darg, all = of.gsize;
+    ptrdiff_t length = of.darg, all = of.gsize;
+    uint64_t blocks = 0, rest = 0;
     if (of.distrib == MPI_DISTRIBUTE_NONE) length = all;
     else if (of.darg == MPI_DISTRIBUTE_DFLT_DARG)
         length = of.distrib == MPI_DISTRIBUTE_BLOCK ? (all + of.psize - 1) / of.psize : 1;
-    struct slice share = {.from = place * length, .length = length, .stride = of.psize * length, .size = all};
-    if (share.from >= all) return (struct slice){.size = all};
-    share.count = (all - share.from) / share.stride;
-    long long left = all - share.from - share.count * share.stride;
-    if (left >= length) share.count++;
-    else share.rest = left;
-    return share;
+    (void)kombazily_type_share((uint64_t)all, (uint64_t)length, (uint64_t)of.psize, (uint64_t)place, &blocks, &rest);
+    return (struct slice){.from = place * length,
+                          .size = all,
+                          .stride = of.psize * length,
+                          .count = blocks,
+                          .length = (size_t)length,
+                          .rest = rest};
 }
 
 /* Checks the sizes of the grid: together they are that of the group. */

@@ -17,7 +17,7 @@ int MPI_Type_contiguous(int count, MPI_Datatype oldtype, MPI_Datatype *newtype) 
     maker_begin(&maker, call, MPI_COMBINER_CONTIGUOUS, 1, 0, 1);
     maker_note(&maker, count);
     maker_note_type(&maker, old);
-    maker_add(&maker, old, 0, (size_t)count, old->layout.extent);
+    maker_block(&maker, old, 0, 1, (size_t)count);
     return maker_hand_out(&maker, newtype);
 }
 
@@ -29,7 +29,7 @@ int MPI_Type_dup(MPI_Datatype oldtype, MPI_Datatype *newtype) {
     if (class != MPI_SUCCESS) return class;
     maker_begin(&maker, "MPI_Type_dup", MPI_COMBINER_DUP, 0, 0, 1);
     maker_note_type(&maker, old);
-    maker_add(&maker, old, 0, 1, 0);
+    maker_copy(&maker, old);
     if (maker.type != NULL) maker.type->is_committed = old->is_committed;
     class = maker_hand_out(&maker, newtype);
     if (class != MPI_SUCCESS) return class;
@@ -48,8 +48,8 @@ int MPI_Type_create_resized(MPI_Datatype oldtype, MPI_Aint lb, MPI_Aint extent, 
     maker_begin(&maker, call, MPI_COMBINER_RESIZED, 0, 2, 1);
     maker_note_addresses(&maker, (MPI_Aint[]){lb, extent}, 2);
     maker_note_type(&maker, old);
-    maker_add(&maker, old, 0, 1, 0);
-    making_bound(&maker.making, lb, extent);
+    maker_copy(&maker, old);
+    making_resize(&maker.making, lb, extent, 1);
     return maker_hand_out(&maker, newtype);
 }
 
@@ -66,16 +66,12 @@ int MPI_Type_vector(int count, int blocklength, int stride, MPI_Datatype oldtype
     NOTE_CALLER();
     struct datatype *old;
     struct maker maker;
-    ptrdiff_t bytes;
     int class = check_vector("MPI_Type_vector", count, blocklength, oldtype, newtype, &old);
     if (class != MPI_SUCCESS) return class;
     maker_begin(&maker, "MPI_Type_vector", MPI_COMBINER_VECTOR, 3, 0, 1);
     maker_note_all(&maker, (int[]){count, blocklength, stride}, 3);
     maker_note_type(&maker, old);
-    if (count < 2 || blocklength == 0) stride = 0; /* nothing stands there */
-    if (bytes_product(stride, old->layout.extent, &bytes))
-        maker_add_blocks(&maker, old, 0, (size_t)count, (size_t)blocklength, bytes);
-    else maker_is_too_large(&maker);
+    maker_blocks(&maker, old, 0, (size_t)count, (size_t)blocklength, stride, old->layout.numbers.extent);
     return maker_hand_out(&maker, newtype);
 }
 
@@ -89,7 +85,7 @@ static int make_hvector(const char *call, int count, int blocklength, MPI_Aint s
     maker_note_all(&maker, (int[]){count, blocklength}, 2);
     maker_note_addresses(&maker, &stride, 1);
     maker_note_type(&maker, old);
-    maker_add_blocks(&maker, old, 0, (size_t)count, (size_t)blocklength, stride);
+    maker_blocks(&maker, old, 0, (size_t)count, (size_t)blocklength, stride, 1);
     return maker_hand_out(&maker, newtype);
 }
 
@@ -151,11 +147,8 @@ static int make_blocks(const struct blocks *blocks, MPI_Datatype oldtype, MPI_Da
     maker_note_type(&maker, old);
     for (int i = 0; i < count && maker.making.end == LAYOUT_MADE; i++) {
         int length = blocks->is_of_one_length ? blocks->length : blocks->lengths[i];
-        ptrdiff_t at = 0;
-        if (length == 0) continue;
-        if (blocks->is_in_bytes) at = blocks->addresses[i];
-        else if (!bytes_product(blocks->places[i], old->layout.extent, &at)) maker_is_too_large(&maker);
-        maker_add(&maker, old, at, (size_t)length, old->layout.extent);
+        if (blocks->is_in_bytes) maker_block(&maker, old, blocks->addresses[i], 1, (size_t)length);
+        else maker_block(&maker, old, blocks->places[i], old->layout.numbers.extent, (size_t)length);
     }
     return maker_hand_out(&maker, newtype);
 }
@@ -248,7 +241,7 @@ static int make_struct(const char *call, int count, const int *lengths, const MP
     for (int i = 0; i < count; i++) {
         struct datatype *old = datatype_of(types[i]);
         maker_note_type(&maker, old);
-        maker_add(&maker, old, places[i], (size_t)lengths[i], old->layout.extent);
+        maker_block(&maker, old, places[i], 1, (size_t)lengths[i]);
     }
     return maker_hand_out(&maker, newtype);
 }

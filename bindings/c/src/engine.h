@@ -4,7 +4,8 @@
  * data and datagrams. It never waits: what isn't ready is answered ENGINE_PENDING or ENGINE_BLOCKED, and C asks again
  * once it has carried datagrams and told the time. Behind this border it is decided, and proved, which message a
  * receive takes, order, the engine's collectives, communicators, resending, what is refused of what it is asked. On
- * this side stand types, the carrying out of plans, topologies but for grids, attributes. (MPI 3.1 is the standard.
+ * this side stands what engine_plans.h, engine_grids.h and engine_types.h don't tell: the carrying out of plans, other
+ * topologies, handles and contents of types, attributes. (MPI 3.1 is the standard.
  * What a program asks wrongly C tells, mostly, before it asks: checks.c.)
  *
  * What crosses is numbers, records of fixed size and slices of bytes. No record holds a pointer, and the rank keeps no

@@ -4,6 +4,7 @@
 #include "engine.h"
 #include "engine_grids.h"
 #include "engine_plans.h"
+#include "engine_types.h"
 #include "launching.h"
 
 #define RECORD(name, bytes, alignment)                                                                                 \
@@ -98,6 +99,29 @@ FIELD(plan_step, joined, 8, 4);
 FIELD(plan_step, from, 12, 8);
 FIELD(plan_step, high, 20, 8);
 FIELD(plan_step, into, 28, 8);
+
+RECORD(type_numbers, 80, 8);
+FIELD(type_numbers, size, 0, 8);
+FIELD(type_numbers, elements, 8, 8);
+FIELD(type_numbers, true_lower, 16, 8);
+FIELD(type_numbers, true_upper, 24, 8);
+FIELD(type_numbers, lower_mark, 32, 8);
+FIELD(type_numbers, upper_mark, 40, 8);
+FIELD(type_numbers, lower, 48, 8);
+FIELD(type_numbers, extent, 56, 8);
+FIELD(type_numbers, alignment, 64, 4);
+FIELD(type_numbers, kinds, 68, 4);
+FIELD(type_numbers, kind, 72, 4);
+FIELD(type_numbers, has_data, 76, 1);
+FIELD(type_numbers, has_lower, 77, 1);
+FIELD(type_numbers, has_upper, 78, 1);
+
+RECORD(run, 40, 8);
+FIELD(run, at, 0, 8);
+FIELD(run, length, 8, 8);
+FIELD(run, count, 16, 8);
+FIELD(run, stride, 24, 8);
+FIELD(run, body, 32, 8);
 
 /* The kinds of calls. */
 NUMBER(ENGINE_ISEND, 1);
@@ -249,3 +273,11 @@ bool kombazily_read_place(const uint8_t *, size_t, uint16_t, struct told_place *
 uint32_t kombazily_plan(const struct plan_asked *, struct plan_step *, size_t, uint64_t *);
 uint32_t kombazily_fold(uint32_t, uint32_t, const uint8_t *, size_t, uint8_t *, size_t);
 uint32_t kombazily_regroups(uint32_t, uint32_t);
+void kombazily_type_begin(struct type_numbers *);
+uint32_t kombazily_type_block(struct type_numbers *, struct run *, size_t, size_t *, const struct type_numbers *, const struct run *, size_t, uint64_t, int64_t, int64_t, uint64_t);
+uint32_t kombazily_type_rows(struct type_numbers *, struct run *, size_t, size_t *, const struct type_numbers *, const struct run *, size_t, uint64_t, int64_t, uint64_t, int64_t, int64_t);
+uint32_t kombazily_type_resize(struct type_numbers *, int64_t, int64_t, int64_t);
+uint32_t kombazily_type_end(struct type_numbers *);
+void kombazily_type_copies(const struct run *, size_t, uint64_t, uint64_t, uint64_t, int64_t, struct run *);
+uint32_t kombazily_type_share(uint64_t, uint64_t, uint64_t, uint64_t, uint64_t *, uint64_t *);
+uint32_t kombazily_type_items(uint64_t, uint64_t, uint64_t *);

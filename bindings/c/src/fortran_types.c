@@ -45,7 +45,7 @@ static int make_kind(const char *call, int combiner, const struct kind *kinds, c
     }
     maker_begin(&maker, call, combiner, (size_t)count, 0, 0);
     maker_note_all(&maker, arguments, count);
-    maker_add(&maker, kind, 0, 1, 0);
+    maker_copy(&maker, kind);
     if (maker.type != NULL) maker.type->is_committed = maker.type->is_predefined = true;
     return maker_hand_out(&maker, newtype);
 }
@@ -88,7 +88,7 @@ int MPI_Type_match_size(int typeclass, int size, MPI_Datatype *datatype) {
     if (typeclass < MPI_TYPECLASS_REAL || typeclass > MPI_TYPECLASS_COMPLEX)
         return raise_on(MPI_COMM_WORLD, call, MPI_ERR_ARG, "typeclass is %d", typeclass);
     for (size_t i = 0; i < sizeof known / sizeof *known; i++) {
-        if (known[i].class != typeclass || datatype_of(known[i].type)->layout.size != (size_t)size) continue;
+        if (known[i].class != typeclass || datatype_of(known[i].type)->layout.numbers.size != (size_t)size) continue;
         *datatype = known[i].type;
         return MPI_SUCCESS;
     }

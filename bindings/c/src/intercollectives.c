@@ -180,8 +180,9 @@ static int find_spare(const struct asked *asked, struct datatype *type, size_t c
                       struct place *made) {
     const struct layout *layout = &type->layout;
     /* An extent may be negative. */
-    const ptrdiff_t last = count == 0 ? 0 : (ptrdiff_t)(count - 1) * layout->extent;
-    const ptrdiff_t from = layout->true_lower + (last < 0 ? last : 0), to = layout->true_upper + (last > 0 ? last : 0);
+    const ptrdiff_t last = count == 0 ? 0 : (ptrdiff_t)(count - 1) * layout->numbers.extent;
+    const ptrdiff_t from = layout->numbers.true_lower + (last < 0 ? last : 0),
+                    to = layout->numbers.true_upper + (last > 0 ? last : 0);
     call->spare = calloc(1, (size_t)(to - from) + 1);
     if (call->spare == NULL) return raise_on(asked->handle, asked->name, MPI_ERR_NO_MEM, "no memory for a collective");
     *made = (struct place){(char *)call->spare - from, count, type};

@@ -98,7 +98,7 @@ uint32_t fold_items(const struct folding *folding, const void *low, void *high, 
     else if (operation->number > ENGINE_BXOR)
         fold_pairs(type->pair, operation->number == OPERATION_MAXLOC, low, high, count);
     else if (type->family == FAMILY_COMPLEX && operation->number == ENGINE_PROD)
-        multiply_complex(type->layout.size / 2, low, high, count);
+        multiply_complex(type->layout.numbers.size / 2, low, high, count);
     else if (type->basic == ENGINE_BYTE && type->family == FAMILY_FLOATING)
         fold_long_doubles_into((enum engine_operation)operation->number, low, high, count);
     else if (type->basic == ENGINE_BYTE && type->family == FAMILY_COMPLEX)

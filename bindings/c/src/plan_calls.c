@@ -42,7 +42,7 @@ static int find_block(const struct asked *asked, const struct blocks *blocks, in
     if (class != MPI_SUCCESS) return class;
     ptrdiff_t from = blocks->displacements == NULL ? (ptrdiff_t)behind : blocks->displacements[at];
     if (blocks->addresses != NULL) from = blocks->addresses[at];
-    if (blocks->types == NULL) from *= type->layout.extent;
+    if (blocks->types == NULL) from *= type->layout.numbers.extent;
     /* An address may be NULL where there are no data. */
     void *own = from == 0 ? (void *)blocks->at : (char *)blocks->at + from;
     *found = (struct place){own, (size_t)count, type};

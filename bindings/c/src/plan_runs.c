@@ -490,8 +490,9 @@ static uint32_t find_room(struct plan_run *run) {
     if (kept == 0 || place_length(like) == 0) return 0;
     const struct layout *layout = &like.type->layout;
     /* An extent may be negative. */
-    ptrdiff_t last = (ptrdiff_t)(like.count - 1) * layout->extent;
-    ptrdiff_t from = layout->true_lower + (last < 0 ? last : 0), to = layout->true_upper + (last > 0 ? last : 0);
+    ptrdiff_t last = (ptrdiff_t)(like.count - 1) * layout->numbers.extent;
+    ptrdiff_t from = layout->numbers.true_lower + (last < 0 ? last : 0),
+              to = layout->numbers.true_upper + (last > 0 ? last : 0);
     run->room_of_each = ((size_t)(to - from) + 15) / 16 * 16;
     run->room_before = -from;
     run->room = calloc(kept, run->room_of_each);

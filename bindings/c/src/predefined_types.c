@@ -111,25 +111,26 @@ static const struct basic_type basic_types[] = {BASIC_TYPES};
 #define NAMED(of_name, of_basic, of_unit, of_family)                                                                   \
     .basic = (of_basic), .unit = (of_unit), .family = FAMILY_##of_family, .of = "MPI_" #of_name,                       \
     .name = "MPI_" #of_name, .is_committed = true, .is_predefined = true, .uses = 1
-#define LAYOUT(of_size, of_extent, of_upper, of_alignment, of_runs)                                                    \
-    .layout = {.size = (of_size), .extent = (of_extent), .true_upper = (of_upper), .alignment = (of_alignment),        \
+#define LAYOUT(of_size, of_count, of_extent, of_upper, of_alignment, of_kind, of_runs)                                 \
+    .layout = {.numbers = {.size = (of_size), .elements = (of_count), .has_data = true, .extent = (of_extent),         \
+                           .true_upper = (of_upper), .alignment = (of_alignment), .kinds = 1, .kind = (of_kind)},      \
                .runs = of_runs}
 #define RUNS(count, high, ...) &(struct runs){1, count, 0, high, count, (struct run[]){__VA_ARGS__}}
-#define ROW(at, length) {at, length, 1, 0, NULL}
+#define ROW(at, length) {at, length, 1, 0, 0}
 #define SIGNATURE(size, elements, external, count, ...)                                                                \
     .signature = &(struct signature){1, size, elements, external, count, (struct signature_part[]){__VA_ARGS__}}
 #define PART(name) {1, &basic_types[PLACE_##name], NULL}
 
 #define BASIC(name, c_type, family, basic, unit, numbers, external, form)                                              \
     {NAMED(name, basic, unit, family),                                                                                 \
-     LAYOUT(sizeof(c_type), sizeof(c_type), sizeof(c_type), alignof(c_type),                                           \
+     LAYOUT(sizeof(c_type), 1, sizeof(c_type), sizeof(c_type), alignof(c_type), basic,                                 \
             RUNS(1, sizeof(c_type), ROW(0, sizeof(c_type)))),                                                          \
      SIGNATURE(sizeof(c_type), 1, (numbers) * (external), 1, PART(name))},
 
 /* A marker of a bound has no data (4.1.7). */
 #define MARKER(name, is_lower, is_upper)                                                                               \
     {NAMED(name, ENGINE_BYTE, 1, OTHER),                                                                               \
-     .layout = {.alignment = 1, .has_lower = (is_lower), .has_upper = (is_upper)}}
+     .layout.numbers = {.alignment = 1, .has_lower = (is_lower), .has_upper = (is_upper)}}
 
 /* A pair is the struct of its value and its index. Its data are one row where there is no gap between the two. */
 #define STRUCT_OF(c_value, c_index) struct { c_value value; c_index index; }
@@ -138,8 +139,8 @@ static const struct basic_type basic_types[] = {BASIC_TYPES};
 #define BOTH(c_value, c_index) (sizeof(c_value) + sizeof(c_index))
 #define PAIR(name, value, c_value, index, c_index, basic, unit, external)                                              \
     {NAMED(name, basic, unit, PAIR), .pair = PAIR_##name,                                                              \
-     LAYOUT(BOTH(c_value, c_index), sizeof(STRUCT_OF(c_value, c_index)), AT(c_value, c_index) + sizeof(c_index),       \
-            alignof(STRUCT_OF(c_value, c_index)),                                                                      \
+     LAYOUT(BOTH(c_value, c_index), 2, sizeof(STRUCT_OF(c_value, c_index)), AT(c_value, c_index) + sizeof(c_index),    \
+            alignof(STRUCT_OF(c_value, c_index)), basic,                                                               \
             RUNS(HAS_GAP(c_value, c_index) ? 2 : 1, AT(c_value, c_index) + sizeof(c_index),                            \
                  ROW(0, HAS_GAP(c_value, c_index) ? sizeof(c_value) : BOTH(c_value, c_index)),                         \
                  ROW(AT(c_value, c_index), sizeof(c_index)))),                                                         \

@@ -54,7 +54,7 @@ void put_status(MPI_Status *status, const MPI_Status *of) {
 static uint32_t take_data(const struct request *request, uint64_t bytes) {
     if (bytes == 0) return 0;
     const struct layout *layout = &request->type->layout;
-    size_t items = layout->size == 0 ? 0 : (size_t)(bytes + layout->size - 1) / layout->size;
+    size_t items = layout->numbers.size == 0 ? 0 : (size_t)(bytes + layout->numbers.size - 1) / layout->numbers.size;
     if (is_row(layout, items)) {
         take_from_engine(0, row_of(layout, request->buf), (size_t)bytes);
         return 0;

@@ -24,8 +24,8 @@ int check_list(const char *call, const char *name, const void *list, int count) 
     return raise_on(MPI_COMM_WORLD, call, MPI_ERR_ARG, "%s is NULL, for a count of %d", name, count);
 }
 
-/* What a type is carried as that is made of several: as each of them is, where all are carried alike, else as bytes.
- * One without data is carried as its first one. */
+/* What a type is carried as, and of what it is, that is made of several: see maker_end. One without data is carried as
+ * its first one. */
 static void carry(struct datatype *made, const struct datatype *item) {
     if (made->signature == NULL) {
         made->basic = item->basic;
@@ -33,10 +33,6 @@ static void carry(struct datatype *made, const struct datatype *item) {
         made->family = item->family;
         made->of = item->of;
         return;
-    }
-    if (made->basic != item->basic) {
-        made->basic = ENGINE_BYTE;
-        made->unit = 1;
     }
     if (made->of == item->of) return;
     made->family = FAMILY_OTHER;
@@ -96,10 +92,6 @@ void maker_begin(struct maker *maker, const char *call, int combiner, size_t int
     maker->type = NULL;
 }
 
-void maker_is_too_large(struct maker *maker) {
-    if (maker->making.end == LAYOUT_MADE) maker->making.end = LAYOUT_TOO_LARGE;
-}
-
 /* Notes that so many items of a type come next in the signature. */
 static void sign(struct maker *maker, const struct datatype *item, size_t count) {
     if (maker->type == NULL || maker->making.end != LAYOUT_MADE || count == 0 || item->signature == NULL) return;
@@ -108,16 +100,18 @@ static void sign(struct maker *maker, const struct datatype *item, size_t count)
         maker->making.end = LAYOUT_NO_MEMORY;
 }
 
-void maker_add(struct maker *maker, const struct datatype *item, ptrdiff_t at, size_t count, ptrdiff_t stride) {
-    making_add(&maker->making, &item->layout, at, count, stride);
-    sign(maker, item, count);
+void maker_block(struct maker *maker, const struct datatype *item, ptrdiff_t at, ptrdiff_t unit, size_t length) {
+    making_block(&maker->making, &item->layout, at, unit, length);
+    sign(maker, item, length);
 }
 
-void maker_add_blocks(struct maker *maker, const struct datatype *item, ptrdiff_t at, size_t count, size_t length,
-                      ptrdiff_t stride) {
-    making_add_blocks(&maker->making, &item->layout, at, count, length, stride);
+void maker_blocks(struct maker *maker, const struct datatype *item, ptrdiff_t at, size_t count, size_t length,
+                  ptrdiff_t stride, ptrdiff_t unit) {
+    making_blocks(&maker->making, &item->layout, at, count, length, stride, unit);
     sign(maker, item, count * length);
 }
+
+void maker_copy(struct maker *maker, const struct datatype *item) { maker_block(maker, item, 0, 1, 1); }
 
 int maker_end(struct maker *maker, struct datatype **made) {
     struct layout layout = {0};
@@ -125,10 +119,13 @@ int maker_end(struct maker *maker, struct datatype **made) {
     *made = maker->type;
     if (maker->type == NULL) layout_free(&layout);
     else maker->type->layout = layout;
+    /* As each of its elements is, where all are carried alike, else as bytes. */
+    if (maker->type != NULL && layout.numbers.kinds > 1) maker->type->basic = ENGINE_BYTE, maker->type->unit = 1;
     if (end == LAYOUT_MADE && maker->type != NULL) return MPI_SUCCESS;
     if (maker->type != NULL) release_type(maker->type);
     if (end == LAYOUT_TOO_LARGE)
-        return raise_on(MPI_COMM_WORLD, maker->call, MPI_ERR_ARG, "the type would reach 2^62 bytes or more");
+        return raise_on(MPI_COMM_WORLD, maker->call, MPI_ERR_ARG,
+                        "the type's size, a place or a bound would reach 2^63 bytes");
     return raise_on(MPI_COMM_WORLD, maker->call, MPI_ERR_NO_MEM, "no memory for a type");
 }
 

@@ -19,12 +19,11 @@ void maker_note(struct maker *maker, int integer);
 void maker_note_all(struct maker *maker, const int *integers, int count);
 void maker_note_addresses(struct maker *maker, const MPI_Aint *addresses, int count);
 void maker_note_type(struct maker *maker, struct datatype *type);
-/* Adds copies of a type, or blocks of them, as making_add and making_add_blocks do. */
-void maker_add(struct maker *maker, const struct datatype *item, ptrdiff_t at, size_t count, ptrdiff_t stride);
-void maker_add_blocks(struct maker *maker, const struct datatype *item, ptrdiff_t at, size_t count, size_t length,
-                      ptrdiff_t stride);
-/* Notes that a number was too large. */
-void maker_is_too_large(struct maker *maker);
+/* Adds a block of a type, or blocks of it, as making_block and making_blocks do; all of it. */
+void maker_block(struct maker *maker, const struct datatype *item, ptrdiff_t at, ptrdiff_t unit, size_t length);
+void maker_blocks(struct maker *maker, const struct datatype *item, ptrdiff_t at, size_t count, size_t length,
+                  ptrdiff_t stride, ptrdiff_t unit);
+void maker_copy(struct maker *maker, const struct datatype *item);
 /* Ends making: 0 and the type, or the class of the error, of which it has told; and gives the type a handle. */
 int maker_end(struct maker *maker, struct datatype **made);
 int maker_hand_out(struct maker *maker, MPI_Datatype *newtype);

@@ -139,7 +139,8 @@ int MPI_Type_size(MPI_Datatype datatype, int *size) {
     struct datatype *own;
     int class = check_any_type("MPI_Type_size", datatype, &own);
     if (class == MPI_SUCCESS) class = check_result(MPI_COMM_WORLD, "MPI_Type_size", size, "size");
-    if (class == MPI_SUCCESS) *size = own->layout.size > INT_MAX ? MPI_UNDEFINED : (int)own->layout.size;
+    if (class == MPI_SUCCESS)
+        *size = own->layout.numbers.size > INT_MAX ? MPI_UNDEFINED : (int)own->layout.numbers.size;
     return class;
 }
 
@@ -148,7 +149,7 @@ int MPI_Type_size_x(MPI_Datatype datatype, MPI_Count *size) {
     struct datatype *own;
     int class = check_any_type("MPI_Type_size_x", datatype, &own);
     if (class == MPI_SUCCESS) class = check_result(MPI_COMM_WORLD, "MPI_Type_size_x", size, "size");
-    if (class == MPI_SUCCESS) *size = (MPI_Count)own->layout.size;
+    if (class == MPI_SUCCESS) *size = (MPI_Count)own->layout.numbers.size;
     return class;
 }
 
@@ -163,7 +164,7 @@ static int find_bounds(const char *call, MPI_Datatype datatype, bool is_true, co
     if (class == MPI_SUCCESS) class = check_result(MPI_COMM_WORLD, call, lower, is_true ? "true_lb" : "lb");
     if (class == MPI_SUCCESS) class = check_result(MPI_COMM_WORLD, call, extent, is_true ? "true_extent" : "extent");
     if (class != MPI_SUCCESS) return class;
-    const struct layout *of = &own->layout;
+    const struct type_numbers *of = &own->layout.numbers;
     if (is_true) *found = (struct bounds){of->true_lower, of->true_upper - of->true_lower};
     else *found = (struct bounds){of->lower, of->extent};
     return MPI_SUCCESS;

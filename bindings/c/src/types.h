@@ -3,7 +3,7 @@
 #define KOMBAZILY_TYPES_H
 
 #include "engine.h"
-#include "layouts.h"
+#include "makings.h"
 #include "mpi.h"
 #include "signatures.h"
 

@@ -54,12 +54,12 @@ static void check_arrays(void) {
             MPI_Type_create_darray(4, 0, 1, &five, &(int){MPI_DISTRIBUTE_NONE}, &any, &size, order, MPI_INT, &made));
 }
 
-/* Sizes and places of 2^62 bytes and more. */
+/* Sizes, places and bounds that are not within 64 bits. */
 static void check_large(void) {
-    const MPI_Aint far = (MPI_Aint)1 << 61;
+    const MPI_Aint far = (MPI_Aint)1 << 62;
     MPI_Datatype large, larger;
     MPI_Type_contiguous(INT_MAX, MPI_INT, &large);
-    MPI_Type_contiguous(1 << 28, large, &larger);
+    MPI_Type_contiguous(1 << 29, large, &larger);
     REFUSED(MPI_ERR_ARG, MPI_Type_contiguous(INT_MAX, larger, &made));
     REFUSED(MPI_ERR_ARG, MPI_Type_vector(2, 1, INT_MAX, larger, &made));
     REFUSED(MPI_ERR_ARG, MPI_Type_create_hvector(4, 1, far, MPI_INT, &made));

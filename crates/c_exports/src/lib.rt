@@ -12,3 +12,4 @@ mod handle;
 mod held;
 mod launching;
 mod plans;
+mod types;

@@ -160,7 +160,7 @@ spells_elsewhere e rest es p r h same = record {
 
 -- ---- bytes
 
-bytes_append : (xs ys : List Element) → bytes_of (xs ++ ys) ≡ bytes_of xs ++ bytes_of ys
+pub bytes_append : (xs ys : List Element) → bytes_of (xs ++ ys) ≡ bytes_of xs ++ bytes_of ys
 bytes_append xs ys = flat_map-append (λ (e : Element). row e.at e.basic.size) xs ys
 
 map_numbers_append : (a : ℤ) (xs ys : List ℤ) → moved_numbers a (xs ++ ys) ≡ moved_numbers a xs ++ moved_numbers a ys
@@ -172,7 +172,7 @@ bytes_moved a (e ∷ es) =
     (λ t. sym (places_moved a e.at e.basic.size (pos 1)) t ++ bytes_moved a es t) ∙
     sym (map_numbers_append a (row e.at e.basic.size) (bytes_of es))
 
-bytes_copied : (ps : List ℤ) (es : List Element) → bytes_of (copied_elements ps es) ≡ copied_numbers ps (bytes_of es)
+pub bytes_copied : (ps : List ℤ) (es : List Element) → bytes_of (copied_elements ps es) ≡ copied_numbers ps (bytes_of es)
 bytes_copied [] es = refl
 bytes_copied (p ∷ ps) es =
     bytes_append (moved p es) (copied_elements ps es) ∙ (λ t. bytes_moved p es t ++ bytes_copied ps es t)

@@ -9,7 +9,9 @@ use crate::refusal::Refusal;
 const GREATEST: u64 = 0x7fff_ffff_ffff_ffff;
 
 /// The sum of two numbers of bytes.
-pub(crate) fn sum(one: i64, other: i64) -> Result<i64, Refusal>
+///
+/// Refused where it isn't within 64 bits.
+pub fn sum(one: i64, other: i64) -> Result<i64, Refusal>
     ensures { GivesNumber (one +ℤ other) result }
 {
     match one.checked_add(other) {
@@ -29,7 +31,9 @@ pub(crate) fn difference(one: i64, other: i64) -> Result<i64, Refusal>
 }
 
 /// The product of two numbers of bytes.
-pub(crate) fn product(one: i64, other: i64) -> Result<i64, Refusal>
+///
+/// Refused where it isn't within 64 bits.
+pub fn product(one: i64, other: i64) -> Result<i64, Refusal>
     ensures { GivesNumber (one *ℤ other) result }
 {
     match one.checked_mul(other) {
@@ -59,7 +63,9 @@ pub(crate) fn count_product(one: u64, other: u64) -> Result<u64, Refusal>
 }
 
 /// A count as a number of bytes.
-pub(crate) fn number_of(count: u64) -> Result<i64, Refusal>
+///
+/// Refused where it isn't below 2^63.
+pub fn number_of(count: u64) -> Result<i64, Refusal>
     ensures { GivesNumber (pos count) result }
 {
     if count <= GREATEST {

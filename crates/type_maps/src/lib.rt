@@ -15,6 +15,7 @@ mod queries;
 mod refusal;
 mod summary;
 
+pub use arithmetic::{number_of, product, sum};
 pub use basic::Basic;
 pub use blocks::{Block, Dimension, Distribution};
 pub use datatype::Datatype;

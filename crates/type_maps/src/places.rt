@@ -43,8 +43,8 @@ impl Places {
         })
     }
 
-    /// The places that these have at each place of others, where they are places again.
-    pub(crate) fn at_each(&self, others: &Places) -> Option<Places>
+    /// The places that these have at each place of others; `None` where they aren't regular, or aren't within 64 bits.
+    pub fn at_each(&self, others: &Places) -> Option<Places>
         ensures { IfSome result
             (λ r. copied_numbers (places_of others.now) (places_of self.now) ≡ places_of r) }
     {

@@ -125,7 +125,7 @@ fn padding(alignment: u32, distance: i64) -> u32
 
 impl Summary {
     /// What no element and no marker has.
-    pub(crate) fn none() -> Summary
+    pub fn none() -> Summary
         ensures { result ≡ terms.no_summary }
     {
         Summary {
@@ -158,7 +158,9 @@ impl Summary {
     }
 
     /// What a map and another one behind it have.
-    pub(crate) fn joined(&self, other: &Summary) -> Result<Summary, Refusal>
+    ///
+    /// Refused where the size or the number of elements isn't below 2^63.
+    pub fn joined(&self, other: &Summary) -> Result<Summary, Refusal>
         ensures { GivesIf (SummaryFits (terms.joined_summaries self.now other.now))
             (terms.joined_summaries self.now other.now) result }
     {
@@ -196,7 +198,9 @@ impl Summary {
     }
 
     /// What copies have.
-    pub(crate) fn copied(&self, at: &Places) -> Result<Summary, Refusal>
+    ///
+    /// Refused where a place, the size, or where data or markers lie isn't within 64 bits.
+    pub fn copied(&self, at: &Places) -> Result<Summary, Refusal>
         requires { 0 < at.now.count }
         ensures { GivesIf
             (PlacesFit at.now × SummaryFits (terms.copied_summary at.now.at at.now.count at.now.stride self.now))
@@ -207,7 +211,7 @@ impl Summary {
     }
 
     /// The lower bound.
-    pub(crate) fn lower(&self) -> i64
+    pub fn lower(&self) -> i64
         ensures { result ≡ terms.lower_bound self.now }
     {
         match self.lower_mark {
@@ -251,7 +255,9 @@ impl Summary {
     }
 
     /// The extent.
-    pub(crate) fn extent(&self) -> Result<i64, Refusal>
+    ///
+    /// Refused where a bound or the extent isn't within 64 bits.
+    pub fn extent(&self) -> Result<i64, Refusal>
         ensures { GivesIf (BoundsFit self.now) (terms.upper_bound self.now -ℤ terms.lower_bound self.now) result }
     {
         let upper = self.upper()?;

@@ -1,5 +1,5 @@
 /* Layouts: bounds, sizes, rows; beside lists of every byte, made as 4.1 of MPI 3.1 defines types. */
-#include "../../src/layouts.h"
+#include "../../src/makings.h"
 #include "unit.h"
 
 #include <limits.h>
@@ -9,10 +9,17 @@
 static struct layout element_of(size_t size) {
     static struct run lists[17];
     static struct runs runs[17];
-    lists[size] = (struct run){0, size, 1, 0, NULL};
+    lists[size] = (struct run){0, size, 1, 0, 0};
     runs[size] = (struct runs){1000000, 1, 0, (ptrdiff_t)size, 1, &lists[size]};
-    return (struct layout){
-        .size = size, .extent = (ptrdiff_t)size, .true_upper = (ptrdiff_t)size, .alignment = size, .runs = &runs[size]};
+    return (struct layout){.numbers = {.size = size,
+                                       .elements = 1,
+                                       .extent = (ptrdiff_t)size,
+                                       .true_upper = (ptrdiff_t)size,
+                                       .alignment = (uint32_t)size,
+                                       .kinds = 1,
+                                       .kind = (uint32_t)size,
+                                       .has_data = true},
+                           .runs = &runs[size]};
 }
 
 /* Blocks of items at places in extents, and the layout of them. */
@@ -25,14 +32,14 @@ static enum layout_end make_blocks(const struct layout *item, const struct block
     struct making making;
     making_begin(&making);
     for (size_t i = 0; i < count; i++)
-        making_add(&making, item, blocks[i].at * item->extent, blocks[i].length, item->extent);
+        making_block(&making, item, blocks[i].at, item->numbers.extent, blocks[i].length);
     return making_end(&making, made);
 }
 static enum layout_end make_vector(const struct layout *item, size_t count, size_t length, ptrdiff_t stride,
                                    struct layout *made) {
     struct making making;
     making_begin(&making);
-    making_add_blocks(&making, item, 0, count, length, stride);
+    making_blocks(&making, item, 0, count, length, stride, 1);
     return making_end(&making, made);
 }
 
@@ -44,13 +51,13 @@ static struct layout made_of(const struct layout *item, const struct block *bloc
 }
 static struct layout vector_of(const struct layout *item, size_t count, size_t length, ptrdiff_t stride) {
     struct layout made;
-    CHECK(make_vector(item, count, length, stride * item->extent, &made) == LAYOUT_MADE);
+    CHECK(make_vector(item, count, length, stride * item->numbers.extent, &made) == LAYOUT_MADE);
     return made;
 }
 
 /* `count` is that of the runs. */
 static void check_bounds(const struct layout *layout, size_t size, ptrdiff_t lower, ptrdiff_t extent, size_t count) {
-    CHECK(layout->size == size && layout->lower == lower && layout->extent == extent);
+    CHECK(layout->numbers.size == size && layout->numbers.lower == lower && layout->numbers.extent == extent);
     CHECK((layout->runs == NULL ? 0 : layout->runs->count) == count);
 }
 
@@ -87,27 +94,27 @@ static void check_nothing(void) {
     CHECK(data_row(&of_none, NULL, 5, &room) != NULL && room == NULL);
 }
 
-/* What would reach 2^62 bytes is refused. */
+/* Sizes, places and bounds that aren't within 64 bits are refused. */
 static void check_limits(void) {
     struct layout integer = element_of(4), other;
     struct layout large = made_of(&integer, (struct block[]){{INT_MAX, 0}}, 1), larger;
     check_bounds(&large, (size_t)INT_MAX * 4, 0, (ptrdiff_t)INT_MAX * 4, 1);
-    larger = made_of(&large, (struct block[]){{1 << 28, 0}}, 1);
+    larger = made_of(&large, (struct block[]){{1 << 29, 0}}, 1);
     CHECK(make_blocks(&larger, (struct block[]){{1 << 28, 0}}, 1, &other) == LAYOUT_TOO_LARGE);
-    CHECK(make_blocks(&larger, (struct block[]){{1, 3}}, 1, &other) == LAYOUT_TOO_LARGE);
+    CHECK(make_blocks(&larger, (struct block[]){{1, 2}}, 1, &other) == LAYOUT_TOO_LARGE);
     CHECK(make_blocks(&larger, (struct block[]){{1, -3}}, 1, &other) == LAYOUT_TOO_LARGE);
     CHECK(data_size(&larger, 16) == SIZE_MAX && data_size(&large, 3) == (size_t)INT_MAX * 12);
-    const ptrdiff_t most = PTRDIFF_MAX / 2;
-    CHECK(make_vector(&integer, 2, 1, most - 3, &other) == LAYOUT_TOO_LARGE);
-    CHECK(make_vector(&integer, 2, 1, most - 7, &other) == LAYOUT_MADE && other.extent == most - 3);
+    CHECK(make_vector(&integer, 2, 1, PTRDIFF_MAX - 3, &other) == LAYOUT_TOO_LARGE);
+    CHECK(make_vector(&integer, 2, 1, PTRDIFF_MAX - 7, &other) == LAYOUT_MADE);
+    CHECK(other.numbers.extent == PTRDIFF_MAX - 3);
     layout_free(&other);
-    CHECK(make_vector(&integer, 2, 1, -most - 1, &other) == LAYOUT_TOO_LARGE);
+    CHECK(make_vector(&integer, 2, 1, PTRDIFF_MIN, &other) == LAYOUT_TOO_LARGE);
+    CHECK(make_vector(&integer, 2, 1, PTRDIFF_MIN + 4, &other) == LAYOUT_TOO_LARGE);
+    CHECK(make_vector(&integer, 2, 1, PTRDIFF_MIN + 8, &other) == LAYOUT_MADE);
+    layout_free(&other);
     CHECK(make_vector(&integer, 3, 1, PTRDIFF_MIN, &other) == LAYOUT_TOO_LARGE);
-    CHECK(make_vector(&integer, 1, 1, PTRDIFF_MIN, &other) == LAYOUT_MADE && other.extent == 4);
+    CHECK(make_vector(&integer, 1, 1, PTRDIFF_MIN, &other) == LAYOUT_MADE && other.numbers.extent == 4);
     layout_free(&other);
-    ptrdiff_t number;
-    CHECK(!bytes_sum(most, 1, &number) && bytes_sum(most, -most, &number) && number == 0);
-    CHECK(!bytes_product(PTRDIFF_MIN, -1, &number) && bytes_product(-1, most, &number) && number == -most);
     layout_free(&large);
     layout_free(&larger);
 }
@@ -117,23 +124,23 @@ static void check_markers(void) {
     struct layout integer = element_of(4), byte = element_of(1), pair, resized, two;
     struct making making;
     making_begin(&making);
-    making_add(&making, &integer, 0, 1, 0);
-    making_add(&making, &byte, 4, 1, 0);
+    making_block(&making, &integer, 0, 1, 1);
+    making_block(&making, &byte, 4, 1, 1);
     CHECK(making_end(&making, &pair) == LAYOUT_MADE);
     check_bounds(&pair, 5, 0, 8, 1);
-    CHECK(pair.true_lower == 0 && pair.true_upper == 5 && pair.alignment == 4);
+    CHECK(pair.numbers.true_lower == 0 && pair.numbers.true_upper == 5 && pair.numbers.alignment == 4);
     making_begin(&making);
-    making_add(&making, &pair, 0, 1, 0);
-    making_bound(&making, -3, 20);
+    making_block(&making, &pair, 0, 1, 1);
+    making_resize(&making, -3, 20, 1);
     CHECK(making_end(&making, &resized) == LAYOUT_MADE);
     check_bounds(&resized, 5, -3, 20, 1);
     CHECK(resized.runs == pair.runs);
     two = made_of(&resized, (struct block[]){{2, 0}, {1, -4}}, 2);
     check_bounds(&two, 15, -83, 120, 2);
-    CHECK(two.true_lower == -80 && two.true_upper == 25);
+    CHECK(two.numbers.true_lower == -80 && two.numbers.true_upper == 25);
     layout_free(&two);
     making_begin(&making);
-    making_bound(&making, PTRDIFF_MAX, -1);
+    making_resize(&making, PTRDIFF_MAX, 1, 1);
     CHECK(making_end(&making, &two) == LAYOUT_TOO_LARGE);
     layout_free(&pair);
     layout_free(&resized);
@@ -151,13 +158,13 @@ static void check_vectors(void) {
     check_bounds(&back, 24, -32, 40, 1);
     struct layout all = vector_of(&back, 1 << 20, 2, 5), again = vector_of(&all, 1 << 10, 1, -1);
     check_bounds(&all, (size_t)24 << 21, -32, (((1 << 20) - 1) * 5 + 2) * 40, 1);
-    CHECK(again.runs->count == 1 && again.runs->list[0].body == all.runs);
+    CHECK(again.runs->count == 1 && body_of(&again.runs->list[0]) == all.runs);
     struct layout one = vector_of(&all, 1, 1, 77), none = vector_of(&all, 0, 1, 5), empty = vector_of(&all, 5, 0, 5);
-    CHECK(one.runs == all.runs && one.extent == all.extent && one.lower == all.lower);
+    CHECK(one.runs == all.runs && one.numbers.extent == all.numbers.extent && one.numbers.lower == all.numbers.lower);
     check_bounds(&none, 0, 0, 0, 0);
     check_bounds(&empty, 0, 0, 0, 0);
     struct layout too_large;
-    CHECK(make_vector(&again, INT_MAX, 1, again.extent * 1000, &too_large) == LAYOUT_TOO_LARGE);
+    CHECK(make_vector(&again, INT_MAX, 1, again.numbers.extent * 1000, &too_large) == LAYOUT_TOO_LARGE);
     CHECK(make_vector(&all, INT_MAX, INT_MAX, 0, &too_large) == LAYOUT_TOO_LARGE);
     struct layout *made[] = {&row, &column, &back, &all, &again, &one, &none, &empty};
     for (size_t i = 0; i < sizeof made / sizeof *made; i++) layout_free(made[i]);
@@ -223,13 +230,13 @@ static bool draw_type(const struct layout *item, const struct places *of, struct
     for (int i = 0; i < size; i++) only.list[i] = i;
     *made = (struct places){.alignment = 1};
     making_begin(making);
-    if (constructor == 0) making_add_blocks(making, item, 0, (size_t)count, (size_t)length, stride);
+    if (constructor == 0) making_blocks(making, item, 0, (size_t)count, (size_t)length, stride, 1);
     for (int i = 0; i < count; i++) {
         int at = constructor == 0 ? i * stride : drawn(60) - 20, own = constructor == 0 ? length : drawn(3);
         bool is_other = constructor == 2 && drawn(2) == 0;
         if (constructor == 3) at = 0, own = i == 0;
-        if (constructor != 0 && is_other) making_add(making, &other, at, (size_t)own, size);
-        else if (constructor != 0) making_add(making, item, at, (size_t)own, extent);
+        if (constructor != 0 && is_other) making_block(making, &other, at, 1, (size_t)own);
+        else if (constructor != 0) making_block(making, item, at, 1, (size_t)own);
         for (int piece = 0; piece < own; piece++)
             if (!add_item(made, is_other ? &only : of, at + piece * (is_other ? size : extent))) return false;
     }
@@ -237,7 +244,7 @@ static bool draw_type(const struct layout *item, const struct places *of, struct
     made->lower = drawn(40) - 20;
     made->upper = made->lower + drawn(60);
     made->has_lower = made->has_upper = true;
-    making_bound(making, made->lower, made->upper - made->lower);
+    making_resize(making, made->lower, made->upper - made->lower, 1);
     return true;
 }
 
@@ -279,9 +286,9 @@ static void check_rows(const struct layout *layout, const struct places *places,
 
 static void check_type(const struct layout *layout, const struct places *places) {
     int lower = lower_of(places), items = drawn(6) + 1;
-    CHECK(layout->size == (size_t)places->count && (layout->runs == NULL) == (places->count == 0));
-    CHECK(layout->lower == lower && layout->extent == upper_of(places) - lower);
-    CHECK(layout->true_lower == least_of(places) && layout->true_upper == most_of(places));
+    CHECK(layout->numbers.size == (size_t)places->count && (layout->runs == NULL) == (places->count == 0));
+    CHECK(layout->numbers.lower == lower && layout->numbers.extent == upper_of(places) - lower);
+    CHECK(layout->numbers.true_lower == least_of(places) && layout->numbers.true_upper == most_of(places));
     if (items * places->count > 3 * MOST_PLACES) items = 1;
     if (is_within(places, items)) check_rows(layout, places, items);
 }

@@ -1,0 +1,4 @@
+pub mod Records
+pub mod Runs
+pub mod Making
+pub mod Shares
