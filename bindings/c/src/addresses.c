@@ -55,6 +55,13 @@ bool is_at(const struct addresses *job, int rank, uint32_t address, uint16_t por
     return rank >= 0 && rank < job->size && job->of_rank[rank] == address && port_at(job, rank) == port;
 }
 
+bool is_of_some(const struct addresses *job, uint32_t address, uint16_t port) {
+    if (job->first_port != 0) return is_at(job, port - job->first_port, address, port);
+    for (int rank = 0; rank < job->size; rank++)
+        if (is_at(job, rank, address, port)) return true;
+    return false;
+}
+
 int sender_of(const unsigned char *datagram, size_t len) {
     return len < SENDER + 2 ? -1 : datagram[SENDER] << 8 | datagram[SENDER + 1];
 }

@@ -31,6 +31,8 @@ uint16_t port_at(const struct addresses *job, int rank);
 
 /* Whether there is such a rank, and it has this address and port. */
 bool is_at(const struct addresses *job, int rank, uint32_t address, uint16_t port);
+/* Whether some rank has them. */
+bool is_of_some(const struct addresses *job, uint32_t address, uint16_t port);
 
 /* The rank that a datagram names as its sender (docs/FORMAT.md), or -1 where it is too short for that. */
 int sender_of(const unsigned char *datagram, size_t len);

@@ -267,6 +267,8 @@ static bool hand_on(device_hearer *hearer, int packet) {
 
 bool device_is_at(int rank, uint32_t address, uint16_t port) { return is_at(addresses, rank, address, port); }
 
+bool device_knows(uint32_t address, uint16_t port) { return is_of_some(addresses, address, port); }
+
 bool device_hear(device_hearer *hearer) {
     /* Mostly one packet comes at a time: it is looked for more where there was as much as was looked for. */
     static int wanted = 1;

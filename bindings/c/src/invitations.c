@@ -12,7 +12,8 @@
 #include <string.h>
 
 /* A message's tag: the communicator's number, a kind that no plan has, and the lowest bits of the call's tag. What has
- * come is kept until the call that it is for asks: one that has the same lowest bits may come first. */
+ * come is kept until the call that it is for asks: one that has the same lowest bits may come first. Those of calls
+ * with the same mark are opened in the order in which they came. */
 enum { COMM_SHIFT = 19, INVITATIONS = 14 << 15, TAG_MASK = (1 << 15) - 1 };
 
 struct letter {
@@ -23,6 +24,13 @@ struct letter {
 };
 
 static struct letter *letters;
+
+/* Puts one behind the others. */
+static void put_letter(struct letter *made) {
+    struct letter **end = &letters;
+    while (*end != NULL) end = &(*end)->next;
+    *end = made;
+}
 
 uint64_t mark_of(int tag, const uint16_t *list, int count) {
     uint64_t sum = UINT64_C(0xcbf29ce484222325) ^ (uint32_t)tag;
@@ -87,8 +95,7 @@ static bool take_letter(const struct communicator *comm, int member, int tag, ui
     made->place = comm->place;
     made->member = member;
     made->tag = tag & TAG_MASK;
-    made->next = letters;
-    letters = made;
+    put_letter(made);
     note_news();
     return true;
 }

@@ -129,13 +129,14 @@ static void send_out(bool kept_too) {
 void progress_out(void) { send_out(false); }
 
 /* Hands a datagram to the engine that it is for, unless it comes from elsewhere than the rank that it names; the engine
- * refuses what comes again. One for an engine that may come soon is kept. Whether it came from such a rank. */
+ * refuses what comes again. One for an engine that may come soon is kept, where it comes from a rank of the job.
+ * Whether it came from such a rank. */
 static bool hear_one(uint32_t address, uint16_t port, const unsigned char *bytes, size_t len) {
     uint64_t job;
     int kind;
     if (!read_job(bytes, len, &job)) return false;
     struct world *world = world_of_job(job, &kind);
-    if (world == NULL && may_be_ours(job)) keep_datagram(address, port, bytes, len);
+    if (world == NULL && may_be_ours(job) && device_knows(address, port)) keep_datagram(address, port, bytes, len);
     if (world == NULL || !device_is_at(first_rank(world, sender_of(bytes, len)), address, port)) return false;
     if (!need_engine(world, kind)) return false;
     tell_before(&world->engines[kind]);
@@ -309,27 +310,34 @@ static struct world *world_of_call(const struct engine_call *call) {
     return names_request(call->kind) ? world_of_key(call->request.key) : world_of_place(call->communicator);
 }
 
-/* Asks an engine of a world, which knows nothing of others: what names its communicators and requests is turned. */
-static void ask_world(struct world *world, int kind, struct engine_call call, const void *data, size_t len,
-                      struct engine_answer *answer) {
-    static const unsigned char nothing[1];
-    struct carried *own = answered[kind] = &world->engines[kind];
+/* Asks an engine of a world that isn't the first one, and knows nothing of others: what names its communicators and
+ * requests is turned. */
+static void ask_turned(const struct world *world, struct carried *own, struct engine_call call, const void *data,
+                       size_t len, struct engine_answer *answer) {
     const uint64_t key_base = (uint64_t)(world->base >> PLACE_BITS) << KEY_BITS;
     call.communicator -= names_request(call.kind) ? 0 : world->base;
     call.other -= call.kind == ENGINE_COMPARE ? world->base : 0;
     call.request.key -= names_request(call.kind) && call.request.key != UINT64_MAX ? key_base : 0;
-    if (may_send(call.kind)) tell_before(own);
-    kombazily_call(&own->rank, &call, data == NULL || len == 0 ? nothing : data, len, answer);
+    kombazily_call(&own->rank, &call, data, len, answer);
     if (answer->request.key != UINT64_MAX) answer->request.key += key_base;
     if (answer->communicator != ENGINE_NO_COMMUNICATOR) answer->communicator += world->base;
-    if (answer->kind == ENGINE_BLOCKED) blocked = world;
 }
 
 /* Asks the engine of a kind that the call is for. */
 static void ask(int kind, const struct engine_call *call, const void *data, size_t len, struct engine_answer *answer) {
+    static const unsigned char nothing[1];
     struct world *world = world_of_call(call);
-    *answer = (struct engine_answer){.kind = ENGINE_REFUSED, .number = world == NULL ? NUMBER_COMM : NUMBER_NO_MEMORY};
-    if (world != NULL && need_engine(world, kind)) ask_world(world, kind, *call, data, len, answer);
+    if (world == NULL || !need_engine(world, kind)) {
+        *answer =
+            (struct engine_answer){.kind = ENGINE_REFUSED, .number = world == NULL ? NUMBER_COMM : NUMBER_NO_MEMORY};
+        return;
+    }
+    struct carried *own = answered[kind] = &world->engines[kind];
+    if (data == NULL || len == 0) data = nothing;
+    if (may_send(call->kind)) tell_before(own);
+    if (world == &first_world) kombazily_call(&own->rank, call, data, len, answer);
+    else ask_turned(world, own, *call, data, len, answer);
+    if (answer->kind == ENGINE_BLOCKED) blocked = world;
 }
 
 void ask_engine(const struct engine_call *call, const void *data, size_t len, struct engine_answer *answer) {

@@ -5,6 +5,8 @@
 #include "internal.h"
 #include "worlds.h"
 
+#include <stdlib.h>
+
 /* Tags of messages that are of no communicator's plans: kind 0 of MPI_COMM_WORLD (plan_runs.c). */
 enum { TAG_LEFT = 1, TAG_GONE };
 
@@ -48,11 +50,45 @@ static void end_left(struct world *world) {
     end_world(world);
 }
 
+/* How many have left a world that isn't there yet: they may have had it, and left it, before its first member heard
+ * of it, who then has to know. */
+struct early {
+    uint64_t number;
+    int have_left;
+    struct early *next;
+};
+static struct early *early;
+
+static void note_left(uint64_t number) {
+    struct world *world = world_numbered(number);
+    struct early *it = early;
+    while (it != NULL && it->number != number) it = it->next;
+    if (world == NULL && it == NULL && (it = calloc(1, sizeof *it)) != NULL) {
+        *it = (struct early){number, 0, early};
+        early = it;
+    }
+    if (world != NULL) world->have_left++;
+    else if (it != NULL) it->have_left++;
+}
+
+int take_early(uint64_t number) {
+    struct early **at = &early;
+    while (*at != NULL && (*at)->number != number) at = &(*at)->next;
+    struct early *it = *at;
+    const int found = it == NULL ? 0 : it->have_left;
+    if (it != NULL) *at = it->next;
+    free(it);
+    return found;
+}
+
+void forget_early(void) {
+    while (early != NULL) (void)take_early(early->number);
+}
+
 static void hear_all(void) {
     uint64_t number;
     struct world *it;
-    while (hear(TAG_LEFT, &number))
-        if ((it = world_numbered(number)) != NULL) it->have_left++;
+    while (hear(TAG_LEFT, &number)) note_left(number);
     while (hear(TAG_GONE, &number))
         if ((it = world_numbered(number)) != NULL && it->has_said) end_left(it);
 }

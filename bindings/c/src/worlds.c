@@ -115,8 +115,6 @@ uint32_t make_engine(struct world *world, int kind) {
     return number;
 }
 
-bool need_engine(struct world *world, int kind) { return make_engine(world, kind) == 0; }
-
 static void free_engines(struct world *world) {
     for (int kind = 0; kind < ENGINES; kind++) {
         drop_carried(&world->engines[kind]);
@@ -142,6 +140,7 @@ struct world *open_world(uint64_t number, uint16_t *members, int size) {
     *made = (struct world){.base = place << PLACE_BITS, .number = number, .members = members, .size = size, .uses = 1};
     made->taken[0] = FIRST_TAKEN;
     made->rank = rank_in(made, process.rank);
+    made->have_left = take_early(number);
     if (!need_engine(made, OF_PROGRAMS)) {
         free_world(made);
         return NULL;
@@ -176,4 +175,5 @@ void close_worlds(void) {
     places = NULL;
     place_count = 0;
     drop_kept();
+    forget_early();
 }

@@ -67,11 +67,14 @@ struct world *world_numbered(uint64_t number);
 bool may_be_ours(uint64_t job);
 
 /* Opens a world of these members, of which this process is one, and takes their list over in any case: NULL where there
- * is no memory. It is used once then. Its engine of plans is made when it is needed: whether it is there. */
+ * is no memory. It is used once then. */
 struct world *open_world(uint64_t number, uint16_t *members, int size);
-bool need_engine(struct world *world, int kind);
-/* The same: 0, or the number of a refusal. */
+/* Makes an engine of it, where it isn't there: 0, or the number of a refusal. One of plans is made when it is needed:
+ * whether it is there. */
 uint32_t make_engine(struct world *world, int kind);
+static inline bool need_engine(struct world *world, int kind) {
+    return world->engines[kind].world != NULL || make_engine(world, kind) == 0;
+}
 struct world *hold_world(struct world *world);
 /* Of progress.c: takes in what has come for a world that was just opened; and nothing goes on in an engine any more. */
 void take_kept(const struct world *world);
@@ -92,6 +95,9 @@ void release_world(struct world *world);
 /* Goes on with the ends of those that were left; and from now on no more: all processes are to end. */
 void worlds_go_on(void);
 void stop_worlds(void);
+/* How many said that they have left a world before it was there: forgets that. And forgets all. */
+int take_early(uint64_t number);
+void forget_early(void);
 
 /* ---- kept_datagrams.c ---- */
 

@@ -5,10 +5,12 @@
 
 static struct addresses job;
 
+/* Whether some rank is there, of all that are tried and of those that are known. */
 static bool has(uint32_t address, uint16_t port) {
-    for (int rank = -1; rank <= job.size; rank++)
-        if (is_at(&job, rank, address, port)) return true;
-    return false;
+    bool is_there = false;
+    for (int rank = -1; rank <= job.size; rank++) is_there |= is_at(&job, rank, address, port);
+    CHECK(is_of_some(&job, address, port) == is_there);
+    return is_there;
 }
 
 static bool reads(int size, const char *text) {
@@ -39,6 +41,7 @@ static void test_ranks(void) {
     CHECK(is_at(&job, 0, 0x0a000001, 4000) && is_at(&job, 1, 0x0a000002, 4001) && is_at(&job, 2, 0x0a000001, 4002));
     CHECK(!has(0x0a000002, 4000) && !has(0x0a000001, 4001));
     CHECK(!has(0x0a000001, 3999) && !has(0x0a000001, 4003));
+    CHECK(has(0x0a000001, 4000) && has(0x0a000002, 4001) && has(0x0a000001, 4002));
     put_loopback(&job);
     CHECK(is_at(&job, 2, LOOPBACK, 4002) && !has(0x0a000001, 4002));
 }
@@ -47,6 +50,7 @@ static void test_own_ports(void) {
     job = (struct addresses){.size = 2, .of_rank = {0x0a000001, 0x0a000002}, .port_of = {5000, 4000}};
     CHECK(port_at(&job, 0) == 5000 && port_at(&job, 1) == 4000);
     CHECK(is_at(&job, 0, 0x0a000001, 5000) && is_at(&job, 1, 0x0a000002, 4000));
+    CHECK(has(0x0a000001, 5000) && has(0x0a000002, 4000));
     CHECK(!is_at(&job, 0, 0x0a000002, 4000) && !is_at(&job, 1, 0x0a000001, 5000));
     CHECK(!has(0x0a000001, 4000) && !has(0x0a000002, 5000) && !has(0x0a000001, 0) && !has(0, 0));
 }
