@@ -274,10 +274,10 @@ uint32_t kombazily_plan(const struct plan_asked *, struct plan_step *, size_t, u
 uint32_t kombazily_fold(uint32_t, uint32_t, const uint8_t *, size_t, uint8_t *, size_t);
 uint32_t kombazily_regroups(uint32_t, uint32_t);
 void kombazily_type_begin(struct type_numbers *);
-uint32_t kombazily_type_block(struct type_numbers *, struct run *, size_t, size_t *, const struct type_numbers *, const
-                              struct run *, size_t, uint64_t, int64_t, int64_t, uint64_t);
-uint32_t kombazily_type_rows(struct type_numbers *, struct run *, size_t, size_t *, const struct type_numbers *, const
-                             struct run *, size_t, uint64_t, int64_t, uint64_t, int64_t, int64_t);
+uint32_t kombazily_type_block(struct type_numbers *, struct run *, size_t, size_t *, const struct type_numbers *,
+                              const struct run *, size_t, uint64_t, int64_t, int64_t, uint64_t);
+uint32_t kombazily_type_rows(struct type_numbers *, struct run *, size_t, size_t *, const struct type_numbers *,
+                             const struct run *, size_t, uint64_t, int64_t, uint64_t, int64_t, int64_t);
 uint32_t kombazily_type_resize(struct type_numbers *, int64_t, int64_t, int64_t);
 uint32_t kombazily_type_end(struct type_numbers *);
 void kombazily_type_copies(const struct run *, size_t, uint64_t, uint64_t, uint64_t, int64_t, struct run *);
