@@ -56,7 +56,8 @@ def load(checkout):
 
 
 def libraries(rt, checkout, wanted):
-    """The libraries of the wanted crates (of all, where none is named) and of all below them, lowest first."""
+    """The libraries of the wanted crates (of all, where none is named) and of all below them, lowest first, but for static ones, which no
+    crate stands on."""
     crates = {it.name: it for it in rt.rtlib.crates_below(str(checkout))}
     unknown = [it for it in wanted if it not in crates]
     if unknown:
@@ -65,7 +66,7 @@ def libraries(rt, checkout, wanted):
     for name in wanted or crates:
         for crate in [*crates[name].below(), crates[name]]:
             found.setdefault(crate.name, crate)
-    return [it for it in found.values() if not it.is_program]
+    return [it for it in found.values() if not it.is_program and not it.is_static]
 
 
 def library_of(crate):
