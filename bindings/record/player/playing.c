@@ -88,9 +88,10 @@ void play(const struct record *record) {
 /* ---- what a record needs ---- */
 
 static int look(const char *folder) {
+    enum { MOST = 1024 };
     struct record record;
     bool is_untyped = false, is_shadowed = false;
-    for (int rank = 0, size = 1; rank < size; rank++) {
+    for (int rank = 0, size = MOST; rank < size; rank++) {
         if (!read_record(folder, rank, &record)) continue;
         size = record.size;
         for (int i = 0; i < record.count; i++) {

@@ -109,7 +109,8 @@ bool read_record(const char *folder, int rank, struct record *into) {
         struct line line = cut(text);
         if (line.count > 0) into->lines[into->count++] = line;
     }
-    if (into->count == 0 || !is_word(into->lines, "kombazily-record") || number(into->lines[0].words[1]) != 1)
+    if (into->count == 0) return false; /* its rank was ended from outside before it wrote a line */
+    if (!is_word(into->lines, "kombazily-record") || number(into->lines[0].words[1]) != 1)
         give_up("it is no record that this program knows: ", name);
     into->size = number(into->lines[0].words[3]);
     join_lines(into);
