@@ -63,6 +63,13 @@ static int32_t name_of_all(struct steps *s, int rank, uint32_t *count) {
     return (int32_t)(sum >> 33);
 }
 
+/* That a look says no, unless as many in a row have said so as may. */
+static void add_no(struct steps *s, int rank, struct row *row) {
+    const struct rank *own = &s->ranks[rank];
+    if (own->noes < s->options.patience) add(row, MOVE_FALSE, rank, own->ask_op, 0);
+    else s->has_withheld = true;
+}
+
 /* Moves of a call for a list. */
 static void add_list(struct steps *s, int rank, struct row *row) {
     const struct rank *own = &s->ranks[rank];
@@ -75,7 +82,7 @@ static void add_list(struct steps *s, int rank, struct row *row) {
     if (is_some && count > 0) add(row, MOVE_ALL, rank, own->ask_op, all);
     for (uint32_t i = 0; kind != ASK_TEST && i < own->ask.count && (!is_some || count > 1); i++)
         if (is_entry_at_end(s, rank, i)) add(row, MOVE_PLACE, rank, own->ask_op, (int32_t)i);
-    if (is_look(own) && own->noes < s->options.patience) add(row, MOVE_FALSE, rank, own->ask_op, 0);
+    if (is_look(own)) add_no(s, rank, row);
 }
 
 static void add_probe(struct steps *s, int rank, struct row *row) {
@@ -86,8 +93,7 @@ static void add_probe(struct steps *s, int rank, struct row *row) {
         if ((call->peer == ENGINE_ANY || call->peer == source) && may_see(s, rank, source))
             add(row, MOVE_SEE, rank, own->ask_op, source);
     /* What one probe saw the next one sees again. */
-    if (!own->ask.is_waiting && own->noes < s->options.patience && pin_for(own, call, false) == NULL)
-        add(row, MOVE_FALSE, rank, own->ask_op, 0);
+    if (!own->ask.is_waiting && pin_for(own, call, false) == NULL) add_no(s, rank, row);
 }
 
 /* A send for which a rank waits or of which it asks, and that may be buffered after all. */

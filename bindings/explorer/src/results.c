@@ -256,7 +256,11 @@ static void tell_parting(int own) {
 const char *said_of(const struct pass *pass) {
     if (pass->astray != NULL) return pass->astray;
     if (set.replay != NULL || set.followed != NULL) return "by the choices of the file";
-    return pass->is_all ? "every choice was tried" : "not every choice was tried";
+    if (!pass->is_all) return "not every choice was tried";
+    static char bounded[96];
+    snprintf(bounded, sizeof bounded, "every choice was tried in which at most %d look%s in a row say%s no (--noes K)",
+             set.noes, set.noes == 1 ? "" : "s", set.noes == 1 ? "s" : "");
+    return counts.has_withheld ? bounded : "every choice was tried";
 }
 
 static void tell_head(const struct pass *pass) {
@@ -271,7 +275,7 @@ static void tell_result(int i, bool synchronous) {
     printf("result %d of %d, in %ld run%s: %s%s%s%s\n", i + 1, result_count, it->runs, it->runs == 1 ? "" : "s",
            ending_word(it->ending), it->weight == 0 ? ", nothing to tell" : "",
            it->is_early && it->weight > 0
-               ? " (perhaps: only where a look says no, or tells of one, though more is there)"
+               ? " (perhaps: only where a look says no that could say yes, or tells of one alone)"
                : "",
            it->is_odd ? " (perhaps: no one order of arrival gives this, but MPI allows it)" : "");
     fputs(it->words, stdout);

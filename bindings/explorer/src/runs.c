@@ -277,4 +277,5 @@ void run_once(struct run *run, bool synchronous, enum choosing choosing) {
     leave_open(run);
     if (run->ending == ENDED) steps_tell_rest(run->steps);
     counts.calls += steps_calls(run->steps);
+    if (steps_withheld(run->steps)) counts.has_withheld = true;
 }

@@ -87,6 +87,7 @@ struct run {
 };
 struct counts {
     uint64_t asks, moves, calls;
+    bool has_withheld; /* a look of some run wasn't let say no (--noes) */
 };
 extern struct counts counts;
 

@@ -128,6 +128,7 @@ struct steps {
     int finding_count;
     int cycle[MOST_RANKS], cycle_length; /* each waits for the next one, and the last one for the first */
     bool is_aborted, has_mismatch, is_unsafe_told;
+    bool has_withheld; /* a look wasn't let say no, since others in front of it had */
     uint64_t calls;
     int rounds_of_no;
     struct sent *sent;

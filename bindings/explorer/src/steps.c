@@ -255,6 +255,8 @@ bool steps_has_failed(const struct steps *s, int rank) { return s->ranks[rank].h
 bool steps_has_finalized(const struct steps *s, int rank) { return s->ranks[rank].is_finalized; }
 uint64_t steps_calls(const struct steps *s) { return s->calls; }
 
+bool steps_withheld(const struct steps *s) { return s->has_withheld; }
+
 bool steps_is_over(const struct steps *s) {
     if (s->is_aborted) return true;
     for (int rank = 0; rank < s->options.size; rank++)

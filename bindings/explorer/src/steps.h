@@ -90,6 +90,8 @@ bool steps_is_aborted(const struct steps *s);
 bool steps_has_failed(const struct steps *s, int rank);
 bool steps_has_finalized(const struct steps *s, int rank);
 uint64_t steps_calls(const struct steps *s);
+/* Whether a look was kept from saying no, since as many in a row had said so as may. */
+bool steps_withheld(const struct steps *s);
 
 /* ---- what may come next ---- */
 

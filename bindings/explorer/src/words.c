@@ -21,7 +21,7 @@ static const char usage[] =
     "  --most RUNS      so many runs at most (10000)\n"
     "  --seconds S      so long at most (60)\n"
     "  --random RUNS    so many runs by chance, where the bounds were met\n"
-    "  --noes K         so many looks in a row may say no though something is there (1)\n"
+    "  --noes K         so many looks in a row may say no though they could say yes (1)\n"
     "  --fork           each process is started once, and copied in MPI_Init for each run\n"
     "  --out FOLDER     the choices of each result go there, as choices1.txt ..\n"
     "  --replay FILE    one run, by the choices of such a file\n"
