@@ -107,6 +107,13 @@ def wanted_lines(lines):
     return ["rank %d: %s" % (rank, it.replace("%d", str(1 - rank))) for rank, it in enumerate(lines) if it]
 
 
+def await_end_of_all(program):
+    """Waits until no rank of an earlier job runs this program any more, at most some seconds: mpirun comes back before they have ended."""
+    until = time.monotonic() + 10
+    while names_of_files(program) and time.monotonic() < until:
+        time.sleep(0.05)
+
+
 def names_of_files(program):
     """The files in memory that the processes of a program have open."""
     names = []
@@ -267,6 +274,7 @@ class Ends:
         """What two ranks tell in so many seconds before they are interrupted, and the files in memory that they have open."""
         words = self.words(2, "stuck", word)
         words[-2:-2] = starter
+        await_end_of_all(self.library.program("stuck"))
         with subprocess.Popen(words, stdin=subprocess.DEVNULL, stdout=subprocess.DEVNULL, stderr=subprocess.PIPE, bufsize=0) as ran:
             told = read_within(ran.stderr, lambda it: it.endswith(b"\n"), seconds)
             names = names_of_files(self.library.program("stuck"))
