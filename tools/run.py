@@ -14,8 +14,8 @@ usage: ./run                            two ranks play ping-pong
        ./run [-n N] FILE.c [WORD ..]    compiles a C program (tools/mpicc) and runs it with these words; without -n 2 ranks.
                                         Lines come as they are printed; rank 0 has the standard input
        ./run .. FILE.f90 ..             the same two of a program in Fortran (tools/mpifort)
-       ./run build                      builds the programs, and runs nothing: in the repository alone
-       ./run --proved [..]              as above, by proved programs alone; proves them first: there, too
+       ./run build                      builds the programs, and runs nothing
+       ./run --proved [..]              as above, by proved programs alone; proves them first
        ./run --help, ./run --version
 
 options, as mpiexec and mpirun have them:
@@ -31,16 +31,18 @@ exploration of a C program has --most, --results, --out, --synchronous and --bot
 
 A script is judged before ranks are started: what is wrong with it is told once, and the status is 1. Scripts are
 run by mpiexec and rank_main and explored by mpiexplore, files of events are run by mpisim and drawn by mpidraw, C programs
-are run by mpirun and explored by kombazily-check. A release has them. In the repository the proved programs are taken where `rt ci` or `./run --proved` has
-left them and no source has changed since. Else programs of the same sources are taken, of which nothing is proved: they are
-built once, in two to three minutes, and kept in out/unproved. RUN_PROGRAMS may name a folder whose programs are taken as
-they are.
+are run by mpirun and explored by kombazily-check.
+
+In the repository the proved programs are taken where `rt ci` or `./run --proved` has left them and no source has changed
+since. Else programs of the same sources are taken, of which nothing is proved: they are built once, in two to three
+minutes, and kept in out/unproved. RUN_PROGRAMS may name a folder whose programs are taken as they are.
 
 What `run` itself says stands on standard error behind 'run:'. The status is that of mpiexec, mpirun,
 mpisim, mpidraw or mpiexplore; 125 where `run` itself fails. Begin with docs/TUTORIAL.md.
 """
 
 import os
+import re
 import shlex
 import signal
 import subprocess
@@ -52,6 +54,7 @@ sys.path.insert(0, str(Path(__file__).resolve().parent / "modules"))
 import bounds
 import c_programs
 import explorer
+import launchers
 import recorded
 import ports
 import programs
@@ -326,7 +329,7 @@ def command_of_c(request):
         return exploration_of_c(request)
     if not request.is_proved and not {"RUN_PROGRAMS", "RUN_ENGINE"} & set(os.environ):
         c_programs.build_with(say, ["mpirun"])
-    mpirun = find(["mpirun"], request)["mpirun"]
+    mpirun = launchers.made(find(["mpirun"], request)["mpirun"])
     program = c_programs.compiled(say, request.file, request.is_proved)
     os.environ["KOMBAZILY_STANDSTILL"] = "/proc/%d/fd/%d" % (os.getpid(), os.memfd_create("standstill", 0))
     options = {"-patience": PATIENCE_OF_C, **request.options}
@@ -346,7 +349,7 @@ def exploration_of_c(request):
 def check(words):
     """Explores a C program that is compiled."""
     if words in (["-h"], ["--help"]) and not programs.RELEASED:
-        print(explorer.usage() + recorded.USAGE, end="")
+        print(explorer.usage(), end="")
         return 0
     try:
         named = recorded.program_of(words)
@@ -388,9 +391,19 @@ def write(chosen, file):
     return ended.returncode
 
 
+def usage():
+    """What --help prints; in a release without what a clone of the repository alone has."""
+    if not programs.RELEASED:
+        return __doc__
+    text = re.sub(r"(?m)^ *\./run (?:build|--proved) .*\n|^In the repository (?:.*\n)*?\n", "", __doc__)
+    for one, other in (("./run", CALLED), ("`run`", "`%s`" % CALLED), ("'run:'", "'%s:'" % CALLED), ("tools/mpi", "mpi")):
+        text = text.replace(one, other)
+    return text.replace("docs/TUTORIAL.md", "share/doc/kombazily/docs/TUTORIAL.md, seen from the folder of the release")
+
+
 def main(words):
     if words[:1] in (["-h"], ["--help"], ["help"]):
-        print(__doc__.replace("./run", CALLED), end="")
+        print(usage(), end="")
         return 0
     if words == ["--version"]:
         print("%s (Kombazily) %s" % (CALLED.removeprefix("./"), programs.version()))

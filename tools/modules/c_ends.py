@@ -23,14 +23,16 @@ WORLD = "in MPI_COMM_WORLD"
 STUCK = {
     "receive": ["MPI_Recv waits for a message of rank %d with tag 5 " + WORLD] * 2,
     "any_source": ["MPI_Recv waits for a message of any rank with tag 5 " + WORLD] * 2,
-    "send": ["MPI_Send waits for rank %d to receive 4000 bytes with tag 0 " + WORLD] * 2,
+    "send": ["MPI_Send waits for rank %d to receive 80000 bytes with tag 0 " + WORLD] * 2,
     "synchronous": ["MPI_Ssend waits for rank %d to receive 4 bytes with tag 0 " + WORLD] * 2,
+    "crowded": ["MPI_Send waits for rank %d to receive 4 bytes with tag 0 " + WORLD
+                + ", behind 1000 bytes that it hasn't asked for (KOMBAZILY_UNASKED)"] * 2,
     "probe": ["MPI_Probe waits for a message of rank %d with tag 5 " + WORLD] * 2,
     "matched_probe": ["MPI_Mprobe waits for a message of rank %d with tag 5 " + WORLD] * 2,
     "one": ["MPI_Wait waits for a message of rank %d with tag 3 " + WORLD] * 2,
     "started": ["MPI_Wait waits for a message of rank %d with tag 8 " + WORLD] * 2,
     "threads": ["MPI_Recv waits for a message of rank %d with tag 5 " + WORLD] * 2,
-    "detach": ["MPI_Buffer_detach waits for rank %d to receive 4000 bytes with tag 0 " + WORLD] * 2,
+    "detach": ["MPI_Buffer_detach waits for rank %d to receive 80000 bytes with tag 0 " + WORLD] * 2,
     "any": ["MPI_Waitany waits for any of 2 requests: a message of rank %d with tag 0 " + WORLD + "; a message of rank %d with tag 1 "
             + WORLD] * 2,
     "all": ["MPI_Waitall waits for all of 5 requests: " + "; ".join("a message of rank %%d with tag %d %s" % (it, WORLD)
@@ -79,6 +81,8 @@ LEFT = ["rank 0: MPI_Finalize: 2 more messages"] + 10 * [SELF] + [
 KEPT = ("crash", "kill", "abort", "error")
 # What rank 0 says behind a second without any movement, where no patience was told: on a slow machine before an interrupt, too.
 STANDS = "rank 0: all ranks wait, and nothing has moved for 1 s; Ctrl-C ends the job and tells what each waits for"
+# What stands behind it that a rank is gone.
+GONE = "all others wait, and nothing has moved for 1 s; Ctrl-C ends the job and tells what each waits for"
 
 
 def is_wait(line):
@@ -114,12 +118,19 @@ def await_end_of_all(program):
         time.sleep(0.05)
 
 
-def names_of_files(program):
-    """The files in memory that the processes of a program have open."""
+def is_below(process, other):
+    """Whether a process was started by another one, or by one that was."""
+    while process not in (0, other):
+        process = int((Path("/proc") / str(process) / "stat").read_text().rpartition(")")[2].split()[1])
+    return process == other
+
+
+def names_of_files(program, launcher=None):
+    """The files in memory that the processes of a program have open: all of them, or those that a launcher started."""
     names = []
     for folder in Path("/proc").glob("[0-9]*"):
         try:
-            if os.readlink(folder / "exe") == str(Path(program).resolve()):
+            if os.readlink(folder / "exe") == str(Path(program).resolve()) and (launcher is None or is_below(int(folder.name), launcher)):
                 names += [os.readlink(it) for it in (folder / "fd").iterdir()]
         except OSError:   # it has ended, or isn't ours
             continue
@@ -277,7 +288,7 @@ class Ends:
         await_end_of_all(self.library.program("stuck"))
         with subprocess.Popen(words, stdin=subprocess.DEVNULL, stdout=subprocess.DEVNULL, stderr=subprocess.PIPE, bufsize=0) as ran:
             told = read_within(ran.stderr, lambda it: it.endswith(b"\n"), seconds)
-            names = names_of_files(self.library.program("stuck"))
+            names = names_of_files(self.library.program("stuck"), ran.pid)
             ran.send_signal(signal.SIGINT)
             rest = ran.communicate(timeout=LONGEST)[1]
         return told.decode().splitlines(), names, rest.decode().splitlines()
@@ -292,6 +303,10 @@ class Ends:
         told, names, _ = self.hang("receive", 20, ("sh", "-c", '[ $KOMBAZILY_RANK != 0 ] || sleep 1; exec "$@"', "sh"))
         is_so = told == [STANDS] and len(names) == 2 and all(it.endswith(" (deleted)") for it in names)
         self.add("nor where rank 0 comes last", is_so, (told, names))
+        for word, gone in (("quits", 1), ("quits_first", 0)):
+            told, _, rest = self.hang(word, 20)
+            wanted = "rank %d: rank %d has ended without MPI_Finalize; %s" % (1 - gone, gone, GONE)
+            self.add("a rank that is gone without a word", told == [wanted], (told, rest))
         told, _, rest = self.hang("computes", 3)
         self.add("while a rank computes nobody says so", told == [] and STANDS not in rest, (told, rest))
 
@@ -311,6 +326,16 @@ class Ends:
         waits = sorted(without_source(it).split(";")[0] for it in errors if is_wait(it))
         wanted = wanted_lines(["MPI_Send waits for rank %d to receive 4 bytes with tag 0 " + WORLD] * 2)
         self.add("with every send synchronous they wait", (status, waits) == (4, wanted), (status, errors))
+
+    def bounded(self):
+        """How much may wait unasked is a number of bytes, or none."""
+        status, _, errors = self.run(2, "stuck", "small_send", KOMBAZILY_UNASKED="4k")
+        wanted = ["rank %d: MPI_Init: its place is told wrongly: KOMBAZILY_UNASKED is neither a number of bytes nor none" % it
+                  for it in range(2)]
+        self.add("a bound that is no number", status == 2 and set(errors[:-1]) <= set(wanted) and errors[0] in wanted, (status, errors))
+        for bound, ended in (("none", 0), ("0", 4)):
+            status, _, errors = self.run(2, "stuck", "small_send", options=("-patience", "700"), KOMBAZILY_UNASKED=bound)
+            self.add("a bound of %s" % bound, status == ended, (status, errors))
 
     def too_early(self):
         """A call before MPI_Init names the rank that made it."""
@@ -362,7 +387,7 @@ def tells(library, mpirun, names, longest):
 
 def all_rows(mode, library, mpirun, verdict, side_by_side):
     it = Ends(mode, library, mpirun, verdict)
-    rows = [it.lines, it.beginning, it.standstill, it.hangs, it.prompts, it.kept, it.leaving, it.patience, it.left, it.synchronous, it.too_early,
-            it.terminal, it.source]
+    rows = [it.lines, it.beginning, it.standstill, it.hangs, it.prompts, it.kept, it.leaving, it.patience, it.left, it.synchronous,
+            it.bounded, it.too_early, it.terminal, it.source]
     side_by_side(lambda row: row(), rows)
     side_by_side(it.stuck, list(STUCK))

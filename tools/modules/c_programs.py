@@ -165,7 +165,9 @@ def make_library_alone(say, wants_proved):
     run_make(BINDING, OUT, "libmpi.a")
     if has_fortran():
         run_make(FORTRAN, OUT, "libmpifort.a")
-    os.utime(LIBRARY)
+    # What is linked with it is linked anew where it is newer, so its time stays where nothing was made.
+    if may_be_old():
+        os.utime(LIBRARY)
     return proved
 
 

@@ -33,18 +33,6 @@ CLEAN, FOUND, WORDS, START = 0, 1, 2, 6
 # How far the calls of the first run are explored in other orders: what is found there is run first.
 MOST_OTHERWISE, SECONDS_OTHERWISE = 100, 5
 
-USAGE = """
-For a program that is linked with MPICH or Open MPI, which tells by its libraries:
-
-  --runs K         so many recorded runs at most (20)
-  --records FOLDER the records are kept there
-  --mpiexec WORDS  the command that starts its ranks (mpiexec.hydra, mpirun.openmpi, ..)
-  --mpicc COMMAND  its compiler, which makes the recorder (mpicc.mpich, mpicc.openmpi, ..)
-
-Its runs are recorded, and the calls that were recorded are explored; -n, --both, --synchronous, --each, --most, --seconds, --patience,
---results, --output, --quiet, --stdin and --html are as above. That each order was tried is not claimed.
-"""
-
 
 class Fault(Exception):
     """Why nothing is recorded: with the status."""
@@ -608,6 +596,8 @@ class Teller:
             print("worth knowing, by the calls of run %d: %s" % (run.number, line.strip()))
         if not shown and not unshown:
             print("nothing wrong was found in the calls that were recorded")
+            if not self.words.passes():
+                print("--both looks for what hangs where sends aren't buffered, too")
         self.tell_outputs()
         return FOUND if shown or unshown or any(self.is_wrong(it) for it in runs) else CLEAN
 

@@ -12,8 +12,10 @@ from pathlib import Path
 
 import c_programs
 import explorer
+import launchers
 import programs
 import recorded
+import release_pages
 
 TOP = programs.TOP
 # Programs by their names in a release: there `mpiexec` is another name of `mpirun`.
@@ -24,7 +26,7 @@ COMMANDS = (*NAMES.values(), "mpiexec", "mpicc", *IN_CXX, *IN_FORTRAN, "kombazil
 OWN, DOCS, MANUALS = "share/kombazily/", "share/doc/kombazily/", "share/man/man1/"
 COMPLETIONS = "share/bash-completion/completions/"
 # What a release in an archive has at its top, too.
-HEADS = {it: DOCS + it for it in ("README.md", "LICENSE", "NOTICE", "BUILT")} | {"examples": OWN + "examples"}
+HEADS = {it: DOCS + it for it in ("README.md", "LICENSE", "NOTICE", "BUILT", "docs")} | {"examples": OWN + "examples"}
 INSTALLED = OWN + "installed"
 
 
@@ -101,6 +103,15 @@ class Parts:
         flags = "-O2 '-ffile-prefix-map=%s=.'" % recorded.FOLDER
         subprocess.run(["strip", recorded.make_player(self.room / "record", flags, self.room)], check=True)
 
+    def make_front(self):
+        """The process that a user starts as mpirun."""
+        flags = "CFLAGS=-O2 '-ffile-prefix-map=%s=.'" % launchers.FOLDER
+        launchers.make_front(self.room / "launcher", flags)
+        subprocess.run(["strip", self.front()], check=True)
+
+    def front(self):
+        return self.room / "launcher" / "mpirun"
+
     def player(self):
         return self.room / "record" / recorded.PLAYER
 
@@ -140,6 +151,7 @@ def modules_of(file):
 def binaries(parts):
     """Programs, libraries, and what compiles with them."""
     found = {"bin/" + NAMES[name]: Copy(file, 0o755) for name, file in parts.programs.items()}
+    found |= {str(launchers.LAUNCHER): found["bin/mpirun"], "bin/mpirun": Copy(parts.front(), 0o755)}
     found |= {"bin/kombazily-check": Copy(parts.explorer(), 0o755)}
     found |= {"bin/mpicc": Copy(TOP / "tools" / "mpicc", 0o755), **{"bin/" + it: Link("mpicc") for it in (*IN_CXX, *IN_FORTRAN)}}
     found |= {"bin/mpiexec": Link("mpirun"), "bin/kombazily": Link("../" + OWN + "run")}
@@ -161,6 +173,18 @@ def own_files(parts):
     return found | below("examples", OWN + "examples/", (".md", ".txt", ".out", ".err", ".c", ".f90", ".svg"))
 
 
+def as_released(pages):
+    """The table with those of these files that are pages or examples as a release has them."""
+    # Names from the top of the repository on, of all that a page may lead to.
+    own = {it.removeprefix(DOCS).removeprefix(OWN): it for it in pages}
+    texts = {}
+    for name, it in own.items():
+        if isinstance(pages[it], Copy) and name.endswith((".md", ".txt", ".c", ".f90")) and not name.startswith(("tools/", "bindings/")):
+            text = Path(pages[it].source).read_text()
+            texts[it] = Text(release_pages.of_release(text, name, own) if name.endswith(".md") else release_pages.commands(text))
+    return pages | texts
+
+
 def manual_of_joining():
     """The page of the launcher with joined output, under its name in a release."""
     text, name = (TOP / "docs" / "man" / "mpiexec.1").read_text(), programs.JOINING.replace("-", "\\-")
@@ -168,8 +192,13 @@ def manual_of_joining():
     return re.sub(r"^((?:\.BR? )?)mpiexec(?!:)\b", lambda it: it[1] + name, text, flags=re.M)
 
 
+def manual(file):
+    """A page as a release has it: its `mpiexec` is mpirun's."""
+    return Text(re.sub(r"^(\.BR )mpiexec (\(1\))", r"\1kombazily\\-mpiexec \2", file.read_text(), flags=re.M))
+
+
 def manuals():
-    found = {MANUALS + it.name: Copy(it) for it in sorted((TOP / "docs" / "man").glob("*.1"))}
+    found = {MANUALS + it.name: manual(it) for it in sorted((TOP / "docs" / "man").glob("*.1"))}
     found |= {MANUALS + programs.JOINING + ".1": Text(manual_of_joining())}
     others = {"mpiexec": "mpirun", **{it: "mpicc" for it in (*IN_CXX, *IN_FORTRAN)}}
     return found | {MANUALS + one + ".1": Text(".so man1/%s.1\n" % other) for one, other in others.items()}
@@ -189,6 +218,7 @@ def licences(names):
 
 def documents():
     found = {DOCS + it: Copy(TOP / it) for it in ("LICENSE", "NOTICE", "README.md", "CHANGELOG.md")}
+    found |= {DOCS + "examples": Link(os.path.relpath(OWN + "examples", DOCS))}
     found |= {DOCS + "docs/" + it.name: Copy(it) for it in sorted((TOP / "docs").glob("*.md"))}
     return found | below("docs/pictures", DOCS + "docs/pictures/", (".svg",))
 
@@ -218,7 +248,7 @@ def built(parts, table):
     lines = ["Kombazily %s for x86_64-linux" % programs.version(), "commit: %s" % commit(),
              "toolchain: %s" % run_output([programs.kit() / "bin" / "rt", "--version"]),
              "compiler of the library's C: %s" % run_output(["cc", "--version"]).partition("\n")[0],
-             "needs glibc: %s" % libc_needed(table[it].source for it in sums if it.startswith("bin/") and it != "bin/mpicc"),
+             "needs glibc: %s" % libc_needed(table[it].source for it in sums if it != "bin/mpicc" and table[it].mode == 0o755),
              "proved: %s" % (" ".join(it for it in names if it in parts.proved) or "none"),
              "not proved: %s" % (" ".join(it for it in names if it not in parts.proved) or "none"), ""]
     return "\n".join([*lines, *("%s  %s" % (sum_of(table[it].source), it) for it in sums)]) + "\n"
@@ -226,7 +256,7 @@ def built(parts, table):
 
 def table_of(parts, kit_crates):
     """A whole release."""
-    found = binaries(parts) | own_files(parts) | manuals() | completions() | documents() | licences(kit_crates)
+    found = binaries(parts) | as_released(own_files(parts) | documents()) | manuals() | completions() | licences(kit_crates)
     return found | {DOCS + "BUILT": Text(built(parts, found))}
 
 

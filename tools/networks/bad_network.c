@@ -20,7 +20,7 @@
 #include <sys/socket.h>
 #include <time.h>
 
-enum { MOST = 32, ROOM = 1 << 20, LONGEST = 2048, WAITING = 1 << 16 };
+enum { MOST = 32, ROOM = 8 << 20, LONGEST = 1 << 16, WAITING = 1 << 13 };
 
 struct Datagram {
     int64_t due; /* in microseconds */

@@ -18,7 +18,7 @@
 #include <sys/prctl.h>
 #include <sys/socket.h>
 
-enum { MOST = 16, LONGEST = 2048, ROOM = 16 << 20, ETHERNET = 14, PROTOCOL = 23, UDP = 17, CHECKSUM = 40 };
+enum { MOST = 16, LONGEST = 1 << 16, ROOM = 16 << 20, ETHERNET = 14, OFFSET = 20, PROTOCOL = 23, UDP = 17, CHECKSUM = 40 };
 
 /* A socket at all frames that come to an interface. */
 static int at(const char *name) {
@@ -34,9 +34,10 @@ static int at(const char *name) {
     return made;
 }
 
-/* Whether a frame is a UDP datagram over IPv4. */
+/* Whether a frame is a UDP datagram over IPv4, or the first fragment of one. */
 static int is_datagram(const unsigned char *frame, ssize_t length) {
     if (length <= CHECKSUM + 1) return 0;
+    if ((frame[OFFSET] & 0x1f) != 0 || frame[OFFSET + 1] != 0) return 0;
     return frame[12] == 0x08 && frame[13] == 0x00 && frame[ETHERNET] == 0x45 && frame[PROTOCOL] == UDP;
 }
 

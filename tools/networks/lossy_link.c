@@ -37,7 +37,7 @@ int main(int count, char **words) {
     prctl(PR_SET_PDEATHSIG, SIGKILL);
     struct pollfd came[2] = {{at(first + 1), POLLIN, 0}, {at(second - 1), POLLIN, 0}};
     struct sockaddr_in target[2] = {local(second), local(first)};
-    static char bytes[2048];
+    static char bytes[1 << 16];
     for (;;) {
         poll(came, 2, -1);
         for (int side = 0; side < 2; side++) {

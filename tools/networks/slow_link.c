@@ -23,7 +23,7 @@
 #include <time.h>
 #include <unistd.h>
 
-enum { MOST = 16, PLACES = 8192, LONGEST = 1280, ROOM = 16 << 20, OVERHEAD = 28 };
+enum { MOST = 16, PLACES = 2048, LONGEST = 1 << 16, ROOM = 16 << 20, OVERHEAD = 28 };
 enum { HEADER = 32, KIND = 5, FRAME = 1, SEQUENCE = 24 };
 
 /* A datagram on its way: when the line is done with it, and when it comes. */

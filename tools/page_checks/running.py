@@ -109,9 +109,9 @@ class Shell:
         return re.sub(r"\b\d{5}\b", lambda it: str(int(it[0]) - first + SHOWN_PORT) if first <= int(it[0]) < last else it[0], text)
 
     def pasted(self, lines):
-        """Runs lines as they are; what ./run itself says is left out of the standard error."""
+        """Runs lines as they are; what ./run itself says, or kombazily of a release, is left out of the standard error."""
         ended = self.runner.run(["bash", "-c", "\n".join(lines)], self.folder, self.environment)
-        errors = re.sub(r"(?m)^run: .*\n", "", ended.errors)
+        errors = re.sub(r"(?m)^(?:run|kombazily): .*\n", "", ended.errors)
         return Ended(ended.status, self.shown(ended.output), self.shown(errors))
 
     def prompted(self, lines):

@@ -2,6 +2,7 @@
  * the program attaches: of it is only counted how much the messages take that aren't on their way yet, by the rule of
  * 3.6.1, each the bytes of its data and MPI_BSEND_OVERHEAD. */
 #include "errors.h"
+#include "explored.h"
 #include "transfers.h"
 #include "types.h"
 
@@ -41,20 +42,39 @@ static void take_out(struct kept **at) {
     free(kept);
 }
 
+/* Takes the first one out, once it is on its way. */
+static void await_first(void) {
+    (void)await_request(&buffer.first->send);
+    take_out(&buffer.first);
+}
+
 /* Takes all out that are on their way. */
 static void take_sent(void) {
     struct kept **at = &buffer.first;
-    while (*at != NULL && !buffer.is_detached_now) {
+    while (*at != NULL && !buffer.is_detached_now && !is_explored) {
         if (is_at_end(&(*at)->send)) take_out(at);
         else at = &(*at)->next;
     }
 }
 
+/* Under an explorer: takes the first ones out that are known here to have been received, since another run may have all
+ * others in the buffer still. Who was sent first goes first (3.6.1). */
+static void take_received(void) {
+    size_t count = 0, known = 0;
+    for (struct kept *it = buffer.first; it != NULL; it = it->next) count++;
+    struct explorer_entry *sends = malloc((count + 1) * sizeof *sends);
+    if (sends == NULL) return;
+    for (struct kept *it = buffer.first; it != NULL; it = it->next)
+        sends[known++] = (struct explorer_entry){it->send.is_ended ? EXPLORER_ENDED : it->send.own.key, EXPLORER_ENDED};
+    for (known = count == 0 ? 0 : explored_received(sends, count); known > 0; known--) await_first();
+    free(sends);
+}
+
 static bool has_room(size_t wanted) {
     size_t size = buffer.is_attached ? (size_t)buffer.size : 0;
     if (wanted <= size && buffer.used <= size - wanted) return true;
-    progress();
-    take_sent();
+    if (is_explored) take_received();
+    else progress(), take_sent();
     return wanted <= size && buffer.used <= size - wanted;
 }
 
@@ -123,10 +143,7 @@ int MPI_Buffer_detach(void *buffer_addr, int *size) {
     if (class == MPI_SUCCESS) class = check_result(MPI_COMM_WORLD, call, size, "size");
     if (class != MPI_SUCCESS) return class;
     buffer.is_detached_now = true;
-    while (buffer.first != NULL) {
-        (void)await_request(&buffer.first->send);
-        take_out(&buffer.first);
-    }
+    while (buffer.first != NULL) await_first();
     *(void **)buffer_addr = buffer.at;
     *size = buffer.size;
     buffer.at = NULL;

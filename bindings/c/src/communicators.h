@@ -34,7 +34,7 @@ struct communicator {
     /* Of plan_places.c: the ranks in the world of all members (NULL: they are their ranks here), the number that all of
      * them know it by, how many plans were begun in it; under an explorer the engine's communicator for them, or 0. */
     uint16_t *members;
-    uint32_t number, plans, explored_plans;
+    uint32_t number, plans;
 };
 
 /* The communicator of a handle, or NULL: there is none. */

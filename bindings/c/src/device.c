@@ -27,9 +27,9 @@
 enum {
     SOCKET_ROOM = 16 << 20,   /* bytes that the system is asked to keep for a socket in each direction */
     MOST_TOGETHER = 60,       /* datagrams that the system is handed as one: it takes no more than 64 */
-    LONGEST_TOGETHER = 65000, /* and their bytes: an IP packet has no more than 65,535 */
-    LEAST_ROOM = 2048,        /* more than the longest datagram has */
-    OUT_ROOM = 4 * LONGEST_TOGETHER,
+    LONGEST_TOGETHER = 65507, /* and their bytes: an IP packet has no more than 65,535 */
+    LEAST_ROOM = 65507,       /* the longest datagram that UDP takes */
+    OUT_ROOM = 2 * LONGEST_TOGETHER,
     MOST_GROUPS = 32, /* of datagrams that are handed over in one call */
     MOST_HEARD = 8,   /* packets that are taken in one call */
     HEARD_ROOM = 1 << 16

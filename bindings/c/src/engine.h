@@ -32,7 +32,10 @@ struct engine_rank {
 /* The greatest message limit, in bytes. */
 enum { ENGINE_GREATEST_LIMIT = 0x7fffffff };
 
-/* Where the rank stands in its job. Job, size and message limit are the same at all ranks of a job. */
+/* The least and the greatest frame limit, in bytes. */
+enum { ENGINE_LEAST_FRAME = 1024, ENGINE_GREATEST_FRAME = 61440 };
+
+/* Where the rank stands in its job. Job, size and both limits are the same at all ranks of a job. */
 struct engine_place {
     uint64_t job; /* the job's number, which each datagram carries */
     uint64_t
@@ -40,6 +43,7 @@ struct engine_place {
     uint16_t rank;        /* in `world`, below the size */
     uint16_t size;        /* 1 to 1,024 */
     uint16_t incarnation; /* 0 at first, one more with each restart of this rank */
+    uint32_t frame_limit; /* the most bytes of data of a frame: 1,024 to 61,440, a multiple of 8; one for all ranks */
 };
 
 /* A request, or a message that a matching probe took out. */
@@ -178,7 +182,7 @@ enum engine_number {
     ENGINE_NOTHING_HELD = 81, /* the handle holds no rank */
     ENGINE_HELD_ALREADY = 82, /* kombazily_new: the handle holds a rank, which stays */
     ENGINE_NO_SUCH_CALL = 83, /* the kind names no call */
-    ENGINE_OTHER_LIMIT = 84   /* kombazily_new: a message limit that isn't served */
+    ENGINE_OTHER_LIMIT = 84   /* kombazily_new: a message limit or a frame limit that isn't served */
 };
 
 /* What goes out: datagrams to one rank, one behind the other in the slice, all of one length but for the last, which
@@ -191,7 +195,7 @@ struct engine_outgoing {
 };
 
 /* The room that one datagram may need: a slice of kombazily_next has as much at least. */
-enum { ENGINE_LONGEST_DATAGRAM = 1232 };
+enum { ENGINE_LONGEST_DATAGRAM = 61648 };
 
 /* Makes the rank of this place, at its start: `world` and `self` are there, nothing is pending, its clock is at 0.
  * 0, or 5 (the rank isn't below the size), 13 (above 1,024 ranks), 14 (no memory), 82, 84. A refusal leaves the handle

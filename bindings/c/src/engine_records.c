@@ -3,7 +3,9 @@
 /* clang-format off */
 #include "engine.h"
 #include "engine_grids.h"
+#include "engine_groups.h"
 #include "engine_plans.h"
+#include "engine_sends.h"
 #include "engine_types.h"
 #include "launching.h"
 
@@ -18,12 +20,13 @@ RECORD(engine_request, 16, 8);
 FIELD(engine_request, key, 0, 8);
 FIELD(engine_request, serial, 8, 8);
 
-RECORD(engine_place, 24, 8);
+RECORD(engine_place, 32, 8);
 FIELD(engine_place, job, 0, 8);
 FIELD(engine_place, message_limit, 8, 8);
 FIELD(engine_place, rank, 16, 2);
 FIELD(engine_place, size, 18, 2);
 FIELD(engine_place, incarnation, 20, 2);
+FIELD(engine_place, frame_limit, 24, 4);
 
 RECORD(engine_call, 64, 8);
 FIELD(engine_call, kind, 0, 4);
@@ -99,6 +102,10 @@ FIELD(plan_step, joined, 8, 4);
 FIELD(plan_step, from, 12, 8);
 FIELD(plan_step, high, 20, 8);
 FIELD(plan_step, into, 28, 8);
+
+RECORD(send_counts, 16, 8);
+FIELD(send_counts, sent, 0, 8);
+FIELD(send_counts, received, 8, 8);
 
 RECORD(type_numbers, 80, 8);
 FIELD(type_numbers, size, 0, 8);
@@ -208,6 +215,10 @@ NUMBER(ENGINE_NO_SUCH_CALL, 83);
 NUMBER(ENGINE_GREATEST_LIMIT, 2147483647);
 NUMBER(ENGINE_OTHER_LIMIT, 84);
 
+/* How long frames are. */
+NUMBER(ENGINE_LEAST_FRAME, 1024);
+NUMBER(ENGINE_GREATEST_FRAME, 61440);
+
 /* Launchers: by which way a process has its place. */
 NUMBER(WAY_WORDS, 1);
 NUMBER(WAY_VARIABLES, 2);
@@ -248,6 +259,11 @@ NUMBER(PLAN_REDUCE, 9);
 NUMBER(PLAN_ALLREDUCE, 10);
 NUMBER(PLAN_BARRIER, 11);
 
+/* How standard sends go. */
+NUMBER(COURSE_AT_ONCE, 0);
+NUMBER(COURSE_ANNOUNCED, 1);
+NUMBER(COURSE_SYNCHRONOUS, 2);
+
 /* The functions. */
 uint32_t kombazily_new(struct engine_rank *, const struct engine_place *);
 void kombazily_free(struct engine_rank *);
@@ -263,7 +279,12 @@ uint32_t kombazily_grid_coordinates(const uint32_t *, size_t, uint32_t, uint32_t
 uint32_t kombazily_grid_shift(const uint32_t *, size_t, const bool *, size_t, uint32_t, size_t, int32_t, uint32_t *);
 uint32_t kombazily_grid_part(const uint32_t *, size_t, const bool *, size_t, uint32_t, uint32_t *, uint32_t *);
 uint32_t kombazily_grid_balance(uint32_t, uint32_t *, size_t);
+uint32_t kombazily_group_of_two(uint32_t, const uint16_t *, size_t, const uint16_t *, size_t, uint16_t *, size_t,
+                                uint64_t *);
+uint32_t kombazily_group_of_places(uint32_t, const uint16_t *, size_t, const uint16_t *, size_t, uint16_t *, size_t,
+                                   uint64_t *);
 void kombazily_way(bool, const uint8_t *, size_t, struct launch_way *);
+uint32_t kombazily_frame(bool, const uint8_t *, size_t, const uint32_t *, size_t);
 size_t kombazily_word(const uint8_t *, size_t, const uint8_t *, size_t, uint32_t, uint8_t *, size_t);
 uint32_t kombazily_answer(const uint8_t *, size_t, const uint8_t *, size_t, uint32_t);
 bool kombazily_speaks(const uint8_t *, size_t, uint32_t);
@@ -273,6 +294,9 @@ bool kombazily_read_place(const uint8_t *, size_t, uint16_t, struct told_place *
 uint32_t kombazily_plan(const struct plan_asked *, struct plan_step *, size_t, uint64_t *);
 uint32_t kombazily_fold(uint32_t, uint32_t, const uint8_t *, size_t, uint8_t *, size_t);
 uint32_t kombazily_regroups(uint32_t, uint32_t);
+bool kombazily_unasked_bound(bool, const uint8_t *, size_t, uint64_t *);
+uint32_t kombazily_send_course(struct send_counts *, uint32_t, uint64_t, uint64_t);
+void kombazily_was_received(struct send_counts *, uint64_t);
 void kombazily_type_begin(struct type_numbers *);
 uint32_t kombazily_type_block(struct type_numbers *, struct run *, size_t, size_t *, const struct type_numbers *,
                               const struct run *, size_t, uint64_t, int64_t, int64_t, uint64_t);

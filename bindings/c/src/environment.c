@@ -20,6 +20,7 @@
 #include "start.h"
 #include "transfers.h"
 #include "types.h"
+#include "unasked.h"
 #include "wait_lines.h"
 #include "worlds.h"
 
@@ -103,6 +104,8 @@ static int begin(const char *call, int *argc, char ***argv, int required) {
     standstill_open(!has_explorer && are_together(&addresses), addresses.first_port);
     process.sends_wait = is_wanted("KOMBAZILY_SYNCHRONOUS");
     process.checks = is_wanted("KOMBAZILY_CHECK");
+    if (!open_unasked())
+        refuse_start(STATUS_PLACE, TOLD_WRONGLY, "KOMBAZILY_UNASKED is neither a number of bytes nor none");
     if (!has_explorer) {
         open_engine();
         open_device();

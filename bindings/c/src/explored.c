@@ -93,6 +93,36 @@ void explored_free_key(uint64_t key) {
     keys.free[keys.count++] = key;
 }
 
+void explored_start(void) {
+    const struct explorer_ask ask = {.kind = ASK_START, .call.order = EXPLORER_VERSION, .name = "MPI_Init"};
+    put(&ask, sizeof ask);
+}
+
+/* ---- collectives by sends and receives ---- */
+
+/* Whether these numbers, less one, name collectives that are on their way. */
+static struct {
+    bool *are_used;
+    uint32_t room;
+} plans;
+
+static uint32_t new_plan(void) {
+    uint32_t at = 0;
+    while (at < plans.room && plans.are_used[at]) at++;
+    if (at == plans.room) {
+        plans.room = plans.room == 0 ? 16 : 2 * plans.room;
+        plans.are_used = realloc(plans.are_used, plans.room * sizeof *plans.are_used);
+        if (plans.are_used == NULL) explored_lose();
+        memset(plans.are_used + at, 0, (plans.room - at) * sizeof *plans.are_used);
+    }
+    plans.are_used[at] = true;
+    return at + 1;
+}
+
+void explored_leave(uint32_t plan) {
+    if (plan != 0) plans.are_used[plan - 1] = false;
+}
+
 /* ---- asks ---- */
 
 static void tell(struct explorer_ask *ask, const struct explorer_entry *entries, const void *bytes) {
@@ -159,9 +189,27 @@ static struct engine_answer answer_of(struct explorer_ask ask) { return explored
 
 /* ---- calls ---- */
 
-void explored_call(const struct engine_call *call, const void *bytes, size_t len, struct engine_answer *answer) {
-    struct explorer_ask ask = {.kind = ASK_CALL, .call = *call, .length = len};
-    if (call->kind == ENGINE_ISEND || call->kind == ENGINE_ISSEND || call->kind == ENGINE_IRECV) {
+uint32_t explored_enter(const char *name, const struct engine_call *entry, bool waits,
+                        const struct explorer_block *blocks, size_t count) {
+    struct explorer_ask ask = {
+        .kind = ASK_ENTER, .plan = new_plan(), .is_waiting = waits, .call = *entry, .length = count * sizeof *blocks};
+    const char *called = process.call;
+    process.call = name;
+    tell(&ask, NULL, blocks);
+    process.call = called;
+    return ask.plan;
+}
+
+size_t explored_received(const struct explorer_entry *sends, size_t count) {
+    struct explorer_ask ask = {.kind = ASK_KEPT, .count = (uint32_t)count};
+    return (size_t)explored_ask(&ask, sends, NULL, NULL)->answer.fact;
+}
+
+void explored_call(const struct engine_call *call, uint32_t plan, const void *bytes, size_t len,
+                   struct engine_answer *answer) {
+    struct explorer_ask ask = {.kind = ASK_CALL, .plan = plan, .call = *call, .length = len};
+    const bool is_later_copy = call->kind == ENGINE_DUP && plan != 0;
+    if (call->kind == ENGINE_ISEND || call->kind == ENGINE_ISSEND || call->kind == ENGINE_IRECV || is_later_copy) {
         ask.kind = ASK_POST;
         ask.call.request = new_request();
         tell(&ask, NULL, bytes);

@@ -16,6 +16,8 @@ extern bool is_explored;
 bool explored_open(void);
 /* In MPI_Finalize: tells what is left over, and waits for all ranks. */
 void explored_finalize(void);
+/* Tells the explorer that the program has called MPI_Init. */
+void explored_start(void);
 /* The explorer is gone, or ends this run. */
 _Noreturn void explored_lose(void);
 /* The descriptor of the explorer's socket. */
@@ -28,8 +30,9 @@ extern uint32_t kombazily_played_place(uint64_t frames[EXPLORER_FRAMES], const c
 
 /* ---- explored.c ---- */
 
-/* As kombazily_call and kombazily_take. */
-void explored_call(const struct engine_call *call, const void *data, size_t len, struct engine_answer *answer);
+/* As kombazily_call and kombazily_take. A call about a collective's send or receive names the collective by `plan`. */
+void explored_call(const struct engine_call *call, uint32_t plan, const void *data, size_t len,
+                   struct engine_answer *answer);
 size_t explored_take(uint64_t first, uint8_t *into, size_t len);
 /* Asks for something of which the rank tells more than a call, with entries and bytes behind it. The answer, and what
  * stands behind it, stay until the next ask. */
@@ -41,6 +44,13 @@ void explored_lend(const uint8_t *from, const struct engine_answer *answer);
 uint8_t *explored_keep(void);
 /* Its number may be another request's. */
 void explored_free_key(uint64_t key);
+/* Tells that a collective begins which goes by sends and receives: by which name, and what an ASK_ENTER tells of it.
+ * Its number, of which explored_leave makes another one's. */
+uint32_t explored_enter(const char *name, const struct engine_call *entry, bool waits,
+                        const struct explorer_block *blocks, size_t count);
+void explored_leave(uint32_t plan);
+/* Of so many of the first of these sends it is known here that they were received. */
+size_t explored_received(const struct explorer_entry *sends, size_t count);
 /* Waits until something may have changed for what this rank looked at. */
 void explored_pause(void);
 void explored_probe(const struct engine_call *probe, bool waits, struct engine_answer *answer);
@@ -63,6 +73,10 @@ bool explored_test(int count, const MPI_Request list[]);
 int explored_any(bool waits, int count, const MPI_Request list[]);
 /* How many it is told of; those are ended. */
 int explored_some(bool waits, int count, const MPI_Request list[]);
+/* What the explorer is told of a request of a list. */
+struct explorer_entry explored_entry(struct request *request);
+/* The requests that have handles, as entries, which the caller frees. */
+struct explorer_entry *explored_left(uint32_t *count);
 /* Whether the program is told of the end of this one now, behind such a call. */
 bool is_told(struct request *request);
 #endif

@@ -1,5 +1,6 @@
 /* Ends of requests of a rank under the explorer: see explored.h. */
 #include "explored.h"
+#include "explored_plans.h"
 
 #include <stdlib.h>
 #include <string.h>
@@ -14,12 +15,13 @@ bool is_told(struct request *request) {
     return request->is_ended && (request->other == NULL || request->other->is_ended);
 }
 
-/* What the explorer is told of a request of a list. */
-static struct explorer_entry entry_of(struct request *request) {
+struct explorer_entry explored_entry(struct request *request) {
     if (request == NULL) return (struct explorer_entry){EXPLORER_NULL, EXPLORER_ENDED};
     const struct request *other = request->other;
+    const bool is_made = request->kind == &plan_kind || request->kind == &explored_copy_kind;
+    const uint64_t ended = is_made ? EXPLORER_MADE : EXPLORER_ENDED;
     struct explorer_entry entry = {EXPLORER_ENDED, EXPLORER_ENDED};
-    if (!is_of_engine(request)) entry.key = is_at_end(request) ? EXPLORER_ENDED : EXPLORER_OPEN;
+    if (!is_of_engine(request)) entry.key = is_at_end(request) ? ended : EXPLORER_OPEN;
     else if (!request->is_ended) entry.key = request->own.key;
     if (other != NULL && !other->is_ended) entry.other = other->own.key;
     return entry;
@@ -52,7 +54,7 @@ static const struct explorer_answer *ask_list(enum explorer_ask_kind kind, int c
     const struct explorer_answer *answer;
     if (entries == NULL) explored_lose();
     do {
-        for (int i = 0; i < count; i++) entries[i] = entry_of(active_of(list[i]));
+        for (int i = 0; i < count; i++) entries[i] = explored_entry(active_of(list[i]));
         struct explorer_ask ask = {.kind = kind, .count = (uint32_t)count};
         answer = explored_ask(&ask, entries, NULL, places);
     } while (answer->answer.fact == EXPLORER_AGAIN && kind != ASK_WAITALL);
@@ -118,4 +120,23 @@ int explored_some(bool waits, int count, const MPI_Request list[]) {
     for (int i = 0; i < found; i++) (void)await_request(active_of(list[own[i]]));
     free(own);
     return found;
+}
+
+/* ---- what is left ---- */
+
+struct explorer_entry *explored_left(uint32_t *count) {
+    struct explorer_entry *all = malloc((size_t)(request_places() + 1) * sizeof *all);
+    if (all == NULL) explored_lose();
+    *count = 0;
+    for (int place = 0; place < request_places(); place++) {
+        const struct request *it = request_at(place);
+        if (it == NULL || it->is_inactive) continue;
+        all[(*count)++] = (struct explorer_entry){it->is_ended       ? EXPLORER_ENDED
+                                                  : is_of_engine(it) ? it->own.key
+                                                                     : EXPLORER_OPEN,
+                                                  it->kind == &plan_kind            ? plan_told(it->state)
+                                                  : it->kind == &explored_copy_kind ? copy_told(it)
+                                                                                    : EXPLORER_ENDED};
+    }
+    return all;
 }

@@ -125,24 +125,8 @@ bool explored_open(void) {
     tells_places = getenv("KOMBAZILY_EXPLORER_PLACES") != NULL;
     if (getenv("KOMBAZILY_EXPLORER_COPIES") != NULL) be_mould();
     is_explored = true;
+    explored_start();
     return true;
-}
-
-/* The requests that have handles, as entries. */
-static struct explorer_entry *left_requests(uint32_t *count) {
-    struct explorer_entry *all = malloc((size_t)(request_places() + 1) * sizeof *all);
-    if (all == NULL) explored_lose();
-    *count = 0;
-    for (int place = 0; place < request_places(); place++) {
-        const struct request *it = request_at(place);
-        if (it == NULL || it->is_inactive) continue;
-        bool is_of_engine = it->kind == &send_kind || it->kind == &receive_kind;
-        all[(*count)++] = (struct explorer_entry){it->is_ended   ? EXPLORER_ENDED
-                                                  : is_of_engine ? it->own.key
-                                                                 : EXPLORER_OPEN,
-                                                  EXPLORER_ENDED};
-    }
-    return all;
 }
 
 /* What is told of what is left, beside requests. */
@@ -154,12 +138,13 @@ static uint32_t communicator_count;
 
 static void note_communicator(const struct communicator *it) {
     const uint32_t most = sizeof rest.communicators / sizeof *rest.communicators;
-    if (it->place > ENGINE_SELF && communicator_count < most) rest.communicators[communicator_count++] = it->place;
+    if (it->place > ENGINE_SELF && it->place != ENGINE_NO_COMMUNICATOR && communicator_count < most)
+        rest.communicators[communicator_count++] = it->place;
 }
 
 void explored_finalize(void) {
     struct explorer_ask ask = {.kind = ASK_FINALIZE};
-    struct explorer_entry *requests = left_requests(&ask.count);
+    struct explorer_entry *requests = explored_left(&ask.count);
     rest.left = (struct explorer_left){count_types(), count_messages()};
     each_communicator(note_communicator);
     ask.length = sizeof rest.left + communicator_count * sizeof *rest.communicators;

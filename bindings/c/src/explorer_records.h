@@ -24,20 +24,39 @@ enum explorer_ask_kind {
     ASK_ERROR,    /* bytes: an error that ends the program; call.order: its class. Fact 1: the program is to go on */
     ASK_RETURNED, /* bytes: an error that a call returned; call.order: its class */
     ASK_ABORT,    /* call.order: the code */
-    ASK_FINALIZE  /* entries: the requests that are left; bytes: an explorer_left, then the places of the communicators
-                     that are left. Answered once all ranks are there */
+    ASK_START,    /* in MPI_Init; call.order: EXPLORER_VERSION. Answered by nothing */
+    ASK_ENTER, /* plan; call: a collective that goes by sends and receives begins. kind: a plan_kind, peer: the root or
+                  EXPLORER_NO_ROOT, operation: that of a reduction, of which EXPLORER_OWN_OPERATION is a function of
+                  the program, count: how many blocks the member hands in; is_waiting: it waits for its end. bytes:
+                  those blocks and those that it gets, each an explorer_block. Answered by nothing */
+    ASK_KEPT,  /* entries: sends of MPI_Bsend, in their order. The fact: of so many of the first ones this rank knows
+                  that they were received: no run may have them in the buffer still */
+    ASK_FINALIZE /* entries: the requests that are left; bytes: an explorer_left, then the places of the communicators
+                    that are left. Answered once all ranks are there */
 };
 
 /* A request of a list. A list with one that is EXPLORER_OPEN is answered by the fact EXPLORER_AGAIN, too: as a pause.
  */
 struct explorer_entry {
     uint64_t key;   /* of its engine_request, or one of the following */
-    uint64_t other; /* the send of a send and receive in one, or EXPLORER_ENDED */
+    uint64_t other; /* the send of a send and receive in one, or EXPLORER_ENDED. Of what is left at MPI_Finalize: the
+                       plan of a collective */
 };
 #define EXPLORER_NULL UINT64_MAX        /* the null request */
 #define EXPLORER_ENDED (UINT64_MAX - 1) /* one of which the rank knows that it is at its end */
 #define EXPLORER_OPEN (UINT64_MAX - 2)  /* one that the rank makes of others, and that isn't at its end */
+#define EXPLORER_MADE (UINT64_MAX - 3)  /* one that it made so, and that is; a look may say no of it */
 enum { EXPLORER_AGAIN = 2 };
+
+/* These records as a program and its explorer know them. */
+enum { EXPLORER_VERSION = 2 };
+
+/* A block of a collective: its bytes, and the type of the engine that they are of. */
+struct explorer_block {
+    uint64_t bytes;
+    uint64_t basic;
+};
+enum { EXPLORER_NO_ROOT = -1, EXPLORER_OWN_OPERATION = 1000 };
 
 /* What a program leaves over at MPI_Finalize, beside requests and communicators. */
 struct explorer_left {
@@ -51,6 +70,8 @@ struct explorer_ask {
     uint32_t count;
     uint32_t is_waiting;
     uint32_t frame_count; /* where it was called from: addresses within the program's file, innermost first */
+    uint32_t plan;        /* of a send or a receive of a collective's: the number by which ASK_ENTER told it; else 0 */
+    uint32_t unused;
     struct engine_call call;
     uint64_t length;
     char name[EXPLORER_NAME]; /* the call of MPI */

@@ -140,10 +140,9 @@ static int meet(const struct pairing *it, struct members local, struct invitatio
         *other = (struct invitation){.mark = REFUSED};
         return raise_number(it->local, create_call, number);
     }
-    uint16_t common[MOST_RANKS];
     const struct members remote = {other->list, (int)other->count};
     if (local.list[0] < remote.list[0]) other->number = own.number;
-    if (common_members(local, remote, common) > 0) *other = (struct invitation){.mark = COMMON_RANKS};
+    if (have_common(local, remote)) *other = (struct invitation){.mark = COMMON_RANKS};
     return MPI_SUCCESS;
 }
 

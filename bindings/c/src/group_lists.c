@@ -7,30 +7,10 @@ int place_in(struct members group, uint16_t member) {
     return -1;
 }
 
-/* Those of the first whose being in the second is as is wanted, put behind what was made. */
-static int select_members(struct members first, struct members second, bool is_wanted, uint16_t *made) {
-    int count = 0;
+bool have_common(struct members first, struct members second) {
     for (int at = 0; at < first.size; at++)
-        if ((place_in(second, first.list[at]) >= 0) == is_wanted) made[count++] = first.list[at];
-    return count;
-}
-
-int join_members(struct members first, struct members second, uint16_t *made) {
-    for (int at = 0; at < first.size; at++) made[at] = first.list[at];
-    return first.size + select_members(second, first, false, made + first.size);
-}
-
-int common_members(struct members first, struct members second, uint16_t *made) {
-    return select_members(first, second, true, made);
-}
-
-int other_members(struct members first, struct members second, uint16_t *made) {
-    return select_members(first, second, false, made);
-}
-
-int members_at(struct members group, const int *places, int count, uint16_t *made) {
-    for (int at = 0; at < count; at++) made[at] = group.list[places[at]];
-    return count;
+        if (place_in(second, first.list[at]) >= 0) return true;
+    return false;
 }
 
 /* Whether a place stands among the first ones of a list. */
@@ -38,13 +18,6 @@ static bool is_among(const int *places, int count, int place) {
     for (int at = 0; at < count; at++)
         if (places[at] == place) return true;
     return false;
-}
-
-int members_but(struct members group, const int *places, int count, uint16_t *made) {
-    int left = 0;
-    for (int at = 0; at < group.size; at++)
-        if (!is_among(places, count, at)) made[left++] = group.list[at];
-    return left;
 }
 
 int first_bad_place(struct members group, const int *places, int count) {

@@ -1,6 +1,7 @@
 /* Groups (MPI 3.1, 6.3). */
 #include "groups.h"
 
+#include "engine_groups.h"
 #include "errors.h"
 #include "group_lists.h"
 #include "internal.h"
@@ -123,68 +124,87 @@ int MPI_Group_compare(MPI_Group group1, MPI_Group group2, int *result) {
     return MPI_SUCCESS;
 }
 
-/* Makes a group of two by a function of their lists. */
-static int combine(const char *call, MPI_Group group1, MPI_Group group2,
-                   int (*make)(struct members, struct members, uint16_t *), MPI_Group *newgroup) {
+/* ---- groups that are made of others ---- */
+
+static int combine(const char *call, MPI_Group group1, MPI_Group group2, enum group_of_two kind, MPI_Group *newgroup) {
     struct group *first, *second;
     int class = check_group(call, group1, &first);
     if (class == MPI_SUCCESS) class = check_group(call, group2, &second);
     if (class == MPI_SUCCESS) class = check_result(MPI_COMM_WORLD, call, newgroup, "newgroup");
     if (class != MPI_SUCCESS) return class;
-    uint16_t *made = calloc((size_t)first->size + (size_t)second->size + 1, sizeof *made);
+    const size_t first_size = (size_t)first->size, second_size = (size_t)second->size;
+    uint16_t *made = calloc(first_size + second_size + 1, sizeof *made);
     if (made == NULL) return raise_on(MPI_COMM_WORLD, call, MPI_ERR_NO_MEM, "no memory for a group");
-    int size = make(members_of(first), members_of(second), made);
-    class = add_group(MPI_COMM_WORLD, call, made, size, newgroup);
+    uint64_t size = 0;
+    uint32_t number = kombazily_group_of_two(kind, first->list, first_size, second->list, second_size, made,
+                                             first_size + second_size, &size);
+    class = number == 0 ? add_group(MPI_COMM_WORLD, call, made, (int)size, newgroup)
+                        : raise_number(MPI_COMM_WORLD, call, number);
     free(made);
     return class;
 }
 
 int MPI_Group_union(MPI_Group group1, MPI_Group group2, MPI_Group *newgroup) {
     NOTE_CALLER();
-    return combine("MPI_Group_union", group1, group2, join_members, newgroup);
+    return combine("MPI_Group_union", group1, group2, GROUP_UNION, newgroup);
 }
 
 int MPI_Group_intersection(MPI_Group group1, MPI_Group group2, MPI_Group *newgroup) {
     NOTE_CALLER();
-    return combine("MPI_Group_intersection", group1, group2, common_members, newgroup);
+    return combine("MPI_Group_intersection", group1, group2, GROUP_INTERSECTION, newgroup);
 }
 
 int MPI_Group_difference(MPI_Group group1, MPI_Group group2, MPI_Group *newgroup) {
     NOTE_CALLER();
-    return combine("MPI_Group_difference", group1, group2, other_members, newgroup);
+    return combine("MPI_Group_difference", group1, group2, GROUP_DIFFERENCE, newgroup);
 }
 
-/* What a list of a group's ranks makes of it. */
-typedef int choice(struct members, const int *, int, uint16_t *);
+/* Tells why a list of ranks was refused. */
+static int tell_refused(const char *call, const struct group *own, const int ranks[], int n, uint32_t number) {
+    const int bad = number == GROUP_NO_MEMORY ? n : first_bad_place(members_of(own), ranks, n);
+    if (bad == n) return raise_number(MPI_COMM_WORLD, call, number);
+    if (ranks[bad] >= 0 && ranks[bad] < own->size)
+        return raise_on(MPI_COMM_WORLD, call, MPI_ERR_RANK, "rank %d twice in the list", ranks[bad]);
+    return raise_on(MPI_COMM_WORLD, call, MPI_ERR_RANK, "rank %d of a group of %d", ranks[bad], own->size);
+}
 
-/* Makes a group of another one and a list of its ranks by a function of both. */
-static int choose(const char *call, MPI_Group group, int n, const int ranks[], choice *make, MPI_Group *newgroup) {
+/* Makes a group of another one and a list of its ranks; what is no number of 16 bits is no rank of a group. */
+static int choose_of(const char *call, const struct group *own, int n, const int ranks[], enum group_of_places kind,
+                     MPI_Group *newgroup) {
+    uint16_t *places = calloc((size_t)n + 1, sizeof *places), *made = calloc((size_t)own->size + 1, sizeof *made);
+    uint64_t size = 0;
+    uint32_t number = GROUP_NO_MEMORY;
+    if (places != NULL && made != NULL) {
+        for (int at = 0; at < n; at++)
+            places[at] = ranks[at] < 0 || ranks[at] > UINT16_MAX ? UINT16_MAX : (uint16_t)ranks[at];
+        number = kombazily_group_of_places(kind, own->list, (size_t)own->size, places, (size_t)n, made,
+                                           (size_t)own->size, &size);
+    }
+    int class = number == 0 ? add_group(MPI_COMM_WORLD, call, made, (int)size, newgroup)
+                            : tell_refused(call, own, ranks, n, number);
+    free(places);
+    free(made);
+    return class;
+}
+
+static int choose(const char *call, MPI_Group group, int n, const int ranks[], enum group_of_places kind,
+                  MPI_Group *newgroup) {
     struct group *own;
     int class = check_group(call, group, &own);
     if (class == MPI_SUCCESS) class = check_count(MPI_COMM_WORLD, call, n);
     if (class == MPI_SUCCESS && n > 0) class = check_result(MPI_COMM_WORLD, call, ranks, "ranks");
     if (class == MPI_SUCCESS) class = check_result(MPI_COMM_WORLD, call, newgroup, "newgroup");
-    if (class != MPI_SUCCESS) return class;
-    int bad = first_bad_place(members_of(own), ranks, n);
-    if (bad < n && ranks[bad] >= 0 && ranks[bad] < own->size)
-        return raise_on(MPI_COMM_WORLD, call, MPI_ERR_RANK, "rank %d twice in the list", ranks[bad]);
-    if (bad < n) return raise_on(MPI_COMM_WORLD, call, MPI_ERR_RANK, "rank %d of a group of %d", ranks[bad], own->size);
-    uint16_t *made = calloc((size_t)own->size + 1, sizeof *made);
-    if (made == NULL) return raise_on(MPI_COMM_WORLD, call, MPI_ERR_NO_MEM, "no memory for a group");
-    int size = make(members_of(own), ranks, n, made);
-    class = add_group(MPI_COMM_WORLD, call, made, size, newgroup);
-    free(made);
-    return class;
+    return class == MPI_SUCCESS ? choose_of(call, own, n, ranks, kind, newgroup) : class;
 }
 
 int MPI_Group_incl(MPI_Group group, int n, const int ranks[], MPI_Group *newgroup) {
     NOTE_CALLER();
-    return choose("MPI_Group_incl", group, n, ranks, members_at, newgroup);
+    return choose("MPI_Group_incl", group, n, ranks, GROUP_INCL, newgroup);
 }
 
 int MPI_Group_excl(MPI_Group group, int n, const int ranks[], MPI_Group *newgroup) {
     NOTE_CALLER();
-    return choose("MPI_Group_excl", group, n, ranks, members_but, newgroup);
+    return choose("MPI_Group_excl", group, n, ranks, GROUP_EXCL, newgroup);
 }
 
 /* Checks a range of ranks: a first and a last one of the group, and a stride that leads from the one to the other. */
@@ -198,7 +218,8 @@ static int check_range(const char *call, int size, const int range[3]) {
 }
 
 /* Makes a group of another one and ranges of its ranks: of the list that they stand for (6.3.2). */
-static int choose_ranges(const char *call, MPI_Group group, int n, int ranges[][3], choice *make, MPI_Group *newgroup) {
+static int choose_ranges(const char *call, MPI_Group group, int n, int ranges[][3], enum group_of_places kind,
+                         MPI_Group *newgroup) {
     struct group *own;
     int class = check_group(call, group, &own), count = 0;
     if (class == MPI_SUCCESS) class = check_count(MPI_COMM_WORLD, call, n);
@@ -213,19 +234,19 @@ static int choose_ranges(const char *call, MPI_Group group, int n, int ranges[][
         for (int step = 0; step <= steps && count <= own->size; step++)
             ranks[count++] = ranges[at][0] + step * ranges[at][2];
     }
-    class = choose(call, group, count, ranks, make, newgroup);
+    class = choose(call, group, count, ranks, kind, newgroup);
     free(ranks);
     return class;
 }
 
 int MPI_Group_range_incl(MPI_Group group, int n, int ranges[][3], MPI_Group *newgroup) {
     NOTE_CALLER();
-    return choose_ranges("MPI_Group_range_incl", group, n, ranges, members_at, newgroup);
+    return choose_ranges("MPI_Group_range_incl", group, n, ranges, GROUP_INCL, newgroup);
 }
 
 int MPI_Group_range_excl(MPI_Group group, int n, int ranges[][3], MPI_Group *newgroup) {
     NOTE_CALLER();
-    return choose_ranges("MPI_Group_range_excl", group, n, ranges, members_but, newgroup);
+    return choose_ranges("MPI_Group_range_excl", group, n, ranges, GROUP_EXCL, newgroup);
 }
 
 int MPI_Group_free(MPI_Group *group) {

@@ -26,7 +26,8 @@ struct process {
     int size;
     int incarnation;
     uint64_t job;
-    long patience; /* milliseconds; 0: there is no time after which a rank gives up */
+    uint32_t frame; /* the most bytes of data of a frame, of all engines of the job */
+    long patience;  /* milliseconds; 0: there is no time after which a rank gives up */
     int thread_level;
     _Atomic bool is_threaded; /* several threads may speak MPI at the same time */
     bool checks;              /* what is left undone at the end is told */
@@ -162,10 +163,14 @@ struct request {
     struct engine_request own; /* what the engine knows it by */
     struct datatype *type;     /* of what is received, and where it goes */
     void *buf;
-    size_t room;            /* so many bytes of data it may be, or are sent */
-    uint64_t elements;      /* of a message that is of another type than its receive: how many it has */
-    const char *element;    /* the name of the basic type that is received */
-    int peer, tag;          /* as the program named them */
+    size_t room;         /* so many bytes of data it may be, or are sent */
+    uint64_t elements;   /* of a message that is of another type than its receive: how many it has */
+    const char *element; /* the name of the basic type that is received */
+    int peer, tag;       /* as the program named them */
+    bool tells;          /* of a send that waits for its receive (unasked.h): its end tells what was received */
+    bool is_crowded;     /* of a standard one that waits since too much waits before it */
+    int target;          /* whose rank in MPI_COMM_WORLD this is, and what had been sent to it */
+    uint64_t mark;
     struct request *other;  /* the send that ends together with this receive, or NULL */
     struct request *behind; /* of a matched message: the next one to be received */
 };

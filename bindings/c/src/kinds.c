@@ -3,6 +3,7 @@
 #include "errors.h"
 #include "internal.h"
 #include "lines.h"
+#include "unasked.h"
 
 /* ---- going on ---- */
 
@@ -15,6 +16,12 @@ static void ask_end(struct request *request) {
     call.kind = ENGINE_TEST;
     call_engine(&call, NULL, 0, &answer);
     if (answer.kind != ENGINE_PENDING) end_request(request, &answer);
+}
+
+/* The end of a send that waited for its receive tells what was received. */
+static void ask_end_of_send(struct request *request) {
+    ask_end(request);
+    if (request->is_ended && request->tells) note_received(request);
 }
 
 /* ---- cancelling ---- */
@@ -52,6 +59,9 @@ static void say_send(struct line *line, struct request *request) {
     add_rank(line, request->comm, request->peer);
     add_text(line, " to receive %zu bytes", request->room);
     add_place(line, request->comm, request->peer, request->tag);
+    if (request->is_crowded)
+        add_text(line, ", behind %llu bytes that it hasn't asked for (KOMBAZILY_UNASKED)",
+                 (unsigned long long)unasked_bytes(request->target));
 }
 
 static void say_send_left(struct line *line, struct request *request) {
@@ -72,8 +82,11 @@ static void say_matched_left(struct line *line, struct request *request) {
 
 /* ---- the tables ---- */
 
-const struct request_kind send_kind = {
-    .go_on = ask_end, .start = start_again, .forget = forget_again, .say_wait = say_send, .say_left = say_send_left};
+const struct request_kind send_kind = {.go_on = ask_end_of_send,
+                                       .start = start_again,
+                                       .forget = forget_again,
+                                       .say_wait = say_send,
+                                       .say_left = say_send_left};
 
 const struct request_kind receive_kind = {.go_on = ask_end,
                                           .start = start_again,

@@ -3,6 +3,7 @@
 #include "attributes.h"
 #include "errors.h"
 #include "explored.h"
+#include "explored_plans.h"
 #include "info.h"
 #include "intercommunicators.h"
 #include "invitations.h"
@@ -121,6 +122,16 @@ static int inherit(const struct communicator *of, const char *call, MPI_Comm cop
     return copy_values(of->handle, call, copy);
 }
 
+/* The copy, which nobody is in yet: 0, or the class of an error. */
+static int make_copy(const char *call, struct communicator *of, MPI_Comm *newcomm, struct later *later) {
+    later->made = new_communicator(newcomm);
+    if (later->made == NULL) return raise_number(of->handle, call, NUMBER_NO_MEMORY);
+    hold_communicator(later->made);
+    int class = inherit(of, call, *newcomm);
+    if (class != MPI_SUCCESS) drop_communicator(*newcomm);
+    return class;
+}
+
 /* Begins what ends once the number is told: 0, or the class of an error. */
 static int begin_later(const char *call, struct communicator *of, MPI_Comm *newcomm, struct request *request) {
     struct later *later = calloc(1, sizeof *later);
@@ -130,17 +141,32 @@ static int begin_later(const char *call, struct communicator *of, MPI_Comm *newc
     }
     request->kind = &copy_kind;
     request->state = later;
-    later->made = new_communicator(newcomm);
-    if (later->made == NULL) return raise_number(of->handle, call, NUMBER_NO_MEMORY);
-    hold_communicator(later->made);
-    int class = inherit(of, call, *newcomm);
-    if (class != MPI_SUCCESS) {
-        drop_communicator(*newcomm);
-        return class;
-    }
+    int class = make_copy(call, of, newcomm, later);
+    if (class != MPI_SUCCESS) return class;
     if (of->all_rank == 0) later->number = draw_number();
     start_plan(later->told.state);
     return MPI_SUCCESS;
+}
+
+/* ---- under an explorer ---- */
+
+/* The explorer makes the copy once all members have asked for it; `number` is the one by which it knows the collective.
+ */
+static void go_on_explored(struct request *request) {
+    struct later *later = request->state;
+    struct engine_call call = {.kind = ENGINE_LOOK, .request = request->own};
+    struct engine_answer answer;
+    ask_plans(&call, NULL, 0, &answer);
+    if (answer.kind == ENGINE_FACT && answer.fact == 0) return;
+    call.kind = ENGINE_TEST;
+    ask_plans(&call, NULL, 0, &answer);
+    request->is_ended = true;
+    request->end = empty_status();
+    request->number = answer.kind == ENGINE_LEFT ? 0 : answer.number;
+    if (request->number == 0) place_communicator(later->made, answer.communicator, request->comm);
+    else drop_communicator(later->made->handle);
+    explored_leave((uint32_t)later->number);
+    later->number = 0;
 }
 
 static void say_nothing(struct line *line, struct request *request) {
@@ -148,15 +174,27 @@ static void say_nothing(struct line *line, struct request *request) {
     (void)request;
 }
 
-/* The request of a call that has done all when it returns, as under an explorer: it is at its end at once. */
-static const struct request_kind done_kind = {.say_wait = say_nothing, .say_left = say_nothing};
+const struct request_kind explored_copy_kind = {
+    .go_on = go_on_explored, .forget = forget, .say_wait = say_nothing, .say_left = say_nothing};
 
-static int copy_at_once(const char *call, struct communicator *of, MPI_Comm *newcomm, struct request *request) {
-    request->kind = &done_kind;
-    request->end = empty_status();
-    request->is_ended = true;
-    return copy_communicator(of->handle, call, newcomm);
+uint32_t copy_told(const struct request *request) { return (uint32_t)((const struct later *)request->state)->number; }
+
+static int begin_explored(const char *call, struct communicator *of, MPI_Comm *newcomm, struct request *request) {
+    struct later *later = calloc(1, sizeof *later);
+    struct engine_answer answer;
+    if (later == NULL) return raise_number(of->handle, call, NUMBER_NO_MEMORY);
+    request->kind = &explored_copy_kind;
+    request->state = later;
+    int class = make_copy(call, of, newcomm, later);
+    if (class != MPI_SUCCESS) return class;
+    later->number = tell_plan(&(struct plan_call){.name = call, .kind = (enum plan_kind)PLAN_COPY, .comm = of});
+    ask_plans(&(struct engine_call){.kind = ENGINE_DUP, .communicator = of->place, .order = (int32_t)later->number},
+              NULL, 0, &answer);
+    request->own = answer.request;
+    return MPI_SUCCESS;
 }
+
+/* ---- both ---- */
 
 static int begin_copy(const char *call, MPI_Comm comm, MPI_Info info, MPI_Comm *newcomm, MPI_Request *request) {
     struct communicator *own;
@@ -170,7 +208,7 @@ static int begin_copy(const char *call, MPI_Comm comm, MPI_Info info, MPI_Comm *
     if (handle == MPI_REQUEST_NULL) return raise_number(comm, call, NUMBER_NO_MEMORY);
     struct request *made = request_of(handle);
     *made = (struct request){.comm = hold_communicator(own), .caller = process.caller, .age = next_age()};
-    class = (is_explored ? copy_at_once : begin_later)(call, own, newcomm, made);
+    class = (is_explored ? begin_explored : begin_later)(call, own, newcomm, made);
     if (class != MPI_SUCCESS) *newcomm = MPI_COMM_NULL;
     if (class != MPI_SUCCESS) close_request(&handle);
     else if (!is_explored) keep_moving(made);

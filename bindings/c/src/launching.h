@@ -63,6 +63,10 @@ struct told_place {
  * each. */
 void kombazily_way(bool has_words, const uint8_t *environment, size_t len, struct launch_way *way);
 
+/* How many bytes of data a frame of the job has at most (1,024 to 61,440, a multiple of 8), by the text of
+ * KOMBAZILY_FRAME, if it is told, and the addresses of the job's ranks; 0 where the text is no such number. */
+uint32_t kombazily_frame(bool is_told, const uint8_t *text, size_t len, const uint32_t *addresses, size_t count);
+
 /* Copies the value of a key in a line or a record out: how many bytes it has; 0 where there is none, it is empty or
  * there is no room for it. */
 size_t kombazily_word(const uint8_t *line, size_t len, const uint8_t *key, size_t key_len, uint32_t wire, uint8_t *into,

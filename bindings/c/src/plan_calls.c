@@ -3,6 +3,7 @@
 
 #include "errors.h"
 #include "explored.h"
+#include "explored_plans.h"
 
 #include <stdlib.h>
 
@@ -11,9 +12,6 @@ int check_asked(struct asked *asked) {
     int class = check_comm(asked->handle, asked->name, &asked->comm);
     if (class == MPI_SUCCESS && !asked->waits)
         class = check_result(asked->handle, asked->name, asked->request, "request");
-    if (class == MPI_SUCCESS && is_explored && !asked->waits && asked->comm->size > 1)
-        class = raise_on(asked->handle, asked->name, MPI_ERR_UNSUPPORTED_OPERATION,
-                         "an explorer knows no nonblocking collectives");
     return class;
 }
 
@@ -108,8 +106,6 @@ static int drop_call(struct plan_call *call, int class) {
 /* Waits for its end. */
 static int carry_to_end(const struct asked *asked, struct plan_call *call) {
     struct request own = {.kind = &plan_kind, .comm = call->comm, .caller = process.caller};
-    uint32_t refusal = open_explored_plans(call->comm);
-    if (refusal != 0) return drop_call(call, raise_number(asked->handle, asked->name, refusal));
     own.state = make_plan(call, &own);
     if (own.state == NULL) return drop_call(call, no_memory(asked));
     start_plan(own.state);
@@ -122,7 +118,9 @@ static int carry_to_end(const struct asked *asked, struct plan_call *call) {
 int carry_out(const struct asked *asked, struct plan_call *call) {
     call->name = asked->name;
     call->comm = asked->comm;
+    call->waits = asked->waits;
     if (asked->waits) return carry_to_end(asked, call);
+    if (is_explored && !go_straight(call)) return drop_call(call, no_memory(asked));
     MPI_Request handle = open_request();
     struct request *own = request_of(handle);
     if (own == NULL) return drop_call(call, no_memory(asked));

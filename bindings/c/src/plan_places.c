@@ -78,15 +78,6 @@ uint32_t number_communicator(struct communicator *comm) {
     return NUMBER_LIMIT;
 }
 
-uint32_t open_explored_plans(struct communicator *comm) {
-    const struct engine_call copy = {.kind = ENGINE_DUP, .communicator = comm->place};
-    struct engine_answer answer;
-    if (!is_explored || comm->size == 1 || comm->explored_plans != 0) return 0;
-    uint32_t number = enter_engine(&copy, NULL, 0, &answer);
-    if (number == 0) comm->explored_plans = answer.communicator;
-    return number;
-}
-
 void forget_number(struct communicator *comm) {
     if (comm->number > ENGINE_SELF) comm->world->taken[comm->number / 64] &= ~(UINT64_C(1) << comm->number % 64);
     free(comm->members);

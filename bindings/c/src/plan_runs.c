@@ -6,6 +6,7 @@
 #include "device.h"
 #include "errors.h"
 #include "explored.h"
+#include "explored_plans.h"
 #include "intercommunicators.h"
 #include "lines.h"
 #include "worlds.h"
@@ -34,7 +35,8 @@ struct fault {
 struct plan_run {
     struct plan_call call;
     struct request *request;
-    uint32_t own; /* which one of the communicator's plans it is */
+    uint32_t own;  /* which one of the communicator's plans it is */
+    uint32_t told; /* the number by which an explorer knows it */
     struct plan_step *steps;
     struct message *messages; /* of each step */
     size_t count, next;
@@ -81,14 +83,16 @@ static uint32_t tag_of(const struct plan_run *run, enum plan_kind kind) {
     return run->call.comm->number << COMM_SHIFT | (uint32_t)kind << KIND_SHIFT | run->own % MOST_OPEN;
 }
 
-/* A call of the engine about a message of this run. */
+/* A call of the engine about a message of this run. An explorer, which has engines for plans alone, too, is told of
+ * which communicator and which plan it is. */
 static struct engine_call message_of(const struct plan_run *run, enum engine_call_kind kind, uint32_t peer) {
     const struct communicator *comm = run->call.comm;
     return (struct engine_call){.kind = kind,
-                                .communicator = is_explored ? comm->explored_plans : comm->world->base,
+                                .communicator = is_explored ? comm->place : comm->world->base,
                                 .peer = is_explored ? (int32_t)peer : plan_rank(comm, (int)peer),
                                 .tag = (int32_t)tag_of(run, run->call.kind),
-                                .basic = ENGINE_BYTE};
+                                .basic = ENGINE_BYTE,
+                                .order = (int32_t)run->told};
 }
 
 /* Begins a send or a receive: 0, or a number. */
@@ -518,12 +522,21 @@ struct plan_run *make_plan(const struct plan_call *asked, struct request *reques
     return run;
 }
 
+static void leave_explorer(struct plan_run *run) {
+    if (is_explored) explored_leave(run->told);
+    run->told = 0;
+}
+
+uint32_t plan_told(const struct plan_run *run) { return run->told; }
+
 void start_plan(struct plan_run *run) {
     run->own = run->call.comm->plans++;
     run->next = run->ended = 0;
     run->moved = device_nanoseconds();
     if (run->messages != NULL) memset(run->messages, 0, run->count * sizeof *run->messages);
     note_plan(run->call.kind, run->call.root, run->call.comm);
+    leave_explorer(run);
+    if (is_explored) run->told = tell_plan(&run->call);
     if (is_number_taken(run)) run->number = NUMBER_LIMIT;
     put_on_way(run);
     plan_goes_on(run);
@@ -531,6 +544,8 @@ void start_plan(struct plan_run *run) {
 
 /* What was begun and isn't at its end, since the plan failed: a receive is cancelled; a send goes on. */
 static void give_up_messages(struct plan_run *run) {
+    /* Behind MPI_Finalize the explorer isn't there. */
+    if (is_explored && explored_socket() < 0) return;
     for (size_t at = 0; at < run->next; at++) {
         struct message *message = &run->messages[at];
         if (!message->is_begun || message->is_ended) continue;
@@ -545,6 +560,7 @@ static void give_up_messages(struct plan_run *run) {
 void end_plan(struct plan_run *run) {
     take_off_way(run);
     give_up_messages(run);
+    leave_explorer(run);
     release_operation(run->call.folding.operation);
     free_places(&run->call.given);
     free_places(&run->call.got);

@@ -32,6 +32,7 @@ struct plan_call {
     enum plan_kind kind;
     struct communicator *comm;
     int root;
+    bool waits; /* the call does, for its end */
     struct places given, got;
     bool are_alike;          /* all blocks of all members have as many bytes, and all members know so */
     struct folding folding;  /* by what blocks are folded */
@@ -56,6 +57,9 @@ void say_plan_end(const struct plan_run *run, char *text);
 /* Forgets it. */
 void end_plan(struct plan_run *run);
 
+/* The number by which an explorer knows it. */
+uint32_t plan_told(const struct plan_run *run);
+
 /* All that are on their way go on, also where the engine is in a collective. */
 void plans_go_on(void);
 
@@ -78,8 +82,5 @@ int plan_rank(const struct communicator *comm, int member);
  * forget_number. */
 uint32_t number_communicator(struct communicator *comm);
 void forget_number(struct communicator *comm);
-/* Under an explorer there is one engine a rank: plans go there in a copy of the communicator, which is made by the
- * first one. So only blocking collectives may go by plans then: all members wait for the copy. 0, or a number. */
-uint32_t open_explored_plans(struct communicator *comm);
 
 #endif

@@ -1,10 +1,13 @@
 /* Sends and receives (MPI 3.1, 3.2, 3.4, 3.7 and 3.10). Which message a receive takes, and when a send is at its end,
  * the engine decides; here arguments become its calls. */
 #include "errors.h"
+#include "explored.h"
 #include "intercommunicators.h"
 #include "internal.h"
+#include "plan_runs.h"
 #include "transfers.h"
 #include "types.h"
+#include "unasked.h"
 
 #include <stdlib.h>
 
@@ -70,15 +73,35 @@ int tell_number(const struct communicator *comm, const char *call, uint32_t numb
     return raise_in(comm, call, class_of(number), "%s (%u)", cause, (unsigned)number);
 }
 
+/* Begins a send to another rank. A standard one may go as a synchronous one (3.4): it does where too much waits. Once
+ * the engine is free no other thread sends before it has answered. */
+static uint32_t send_to_other(const struct transfer *it, bool is_synchronous, int rank, struct request *request) {
+    free_engine();
+    const size_t len = data_size(&it->type->layout, (size_t)it->count);
+    const enum send_course course = is_synchronous ? COURSE_SYNCHRONOUS : begin_unasked(rank, len);
+    uint32_t number =
+        begin_send(request, it->comm, course == COURSE_SYNCHRONOUS, it->buf, it->count, it->type, it->peer, it->tag);
+    if (course != COURSE_AT_ONCE) mark_send(request, rank);
+    else if (number != 0) take_back_unasked(rank);
+    request->is_crowded = !is_synchronous && course == COURSE_SYNCHRONOUS;
+    return number;
+}
+
+/* Begins a send of a program. */
+static uint32_t send_own(const struct transfer *it, struct request *request) {
+    const bool is_synchronous = it->kind == TRANSFER_SYNCHRONOUS || process.sends_wait;
+    const bool is_to_a_rank = it->peer != MPI_PROC_NULL && !is_explored;
+    const int rank = is_to_a_rank ? world_rank(it->comm, member_of(it->comm, it->peer)) : process.rank;
+    if (rank != process.rank) return send_to_other(it, is_synchronous, rank, request);
+    return begin_send(request, it->comm, is_synchronous, it->buf, it->count, it->type, it->peer, it->tag);
+}
+
 int begin_transfer(const char *call, const struct transfer *it, struct request *request) {
     if (it->kind == TRANSFER_BUFFERED) return begin_buffered(call, it, request);
     if (it->kind == TRANSFER_RECEIVE)
         return tell_number(it->comm, call,
                            begin_receive(request, it->comm, it->buf, it->count, it->type, it->peer, it->tag));
-    bool is_synchronous = it->kind == TRANSFER_SYNCHRONOUS;
-    uint32_t number = begin_send(request, it->comm, is_synchronous || process.sends_wait, it->buf, it->count, it->type,
-                                 it->peer, it->tag);
-    return tell_number(it->comm, call, number);
+    return tell_number(it->comm, call, send_own(it, request));
 }
 
 /* ---- checks ---- */

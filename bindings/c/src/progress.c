@@ -342,7 +342,7 @@ static void ask(int kind, const struct engine_call *call, const void *data, size
 
 void ask_engine(const struct engine_call *call, const void *data, size_t len, struct engine_answer *answer) {
     if (is_explored) {
-        explored_call(call, data, len, answer);
+        explored_call(call, 0, data, len, answer);
         return;
     }
     ask(OF_PROGRAMS, call, data, len, answer);
@@ -355,7 +355,8 @@ size_t take_from_engine(uint64_t first, uint8_t *into, size_t len) {
 }
 
 void ask_plans(const struct engine_call *call, const void *data, size_t len, struct engine_answer *answer) {
-    if (is_explored) explored_call(call, data, len, answer);
+    /* The order tells which plan it is (plan_runs.c). */
+    if (is_explored) explored_call(call, (uint32_t)call->order, data, len, answer);
     else ask(OF_PLANS, call, data, len, answer);
 }
 

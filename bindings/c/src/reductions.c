@@ -87,12 +87,7 @@ int MPI_Allreduce(const void *sendbuf, void *recvbuf, int count, MPI_Datatype da
     int class = check_reduction(comm, call, count, datatype, op, &of);
     if (class == MPI_SUCCESS) class = check_buffers(comm, call, sendbuf, recvbuf, count, of.type, &row);
     if (class != MPI_SUCCESS) return class;
-    uint32_t number;
-    if (is_folded_here(of.type)) {
-        number = fold_rows(rows_of(of, 0), of.operation, row, of.length, recvbuf);
-        if (number == 0) number = broadcast_row(rows_of(of, 0), recvbuf, of.length);
-    } else {
-        number = allreduce_rows(rows_of(of, 0), of.operation, row, of.length, recvbuf);
-    }
+    uint32_t number = is_folded_here(of.type) ? fold_rows_for_all(rows_of(of, 0), of.operation, row, of.length, recvbuf)
+                                              : allreduce_rows(rows_of(of, 0), of.operation, row, of.length, recvbuf);
     return number == 0 ? MPI_SUCCESS : raise_number(comm, call, number);
 }

@@ -4,6 +4,7 @@
 #include "agreement.h"
 #include "folds.h"
 #include "internal.h"
+#include "parts.h"
 #include "turns.h"
 #include "wait_lines.h"
 
@@ -35,25 +36,6 @@ struct collective collective_of(const struct communicator *comm, int root, const
     return (struct collective){comm, root, is_empty ? ENGINE_BYTE : type->basic, is_empty ? 1 : type->unit};
 }
 
-size_t part_of_block(int members) {
-    const size_t longest = 1048560, in_all = (size_t)16 << 20;
-    size_t part = in_all / (size_t)members / 16 * 16;
-    return part < longest ? part : longest;
-}
-
-/* Part after part of a row: the first one is there even where the row is empty. */
-struct part {
-    size_t from, length;
-};
-static struct part first_part(size_t length, size_t longest) {
-    return (struct part){0, length < longest ? length : longest};
-}
-static bool next_part(struct part *part, size_t length, size_t longest) {
-    part->from += part->length;
-    part->length = length - part->from < longest ? length - part->from : longest;
-    return part->length != 0;
-}
-
 /* The call that enters a part of a collective. */
 static struct engine_call entry_of(enum engine_call_kind kind, struct collective of, size_t bytes) {
     return (struct engine_call){
@@ -66,7 +48,7 @@ static void take_data(struct collective of, size_t from, void *into, size_t leng
 }
 
 uint32_t broadcast_row(struct collective of, void *row, size_t length) {
-    const size_t longest = part_of_block(1);
+    const size_t longest = longest_part(1, of.unit);
     const bool is_root = of.comm->rank == of.root;
     struct part part = first_part(length, longest);
     do {
@@ -82,7 +64,7 @@ uint32_t broadcast_row(struct collective of, void *row, size_t length) {
 }
 
 uint32_t gather_rows(struct collective of, const void *row, size_t length, unsigned char *all) {
-    const size_t longest = part_of_block(of.comm->size);
+    const size_t longest = longest_part(of.comm->size, of.unit);
     const size_t members = of.comm->rank == of.root ? (size_t)of.comm->size : 0;
     struct part part = first_part(length, longest);
     do {
@@ -97,17 +79,18 @@ uint32_t gather_rows(struct collective of, const void *row, size_t length, unsig
     return 0;
 }
 
-/* A part of each member's block, one behind the other: `all` itself where the part is the whole, else in the room. */
+/* A part of each member's block, one behind the other: in the room, or `all` itself where there is none, since one part
+ * has the whole. */
 static const unsigned char *parts_of_all(const unsigned char *all, size_t length, struct part part, size_t members,
                                          unsigned char *room) {
-    if (part.length == length) return all;
+    if (room == NULL) return all;
     for (size_t member = 0; member < members; member++)
         memcpy(room + member * part.length, all + member * length + part.from, part.length);
     return room;
 }
 
 uint32_t scatter_rows(struct collective of, const unsigned char *all, size_t length, void *row) {
-    const size_t longest = part_of_block(of.comm->size);
+    const size_t longest = longest_part(of.comm->size, of.unit);
     const size_t members = of.comm->rank == of.root ? (size_t)of.comm->size : 0;
     struct part part = first_part(length, longest);
     unsigned char *room = NULL;
@@ -126,12 +109,11 @@ uint32_t scatter_rows(struct collective of, const unsigned char *all, size_t len
     return number;
 }
 
-/* Enters a reduction of the engine, part after part; the result is taken where it is wanted. Sums of floats depend on
- * their order, so the engine brings the parts of all members to the root. */
+/* Enters a reduction of the engine; the result is taken where it is wanted. In an allreduce, and where the result
+ * depends on the order, as in sums of floats, all members' blocks come together at one. */
 static uint32_t combine_rows(enum engine_call_kind kind, struct collective of, enum engine_operation operation,
                              const void *row, size_t length, void *result) {
-    const bool is_float = of.basic == ENGINE_FLOAT32 || of.basic == ENGINE_FLOAT64;
-    const size_t longest = part_of_block(is_float ? of.comm->size : 1);
+    const size_t longest = longest_part(of.comm->size, of.unit);
     struct part part = first_part(length, longest);
     do {
         struct engine_call entry = entry_of(kind, of, part.length);
@@ -155,34 +137,69 @@ uint32_t allreduce_rows(struct collective of, enum engine_operation operation, c
     return combine_rows(ENGINE_ALLREDUCE, of, operation, row, length, result);
 }
 
+/* ---- long doubles ---- */
+
+/* A reduction of long doubles. Behind a part of them stand as many bytes as the operation's number: so members whose
+ * operations differ hand in different numbers of bytes, which the engine tells. */
+struct fold {
+    enum engine_operation operation;
+    const unsigned char *row;
+    unsigned char *result; /* at the root */
+    unsigned char *room;   /* for a part and what stands behind it */
+};
+_Static_assert(ENGINE_PROD < sizeof(long double), "what stands behind a part is shorter than an element");
+
 /* Folds the parts that the last answer brought, in rank order, into the result. */
-static void fold_parts(struct collective of, enum engine_operation operation, size_t length, unsigned char *result,
-                       unsigned char *room) {
+static void fold_parts(struct collective of, const struct fold *fold, struct part part) {
+    unsigned char *result = fold->result + part.from;
+    const size_t length = part.length, each = length + (size_t)fold->operation;
     take_data(of, 0, result, length);
     for (size_t member = 1; member < (size_t)of.comm->size; member++) {
-        take_data(of, member * length, room, length);
-        fold_long_doubles(operation, result, room, length / sizeof(long double));
+        take_data(of, member * each, fold->room, length);
+        fold_long_doubles(fold->operation, result, fold->room, length / sizeof(long double));
     }
+}
+
+static uint32_t gather_part(struct collective of, const struct fold *fold, struct part part) {
+    const size_t behind = (size_t)fold->operation;
+    struct engine_call entry = entry_of(ENGINE_GATHER, of, part.length + behind);
+    struct engine_answer answer;
+    /* The engine doesn't read it here: it is for what agreement.h compares. */
+    entry.operation = fold->operation;
+    memset(fold->room + part.length, 0, behind);
+    if (part.length != 0) memcpy(fold->room, fold->row + part.from, part.length);
+    uint32_t number = enter_engine(&entry, fold->room, part.length + behind, &answer);
+    if (number == 0 && part.length != 0 && of.comm->rank == of.root) fold_parts(of, fold, part);
+    return number;
 }
 
 uint32_t fold_rows(struct collective of, enum engine_operation operation, const void *row, size_t length,
                    void *result) {
-    const size_t longest = part_of_block(of.comm->size);
-    const bool is_root = of.comm->rank == of.root;
+    const size_t longest = longest_part(of.comm->size, sizeof(long double));
     struct part part = first_part(length, longest);
-    unsigned char *room = NULL;
-    if (is_root && length != 0 && (room = malloc(part.length)) == NULL) return NUMBER_NO_MEMORY;
-    uint32_t number = 0;
-    do {
-        struct engine_call entry = entry_of(ENGINE_GATHER, of, part.length);
-        struct engine_answer answer;
-        const char *own = length == 0 ? NULL : (const char *)row + part.from;
-        /* The engine doesn't read it here: it is for what agreement.h compares. */
-        entry.operation = operation;
-        number = enter_engine(&entry, own, part.length, &answer);
-        if (number == 0 && room != NULL)
-            fold_parts(of, operation, part.length, (unsigned char *)result + part.from, room);
-    } while (number == 0 && next_part(&part, length, longest));
-    free(room);
+    struct fold fold = {operation, row, result, malloc(part.length + (size_t)operation)};
+    if (fold.room == NULL) return NUMBER_NO_MEMORY;
+    uint32_t number;
+    do number = gather_part(of, &fold, part);
+    while (number == 0 && next_part(&part, length, longest));
+    free(fold.room);
     return number;
+}
+
+/* All members enter an allreduce of as many bytes as they have long doubles, and of one more: the engine tells all of
+ * them where kind, operation or count differ. */
+static uint32_t agree_on_fold(struct collective of, enum engine_operation operation, size_t count) {
+    const struct collective bytes = {of.comm, of.root, ENGINE_UINT8, 1};
+    unsigned char *none = calloc(count + 1, 1);
+    if (none == NULL) return NUMBER_NO_MEMORY;
+    uint32_t number = allreduce_rows(bytes, operation, none, count + 1, NULL);
+    free(none);
+    return number;
+}
+
+uint32_t fold_rows_for_all(struct collective of, enum engine_operation operation, const void *row, size_t length,
+                           void *result) {
+    uint32_t number = agree_on_fold(of, operation, length / sizeof(long double));
+    if (number == 0) number = fold_rows(of, operation, row, length, result);
+    return number == 0 ? broadcast_row(of, result, length) : number;
 }

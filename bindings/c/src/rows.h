@@ -1,5 +1,5 @@
-/* Collectives over rows of elements: how they are asked of the engine, in parts where they are long. Each answers 0, or
- * the number of the engine's that isn't. */
+/* Collectives over rows of elements: each is one collective of the engine, or goes in parts where the row is longer
+ * than that takes (parts.h). Each answers 0, or the number of the engine's that isn't. */
 #ifndef KOMBAZILY_ROWS_H
 #define KOMBAZILY_ROWS_H
 
@@ -22,10 +22,6 @@ struct collective {
 };
 struct collective collective_of(const struct communicator *comm, int root, const struct datatype *type, size_t bytes);
 
-/* The longest part of a block that goes at once, in bytes: the root's engine holds at most 16 MiB then, as there are at
- * most 1,024 members. It is a multiple of 16, so elements aren't cut. */
-size_t part_of_block(int members);
-
 /* The root's row, at all members (5.4). */
 uint32_t broadcast_row(struct collective of, void *row, size_t length);
 
@@ -41,8 +37,11 @@ uint32_t reduce_rows(struct collective of, enum engine_operation operation, cons
 uint32_t allreduce_rows(struct collective of, enum engine_operation operation, const void *row, size_t length,
                         void *result);
 
-/* The same of long doubles: gathered at the root in parts and folded there in rank order, as the engine does with its
- * own floats, so that the bits of the result are the same in every run. */
+/* The same of long doubles: gathered at the root and folded there in rank order, as the engine does with its own
+ * floats, so that the bits of the result are the same in every run. Members that make different things of them are
+ * told. */
 uint32_t fold_rows(struct collective of, enum engine_operation operation, const void *row, size_t length, void *result);
+uint32_t fold_rows_for_all(struct collective of, enum engine_operation operation, const void *row, size_t length,
+                           void *result);
 
 #endif

@@ -27,28 +27,72 @@ static const char turns[] = "wxy";
 
 static bool is_one_of(char mark, const char *told) { return mark != '\0' && strchr(told, mark) != NULL; }
 
-/* So many marks as there are ranks: whether each one is of those told; one that hasn't begun yet has none. */
+/* So many marks as there are ranks; one that hasn't begun yet has none. */
+static bool read_marks(char *marks) {
+    const size_t size = (size_t)process.size;
+    return pread(file, marks, size, 0) == (ssize_t)size;
+}
+
+/* Whether each one is of those told. */
 static bool have_all(const char *told, char *marks) {
-    size_t size = (size_t)process.size;
-    if (pread(file, marks, size, 0) != (ssize_t)size) return false;
-    for (size_t rank = 0; rank < size; rank++)
+    if (!read_marks(marks)) return false;
+    for (int rank = 0; rank < process.size; rank++)
         if (!is_one_of(marks[rank], told)) return false;
     return true;
 }
 
+/* A process has the byte of its rank locked as long as it lives, or until it is in MPI_Finalize. */
+static bool is_locked;
+
+static struct flock lock_of(int rank) {
+    return (struct flock){.l_type = F_WRLCK, .l_whence = SEEK_SET, .l_start = rank, .l_len = 1};
+}
+
+static void lock_own(void) {
+    struct flock own = lock_of(process.rank);
+    is_locked = file >= 0 && fcntl(file, F_SETLK, &own) == 0;
+}
+
+/* Whether a rank had begun, and is gone without MPI_Finalize. */
+static bool is_gone(int rank, char mark) {
+    struct flock other = lock_of(rank);
+    if (mark != '-' || !is_locked || rank == process.rank) return false;
+    return fcntl(file, F_GETLK, &other) == 0 && other.l_type == F_UNLCK;
+}
+
+/* The first rank that is gone, or -1; and the first one that isn't, which tells it. */
+static int first_gone(const char *marks) {
+    int rank = 0;
+    while (rank < process.size && !is_gone(rank, marks[rank])) rank++;
+    return rank < process.size ? rank : -1;
+}
+static bool is_first_left(const char *marks) {
+    int rank = 0;
+    while (rank < process.rank && is_gone(rank, marks[rank])) rank++;
+    return rank == process.rank;
+}
+
+/* Whether each rank waits, or is gone. */
+static bool do_all_wait(char *marks) {
+    if (!read_marks(marks)) return false;
+    for (int rank = 0; rank < process.size; rank++)
+        if (!is_one_of(marks[rank], turns) && !is_gone(rank, marks[rank])) return false;
+    return true;
+}
+
 /* Whether all wait, and since then each of them has looked twice for what may have been on its way. */
-static bool are_all_still(void) {
+static bool are_all_still(char *marks) {
     static char seen[MOST_RANKS];
     static int rounds;
-    char marks[MOST_RANKS];
     bool have_looked = true;
-    if (!have_all(turns, marks)) {
+    if (!do_all_wait(marks)) {
         rounds = 0;
         return false;
     }
-    for (int rank = 0; rank < process.size; rank++) have_looked = have_looked && marks[rank] != seen[rank];
+    for (int rank = 0; rank < process.size; rank++)
+        have_looked = have_looked && (marks[rank] == '-' || marks[rank] != seen[rank]);
     if (rounds > 0 && !have_looked) return false;
-    memcpy(seen, marks, sizeof seen);
+    memcpy(seen, marks, (size_t)process.size);
     return ++rounds > 2;
 }
 
@@ -69,6 +113,7 @@ void standstill_open(bool is_together, int port) {
     const char *name = getenv("KOMBAZILY_STANDSTILL");
     if (name != NULL) file = open(name, O_RDWR | O_CLOEXEC);
     else if (is_together && port != 0 && process.size > 1 && process.patience == 0) open_own(port);
+    lock_own();
 }
 
 void await_begun(void) {
@@ -95,9 +140,12 @@ static void mark(bool waits) {
     if (waits && own_name[0] != '\0' && have_all("-wxy", marks)) standstill_drop();
 }
 
-static void tell(void) {
+static void tell(const char *marks) {
     struct line line = {.length = 0};
-    add_text(&line, "rank 0: all ranks wait, and nothing has moved for ");
+    const int gone = first_gone(marks);
+    add_text(&line, "rank %d: ", process.rank);
+    if (gone < 0) add_text(&line, "all ranks wait, and nothing has moved for ");
+    else add_text(&line, "rank %d has ended without MPI_Finalize; all others wait, and nothing has moved for ", gone);
     add_time(&line, SOON);
     if (process.patience == 0) add_text(&line, "; Ctrl-C ends the job and tells what each waits for");
     else {
@@ -115,17 +163,18 @@ bool is_standstill(uint64_t quiet) {
     if (process.is_threaded) return false;
     uint64_t patience = (uint64_t)process.patience;
     mark(quiet >= (patience < SOON ? patience : SOON));
-    if (!is_marked || !have_all(turns, marks)) return false;
-    if (process.rank == 0 && !is_told && patience > SOON) tell();
+    if (!is_marked || !do_all_wait(marks)) return false;
+    if (!is_told && patience > SOON && is_first_left(marks)) tell(marks);
     is_told = true;
     return true;
 }
 
 void watch_standstill(uint64_t quiet, bool is_idle) {
+    char marks[MOST_RANKS];
     if (file < 0 || process.is_threaded) return;
     mark(quiet >= SOON && is_idle);
-    if (process.rank != 0 || is_told || !is_marked || !are_all_still()) return;
-    tell();
+    if (is_told || !is_marked || !are_all_still(marks) || !is_first_left(marks)) return;
+    tell(marks);
     is_told = true;
 }
 

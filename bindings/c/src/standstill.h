@@ -1,6 +1,7 @@
 /* Whether all ranks of a job wait, and nothing moves: so a rank tells that from others that compute for long. Each rank
  * says by a byte of a file whether it waits in vain: of that which KOMBAZILY_STANDSTILL names, as `./run` does; else,
- * where no patience was told and all ranks are at one address, of one in memory that the ranks of the job make. */
+ * where no patience was told and all ranks are at one address, of one in memory that the ranks of the job make. A rank
+ * whose process ended otherwise than by MPI_Finalize counts as one that waits. */
 #ifndef KOMBAZILY_STANDSTILL_H
 #define KOMBAZILY_STANDSTILL_H
 
@@ -15,11 +16,12 @@ void standstill_open(bool is_together, int port);
 void await_begun(void);
 
 /* To be asked by a rank that waits, and that has heard nothing for so many milliseconds: whether all ranks of the job
- * wait in vain. Where there is no such file nobody knows, and the answer is yes. Rank 0 tells it once. */
+ * wait in vain. Where there is no such file nobody knows, and the answer is yes. The first rank that is there tells it
+ * once. */
 bool is_standstill(uint64_t quiet);
 
 /* The same for a rank that waits for as long as it takes, which says too whether all that it sent is acknowledged:
- * where each rank's is, and each has looked again and found nothing, rank 0 tells it once, and all wait on. */
+ * where each rank's is, and each has looked again and found nothing, the first one tells it once, and all wait on. */
 void watch_standstill(uint64_t quiet, bool is_idle);
 
 /* The rank waits no longer; it is at its end, and moves nothing any more; the job ends, however it does. */

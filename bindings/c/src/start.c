@@ -15,8 +15,6 @@
 #include <sys/random.h>
 #include <unistd.h>
 
-#define TOLD_WRONGLY "its place is told wrongly: "
-
 static bool is_alone = true;
 
 _Noreturn void refuse_start(int status, const char *cause, const char *detail) {
@@ -108,6 +106,18 @@ static void ask_launcher(const struct launch_way *way, struct addresses *job) {
     check_reach(job);
 }
 
+/* ---- how long frames are ---- */
+
+/* What is told, or what all ranks take by where they are: the same at each. */
+static uint32_t frame_of(const struct addresses *job) {
+    const char *told = getenv("KOMBAZILY_FRAME");
+    const char *text = told == NULL ? "" : told;
+    uint32_t bytes =
+        kombazily_frame(told != NULL, (const uint8_t *)text, strlen(text), job->of_rank, (size_t)job->size);
+    if (bytes == 0) refuse_start(STATUS_PLACE, TOLD_WRONGLY, "KOMBAZILY_FRAME is no multiple of 8 from 1024 to 61440");
+    return bytes;
+}
+
 /* ---- which of these ---- */
 
 /* Ends a process that has no place. */
@@ -160,6 +170,7 @@ void find_place(int *argc, char ***argv, struct addresses *job) {
     if (way.kind == WAY_VARIABLES || is_alone) source = place_in_environment(getenv, &place, &fault);
     if (source == PLACE_FAULTY) refuse_start(STATUS_PLACE, TOLD_WRONGLY, fault);
     if (source == PLACE_TOLD) take_place(&place, job);
+    process.frame = frame_of(job);
 }
 
 void keep_place_from_children(void) {
@@ -170,6 +181,7 @@ void keep_place_from_children(void) {
                                         "KOMBAZILY_PORT",
                                         "KOMBAZILY_HOSTS",
                                         "KOMBAZILY_PATIENCE",
+                                        "KOMBAZILY_FRAME",
                                         "KOMBAZILY_STANDSTILL",
                                         "PMI_FD",
                                         "PMI_RANK",

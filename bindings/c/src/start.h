@@ -14,6 +14,7 @@ void find_place(int *argc, char ***argv, struct addresses *job);
 void keep_place_from_children(void);
 
 /* Ends a process that can't begin. */
+#define TOLD_WRONGLY "its place is told wrongly: "
 _Noreturn void refuse_start(int status, const char *cause, const char *detail);
 
 #endif

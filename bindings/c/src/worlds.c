@@ -109,7 +109,8 @@ uint32_t make_engine(struct world *world, int kind) {
                                        .message_limit = ENGINE_GREATEST_LIMIT,
                                        .rank = (uint16_t)world->rank,
                                        .size = (uint16_t)world->size,
-                                       .incarnation = (uint16_t)process.incarnation};
+                                       .incarnation = (uint16_t)process.incarnation,
+                                       .frame_limit = process.frame};
     uint32_t number = own->world != NULL ? 0 : kombazily_new(&own->rank, &place);
     if (number == 0) own->world = world;
     return number;

@@ -61,13 +61,13 @@ static void check_barrier(void) {
 }
 
 int main(int argc, char **argv) {
-    static const int lengths[] = {0, 1, 1000, 1024, 1025, 70000, 1048560, 1048561, LONGEST};
+    static const int lengths[] = {0, 1, 1000, 1024, 1025, 61424, 61441, 70000, 1048560, 1048561, LONGEST};
     test_begin(&argc, &argv);
     for (int root = 0; root < test_size; root++) {
-        for (int i = root % 2; i < 6; i += 2) check_length(lengths[i], root);
+        for (int i = root % 2; i < 8; i += 2) check_length(lengths[i], root);
         check_derived(root);
     }
-    for (int i = 6; i < 9; i++) check_length(lengths[i], i % test_size);
+    for (int i = 8; i < 11; i++) check_length(lengths[i], i % test_size);
     for (int i = 0; i < TYPES; i++) check_type(types[i], i % test_size);
     check_barrier();
     return test_end();

@@ -6,7 +6,7 @@
 #include <time.h>
 #include <unistd.h>
 
-enum { LENGTH = 20000, MESSAGES = 3, LONGEST = 10 /* seconds */ };
+enum { LENGTH = 200000, MESSAGES = 3, LONGEST = 10 /* seconds */ };
 
 static volatile sig_atomic_t is_woken;
 static void wake(int number) {

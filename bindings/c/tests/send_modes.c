@@ -1,7 +1,7 @@
 /* Every way to send with every way to receive, from nothing to a megabyte (MPI 3.1, 3.2 to 3.7). */
 #include "test.h"
 
-static const int lengths[] = {0, 1, 7, 1023, 1024, 1025, 4096, 65536, 300001, 1048576};
+static const int lengths[] = {0, 1, 7, 1023, 1024, 1025, 4096, 61440, 61441, 65536, 300001, 1048576};
 enum { LENGTHS = sizeof lengths / sizeof *lengths, LONGEST = 1048576, WAYS = 6 };
 
 static unsigned char from[LONGEST + 1], into[LONGEST + 1];

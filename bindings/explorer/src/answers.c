@@ -21,10 +21,16 @@ void *one_more(void *row, size_t count, size_t *room, size_t each) {
     return room_for(row, *room, each);
 }
 
+void call_engine(struct steps *s, bool is_plan, int rank, const struct engine_call *call, const uint8_t *bytes,
+                 size_t length, struct engine_answer *answer) {
+    s->answering = is_plan ? s->plan_engines : s->engines;
+    engines_call(s->answering, rank, call, bytes == NULL ? no_bytes : bytes, length, answer);
+    s->calls++;
+}
+
 void call_rank(struct steps *s, int rank, const struct engine_call *call, const uint8_t *bytes, size_t length,
                struct engine_answer *answer) {
-    engines_call(s->engines, rank, call, bytes == NULL ? no_bytes : bytes, length, answer);
-    s->calls++;
+    call_engine(s, false, rank, call, bytes, length, answer);
 }
 
 struct engine_answer ask_rank(struct steps *s, int rank, struct engine_call call) {
@@ -51,7 +57,7 @@ static void let_go(struct steps *s, int rank, const struct engine_answer *answer
 void give(struct steps *s, int rank, const struct engine_answer *answer) {
     struct rank *own = &s->ranks[rank];
     need_data(own, answer->bytes);
-    if (answer->bytes > 0) engines_take(s->engines, rank, own->data, answer->bytes);
+    if (answer->bytes > 0) engines_take(s->answering, rank, own->data, answer->bytes);
     let_go(s, rank, answer);
 }
 
@@ -84,13 +90,13 @@ void give_all_ends(struct steps *s, int rank) {
     struct rank *own = &s->ranks[rank];
     size_t length = 0;
     for (uint32_t i = 0; i < own->ask.count; i++) {
-        if (own->entries[i].key >= EXPLORER_OPEN) continue;
+        if (own->entries[i].key >= EXPLORER_MADE) continue;
         const struct engine_answer answer = end_of(s, rank, own->entries[i].key);
         size_t needed = length + sizeof answer + answer.bytes;
         if (needed > own->data_room) need_data(own, 2 * needed);
         memcpy(own->data + length, &answer, sizeof answer);
         length += sizeof answer;
-        if (answer.bytes > 0) engines_take(s->engines, rank, own->data + length, answer.bytes);
+        if (answer.bytes > 0) engines_take(s->answering, rank, own->data + length, answer.bytes);
         length += answer.bytes;
     }
     let_go(s, rank, &(struct engine_answer){.kind = ENGINE_FACT, .fact = 1, .bytes = length});

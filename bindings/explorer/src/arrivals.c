@@ -20,7 +20,8 @@ uint32_t log_sent(struct steps *s, int rank, const struct explorer_ask *ask) {
     int target = world_rank(s, rank, ask->call.communicator, ask->call.peer);
     if (of == NULL || target < 0 || s->sent_count == MOST_SENT) return NOT_SENT;
     s->sent = one_more(s->sent, s->sent_count, &s->sent_room, sizeof *s->sent);
-    s->sent[s->sent_count] = (struct sent){of->name, rank, target, ask->call.tag, s->ranks[rank].place};
+    const uint64_t name = ask->plan == 0 ? of->name : ~of->name;
+    s->sent[s->sent_count] = (struct sent){name, rank, target, ask->call.tag, s->ranks[rank].place};
     log_event(s, rank, EVENT_SEND, (uint32_t)s->sent_count, 0);
     return (uint32_t)s->sent_count++;
 }
@@ -37,6 +38,16 @@ void log_taking(struct steps *s, int rank, uint32_t at, const struct engine_call
     own->takings[own->taking_count++] =
         (struct taking){at, of->name, world, call->tag, call->peer == ENGINE_ANY, is_look, -1, -1, *place};
 }
+
+/* A receive of a plan's: its messages are none of the program's. */
+void log_plan_taking(struct steps *s, int rank, const struct operation *it) {
+    struct rank *own = &s->ranks[rank];
+    const int before = own->taking_count;
+    log_taking(s, rank, it->at, &it->call, it->call.peer, false, &it->place);
+    if (own->taking_count > before) own->takings[before].name = ~own->takings[before].name;
+}
+
+bool is_log_full(const struct steps *s) { return s->event_count == MOST_EVENTS || s->sent_count == MOST_SENT; }
 
 /* ---- graphs ---- */
 

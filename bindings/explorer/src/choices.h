@@ -1,5 +1,5 @@
-/* What the explorer's static library decides (the crate c_explorer): which run comes next, and which receives of a rank
- * stand before a message. Moves are numbers that mean the same on each way. */
+/* What the explorer's static library decides (the crate c_explorer): which receives of a rank stand before a message,
+ * which moves there are and which of them clash, and which run comes next. */
 #ifndef EXPLORER_CHOICES_H
 #define EXPLORER_CHOICES_H
 
@@ -7,7 +7,7 @@
 #include <stddef.h>
 #include <stdint.h>
 
-/* The search and the rows of the run that is made, or nothing where all of it is zero. */
+/* The search, and the rows and the fence of the run that is made; or nothing where all of it is zero. */
 struct choices {
     void *at;
     bool is_held;
@@ -37,16 +37,40 @@ bool kombazily_choices_is_wanted_before(struct choices *choices, uint16_t rank, 
 /* Whether some message would be taken by this one or by one that was begun before it and waits. */
 bool kombazily_choices_is_behind(struct choices *choices, uint16_t rank, uint64_t operation);
 
+/* ---- the moves at a fence, which is where no rank runs ---- */
+
+/* A new fence: no moves yet. What stands there is told next; it is decided which moves there are for it. */
+void kombazily_choices_clear(struct choices *choices);
+/* A probe of this source found a message with this tag for a receive of the rank, its `op`-th of any source: 0, it may
+ * take it, unless one that was begun before it does; 5, 14, 81. */
+uint32_t kombazily_choices_add_match(struct choices *choices, uint16_t rank, uint32_t op, uint64_t operation,
+                                     uint32_t communicator, uint32_t source, uint32_t tag);
+/* The same for a probe of the rank, the `op`-th of what it looks at: unless a receive that waits takes it. */
+uint32_t kombazily_choices_add_sight(struct choices *choices, uint16_t rank, uint32_t op, uint32_t communicator,
+                                     uint32_t source, uint32_t tag);
+/* A probe may say no, where fewer looks in a row (`noes`) have said so than may: 0; 1, it may not; 14, 81. */
+uint32_t kombazily_choices_add_no(struct choices *choices, uint16_t rank, uint32_t op, uint32_t noes, uint32_t most);
+/* A rank stands in the call for a list of an ask of this kind. So many requests aren't null, and those at these places
+ * are at their ends: 0; 1, it is kept from saying no; 14, 81, 83 (no such call). */
+uint32_t kombazily_choices_add_list(struct choices *choices, uint16_t rank, uint32_t op, uint32_t noes, uint32_t most,
+                                    uint32_t kind, uint32_t live, const uint32_t *ended, size_t count);
+/* A send of the rank, its `op`-th, waits and may be buffered after all: 0, 14, 81. */
+uint32_t kombazily_choices_add_buffer(struct choices *choices, uint16_t rank, uint32_t op, uint32_t target);
+/* The move at this place, in the order in which they were told: whether there is one. */
+bool kombazily_choices_move(struct choices *choices, size_t place, uint32_t *kind, uint32_t *rank, uint32_t *op,
+                            uint32_t *at);
+/* Whether nobody goes on unless a send is buffered; whether the move at this place says no where the same look may say
+ * yes, or tells of one where it may tell of all. */
+bool kombazily_choices_only_buffers(struct choices *choices);
+bool kombazily_choices_is_early(struct choices *choices, size_t place);
+
 /* ---- the search ---- */
 
-/* Tells the moves that there are, each once: CHOICES_MAKE and the one that is made; CHOICES_ENDED where there are none;
- * CHOICES_ASLEEP, what comes of them comes of other runs; CHOICES_ASTRAY, others were there before, on the same way;
- * CHOICES_OUT_OF_TURN; 14, 81. */
-uint32_t kombazily_choices_choose(struct choices *choices, const uint64_t *moves, size_t count, uint64_t *chosen);
-/* The moves beside the chosen one that are asked for: as many as there is room for, and how many there are. */
-size_t kombazily_choices_beside(struct choices *choices, uint64_t *into, size_t room);
-/* The chosen move is made; of those beside it these don't clash with it. */
-void kombazily_choices_go_on(struct choices *choices, const uint64_t *apart, size_t count);
+/* Tells the search the moves at the fence: CHOICES_MAKE and the place of the one that is made; CHOICES_ENDED where
+ * there are none; CHOICES_ASLEEP, what comes of them comes of other runs; CHOICES_ASTRAY, others were there before, on
+ * the same way; CHOICES_OUT_OF_TURN; 13 (a rank makes too many choices), 14, 81. Of the moves beside the one that is
+ * made those sleep on that don't clash with it; none, without `sleeps`. */
+uint32_t kombazily_choices_choose(struct choices *choices, bool sleeps, uint64_t *chosen);
 /* Begins the next run: whether there is one. One that wasn't told to be at its end is cut off. */
 bool kombazily_choices_next_run(struct choices *choices);
 /* Whether there is no further run, none was cut off, and none went astray. */

@@ -14,8 +14,11 @@ struct engines *engines_new(int size) {
     struct engines *all = room_for(NULL, 1, sizeof *all);
     *all = (struct engines){size, calloc((size_t)size, sizeof *all->of), calloc((size_t)size, sizeof *all->is_dirty)};
     for (int rank = 0; rank < size; rank++) {
-        const struct engine_place place = {
-            .job = 1, .message_limit = ENGINE_GREATEST_LIMIT, .rank = (uint16_t)rank, .size = (uint16_t)size};
+        const struct engine_place place = {.job = 1,
+                                           .message_limit = ENGINE_GREATEST_LIMIT,
+                                           .rank = (uint16_t)rank,
+                                           .size = (uint16_t)size,
+                                           .frame_limit = ENGINE_LEAST_FRAME};
         if (kombazily_new(&all->of[rank], &place) != 0) abort();
     }
     return all;

@@ -1,14 +1,16 @@
 /* What is told of a run: see steps.h. */
+#include "choices.h"
 #include "state.h"
 
 #include <stdarg.h>
 #include <stdlib.h>
 #include <string.h>
 
-struct finding *note(struct steps *s, int rank, enum weight weight, const char *text, ...) {
+struct finding *note(struct steps *s, int rank, enum finding_kind kind, const char *text, ...) {
     s->findings = room_for(s->findings, (size_t)s->finding_count + 1, sizeof *s->findings);
     struct finding *it = &s->findings[s->finding_count++];
-    *it = (struct finding){.rank = rank, .number = s->finding_count, .weight = weight};
+    *it = (struct finding){.kind = kind, .rank = rank, .number = s->finding_count};
+    it->weight = kombazily_finding_weight(kind);
     va_list arguments;
     va_start(arguments, text);
     vsnprintf(it->text, sizeof it->text, text, arguments);
@@ -20,15 +22,20 @@ void at_place(struct finding *it, const struct place *place) {
     if (it->place_count < 2) it->places[it->place_count++] = *place;
 }
 
-void steps_note(struct steps *s, int rank, enum weight weight, const char *text) { note(s, rank, weight, "%s", text); }
+void steps_note(struct steps *s, int rank, enum finding_kind kind, const char *text) {
+    note(s, rank, kind, "%s", text);
+}
 
-static int by_rank(const void *a, const void *b) {
+static int in_order(const void *a, const void *b) {
     const struct finding *x = a, *y = b;
-    return x->rank != y->rank ? x->rank - y->rank : x->number - y->number;
+    if (x->number == y->number) return 0;
+    bool is_before = kombazily_finding_is_before(x->kind, (uint32_t)x->rank, (uint32_t)x->number, y->kind,
+                                                 (uint32_t)y->rank, (uint32_t)y->number);
+    return is_before ? -1 : 1;
 }
 
 int steps_findings(struct steps *s, const struct finding **findings) {
-    if (s->finding_count > 1) qsort(s->findings, (size_t)s->finding_count, sizeof *s->findings, by_rank);
+    if (s->finding_count > 1) qsort(s->findings, (size_t)s->finding_count, sizeof *s->findings, in_order);
     *findings = s->findings;
     return s->finding_count;
 }
@@ -65,54 +72,80 @@ static const char *world_word(struct steps *s, int rank, const struct engine_cal
 
 /* ---- what is left over ---- */
 
-static void tell_request(struct steps *s, int rank, uint64_t key) {
-    const struct operation *it = operation_of(s, rank, key);
+static void tell_request(struct steps *s, int rank, const struct explorer_entry *entry) {
+    const struct operation *it = operation_of(s, rank, entry->key);
+    const struct plan *plan = plan_of(&s->ranks[rank], entry->other);
+    if (plan != NULL) {
+        at_place(note(s, rank, REQUEST_LEFT, "rank %d ended with a request that no call ended: %s, begun at %%0", rank,
+                      plan->place.name),
+                 &plan->place);
+        return;
+    }
     if (it == NULL) {
-        at_place(note(s, rank, LEFT_OVER, "rank %d ended with a request that no call ended, at %%0", rank),
+        at_place(note(s, rank, REQUEST_LEFT, "rank %d ended with a request that no call ended, at %%0", rank),
                  &s->ranks[rank].place);
         return;
     }
-    at_place(note(s, rank, LEFT_OVER, "rank %d ended with a request that no call ended: %s %s with %s, begun at %%0",
+    at_place(note(s, rank, REQUEST_LEFT, "rank %d ended with a request that no call ended: %s %s with %s, begun at %%0",
                   rank, it->is_send ? "a send to" : "a receive of", world_word(s, rank, &it->call),
                   tag_word(it->call.tag)),
              &it->place);
 }
 
+/* The communicator whose number stands there among what a rank left behind. */
+static void tell_communicator(struct steps *s, int rank, const uint8_t *at) {
+    uint32_t place;
+    memcpy(&place, at, sizeof place);
+    const struct members *of = members_of(s, rank, place);
+    at_place(note(s, rank, COMMUNICATOR_LEFT, "rank %d ended with a communicator never freed, made at %%0", rank),
+             of == NULL ? &s->ranks[rank].place : &of->made_at);
+}
+
+static void tell_types(struct steps *s, int rank, const struct explorer_left *left) {
+    at_place(note(s, rank, TYPES_LEFT, "rank %d ended with %u types never freed, at %%0", rank, left->types),
+             &s->ranks[rank].place);
+}
+
+static void tell_taken(struct steps *s, int rank, const struct explorer_left *left) {
+    at_place(note(s, rank, MESSAGES_TAKEN, "rank %d ended with %u messages taken out and never received, at %%0", rank,
+                  left->messages),
+             &s->ranks[rank].place);
+}
+
 void tell_left(struct steps *s, int rank, const uint8_t *bytes) {
     const struct rank *own = &s->ranks[rank];
+    const uint32_t requests = own->ask.count;
     struct explorer_left left = {0};
-    for (uint32_t i = 0; i < own->ask.count; i++) tell_request(s, rank, own->entries[i].key);
-    if (own->ask.length < sizeof left) return;
-    memcpy(&left, bytes, sizeof left);
-    for (size_t at = sizeof left; at + sizeof(uint32_t) <= own->ask.length; at += sizeof(uint32_t)) {
-        uint32_t place;
-        memcpy(&place, bytes + at, sizeof place);
-        const struct members *of = members_of(s, rank, place);
-        at_place(note(s, rank, WORTH_KNOWING, "rank %d ended with a communicator never freed, made at %%0", rank),
-                 of == NULL ? &own->place : &of->made_at);
+    uint32_t communicators = 0, kind;
+    if (own->ask.length >= sizeof left) {
+        memcpy(&left, bytes, sizeof left);
+        communicators = (uint32_t)((own->ask.length - sizeof left) / sizeof(uint32_t));
     }
-    if (left.types > 0)
-        at_place(note(s, rank, WORTH_KNOWING, "rank %d ended with %u types never freed, at %%0", rank, left.types),
-                 &own->place);
-    if (left.messages > 0)
-        at_place(note(s, rank, LEFT_OVER, "rank %d ended with %u messages taken out and never received, at %%0", rank,
-                      left.messages),
-                 &own->place);
+    for (uint64_t at = 0; (kind = kombazily_leak_at(requests, communicators, left.types, left.messages, at)) != 0;
+         at++) {
+        if (kind == REQUEST_LEFT) tell_request(s, rank, &own->entries[at]);
+        else if (kind == COMMUNICATOR_LEFT)
+            tell_communicator(s, rank, bytes + sizeof left + (at - requests) * sizeof(uint32_t));
+        else if (kind == TYPES_LEFT) tell_types(s, rank, &left);
+        else tell_taken(s, rank, &left);
+    }
 }
 
 void tell_unsafe(struct steps *s, const struct move *moves, int count) {
-    enum { MOST_TOLD = 8 };
-    if (s->is_unsafe_told) return;
-    for (int i = 0; i < count; i++)
-        if (moves[i].kind != MOVE_BUFFER) return;
+    const bool only_buffers = kombazily_choices_only_buffers(s->options.choices);
+    const uint32_t told = kombazily_sends_told((uint32_t)count, only_buffers, s->is_unsafe_told);
+    if (told == 0) return;
     s->is_unsafe_told = true;
-    note(s, -1, LEFT_OVER, "nobody goes on here unless a send is buffered:");
-    for (int i = 0; i < count && i < MOST_TOLD; i++) {
+    note(s, -1, NEEDS_BUFFER, "nobody goes on here unless a send is buffered:");
+    for (uint32_t i = 0; i < told; i++) {
         const struct operation *it = send_of(s, &moves[i]);
         if (it == NULL) continue;
-        at_place(note(s, -1, LEFT_OVER, "  rank %u sends to %s with %s at %%0", moves[i].rank,
-                      world_word(s, (int)moves[i].rank, &it->call), tag_word(it->call.tag)),
-                 &it->place);
+        const char *peer = world_word(s, (int)moves[i].rank, &it->call);
+        struct finding *line = it->plan != 0
+                                   ? note(s, -1, NEEDS_BUFFER, "  rank %u hands %s a block at %%0", moves[i].rank, peer)
+                                   : note(s, -1, NEEDS_BUFFER, "  rank %u sends to %s with %s at %%0", moves[i].rank,
+                                          peer, tag_word(it->call.tag));
+        at_place(line, &it->place);
     }
 }
 
@@ -127,20 +160,32 @@ static uint64_t members_but(const struct members *of, int rank) {
     return all & ~bit(rank);
 }
 
+/* Those of a communicator of a rank that have entered fewer collectives. */
+static uint64_t behind(struct steps *s, int rank, uint32_t communicator, uint32_t entry) {
+    const struct members *of = members_of(s, rank, communicator);
+    uint64_t all = 0;
+    for (int i = 0; of != NULL && i < of->size; i++)
+        if (entered_by(&s->ranks[of->of[i]], of->name) < entry) all |= bit(of->of[i]);
+    return all & ~bit(rank);
+}
+
 /* Those of a collective that haven't entered it. */
 static uint64_t absent_members(struct steps *s, int rank) {
     const struct rank *own = &s->ranks[rank];
-    const struct members *of = members_of(s, rank, own->ask.call.communicator);
-    uint64_t all = 0;
-    for (int i = 0; of != NULL && i < of->size; i++)
-        if (entered_by(&s->ranks[of->of[i]], of->name) < own->entry) all |= bit(of->of[i]);
-    return all & ~bit(rank);
+    return behind(s, rank, own->ask.call.communicator, own->entry);
 }
 
 static uint64_t peers_of(struct steps *s, int rank, const struct engine_call *call) {
     if (call->peer == ENGINE_ANY) return members_but(members_of(s, rank, call->communicator), rank);
     int world = world_rank(s, rank, call->communicator, call->peer);
     return world < 0 ? 0 : bit(world);
+}
+
+/* The same of one that goes by sends and receives, of which this is one; else its peer. */
+static uint64_t awaited_by(struct steps *s, int rank, const struct operation *it) {
+    const struct plan *plan = plan_of(&s->ranks[rank], it->plan);
+    uint64_t absent = plan == NULL ? 0 : behind(s, rank, plan->communicator, plan->entry);
+    return absent != 0 ? absent : peers_of(s, rank, &it->call);
 }
 
 /* The first request of a list that isn't at its end, or NULL. */
@@ -153,7 +198,8 @@ static const struct operation *first_open(struct steps *s, int rank) {
         if (own->entries[i].other < EXPLORER_OPEN && !is_done(s, rank, own->entries[i].other))
             return operation_of(s, rank, own->entries[i].other);
     }
-    for (int key = 0; own->ask.kind == ASK_PAUSE && key < own->operation_count; key++)
+    bool is_of_plans = own->ask.kind == ASK_PAUSE || is_list(own->ask.kind);
+    for (int key = 0; is_of_plans && key < own->operation_count; key++)
         if (own->operations[key].state != OP_NONE && own->operations[key].is_looked_at) return &own->operations[key];
     return NULL;
 }
@@ -171,7 +217,7 @@ static uint64_t waited_for(struct steps *s, int rank) {
     if (own->ask.kind == ASK_PROBE) return peers_of(s, rank, &own->ask.call);
     if (own->ask.kind == ASK_WAITALL || own->ask.kind == ASK_WAIT || own->ask.kind == ASK_PAUSE) {
         const struct operation *it = first_open(s, rank);
-        return it == NULL ? 0 : peers_of(s, rank, &it->call);
+        return it == NULL ? 0 : awaited_by(s, rank, it);
     }
     for (uint32_t i = 0; i < own->ask.count; i++) {
         const struct operation *it =
@@ -221,7 +267,7 @@ static void tell_cycle(struct steps *s) {
     for (int i = length - 2; i >= 0 && at < sizeof text; i--)
         at += (size_t)snprintf(text + at, sizeof text - at, " waits for rank %d, which", best[i]);
     if (at < sizeof text) snprintf(text + at, sizeof text - at, " waits for rank %d", best[length - 1]);
-    note(s, s->options.size, WRONG, "%s", text);
+    note(s, s->options.size, CYCLE, "%s", text);
 }
 
 int steps_cycle(const struct steps *s, int ranks[MOST_RANKS]) {
@@ -229,56 +275,80 @@ int steps_cycle(const struct steps *s, int ranks[MOST_RANKS]) {
     return s->cycle_length;
 }
 
+static void say_ranks(const struct steps *s, uint64_t ranks, char *into, size_t room) {
+    into[0] = '\0';
+    for (int rank = 0; rank < s->options.size; rank++)
+        if (ranks >> rank & 1) snprintf(into + strlen(into), room - strlen(into), " %d", rank);
+}
+
 static void tell_collective(struct steps *s, int rank) {
     const struct rank *own = &s->ranks[rank];
-    uint64_t absent = is_collective(own->ask.call.kind) ? absent_members(s, rank) : 0;
-    char who[300] = "";
-    for (int other = 0; other < s->options.size; other++)
-        if (absent >> other & 1) snprintf(who + strlen(who), sizeof who - strlen(who), " %d", other);
-    at_place(note(s, rank, WRONG, "rank %d waits in %s at %%0%s%s%s", rank, own->ask.name, *who ? " for rank" : "", who,
+    char who[300];
+    say_ranks(s, is_collective(own->ask.call.kind) ? absent_members(s, rank) : 0, who, sizeof who);
+    at_place(note(s, rank, WAITS, "rank %d waits in %s at %%0%s%s%s", rank, own->ask.name, *who ? " for rank" : "", who,
                   *who ? " to enter" : ""),
              &own->place);
 }
 
+static const char *doing(enum finding_kind kind) { return kind == ASKS_FOR_EVER ? "asks for ever" : "waits"; }
+
+/* The same of a rank that waits for the end of one that goes by sends and receives. */
+static void tell_plan(struct steps *s, int rank, enum finding_kind kind, const struct operation *it) {
+    const struct rank *own = &s->ranks[rank];
+    const struct plan *plan = plan_of(own, it->plan);
+    char who[300];
+    say_ranks(s, awaited_by(s, rank, it), who, sizeof who);
+    bool is_absent = behind(s, rank, plan->communicator, plan->entry) != 0;
+    struct finding *told =
+        note(s, rank, kind, "rank %d %s in %s at %%0 for rank%s to %s (%s at %%1)", rank, doing(kind), own->ask.name,
+             who, is_absent ? "enter" : "hand in its part", plan->place.name);
+    at_place(told, &own->place);
+    at_place(told, &plan->place);
+}
+
 /* What a rank waits for that has a request, or a list of them. */
-static void tell_request_wait(struct steps *s, int rank) {
+static void tell_request_wait(struct steps *s, int rank, enum finding_kind kind) {
     const struct rank *own = &s->ranks[rank];
     const struct operation *it = first_open(s, rank);
     bool is_one = own->ask.kind == ASK_WAIT;
-    const char *doing = is_look(own) ? "asks for ever" : "waits";
     if (it == NULL) {
-        at_place(note(s, rank, WRONG, "rank %d %s in %s at %%0", rank, doing, own->ask.name), &own->place);
+        at_place(note(s, rank, kind, "rank %d %s in %s at %%0", rank, doing(kind), own->ask.name), &own->place);
+        return;
+    }
+    if (plan_of(own, it->plan) != NULL) {
+        tell_plan(s, rank, kind, it);
         return;
     }
     const char *peer = world_word(s, rank, &it->call), *tag = tag_word(it->call.tag);
     char what[120];
     if (it->is_send) snprintf(what, sizeof what, "its message to %s with %s to be received", peer, tag);
     else snprintf(what, sizeof what, "a message of %s with %s", peer, tag);
-    struct finding *told = note(s, rank, WRONG, "rank %d %s in %s at %%0 for %s%s (%s at %%1)", rank, doing,
+    struct finding *told = note(s, rank, kind, "rank %d %s in %s at %%0 for %s%s (%s at %%1)", rank, doing(kind),
                                 own->ask.name, is_one ? "" : "requests, first ", what, it->place.name);
     at_place(told, &own->place);
     at_place(told, &it->place);
 }
 
-static void tell_wait(struct steps *s, int rank) {
+static void tell_wait(struct steps *s, int rank, enum finding_kind kind) {
     const struct rank *own = &s->ranks[rank];
-    if (own->is_finalized) {
-        at_place(note(s, rank, WRONG, "rank %d is in MPI_Finalize at %%0", rank), &own->place);
+    if (kind == IN_FINALIZE) {
+        at_place(note(s, rank, kind, "rank %d is in MPI_Finalize at %%0", rank), &own->place);
     } else if (own->ask.kind == ASK_CALL) {
         tell_collective(s, rank);
     } else if (own->ask.kind == ASK_PROBE) {
-        at_place(note(s, rank, WRONG, "rank %d %s in %s at %%0 for a message of %s with %s", rank,
-                      is_look(own) ? "asks for ever" : "waits", own->ask.name, world_word(s, rank, &own->ask.call),
-                      tag_word(own->ask.call.tag)),
+        at_place(note(s, rank, kind, "rank %d %s in %s at %%0 for a message of %s with %s", rank, doing(kind),
+                      own->ask.name, world_word(s, rank, &own->ask.call), tag_word(own->ask.call.tag)),
                  &own->place);
     } else {
-        tell_request_wait(s, rank);
+        tell_request_wait(s, rank, kind);
     }
 }
 
 void steps_tell_deadlock(struct steps *s) {
-    for (int rank = 0; rank < s->options.size; rank++)
-        if (s->ranks[rank].state == RANK_BLOCKED) tell_wait(s, rank);
+    for (int rank = 0; rank < s->options.size; rank++) {
+        const enum finding_kind kind = kind_of_wait(&s->ranks[rank]);
+        if (kind != 0) tell_wait(s, rank, kind);
+    }
     tell_cycle(s);
 }
 
@@ -316,13 +386,14 @@ static void tell_left_of(struct steps *s, int rank, uint32_t communicator, int s
     size_t before = s->sent_count;
     for (int i = take_left(s, rank, communicator, source, tags) - 1; i >= 0; i--) {
         const struct sent *found = sent_before(s, &before, of->of[source], rank, of->name, tags[i]);
-        struct finding *it = note(s, rank, LEFT_OVER, "rank %d never received a message of rank %d with tag %d%s", rank,
-                                  of->of[source], tags[i], found == NULL ? "" : ", sent at %0");
+        struct finding *it = note(s, rank, NEVER_RECEIVED, "rank %d never received a message of rank %d with tag %d%s",
+                                  rank, of->of[source], tags[i], found == NULL ? "" : ", sent at %0");
         if (found != NULL) at_place(it, &found->place);
     }
 }
 
 void steps_tell_rest(struct steps *s) {
+    tell_absent(s);
     for (int rank = 0; rank < s->options.size; rank++) {
         const struct rank *own = &s->ranks[rank];
         for (uint32_t at = 0; !own->is_in_engine && at < (uint32_t)own->members_count; at++)

@@ -5,15 +5,17 @@
 
 bool is_list(uint32_t kind) { return kind >= ASK_WAITANY && kind <= ASK_TESTSOME; }
 
-bool is_look(const struct rank *own) {
-    const uint32_t kind = own->ask.kind;
-    bool is_test = kind == ASK_TEST || kind == ASK_TESTANY || kind == ASK_TESTSOME;
-    return own->state == RANK_BLOCKED && (is_test || (kind == ASK_PROBE && !own->ask.is_waiting));
+enum finding_kind kind_of_wait(const struct rank *own) {
+    return kombazily_finding_of_wait(own->state == RANK_BLOCKED, own->is_finalized, own->ask.kind,
+                                     own->ask.is_waiting != 0);
 }
+
+bool is_look(const struct rank *own) { return kind_of_wait(own) == ASKS_FOR_EVER; }
 
 /* Whether a request that is at its end is a send that nobody had to receive for it: then a look says yes at once. */
 static bool is_plain(struct steps *s, int rank, const struct explorer_entry *entry) {
-    const struct operation *it = entry->key >= EXPLORER_OPEN ? NULL : operation_of(s, rank, entry->key);
+    const struct operation *it = entry->key >= EXPLORER_MADE ? NULL : operation_of(s, rank, entry->key);
+    if (entry->key == EXPLORER_MADE) return false;
     if (it == NULL || it->state == OP_CANCELLED) return true;
     if (!it->is_send || it->call.kind != ENGINE_ISEND || s->options.synchronous) return false;
     return !s->options.each || it->state == OP_BUFFERED;
@@ -48,7 +50,7 @@ bool answer_sure_look(struct steps *s, int rank) {
     struct rank *own = &s->ranks[rank];
     if (!is_list(own->ask.kind)) return false;
     if (has_open_entry(own) && has_moved_on(s, rank)) {
-        own->ops--; /* it is the same look that is asked again */
+        own->ops--, own->asks--; /* it is the same look that is asked again */
         give_fact(s, rank, EXPLORER_AGAIN);
         return true;
     }

@@ -75,31 +75,13 @@ static void explore(struct pass *pass) {
     pass->took = now() - began;
 }
 
-/* Reads the moves of a file of choices; of one of a recorded run they have no kind. */
-static int read_choices(const char *name, bool is_recorded, struct move **moves) {
-    FILE *from = fopen(name, "r");
-    char line[2000];
-    int count = 0;
-    if (from == NULL) fail(STATUS_WORDS, "it can't be read: ", name);
-    while (fgets(line, sizeof line, from) != NULL) {
-        struct move m = {.kind = 0};
-        bool is_move = is_recorded ? sscanf(line, "%u %u %d", &m.rank, &m.op, &m.at) == 3
-                                   : sscanf(line, "%u %u %u %d", &m.kind, &m.rank, &m.op, &m.at) == 4;
-        if (!is_move) continue;
-        *moves = realloc(*moves, (size_t)(count + 1) * sizeof m);
-        if (*moves == NULL) fail(STATUS_START, "no memory", "");
-        (*moves)[count++] = m;
-    }
-    fclose(from);
-    return count;
-}
-
 static void replay(struct pass *pass) {
     struct move *moves = NULL;
     const double began = now();
-    search_open();
     const bool is_recorded = set.followed != NULL;
     int count = read_choices(is_recorded ? set.followed : set.replay, is_recorded, &moves);
+    pass->synchronous = set.synchronous;
+    search_open();
     force_moves(moves, count);
     pass->runs = 1;
     (void)run_and_note(pass, is_recorded ? BY_RECORD : BY_FILE);
@@ -108,16 +90,23 @@ static void replay(struct pass *pass) {
     free(moves);
 }
 
-/* One pass: the weight of what is worst. */
-static int make_pass(bool synchronous) {
+/* One pass: how much it weighs. */
+static uint32_t make_pass(bool synchronous) {
     struct pass pass = {.synchronous = synchronous};
     counts = (struct counts){0};
     if (set.replay != NULL || set.followed != NULL) replay(&pass);
     else explore(&pass);
-    int worst = tell_results(&pass);
+    uint32_t weight = tell_results(&pass);
     if (set.html != NULL) page_add(&pass);
     free_results();
-    return worst;
+    return weight;
+}
+
+/* What a pass in which sends are buffered can't show. */
+static void say_hint(const uint32_t *passes, size_t count) {
+    const bool is_other = set.synchronous || set.both || set.each || set.replay != NULL || set.played != NULL;
+    if (kombazily_is_hint_told(passes, count, is_other))
+        puts("--both looks for what hangs where sends aren't buffered, too");
 }
 
 int main(int count, char **words) {
@@ -125,13 +114,14 @@ int main(int count, char **words) {
     setvbuf(stdout, NULL, _IOLBF, 0);
     signal(SIGPIPE, SIG_IGN);
     if (set.out != NULL) mkdir(set.out, 0777);
-    int worst = make_pass(set.synchronous);
-    if (set.both && !set.synchronous && set.replay == NULL && set.followed == NULL) {
-        int second = make_pass(true);
-        if (second > worst) worst = second;
-    }
+    uint32_t passes[2];
+    size_t pass_count = 0;
+    passes[pass_count++] = make_pass(set.synchronous);
+    if (set.both && !set.synchronous && set.replay == NULL && set.followed == NULL)
+        passes[pass_count++] = make_pass(true);
+    say_hint(passes, pass_count);
     close_moulds();
     search_close();
     if (set.html != NULL) page_write(set.html);
-    return worst >= LEFT_OVER ? STATUS_FOUND : STATUS_CLEAN;
+    return (int)kombazily_status_of_check(passes, pass_count);
 }

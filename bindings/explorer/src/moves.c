@@ -1,4 +1,5 @@
 /* Moves: what may be decided next, and what becomes of it. See steps.h. */
+#include "choices.h"
 #include "state.h"
 
 #include <stdlib.h>
@@ -8,119 +9,116 @@ bool is_same_move(const struct move *a, const struct move *b) {
     return a->kind == b->kind && a->rank == b->rank && a->op == b->op && a->at == b->at;
 }
 
-/* Two moves of two ranks never hinder each other; nor do two receives of a rank that are both open, nor a receive and a
- * look that takes nothing, nor a buffer and anything else. */
-bool do_clash(const struct move *a, const struct move *b) {
-    if (a->rank != b->rank) return false;
-    if (a->kind == MOVE_BUFFER || b->kind == MOVE_BUFFER) return a->kind == b->kind && a->op == b->op;
-    if (a->kind == MOVE_MATCH && b->kind == MOVE_MATCH) return a->op == b->op;
-    if (a->kind == MOVE_MATCH) return b->kind == MOVE_SEE;
-    if (b->kind == MOVE_MATCH) return a->kind == MOVE_SEE;
-    return true;
+/* ---- which there are: what stands where no rank runs is told, and the static library decides (choices.h) ---- */
+
+/* Whether a look is kept from saying no. */
+static bool is_told(uint32_t number) {
+    if (number <= 1) return number == 1;
+    fputs("kombazily: no memory\n", stderr);
+    exit(1);
 }
 
-/* ---- which there are ---- */
-
-struct row {
-    struct move *of;
-    int count, room;
-};
-
-static void add(struct row *row, enum move_kind kind, int rank, uint32_t op, int32_t at) {
-    if (row->count < row->room) row->of[row->count++] = (struct move){kind, (uint32_t)rank, op, at};
-}
-
-/* Whether a receive of any source may take the message of this source next. */
-static bool may_match(struct steps *s, int rank, const struct operation *it, int32_t source) {
-    const struct engine_answer found = found_by(s, rank, &it->call, source);
-    return found.kind == ENGINE_PROBED && !is_wanted_before(s, rank, it, &found);
-}
-
-static void add_matches(struct steps *s, int rank, struct row *row) {
+/* Tells what probes find for receives of any source: also where a probe saw a message, since a receive of any source
+ * may take another one (MPI 3.1, 3.8.1). */
+static void tell_receives(struct steps *s, int rank) {
     const struct rank *own = &s->ranks[rank];
     if (own->is_in_engine || own->state == RANK_ENDED || own->is_finalized) return;
     for (int i = 0; i < own->late_count; i++) {
         const struct operation *it = &own->operations[own->late[i]];
-        if (it->state != OP_WILD) continue;
         const struct members *of = members_of(s, rank, it->call.communicator);
-        /* Also where a probe saw a message: a receive of any source may take another one (MPI 3.1, 3.8.1). */
-        for (int source = 0; of != NULL && source < of->size; source++)
-            if (may_match(s, rank, it, source)) add(row, MOVE_MATCH, rank, it->op, source);
+        for (int source = 0; it->state == OP_WILD && of != NULL && source < of->size; source++) {
+            const struct engine_answer found = found_by(s, rank, &it->call, source);
+            if (found.kind == ENGINE_PROBED)
+                (void)is_told(kombazily_choices_add_match(s->options.choices, (uint16_t)rank, it->op, it->at,
+                                                          it->call.communicator, (uint32_t)source,
+                                                          (uint32_t)found.tag));
+        }
     }
 }
 
-static bool is_entry_at_end(struct steps *s, int rank, uint32_t i) {
-    const struct explorer_entry *entry = &s->ranks[rank].entries[i];
-    return entry->key != EXPLORER_NULL && is_entry_done(s, rank, entry);
+/* The places of a list that are at their ends: how many. */
+static uint32_t ended_places(struct steps *s, int rank, uint32_t *places) {
+    uint32_t count = 0;
+    for (uint32_t i = 0; i < s->ranks[rank].ask.count; i++) {
+        const struct explorer_entry *entry = &s->ranks[rank].entries[i];
+        if (entry->key != EXPLORER_NULL && is_entry_done(s, rank, entry)) places[count++] = i;
+    }
+    return count;
 }
 
-/* The sum of the places of those that are at their ends, by which they are named together. */
-static int32_t name_of_all(struct steps *s, int rank, uint32_t *count) {
-    uint64_t sum = 1;
-    *count = 0;
-    for (uint32_t i = 0; i < s->ranks[rank].ask.count; i++)
-        if (is_entry_at_end(s, rank, i)) sum = mixed(sum, i), ++*count;
-    return (int32_t)(sum >> 33);
-}
-
-/* That a look says no, unless as many in a row have said so as may. */
-static void add_no(struct steps *s, int rank, struct row *row) {
+static void tell_list(struct steps *s, int rank) {
     const struct rank *own = &s->ranks[rank];
-    if (own->noes < s->options.patience) add(row, MOVE_FALSE, rank, own->ask_op, 0);
-    else s->has_withheld = true;
-}
-
-/* Moves of a call for a list. */
-static void add_list(struct steps *s, int rank, struct row *row) {
-    const struct rank *own = &s->ranks[rank];
-    const uint32_t kind = own->ask.kind;
-    bool is_some = kind == ASK_WAITSOME || kind == ASK_TESTSOME;
-    uint32_t live = 0, count;
-    int32_t all = name_of_all(s, rank, &count);
+    uint32_t *places = room_for(NULL, own->ask.count, sizeof *places), live = 0;
     for (uint32_t i = 0; i < own->ask.count; i++) live += own->entries[i].key != EXPLORER_NULL;
-    if (kind == ASK_TEST && count == live) add(row, MOVE_TRUE, rank, own->ask_op, 0);
-    if (is_some && count > 0) add(row, MOVE_ALL, rank, own->ask_op, all);
-    for (uint32_t i = 0; kind != ASK_TEST && i < own->ask.count && (!is_some || count > 1); i++)
-        if (is_entry_at_end(s, rank, i)) add(row, MOVE_PLACE, rank, own->ask_op, (int32_t)i);
-    if (is_look(own)) add_no(s, rank, row);
+    const uint32_t count = ended_places(s, rank, places);
+    if (is_told(kombazily_choices_add_list(s->options.choices, (uint16_t)rank, own->ask_op, (uint32_t)own->noes,
+                                           (uint32_t)s->options.patience, own->ask.kind, live, places, count)))
+        s->has_withheld = true;
+    free(places);
 }
 
-static void add_probe(struct steps *s, int rank, struct row *row) {
+static void tell_probe(struct steps *s, int rank) {
     const struct rank *own = &s->ranks[rank];
     const struct engine_call *call = &own->ask.call;
     const struct members *of = members_of(s, rank, call->communicator);
-    for (int source = 0; of != NULL && source < of->size; source++)
-        if ((call->peer == ENGINE_ANY || call->peer == source) && may_see(s, rank, source))
-            add(row, MOVE_SEE, rank, own->ask_op, source);
+    for (int source = 0; of != NULL && source < of->size; source++) {
+        if (call->peer != ENGINE_ANY && call->peer != source) continue;
+        const struct engine_answer found = found_by(s, rank, call, source);
+        if (found.kind == ENGINE_PROBED)
+            (void)is_told(kombazily_choices_add_sight(s->options.choices, (uint16_t)rank, own->ask_op,
+                                                      call->communicator, (uint32_t)source, (uint32_t)found.tag));
+    }
     /* What one probe saw the next one sees again. */
-    if (!own->ask.is_waiting && pin_for(own, call, false) == NULL) add_no(s, rank, row);
+    if (own->ask.is_waiting || pin_for(own, call, false) != NULL) return;
+    if (is_told(kombazily_choices_add_no(s->options.choices, (uint16_t)rank, own->ask_op, (uint32_t)own->noes,
+                                         (uint32_t)s->options.patience)))
+        s->has_withheld = true;
 }
 
 /* A send for which a rank waits or of which it asks, and that may be buffered after all. */
-static void add_buffer(struct steps *s, int rank, uint64_t key, struct row *row) {
+static void tell_send(struct steps *s, int rank, uint64_t key) {
     const struct operation *it = key >= EXPLORER_OPEN ? NULL : operation_of(s, rank, key);
     if (it != NULL && it->is_send && it->state == OP_POSTED && it->call.kind == ENGINE_ISEND && !is_done(s, rank, key))
-        add(row, MOVE_BUFFER, rank, it->op, it->call.peer);
+        (void)is_told(
+            kombazily_choices_add_buffer(s->options.choices, (uint16_t)rank, it->op, (uint32_t)it->call.peer));
 }
 
-static void add_buffers(struct steps *s, int rank, struct row *row) {
+static void tell_sends(struct steps *s, int rank) {
     const struct rank *own = &s->ranks[rank];
     if (!s->options.each || own->state != RANK_BLOCKED || own->is_finalized) return;
-    if (own->ask.kind == ASK_WAIT) add_buffer(s, rank, own->ask.call.request.key, row);
+    if (own->ask.kind == ASK_WAIT) tell_send(s, rank, own->ask.call.request.key);
     if (own->ask.kind == ASK_PAUSE)
         for (int key = 0; key < own->operation_count; key++)
-            if (own->operations[key].is_looked_at) add_buffer(s, rank, (uint64_t)key, row);
+            if (own->operations[key].is_looked_at) tell_send(s, rank, (uint64_t)key);
     for (uint32_t i = 0; i < own->ask.count; i++) {
-        add_buffer(s, rank, own->entries[i].key, row);
-        add_buffer(s, rank, own->entries[i].other, row);
+        tell_send(s, rank, own->entries[i].key);
+        tell_send(s, rank, own->entries[i].other);
     }
+}
+
+/* Tells what stands at this fence, and takes the moves there. */
+static int moves_here(struct steps *s, struct move *moves, int room) {
+    int count = 0;
+    kombazily_choices_clear(s->options.choices);
+    for (int rank = 0; rank < s->options.size; rank++) {
+        const struct rank *own = &s->ranks[rank];
+        tell_receives(s, rank);
+        if (own->state == RANK_BLOCKED && is_list(own->ask.kind)) tell_list(s, rank);
+        if (own->state == RANK_BLOCKED && own->ask.kind == ASK_PROBE) tell_probe(s, rank);
+        tell_sends(s, rank);
+    }
+    for (struct move *m = moves; count < room; m++, count++)
+        if (!kombazily_choices_move(s->options.choices, (size_t)count, &m->kind, &m->rank, &m->op, &m->at)) break;
+    return count;
 }
 
 /* Enters collectives that were held back for receives of any source, where nothing else can go on. */
 static bool enter_held(struct steps *s) {
     bool has_entered = false;
     for (int rank = 0; rank < s->options.size; rank++) {
-        if (s->ranks[rank].state != RANK_BLOCKED || !s->ranks[rank].is_held) continue;
+        const struct rank *own = &s->ranks[rank];
+        if (own->state != RANK_BLOCKED || !own->is_held) continue;
+        if (has_copies(own, own->ask.call.communicator, false)) continue;
         enter_collective(s, rank);
         has_entered = true;
     }
@@ -134,18 +132,15 @@ static bool is_any_running(const struct steps *s) {
 }
 
 int steps_moves(struct steps *s, struct move *moves, int room) {
-    struct row row = {moves, 0, room};
-    for (int rank = 0; rank < s->options.size; rank++) {
-        const struct rank *own = &s->ranks[rank];
-        add_matches(s, rank, &row);
-        if (own->state == RANK_BLOCKED && is_list(own->ask.kind)) add_list(s, rank, &row);
-        if (own->state == RANK_BLOCKED && own->ask.kind == ASK_PROBE) add_probe(s, rank, &row);
-        add_buffers(s, rank, &row);
-    }
-    if (s->options.each && row.count > 0) tell_unsafe(s, moves, row.count);
-    if (row.count > 0 || s->options.synchronous || !enter_held(s)) return row.count;
+    const int count = moves_here(s, moves, room);
+    if (s->options.each) tell_unsafe(s, moves, count);
+    if (count > 0 || s->options.synchronous || !enter_held(s)) return count;
     steps_progress(s);
     return is_any_running(s) ? -1 : steps_moves(s, moves, room);
+}
+
+bool steps_is_early(struct steps *s, int place) {
+    return kombazily_choices_is_early(s->options.choices, (size_t)place);
 }
 
 /* ---- taking one ---- */
@@ -164,12 +159,12 @@ static void take_match(struct steps *s, const struct move *move) {
     int place = late_place(own, move->op);
     int operation = own->late[place];
     remove_late(s, (int)move->rank, place);
-    post_receive(s, (int)move->rank, operation, move->at);
+    post_receive(s, (int)move->rank, operation, (int32_t)move->at);
 }
 
 static void take_place(struct steps *s, const struct move *move) {
     struct rank *own = &s->ranks[move->rank];
-    const uint32_t place = (uint32_t)move->at;
+    const uint32_t place = move->at;
     own->noes = 0;
     if (own->ask.kind == ASK_WAITSOME || own->ask.kind == ASK_TESTSOME) {
         give_places(s, (int)move->rank, &place, 1);
@@ -181,9 +176,8 @@ static void take_place(struct steps *s, const struct move *move) {
 
 static void take_all(struct steps *s, const struct move *move) {
     struct rank *own = &s->ranks[move->rank];
-    uint32_t *places = room_for(NULL, own->ask.count, sizeof *places), count = 0;
-    for (uint32_t i = 0; i < own->ask.count; i++)
-        if (is_entry_at_end(s, (int)move->rank, i)) places[count++] = i;
+    uint32_t *places = room_for(NULL, own->ask.count, sizeof *places);
+    const uint32_t count = ended_places(s, (int)move->rank, places);
     own->noes = 0;
     give_places(s, (int)move->rank, places, count);
     free(places);
@@ -202,7 +196,7 @@ void steps_take(struct steps *s, struct move move) {
         take_match(s, &move);
         break;
     case MOVE_SEE:
-        give_probe(s, (int)move.rank, move.at);
+        give_probe(s, (int)move.rank, (int32_t)move.at);
         break;
     case MOVE_PLACE:
         take_place(s, &move);
@@ -224,17 +218,14 @@ void steps_take(struct steps *s, struct move move) {
 }
 
 bool steps_say_no(struct steps *s) {
-    enum { MOST_ROUNDS = 1000 };
-    const int rounds = s->rounds_of_no;
-    bool has_said = false;
-    if (rounds >= MOST_ROUNDS) return false;
-    for (int rank = 0; rank < s->options.size; rank++) {
-        if (!is_look(&s->ranks[rank])) continue;
-        say_no(s, rank);
-        has_said = true;
-    }
+    const int size = s->options.size, rounds = s->rounds_of_no;
+    bool asks[MOST_RANKS] = {false};
+    for (int rank = 0; rank < size; rank++) asks[rank] = is_look(&s->ranks[rank]);
+    if (kombazily_is_stuck(asks, (size_t)size, (uint32_t)rounds)) return false;
+    for (int rank = 0; rank < size; rank++)
+        if (asks[rank]) say_no(s, rank);
     s->rounds_of_no = rounds + 1;
-    return has_said;
+    return true;
 }
 
 /* ---- words ---- */
@@ -250,14 +241,14 @@ void steps_say_move(struct steps *s, struct move move, char *text, size_t room, 
         snprintf(text, room, "rank %u: the receive of any source at %%0 takes rank %d's message", move.rank,
                  late < 0 ? -1
                           : world_rank((struct steps *)s, (int)move.rank,
-                                       own->operations[own->late[late]].call.communicator, move.at));
+                                       own->operations[own->late[late]].call.communicator, (int32_t)move.at));
         break;
     case MOVE_SEE:
         snprintf(text, room, "rank %u: %s at %%0 sees rank %d's message", move.rank, name,
-                 world_rank(s, (int)move.rank, own->ask.call.communicator, move.at));
+                 world_rank(s, (int)move.rank, own->ask.call.communicator, (int32_t)move.at));
         break;
     case MOVE_PLACE:
-        snprintf(text, room, "rank %u: %s at %%0 ends request %d of its list", move.rank, name, move.at);
+        snprintf(text, room, "rank %u: %s at %%0 ends request %u of its list", move.rank, name, move.at);
         break;
     case MOVE_ALL:
         snprintf(text, room, "rank %u: %s at %%0 ends all that are at their ends", move.rank, name);

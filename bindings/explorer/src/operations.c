@@ -23,7 +23,8 @@ static int new_operation(struct rank *own, const struct explorer_ask *ask, bool 
         own->operation_room = room;
     }
     if (own->operation_count <= key) own->operation_count = key + 1;
-    own->operations[key] = (struct operation){.is_send = is_send, .at = ++own->begun, .call = ask->call};
+    own->operations[key] =
+        (struct operation){.is_send = is_send, .plan = ask->plan, .at = ++own->begun, .call = ask->call};
     own->operations[key].place = own->place;
     return key;
 }
@@ -32,16 +33,27 @@ static void begin_send(struct steps *s, int rank, const struct explorer_ask *ask
     struct rank *own = &s->ranks[rank];
     int key = new_operation(own, ask, true);
     struct operation *it = &own->operations[key];
-    struct engine_call call = ask->call;
+    struct engine_call call = ask->plan == 0 ? ask->call : plan_message(s, rank, &ask->call);
     struct engine_answer answer;
     it->op = ++own->sends;
     if (s->options.synchronous || s->options.each) call.kind = ENGINE_ISSEND;
-    call_rank(s, rank, &call, bytes, ask->length, &answer);
+    call_engine(s, ask->plan != 0, rank, &call, bytes, ask->length, &answer);
     it->state = answer.kind == ENGINE_STARTED ? OP_POSTED : OP_FAILED;
     it->number = answer.number;
     it->own = answer.request;
     if (it->state == OP_FAILED) return;
     it->sent_at = log_sent(s, rank, ask);
+}
+
+/* No receive of the program's stands in its way. */
+static void post_plan_receive(struct steps *s, int rank, struct operation *it) {
+    const struct engine_call call = plan_message(s, rank, &it->call);
+    struct engine_answer answer;
+    call_engine(s, true, rank, &call, NULL, 0, &answer);
+    it->state = answer.kind == ENGINE_STARTED ? OP_POSTED : OP_FAILED;
+    it->number = answer.number;
+    it->own = answer.request;
+    if (it->state == OP_POSTED) log_plan_taking(s, rank, it);
 }
 
 static void begin_receive(struct steps *s, int rank, const struct explorer_ask *ask) {
@@ -51,11 +63,23 @@ static void begin_receive(struct steps *s, int rank, const struct explorer_ask *
     own->operations[key].state = is_wild ? OP_WILD : OP_HELD;
     if (is_wild) own->operations[key].op = ++own->ops;
     log_event(s, rank, EVENT_POST, own->operations[key].at, 0);
-    if (!begin_late(s, rank, key)) post_receive(s, rank, key, ask->call.peer);
+    if (ask->plan != 0) post_plan_receive(s, rank, &own->operations[key]);
+    else if (!begin_late(s, rank, key)) post_receive(s, rank, key, ask->call.peer);
+}
+
+static void begin_copy(struct steps *s, int rank, const struct explorer_ask *ask) {
+    struct rank *own = &s->ranks[rank];
+    const struct members *of = members_of(s, rank, ask->call.communicator);
+    const struct plan *plan = plan_of(own, ask->plan);
+    const int key = new_operation(own, ask, false);
+    own->operations[key].state = OP_COPYING;
+    s->has_copies = true;
+    if (of != NULL && plan != NULL) log_event(s, rank, EVENT_ENTER, plan->entry, of->name);
 }
 
 void begin_operation(struct steps *s, int rank, const struct explorer_ask *ask, const uint8_t *bytes) {
-    if (ask->call.kind == ENGINE_IRECV) begin_receive(s, rank, ask);
+    if (ask->call.kind == ENGINE_DUP) begin_copy(s, rank, ask);
+    else if (ask->call.kind == ENGINE_IRECV) begin_receive(s, rank, ask);
     else begin_send(s, rank, ask, bytes);
 }
 
@@ -64,7 +88,7 @@ static void tell_cancel(struct steps *s, int rank) {
     struct rank *own = &s->ranks[rank];
     if (own->has_cancelled) return;
     own->has_cancelled = true;
-    at_place(note(s, rank, WORTH_KNOWING,
+    at_place(note(s, rank, CANCEL_RACES,
                   "rank %d: %s at %%0: whether the message or the cancel comes first is left to chance, "
                   "and not tried both ways",
                   rank, own->ask.name),
@@ -75,9 +99,10 @@ void cancel_operation(struct steps *s, int rank, uint64_t key) {
     struct rank *own = &s->ranks[rank];
     struct operation *it = operation_of(s, rank, key);
     struct engine_answer answer = {.kind = ENGINE_ACCEPTED};
-    if (it != NULL && !it->is_send) tell_cancel(s, rank);
+    if (it != NULL && !it->is_send && it->plan == 0) tell_cancel(s, rank);
     if (it != NULL && it->state == OP_POSTED)
-        call_rank(s, rank, &(struct engine_call){.kind = ENGINE_CANCEL, .request = it->own}, NULL, 0, &answer);
+        call_engine(s, it->plan != 0, rank, &(struct engine_call){.kind = ENGINE_CANCEL, .request = it->own}, NULL, 0,
+                    &answer);
     if (it != NULL && (it->state == OP_WILD || it->state == OP_HELD)) {
         for (int i = 0; i < own->late_count; i++)
             if (own->late[i] == (int)key) remove_late(s, rank, i);
@@ -87,13 +112,15 @@ void cancel_operation(struct steps *s, int rank, uint64_t key) {
 }
 
 bool is_done(struct steps *s, int rank, uint64_t key) {
-    if (key == EXPLORER_ENDED) return true;
+    if (key == EXPLORER_ENDED || key == EXPLORER_MADE) return true;
     if (key == EXPLORER_OPEN) return false;
     const struct operation *it = operation_of(s, rank, key);
     if (it == NULL) return true;
-    if (it->state == OP_WILD || it->state == OP_HELD) return false;
+    if (it->state == OP_WILD || it->state == OP_HELD || it->state == OP_COPYING) return false;
     if (it->state != OP_POSTED) return true;
-    const struct engine_answer look = ask_rank(s, rank, (struct engine_call){.kind = ENGINE_LOOK, .request = it->own});
+    struct engine_answer look;
+    engines_call(it->plan != 0 ? s->plan_engines : s->engines, rank,
+                 &(struct engine_call){.kind = ENGINE_LOOK, .request = it->own}, (const uint8_t *)"", 0, &look);
     return look.kind != ENGINE_FACT || look.fact == 1;
 }
 
@@ -103,20 +130,35 @@ bool is_entry_done(struct steps *s, int rank, const struct explorer_entry *entry
 
 bool has_moved_on(struct steps *s, int rank) {
     const struct rank *own = &s->ranks[rank];
+    bool has_moved = false;
     for (int key = 0; key < own->operation_count; key++) {
-        const struct operation *it = &own->operations[key];
-        if (it->state != OP_NONE && it->is_looked_at && is_done(s, rank, (uint64_t)key)) return true;
+        struct operation *it = &own->operations[key];
+        if (it->state == OP_NONE || !it->is_looked_at || !is_done(s, rank, (uint64_t)key)) continue;
+        it->is_looked_at = false;
+        has_moved = true;
     }
-    return false;
+    return has_moved;
+}
+
+static void end_copy(struct steps *s, int rank, struct operation *it, struct engine_answer *answer) {
+    const struct members *of = members_of(s, rank, it->call.communicator);
+    const struct plan *plan = plan_of(&s->ranks[rank], it->plan);
+    *answer = (struct engine_answer){.kind = ENGINE_LEFT, .communicator = it->made};
+    if (of != NULL && plan != NULL) log_event(s, rank, EVENT_LEAVE, plan->entry, of->name);
+    it->state = OP_NONE;
 }
 
 void end_operation(struct steps *s, int rank, struct operation *it, struct engine_answer *answer) {
+    if (it->state == OP_COPIED) {
+        end_copy(s, rank, it, answer);
+        return;
+    }
     const struct engine_call test = {.kind = ENGINE_TEST, .request = it->own};
     bool waits = s->options.synchronous || s->options.each || it->call.kind == ENGINE_ISSEND;
     if (it->state == OP_CANCELLED) answer->outcome = ENGINE_CANCELLED;
     else if (it->state == OP_BUFFERED) answer->outcome = ENGINE_SENT;
     else if (it->state == OP_FAILED) *answer = (struct engine_answer){.kind = ENGINE_REFUSED, .number = it->number};
-    else call_rank(s, rank, &test, NULL, 0, answer);
+    else call_engine(s, it->plan != 0, rank, &test, NULL, 0, answer);
     if (!it->is_send) log_event(s, rank, EVENT_END, it->at, 0);
     else if (it->state == OP_POSTED && waits && it->sent_at != NOT_SENT)
         log_event(s, rank, EVENT_SEND_END, it->sent_at, 0);

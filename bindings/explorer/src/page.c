@@ -115,7 +115,7 @@ static void put_places(const struct finding *it) {
 static void put_finding(const struct finding *it) {
     char words[1800];
     say_finding(it, words, sizeof words);
-    fprintf(page, "<li class=\"w%d\">", (int)it->weight);
+    fprintf(page, "<li class=\"w%u\">", it->weight);
     put_escaped(page, words);
     fputc('\n', page);
     put_places(it);
@@ -167,7 +167,7 @@ static void put_output(const struct result *it) {
 
 static void put_result(int i) {
     const struct result *it = &results[i];
-    fprintf(page, "<h3>Result %d of %d <span class=\"badge w%d\">%s</span></h3>\n", i + 1, result_count, it->weight,
+    fprintf(page, "<h3>Result %d of %d <span class=\"badge w%u\">%s</span></h3>\n", i + 1, result_count, it->weight,
             ending_word(it->ending));
     fprintf(page, "<p class=\"small\">In %ld run%s.", it->runs, it->runs == 1 ? "" : "s");
     if (it->is_early && it->weight > 0)

@@ -52,13 +52,14 @@ static void put_item(FILE *into, const struct picture_item *it, int at) {
             x, y, it->is_any ? "#b26a00" : "#1c2024", x + 8, y - 5, line, it->is_any ? " (any)" : "");
 }
 
+static bool is_wait(const struct finding *it) { return it->kind == WAITS || it->kind == ASKS_FOR_EVER; }
+
 /* Where ranks wait in vain. */
 static void put_waits(FILE *into, const struct result *it, int at) {
     for (int i = 0; i < it->finding_count; i++) {
         const struct finding *own = &it->findings[i];
-        bool is_wait = strstr(own->text, " waits in ") != NULL || strstr(own->text, " asks for ever in ") != NULL;
         struct source_line line;
-        if (it->ending != DEADLOCK || !is_wait || own->rank < 0 || own->rank >= set.size) continue;
+        if (it->ending != DEADLOCK || !is_wait(own) || own->rank < 0 || own->rank >= set.size) continue;
         int x = column(own->rank), y = row(at);
         fprintf(into, "<rect x=\"%d\" y=\"%d\" width=\"14\" height=\"14\" fill=\"#b42318\"/>", x - 7, y - 7);
         if (own->place_count > 0 && source_lines(own->places[0].frames, own->places[0].count, &line, 1) == 1)
@@ -67,18 +68,33 @@ static void put_waits(FILE *into, const struct result *it, int at) {
     }
 }
 
-/* Who waits for whom in a cycle: arcs below the ranks. */
+/* What a rank of a cycle waits for: what its finding says behind the place of its call. */
+static void say_what(const struct result *it, int rank, char *into, size_t room) {
+    into[0] = '\0';
+    for (int i = 0; i < it->finding_count; i++) {
+        const struct finding *own = &it->findings[i];
+        const char *place = strstr(own->text, "%0 ");
+        if (own->rank != rank) continue;
+        if (strstr(own->text, " is in MPI_Finalize ") != NULL) snprintf(into, room, "for all to be in MPI_Finalize");
+        if (place == NULL || !is_wait(own)) continue;
+        snprintf(into, room, "%s", place + 3);
+        char *bracket = strstr(into, " (");
+        if (bracket != NULL) *bracket = '\0';
+    }
+}
+
+/* Who waits for whom in a cycle, and for what: an arrow each, one below the other. */
 static void put_cycle(FILE *into, const struct result *it, int at) {
-    const int y = row(at) + 9;
     for (int i = 0; i < it->cycle_length; i++) {
-        int from = column(it->cycle[i]), to = column(it->cycle[(i + 1) % it->cycle_length]);
-        int depth = y + 16 + 10 * abs(it->cycle[i] - it->cycle[(i + 1) % it->cycle_length]);
-        fprintf(
-            into,
-            "<path d=\"M%d,%d Q%d,%d %d,%d\" fill=\"none\" stroke=\"#b42318\" marker-end=\"url(#end)\"><title>rank %d "
-            "waits for rank %d</title></path>\n",
-            from + (from < to ? 4 : -4), y, (from + to) / 2, depth + (from < to ? 14 : 0), to, y + 2, it->cycle[i],
-            it->cycle[(i + 1) % it->cycle_length]);
+        int rank = it->cycle[i], other = it->cycle[(i + 1) % it->cycle_length];
+        int from = column(rank), to = column(other), y = row(at + i) + ROW + 4;
+        char what[240];
+        say_what(it, rank, what, sizeof what);
+        fprintf(into,
+                "<line x1=\"%d\" y1=\"%d\" x2=\"%d\" y2=\"%d\" stroke=\"#b42318\" stroke-width=\"1.6\" "
+                "stroke-dasharray=\"9 4\" marker-end=\"url(#wait)\"><title>rank %d waits for rank %d</title></line>"
+                "<text x=\"%d\" y=\"%d\" fill=\"#b42318\">%s</text>\n",
+                from, y, to, y, rank, other, (from < to ? from : to) + 8, y - 6, what);
     }
 }
 
@@ -87,33 +103,45 @@ void put_arrowheads(FILE *into) {
           "<marker id=\"tip\" markerWidth=\"8\" markerHeight=\"8\" refX=\"7\" refY=\"4\" orient=\"auto\">"
           "<path d=\"M0,0 L8,4 L0,8 z\" fill=\"#35618e\"/></marker>"
           "<marker id=\"end\" markerWidth=\"8\" markerHeight=\"8\" refX=\"7\" refY=\"4\" orient=\"auto\">"
-          "<path d=\"M0,0 L8,4 L0,8 z\" fill=\"#b42318\"/></marker></defs></svg>\n",
+          "<path d=\"M0,0 L8,4 L0,8 z\" fill=\"#b42318\"/></marker>"
+          "<marker id=\"wait\" markerWidth=\"9\" markerHeight=\"9\" refX=\"8\" refY=\"4.5\" orient=\"auto\">"
+          "<path d=\"M1,1 L8,4.5 L1,8\" fill=\"none\" stroke=\"#b42318\"/></marker></defs></svg>\n",
           into);
 }
 
-void put_picture(FILE *into, const struct result *it) {
-    int count = it->item_count < MOST_ITEMS ? it->item_count : MOST_ITEMS;
-    int width = LEFT + set.size * COLUMN, height = row(count) + (it->cycle_length > 0 ? 60 + 10 * set.size : 30);
-    if (count == 0 && it->ending != DEADLOCK) return;
-    fprintf(into,
-            "<details%s><summary>Messages%s</summary>\n<svg viewBox=\"0 0 %d %d\" width=\"%d\" height=\"%d\" "
-            "role=\"img\" aria-label=\"messages of the run\">\n",
-            it->weight > 0 || result_count > 1 ? " open" : "",
-            it->item_count > MOST_ITEMS ? ": the first 300 of their ends" : "", width, height, width, height);
+static void put_lives(FILE *into, int height) {
     for (int rank = 0; rank < set.size; rank++) {
         fprintf(into, "<text x=\"%d\" y=\"20\" text-anchor=\"middle\" font-weight=\"600\">rank %d</text>", column(rank),
                 rank);
         fprintf(into, "<line x1=\"%d\" y1=\"30\" x2=\"%d\" y2=\"%d\" stroke=\"#c4c9d0\"/>\n", column(rank),
                 column(rank), height - 8);
     }
+}
+
+static void put_legend(FILE *into, const struct result *it) {
+    fputs("<p class=\"small\">Time goes downwards; '(any)': a receive of any source; a short broken arrow: nobody "
+          "received it; a bar: a collective was entered; a square: the rank waits in vain",
+          into);
+    if (it->cycle_length > 0)
+        fputs("; broken arrows with an open head, at the end: a cycle, who waits for whom in it and for what", into);
+    fputs(".</p></details>\n", into);
+}
+
+void put_picture(FILE *into, const struct result *it) {
+    int count = it->item_count < MOST_ITEMS ? it->item_count : MOST_ITEMS, is_cycle = it->cycle_length > 0;
+    int width = LEFT + set.size * COLUMN + is_cycle * COLUMN / 2, height = row(count + it->cycle_length) + 30;
+    if (count == 0 && it->ending != DEADLOCK) return;
+    fprintf(into,
+            "<details%s><summary>Messages%s</summary>\n<svg viewBox=\"0 0 %d %d\" width=\"%d\" height=\"%d\" "
+            "role=\"img\" aria-label=\"messages of the run\">\n",
+            it->weight > 0 || result_count > 1 ? " open" : "",
+            it->item_count > MOST_ITEMS ? ": the first 300 of their ends" : "", width, height, width, height);
+    put_lives(into, height);
     for (int i = 0; i < count; i++)
         if (it->items[i].kind == ITEM_SEND) put_arrow(into, it, i, count);
     for (int i = 0; i < count; i++) put_item(into, &it->items[i], i);
     put_waits(into, it, count);
     put_cycle(into, it, count);
-    fputs("</svg>\n<p class=\"small\">Time goes downwards; orange: a receive of any source; dashed: nobody received "
-          "it; a bar: "
-          "a collective was entered; a red square: the rank waits in vain; red arcs: who waits for whom in a "
-          "cycle.</p></details>\n",
-          into);
+    fputs("</svg>\n", into);
+    put_legend(into, it);
 }

@@ -183,7 +183,9 @@ static void copy_mould(int rank, int end) {
     size_t length;
     char *text = output_of(rank, &length);
     fwrite(text, 1, length, stderr);
-    fail(STATUS_START, "a rank ended before MPI_Init", "");
+    fail(STATUS_START, set.program[0],
+         ": a rank ended before MPI_Init: it is no program of MPI, or it isn't linked with this library (by its "
+         "mpicc)");
 }
 
 void start_rank(int rank) {

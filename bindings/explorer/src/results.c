@@ -9,8 +9,8 @@ struct result *results;
 int result_count;
 
 const char *ending_word(enum ending ending) {
-    static const char *const words[] = {
-        "all ranks ended", "DEADLOCK", "ended by an error", "cut short", "a rank is silent", "cut off", "open"};
+    static const char *const words[] = {"",          "all ranks ended",  "DEADLOCK", "ended by an error",
+                                        "cut short", "a rank is silent", "cut off",  "open"};
     return words[ending];
 }
 
@@ -36,19 +36,17 @@ static char *output_of_ranks(void) {
     return all;
 }
 
-static char *words_of_findings(struct steps *s, int *weight) {
+static char *words_of_findings(struct steps *s) {
     const struct finding *findings;
     int count = steps_findings(s, &findings);
     char *all = NULL;
     size_t room = 0;
     FILE *into = open_memstream(&all, &room);
     if (into == NULL) fail(STATUS_START, "no memory", "");
-    *weight = 0;
     for (int i = 0; i < count; i++) {
         char line[1800];
         say_finding(&findings[i], line, sizeof line);
         fprintf(into, "  %s\n", line);
-        if ((int)findings[i].weight > *weight) *weight = (int)findings[i].weight;
     }
     fclose(into);
     return all;
@@ -95,15 +93,26 @@ static void keep_findings(struct result *it, struct steps *s) {
     it->cycle_length = steps_cycle(s, it->cycle);
 }
 
+static uint32_t weight_of(const struct run *run) {
+    const struct finding *findings;
+    const size_t count = (size_t)steps_findings(run->steps, &findings);
+    uint32_t *kinds = malloc((count + 1) * sizeof *kinds);
+    if (kinds == NULL) fail(STATUS_START, "no memory", "");
+    for (size_t i = 0; i < count; i++) kinds[i] = findings[i].kind;
+    const uint32_t weight = kombazily_weight_of_run(run->ending, kinds, count);
+    free(kinds);
+    return weight;
+}
+
 static void add_result(struct run *run, long number, uint64_t key) {
-    int weight;
     struct result it = {.ending = run->ending, .choices = run->choices, .runs = 1, .first = number, .key = key};
-    it.words = words_of_findings(run->steps, &weight);
-    it.weight = run->ending == ENDED ? weight : WRONG;
+    it.words = words_of_findings(run->steps);
+    it.weight = weight_of(run);
     it.output = output_of_ranks();
     it.is_early = run->early > 0;
     it.is_odd = !steps_has_one_order(run->steps);
     it.has_places = set.places;
+    it.has_mismatch = steps_has_mismatch(run->steps);
     it.moves = run->moves;
     it.move_count = run->move_count;
     keep_findings(&it, run->steps);
@@ -147,15 +156,26 @@ void free_results(void) {
 /* ---- once more, with lines of source ---- */
 
 /* Whether the run that was made anew is the one that was told. Where members enter different collectives, it is left
- * open who is told so. */
+ * open who is told so, and whether that rank ends by it. */
 static bool is_same_run(const struct run *again, const struct result *it, const char *output) {
-    if (again->is_astray || again->ending != it->ending) return false;
-    return strcmp(output, it->output) == 0 || steps_has_mismatch(again->steps);
+    if (again->is_astray) return false;
+    if (it->has_mismatch && steps_has_mismatch(again->steps)) return true;
+    return again->ending == it->ending && strcmp(output, it->output) == 0;
+}
+
+/* What is told of a result is what its run came to when it was made anew. */
+static void take_over(struct result *it, const struct run *again, char *output) {
+    free(it->words), free(it->choices), free(it->output);
+    it->ending = again->ending;
+    it->weight = weight_of(again);
+    it->words = words_of_findings(again->steps);
+    it->choices = again->choices;
+    it->output = output;
+    keep_findings(it, again->steps);
 }
 
 bool find_places(struct result *it, bool synchronous) {
     struct run again;
-    int weight;
     if (it->has_places) return true;
     const bool told_places = set.places;
     set.places = true;
@@ -166,15 +186,8 @@ bool find_places(struct result *it, bool synchronous) {
     char *output = output_of_ranks();
     bool is_same = is_same_run(&again, it, output);
     close_outputs();
-    free(output);
-    if (is_same) {
-        free(it->words), free(it->choices);
-        it->words = words_of_findings(again.steps, &weight);
-        it->choices = again.choices;
-        keep_findings(it, again.steps);
-    } else {
-        free(again.choices);
-    }
+    if (is_same) take_over(it, &again, output);
+    else free(output), free(again.choices);
     steps_free(again.steps);
     free(again.moves);
     return is_same;
@@ -212,8 +225,7 @@ bool find_parting(int own, struct parting *parting) {
 
 static int by_weight(const void *a, const void *b) {
     const struct result *x = a, *y = b;
-    if (x->weight != y->weight) return y->weight - x->weight;
-    return x->first < y->first ? -1 : 1;
+    return kombazily_result_is_before(x->weight, (uint64_t)x->first, y->weight, (uint64_t)y->first) ? -1 : 1;
 }
 
 /* Whether a result that was told before reads the same. */
@@ -223,24 +235,6 @@ static bool reads_as_before(int own) {
             strcmp(results[i].output, results[own].output) == 0)
             return true;
     return false;
-}
-
-static void write_choices(const struct result *it, int number) {
-    char name[4200];
-    snprintf(name, sizeof name, "%s/choices%d.txt", set.out, number);
-    FILE *into = fopen(name, "w");
-    if (into == NULL) {
-        fprintf(stderr, "kombazily: %s can't be written\n", name);
-        return;
-    }
-    fprintf(into, "# %d ranks: %s\n", set.size, set.program[0]);
-    for (const char *at = it->choices == NULL ? "" : it->choices; *at != '\0';) {
-        char words[1800];
-        size_t length = say_choice(at, words, sizeof words);
-        fprintf(into, "%.*s# %s\n", (int)strcspn(at, "#\n"), at, words);
-        at += length + (at[length] == '\n');
-    }
-    fclose(into);
 }
 
 static void tell_parting(int own) {
@@ -286,8 +280,17 @@ static void tell_result(int i, bool synchronous) {
     if (set.shows_output || (result_count > 1 && !set.quiet)) fputs(it->output, stdout);
 }
 
-int tell_results(const struct pass *pass) {
-    int worst = 0, told = 0;
+static uint32_t weight_of_pass(const struct pass *pass) {
+    uint32_t *weights = malloc(((size_t)result_count + 1) * sizeof *weights);
+    if (weights == NULL) fail(STATUS_START, "no memory", "");
+    for (int i = 0; i < result_count; i++) weights[i] = results[i].weight;
+    const uint32_t weight = kombazily_weight_of_pass(weights, (size_t)result_count, pass->astray != NULL);
+    free(weights);
+    return weight;
+}
+
+uint32_t tell_results(const struct pass *pass) {
+    int told = 0;
     if (result_count > 1) qsort(results, (size_t)result_count, sizeof *results, by_weight);
     tell_head(pass);
     for (int i = 0; i < result_count && !set.counts_only && told < set.results; i++) {
@@ -297,10 +300,8 @@ int tell_results(const struct pass *pass) {
             printf("  (the same choices led elsewhere: it depends on something else, too)\n");
         if (reads_as_before(i)) continue;
         told++;
-        if (set.out != NULL) write_choices(it, i + 1);
+        if (set.out != NULL) write_choices(it, i + 1, pass->synchronous);
         tell_result(i, pass->synchronous);
     }
-    for (int i = 0; i < result_count; i++)
-        if (results[i].weight > worst) worst = results[i].weight;
-    return pass->astray != NULL && worst < LEFT_OVER ? LEFT_OVER : worst;
+    return weight_of_pass(pass);
 }

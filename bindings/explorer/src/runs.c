@@ -4,6 +4,7 @@
 
 #include <math.h>
 #include <poll.h>
+#include <signal.h>
 #include <stdlib.h>
 #include <string.h>
 #include <sys/wait.h>
@@ -36,10 +37,23 @@ static void *grown(void *old, size_t *room, size_t count, size_t each) {
     return made;
 }
 
+/* Whether some rank has called MPI_Init. */
+static bool has_begun;
+
+static void note_start(const struct explorer_ask *ask) {
+    has_begun = true;
+    if (ask->call.order != EXPLORER_VERSION)
+        fail(STATUS_START, "the program is linked with another version of this library: ", set.program[0]);
+}
+
 /* Takes in an ask of a rank, whole: whether one came. */
 static bool hear(struct steps *s, int rank) {
     struct explorer_ask ask;
     if (!take_in(rank, &ask, sizeof ask) || ask.frame_count > EXPLORER_FRAMES) return false;
+    if (ask.kind == ASK_START) {
+        note_start(&ask);
+        return true;
+    }
     ask.name[EXPLORER_NAME - 1] = '\0';
     behind.entries = grown(behind.entries, &behind.entry_room, ask.count, sizeof *behind.entries);
     behind.bytes = grown(behind.bytes, &behind.byte_room, ask.length, 1);
@@ -82,7 +96,7 @@ static void tell_silent(struct steps *s, const int *who, int count) {
     for (int i = 0; i < count; i++) {
         char text[200];
         snprintf(text, sizeof text, "rank %d computes for %.0f s without a call of MPI", who[i], set.patience);
-        steps_note(s, who[i], WRONG, text);
+        steps_note(s, who[i], COMPUTES, text);
     }
 }
 
@@ -127,24 +141,12 @@ static bool run_ranks(struct steps *s) {
 
 /* ---- moves ---- */
 
-/* Whether a move says less than it could: no where yes is there, or one where all are. */
-static bool is_early(const struct move *m, const struct move *others, int count) {
-    if (m->kind != MOVE_FALSE && m->kind != MOVE_PLACE) return false;
-    for (int i = 0; i < count; i++) {
-        bool is_more = m->kind == MOVE_FALSE ? others[i].kind != MOVE_FALSE : others[i].kind == MOVE_ALL;
-        if (others[i].rank == m->rank && others[i].op == m->op && others[i].kind != MOVE_MATCH &&
-            others[i].kind != MOVE_BUFFER && is_more)
-            return true;
-    }
-    return false;
-}
-
-static void note_move(struct run *run, const struct move *m, const struct move *others, int count) {
+static void note_move(struct run *run, const struct move *m, bool is_early) {
     if ((run->move_count & (run->move_count + 1)) == 0)
         run->moves = realloc(run->moves, (size_t)(2 * run->move_count + 2) * sizeof *m);
     if (run->moves == NULL) fail(STATUS_START, "no memory", "");
     run->moves[run->move_count++] = *m;
-    run->early += is_early(m, others, count);
+    run->early += is_early;
     counts.moves++;
 }
 
@@ -154,7 +156,7 @@ static void note_choice(struct run *run, const char *head, const struct move *m,
     struct place place;
     steps_say_move(run->steps, *m, text, sizeof text, &place);
     int length =
-        snprintf(line, sizeof line, "%s%u %u %u %d of %d # %s", head, m->kind, m->rank, m->op, m->at, count, text);
+        snprintf(line, sizeof line, "%s%u %u %u %u of %d # %s", head, m->kind, m->rank, m->op, m->at, count, text);
     for (uint32_t i = 0; i < place.count; i++)
         length += snprintf(line + length, sizeof line - (size_t)length, " @%lx", (unsigned long)place.frames[i]);
     line[length++] = '\n';
@@ -200,7 +202,7 @@ static bool make_move(struct run *run, int at, const struct move *moves, int cou
     const struct move chosen = *found;
     if (set.places) note_choice(run, "", &chosen, count);
     if (choosing == BY_RECORD) note_others(run, &chosen, moves, count);
-    note_move(run, &chosen, moves, count);
+    note_move(run, &chosen, steps_is_early(run->steps, (int)(found - moves)));
     steps_take(run->steps, chosen);
     return true;
 }
@@ -213,7 +215,8 @@ static enum ending play(struct run *run, enum choosing choosing) {
     struct steps *s = run->steps;
     for (int at = 0;;) {
         if (!run_ranks(s)) return now() > latest ? LATE : SILENT;
-        if (steps_is_over(s)) return steps_is_aborted(s) ? ERROR : ENDED;
+        const enum ending ending = steps_ending(s);
+        if (ending != GOES_ON) return ending;
         int count = steps_moves(s, moves, MOST_MOVES);
         if (count == MOST_MOVES) fail(STATUS_START, "4,096 choices at one place, and more", "");
         if (count > 0 && !make_move(run, at++, moves, count, choosing)) return CUT;
@@ -223,40 +226,66 @@ static enum ending play(struct run *run, enum choosing choosing) {
     }
 }
 
+/* How a process ended, in words. */
+static void say_end(enum finding_kind kind, int rank, int code, char *text, size_t room) {
+    switch (kind) {
+    case RECORD_ENDS:
+        snprintf(text, room, "what was recorded of rank %d ends here", rank);
+        break;
+    case KILLED:
+        snprintf(text, room, "rank %d was killed by signal %d (%s)", rank, code, strsignal(code));
+        break;
+    case NO_FINALIZE:
+        snprintf(text, room, "rank %d ended without MPI_Finalize (status %d)", rank, code);
+        break;
+    default:
+        snprintf(text, room, "rank %d ended with status %d", rank, code);
+    }
+}
+
 /* Takes a rank's process to its end, and tells how it ended where that is worth it. */
 static void end_process(struct run *run, int rank) {
     struct steps *s = run->steps;
-    bool by_itself = end_rank(rank, socket_of_rank(rank) >= 0);
+    const bool by_itself = end_rank(rank, socket_of_rank(rank) >= 0);
     const int status = status_of_rank(rank);
-    char text[200] = "";
-    enum weight weight = WRONG;
+    const bool is_killed = WIFSIGNALED(status);
+    const int code = is_killed ? WTERMSIG(status) : WEXITSTATUS(status);
+    char text[200];
     close_socket(rank);
-    if (!by_itself) return;
-    const bool is_open = set.played != NULL && WIFEXITED(status) && WEXITSTATUS(status) == STATUS_OPEN_END;
-    if (is_open) {
-        snprintf(text, sizeof text, "what was recorded of rank %d ends here", rank);
-        weight = WORTH_KNOWING;
-        run->has_open_end = true;
-    } else if (WIFSIGNALED(status)) {
-        snprintf(text, sizeof text, "rank %d was killed by signal %d (%s)", rank, WTERMSIG(status),
-                 strsignal(WTERMSIG(status)));
-    } else if (!steps_has_finalized(s, rank) && !steps_has_failed(s, rank)) {
-        snprintf(text, sizeof text, "rank %d ended without MPI_Finalize (status %d)", rank, WEXITSTATUS(status));
-    } else if (run->ending == ENDED && WEXITSTATUS(status) != 0) {
-        snprintf(text, sizeof text, "rank %d ended with status %d", rank, WEXITSTATUS(status));
-        weight = LEFT_OVER;
+    const enum finding_kind kind =
+        kombazily_finding_of_end(run->ending, by_itself, is_killed, (uint32_t)code, steps_has_finalized(s, rank),
+                                 steps_has_failed(s, rank), set.played != NULL);
+    if (kind == 0) return;
+    say_end(kind, rank, code, text, sizeof text);
+    steps_note(s, rank, kind, text);
+    if (kind == RECORD_ENDS) run->has_open_end = true;
+    run->ending = kombazily_ending_behind(run->ending, kind);
+}
+
+/* Where what ran is no program of MPI, it is shown what it printed. */
+static void refuse_other_program(void) {
+    uint32_t signals[MOST_RANKS] = {0};
+    for (int rank = 0; rank < set.size; rank++) {
+        const int status = status_of_rank(rank);
+        signals[rank] = WIFSIGNALED(status) ? (uint32_t)WTERMSIG(status) : 0;
     }
-    if (text[0] == '\0') return;
-    steps_note(s, rank, weight, text);
-    if (weight == WRONG) run->ending = ERROR;
+    if (kombazily_is_program(has_begun, signals, (size_t)set.size)) return;
+    for (int rank = 0; rank < set.size; rank++) {
+        size_t length;
+        char *text = output_of(rank, &length);
+        if (length > 0) fprintf(stderr, "[%d] %.*s%s", rank, (int)length, text, text[length - 1] == '\n' ? "" : "\n");
+        free(text);
+    }
+    fail(STATUS_START, set.program[0],
+         ": no rank called MPI_Init, so there is nothing to check: it is no program of MPI, or it isn't linked with "
+         "this library (by its mpicc)");
 }
 
 /* Where a record is over, it isn't known what its rank would do for those that wait; but those of a cycle wait for each
  * other. */
 static void leave_open(struct run *run) {
     int cycle[MOST_RANKS];
-    const bool is_sure = run->ending == DEADLOCK && steps_cycle(run->steps, cycle) > 0;
-    if (run->has_open_end && (run->ending == ENDED || run->ending == DEADLOCK) && !is_sure) run->ending = OPEN_END;
+    run->ending = kombazily_with_open_end(run->ending, run->has_open_end, steps_cycle(run->steps, cycle) > 0);
 }
 
 void run_once(struct run *run, bool synchronous, enum choosing choosing) {
@@ -274,8 +303,10 @@ void run_once(struct run *run, bool synchronous, enum choosing choosing) {
     if (choosing == BY_SEARCH && is_through && !search_end_run()) run->is_astray = true;
     answer_all(run->steps);
     for (int rank = 0; rank < set.size; rank++) end_process(run, rank);
+    refuse_other_program();
     leave_open(run);
-    if (run->ending == ENDED) steps_tell_rest(run->steps);
+    steps_tell_collectives(run->steps);
+    if (kombazily_is_rest_told(run->ending)) steps_tell_rest(run->steps);
     counts.calls += steps_calls(run->steps);
     if (steps_withheld(run->steps)) counts.has_withheld = true;
 }

@@ -6,8 +6,8 @@
 
 enum { MOST_MOVES = 4096 };
 
-/* Statuses of the program; and of a rank that plays a record (--plays), which was over before its program was. */
-enum { STATUS_CLEAN = 0, STATUS_FOUND = 1, STATUS_WORDS = 2, STATUS_START = 6, STATUS_OPEN_END = 96 };
+/* Statuses of the program, beside those that its runs give (verdicts.h). */
+enum { STATUS_CLEAN = 0, STATUS_WORDS = 2, STATUS_START = 6 };
 
 /* ---- main.c ---- */
 
@@ -58,8 +58,8 @@ extern struct choices choices;
 void search_open(void);
 void search_start_run(void);
 void search_close(void);
-/* The move to be made, of these: NULL, all were tried on other ways. `is_astray`: the moves aren't those that were
- * there before, behind the same ones. */
+/* The move to be made, of these, which are those at the fence: NULL, all were tried on other ways. `is_astray`: the
+ * moves aren't those that were there before, behind the same ones. */
 const struct move *search_move(const struct move *moves, int count, bool *is_astray);
 /* The run has come to its end: false, there were moves here before, behind the same ones. */
 bool search_end_run(void);
@@ -68,8 +68,6 @@ bool search_next(void);
 bool search_tried_all(void);
 
 /* ---- runs.c ---- */
-
-enum ending { ENDED, DEADLOCK, ERROR, CUT, SILENT, LATE, OPEN_END };
 
 /* How the moves of a run are chosen. */
 enum choosing { BY_SEARCH, BY_CHANCE, BY_FILE, BY_RECORD };
@@ -117,10 +115,10 @@ size_t say_choice(const char *at, char *into, size_t room);
 
 struct result {
     enum ending ending;
-    int weight;
+    uint32_t weight;
     char *words, *output, *choices;
     long runs, first;
-    bool is_early, is_odd, has_places;
+    bool is_early, is_odd, has_places, has_mismatch;
     uint64_t key;
     struct move *moves;
     int move_count;
@@ -136,7 +134,7 @@ extern int result_count;
 /* Counts a run to its result, which is new or was there before. */
 void note_run(struct run *run, long number);
 void free_results(void);
-/* Writes what the runs came to: the weight of what is worst. */
+/* Writes what the runs came to, and says how much the pass weighs. */
 struct pass {
     bool synchronous, is_all;
     bool is_late; /* the time was over while a run lasted */
@@ -144,7 +142,7 @@ struct pass {
     long runs, cut;
     double took;
 };
-int tell_results(const struct pass *pass);
+uint32_t tell_results(const struct pass *pass);
 /* What was tried, in words. */
 const char *said_of(const struct pass *pass);
 const char *ending_word(enum ending ending);
@@ -156,6 +154,14 @@ struct parting {
 bool find_parting(int own, struct parting *parting);
 /* A result once more, with places: false, the program went another way. */
 bool find_places(struct result *it, bool synchronous);
+
+/* ---- choice_files.c ---- */
+
+/* Writes the choices of a result into a file of --out. */
+void write_choices(const struct result *it, int number, bool synchronous);
+/* Reads the moves of such a file, which has to be of this program and as many ranks; its pass is taken. Those of a
+ * recorded run have no kind. */
+int read_choices(const char *name, bool is_recorded, struct move **moves);
 
 /* ---- page.c ---- */
 

@@ -12,8 +12,10 @@ enum operation_state {
     OP_WILD,   /* a receive of any source, which no engine knows: it is named by a move */
     OP_HELD,   /* a receive behind such a one, which might take the same message */
     OP_CANCELLED,
-    OP_FAILED,  /* the engine refused it, by `number` */
-    OP_BUFFERED /* a send that was buffered by a move */
+    OP_FAILED,   /* the engine refused it, by `number` */
+    OP_BUFFERED, /* a send that was buffered by a move */
+    OP_COPYING,  /* a copy of a communicator that isn't made yet, and one that is: `made` */
+    OP_COPIED
 };
 
 /* A send or a receive that a rank began and didn't end yet. */
@@ -25,6 +27,8 @@ struct operation {
     uint32_t at;       /* its place among all that the rank began */
     uint32_t number;
     uint32_t sent_at; /* its place among all that was sent, or NOT_SENT */
+    uint32_t plan;    /* of a collective: which one of the rank's; 0: it is the program's own */
+    uint32_t made;
     struct engine_request own;
     struct engine_call call;
     struct place place;
@@ -58,6 +62,13 @@ struct pin {
     int32_t asked, pattern, source, tag;
 };
 
+/* A collective of a rank that goes by sends and receives. */
+struct plan {
+    uint32_t communicator;
+    uint32_t entry; /* the how-many-th collective of its communicator it is */
+    struct place place;
+};
+
 enum rank_state { RANK_RUNS, RANK_BLOCKED, RANK_ENDED };
 
 struct rank {
@@ -84,6 +95,8 @@ struct rank {
     int pin_count;
     struct taking *takings;
     int taking_count, taking_room;
+    struct plan *plans; /* by their numbers, less one */
+    int plan_count;
     /* The answer, and what stands behind it. */
     struct explorer_answer answer;
     uint32_t *places;
@@ -94,7 +107,16 @@ struct rank {
 /* ---- all ranks ---- */
 
 /* What happened at a rank, in its own order. */
-enum event_kind { EVENT_SEND, EVENT_POST, EVENT_END, EVENT_SEND_END, EVENT_ENTER, EVENT_LEAVE };
+enum event_kind {
+    EVENT_SEND,
+    EVENT_POST,
+    EVENT_END,
+    EVENT_SEND_END,
+    EVENT_ENTER, /* a collective that nobody leaves before all are there, and the leaving of it */
+    EVENT_LEAVE,
+    EVENT_GIVE, /* one in which data go from the root or to it: it is entered with data, and left with data */
+    EVENT_TAKE
+};
 struct event {
     enum event_kind kind;
     int rank;
@@ -109,26 +131,42 @@ struct sent {
     struct place place;
 };
 
-/* A collective that some members have entered: what the first one entered. */
+/* What a member enters a collective with. */
+enum { ENTERS_PLAN = 1000 };
+struct entering {
+    int rank, member;          /* in `world`, and in the communicator */
+    uint32_t kind;             /* an engine_call_kind, or ENTERS_PLAN and a plan_kind */
+    int32_t root;              /* or EXPLORER_NO_ROOT */
+    uint32_t operation;        /* or 0 */
+    struct explorer_block row; /* of a collective of the engine's, where members have alike ones */
+    uint32_t given, got;       /* of a plan: blocks that the member hands in, and that it gets behind them */
+    struct explorer_block *blocks;
+    struct place place;
+};
+
+/* A collective that some members have entered. */
 struct meeting {
     uint64_t name;
     uint32_t index, entered, size;
-    int rank;
     bool is_told;
-    struct engine_call call;
-    struct place place;
+    struct entering *of;
 };
 
 struct engines;
 struct steps {
     struct steps_options options;
     struct engines *engines;
+    struct engines *plan_engines; /* those of plans, from the first message on; else NULL */
+    struct engines *answering;    /* those that answered a call last */
+    uint64_t *plan_names;         /* communicators that have plans */
+    int plan_name_count;
     struct rank *ranks;
     struct finding *findings;
     int finding_count;
     int cycle[MOST_RANKS], cycle_length; /* each waits for the next one, and the last one for the first */
     bool is_aborted, has_mismatch, is_unsafe_told;
     bool has_withheld; /* a look wasn't let say no, since others in front of it had */
+    bool has_copies;   /* some rank has asked for a copy that doesn't wait */
     uint64_t calls;
     int rounds_of_no;
     struct sent *sent;
@@ -158,6 +196,9 @@ void engines_settle(struct engines *all, bool kept_too);
 void call_rank(struct steps *s, int rank, const struct engine_call *call, const uint8_t *bytes, size_t length,
                struct engine_answer *answer);
 struct engine_answer ask_rank(struct steps *s, int rank, struct engine_call call);
+/* The same of an engine of plans, or of one of the program. */
+void call_engine(struct steps *s, bool is_plan, int rank, const struct engine_call *call, const uint8_t *bytes,
+                 size_t length, struct engine_answer *answer);
 
 /* ---- answers.c ---- */
 
@@ -186,7 +227,7 @@ void cancel_operation(struct steps *s, int rank, uint64_t key);
 void end_operation(struct steps *s, int rank, struct operation *it, struct engine_answer *answer);
 bool is_done(struct steps *s, int rank, uint64_t key);
 bool is_entry_done(struct steps *s, int rank, const struct explorer_entry *entry);
-/* Whether something is at its end of which a LOOK said that it isn't. */
+/* Whether something is at its end of which a LOOK said that it isn't; it is told once. */
 bool has_moved_on(struct steps *s, int rank);
 
 /* ---- late.c: receives that no engine knows yet ---- */
@@ -215,8 +256,38 @@ void enter_collective(struct steps *s, int rank);
 void finish_collective(struct steps *s, int rank, const struct engine_answer *answer);
 bool are_all_there(struct steps *s, int rank);
 
+/* ---- meetings.c ---- */
+
+/* A member enters a collective, whose blocks are taken over: the how-many-th of the communicator it is. What differs
+ * from what others entered is told. */
+uint32_t enter_meeting(struct steps *s, int rank, struct members *of, struct entering own);
+/* Tells of collectives that some member never entered, and what differs at those that did. */
+void tell_absent(struct steps *s);
+void free_meetings(struct steps *s);
+
+/* ---- plans.c ---- */
+
+/* A plan's message as its engine is told of it: by ranks in `world`, apart from those of other communicators. */
+struct engine_call plan_message(struct steps *s, int rank, const struct engine_call *call);
+void begin_plan(struct steps *s, int rank);
+/* The plan of this number, or NULL. */
+const struct plan *plan_of(const struct rank *own, uint64_t number);
+
+/* ---- copies.c ---- */
+
+/* Makes the copies of communicators that all their members have asked for: whether there was one. */
+bool make_copies(struct steps *s);
+/* Whether a rank waits for a copy of this communicator, or of any. */
+bool has_copies(const struct rank *own, uint32_t communicator, bool any);
+
+/* ---- buffers.c ---- */
+
+void answer_kept(struct steps *s, int rank);
+
 /* ---- looks.c ---- */
 
+/* What is told of a rank where nobody can go on, or 0. */
+enum finding_kind kind_of_wait(const struct rank *own);
 bool is_look(const struct rank *own);
 bool is_list(uint32_t kind);
 /* Answers a look whose answer isn't open: whether it did. */
@@ -235,17 +306,19 @@ void log_event(struct steps *s, int rank, enum event_kind kind, uint32_t id, uin
 uint32_t log_sent(struct steps *s, int rank, const struct explorer_ask *ask);
 void log_taking(struct steps *s, int rank, uint32_t at, const struct engine_call *call, int32_t source, bool is_look,
                 const struct place *place);
+void log_plan_taking(struct steps *s, int rank, const struct operation *it);
+/* Whether it holds no more, so that something isn't known of the run. */
+bool is_log_full(const struct steps *s);
 
 /* ---- findings.c ---- */
 
-struct finding *note(struct steps *s, int rank, enum weight weight, const char *text, ...)
+struct finding *note(struct steps *s, int rank, enum finding_kind kind, const char *text, ...)
     __attribute__((format(printf, 4, 5)));
 void at_place(struct finding *it, const struct place *place);
 struct place nowhere(void);
 const char *peer_word(int32_t peer);
 const char *tag_word(int32_t tag);
 void tell_left(struct steps *s, int rank, const uint8_t *bytes);
-const char *collective_word(uint32_t kind);
 void tell_unsafe(struct steps *s, const struct move *moves, int count);
 struct operation *send_of(struct steps *s, const struct move *move);
 #endif

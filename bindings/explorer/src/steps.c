@@ -28,26 +28,38 @@ static void free_rank(struct rank *own) {
     free(own->data);
     free(own->pins);
     free(own->takings);
+    free(own->plans);
 }
 
 void steps_free(struct steps *s) {
     for (int rank = 0; rank < s->options.size; rank++) free_rank(&s->ranks[rank]);
     engines_free(s->engines);
+    if (s->plan_engines != NULL) engines_free(s->plan_engines);
+    free(s->plan_names);
     free(s->ranks);
     free(s->findings);
     free(s->sent);
     free(s->events);
-    free(s->meetings);
+    free_meetings(s);
     free(s);
 }
 
 /* ---- asks ---- */
 
+/* Whether a rank asks this as often as it is served, which is left to chance: it is no call of the program's. */
+static bool is_turn(const struct explorer_ask *ask) {
+    const uint32_t kind = ask->call.kind;
+    bool is_look_inside = ask->kind == ASK_CALL && (kind == ENGINE_LOOK || kind == ENGINE_TEST);
+    bool is_of_plan = ask->plan != 0 && ask->kind != ASK_ENTER;
+    return is_look_inside || is_of_plan || ask->kind == ASK_PAUSE || ask->kind == ASK_KEPT;
+}
+
 /* Keeps the ask, and what stands behind it. */
 static void keep_ask(struct rank *own, const struct explorer_ask *ask, const uint64_t *frames,
                      const struct explorer_entry *entries, const uint8_t *bytes) {
     own->ask = *ask;
-    own->place = (struct place){.count = ask->frame_count, .number = ++own->asks};
+    if (!is_turn(ask)) own->asks++;
+    own->place = (struct place){.count = ask->frame_count, .number = own->asks};
     memcpy(own->place.name, ask->name, sizeof own->place.name);
     if (ask->frame_count > 0) memcpy(own->place.frames, frames, ask->frame_count * sizeof *frames);
     own->entries = room_for(own->entries, ask->count, sizeof *entries);
@@ -68,8 +80,10 @@ static void answer_receive(struct steps *s, int rank) {
 static void answer_look(struct steps *s, int rank, uint64_t key) {
     struct operation *it = operation_of(s, rank, key);
     bool is_at_end = is_done(s, rank, key);
+    const int rounds = s->rounds_of_no;
     if (it != NULL) it->is_looked_at = !is_at_end;
     give_fact(s, rank, is_at_end);
+    if (!is_at_end) s->rounds_of_no = rounds;
 }
 
 /* A test that the library makes by itself, behind a look that said yes. */
@@ -105,24 +119,29 @@ static void ask_call(struct steps *s, int rank) {
     }
 }
 
+/* What was told may be the end of its rank, and of the job; else the rank goes on. */
+static void heed(struct steps *s, int rank, enum finding_kind kind) {
+    const bool ends = kombazily_finding_ends_job(kind, s->options.goes_on);
+    if (kombazily_finding_fails(kind)) s->ranks[rank].has_failed = true;
+    if (ends) s->is_aborted = true;
+    give_fact(s, rank, !ends);
+}
+
 static void ask_error(struct steps *s, int rank) {
     struct rank *own = &s->ranks[rank];
-    bool ends = own->ask.kind == ASK_ERROR;
-    struct finding *it = note(s, rank, ends ? WRONG : WORTH_KNOWING, "rank %d: %s %%0: %s: %.*s", rank,
-                              ends ? "error at" : "an error was returned at", own->ask.name, (int)own->ask.length,
-                              (const char *)own->bytes);
+    const enum finding_kind kind = own->ask.kind == ASK_ERROR ? CALL_FAILED : ERROR_RETURNED;
+    struct finding *it = note(s, rank, kind, "rank %d: %s %%0: %s: %.*s", rank,
+                              kind == CALL_FAILED ? "error at" : "an error was returned at", own->ask.name,
+                              (int)own->ask.length, (const char *)own->bytes);
     at_place(it, &own->place);
-    if (ends) own->has_failed = true;
-    if (ends && !s->options.goes_on) s->is_aborted = true;
-    give_fact(s, rank, !ends || s->options.goes_on);
+    heed(s, rank, kind);
 }
 
 static void ask_abort(struct steps *s, int rank) {
     struct rank *own = &s->ranks[rank];
-    at_place(note(s, rank, WRONG, "rank %d called MPI_Abort with code %d at %%0", rank, own->ask.call.order),
+    at_place(note(s, rank, ABORTED, "rank %d called MPI_Abort with code %d at %%0", rank, own->ask.call.order),
              &own->place);
-    s->is_aborted = own->has_failed = true;
-    give_fact(s, rank, 0);
+    heed(s, rank, ABORTED);
 }
 
 void steps_ask(struct steps *s, int rank, const struct explorer_ask *ask, const uint64_t *frames,
@@ -142,6 +161,12 @@ void steps_ask(struct steps *s, int rank, const struct explorer_ask *ask, const 
         return;
     case ASK_ABORT:
         ask_abort(s, rank);
+        return;
+    case ASK_ENTER:
+        begin_plan(s, rank);
+        return;
+    case ASK_KEPT:
+        answer_kept(s, rank);
         return;
     case ASK_FINALIZE:
         tell_left(s, rank, own->bytes);
@@ -177,7 +202,7 @@ static bool are_all_done(struct steps *s, int rank) {
 /* A rank in a collective, or in the receive of a message that was taken out. */
 static bool go_on_in_call(struct steps *s, int rank) {
     struct rank *own = &s->ranks[rank];
-    if (own->is_held && are_all_there(s, rank)) {
+    if (own->is_held && !has_copies(own, 0, true) && are_all_there(s, rank)) {
         enter_collective(s, rank);
         return true;
     }
@@ -240,7 +265,9 @@ void steps_progress(struct steps *s) {
     bool kept_too = false;
     for (;;) {
         engines_settle(s->engines, kept_too);
+        if (s->plan_engines != NULL) engines_settle(s->plan_engines, kept_too);
         bool has_gone_on = false;
+        if (s->has_copies) has_gone_on |= make_copies(s);
         for (int rank = 0; rank < s->options.size; rank++) has_gone_on |= go_on(s, rank);
         if (!has_gone_on && (kept_too || is_any_running(s))) return;
         kept_too = !has_gone_on;
@@ -250,16 +277,14 @@ void steps_progress(struct steps *s) {
 /* ---- where the ranks are ---- */
 
 bool steps_is_running(const struct steps *s, int rank) { return s->ranks[rank].state == RANK_RUNS; }
-bool steps_is_aborted(const struct steps *s) { return s->is_aborted; }
 bool steps_has_failed(const struct steps *s, int rank) { return s->ranks[rank].has_failed; }
 bool steps_has_finalized(const struct steps *s, int rank) { return s->ranks[rank].is_finalized; }
 uint64_t steps_calls(const struct steps *s) { return s->calls; }
 
 bool steps_withheld(const struct steps *s) { return s->has_withheld; }
 
-bool steps_is_over(const struct steps *s) {
-    if (s->is_aborted) return true;
-    for (int rank = 0; rank < s->options.size; rank++)
-        if (s->ranks[rank].state != RANK_ENDED) return false;
-    return true;
+enum ending steps_ending(const struct steps *s) {
+    bool has_ended[MOST_RANKS] = {false};
+    for (int rank = 0; rank < s->options.size; rank++) has_ended[rank] = s->ranks[rank].state == RANK_ENDED;
+    return kombazily_ending_of_ranks(s->is_aborted, has_ended, (size_t)s->options.size);
 }

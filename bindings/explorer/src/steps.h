@@ -5,6 +5,7 @@
 #define EXPLORER_STEPS_H
 
 #include "explorer_records.h"
+#include "verdicts.h"
 
 #include <stdbool.h>
 #include <stdio.h>
@@ -18,7 +19,7 @@ enum move_kind {
     MOVE_ALL,       /* it ends all that are at their ends; `at` is a sum of their places */
     MOVE_TRUE,      /* a test says yes */
     MOVE_FALSE,     /* a test or a probe says no */
-    MOVE_BUFFER     /* a send that waits is buffered after all */
+    MOVE_BUFFER     /* a send that waits is buffered after all; `at` is to whom */
 };
 
 /* What may be decided next, of the `op`-th operation of its kind (a receive or a look, or a send) of a rank. So a move
@@ -27,11 +28,9 @@ struct move {
     uint32_t kind; /* a move_kind */
     uint32_t rank;
     uint32_t op;
-    int32_t at;
+    uint32_t at;
 };
 bool is_same_move(const struct move *a, const struct move *b);
-/* Whether either may hinder the other, or change what it does. */
-bool do_clash(const struct move *a, const struct move *b);
 
 /* A call of the program: its name, and the addresses of where it stands, innermost first. */
 struct place {
@@ -41,14 +40,12 @@ struct place {
     uint32_t number; /* which call of its rank it is */
 };
 
-/* How much what is told weighs. */
-enum weight { WORTH_KNOWING = 1, LEFT_OVER, WRONG };
-
 /* What is told of a run: words, in which %0 and %1 stand for places. */
 struct finding {
+    enum finding_kind kind;
     int rank; /* -1: of none */
     int number;
-    enum weight weight;
+    uint32_t weight;
     char text[480];
     struct place places[2];
     int place_count;
@@ -83,9 +80,8 @@ int steps_answered(struct steps *s, const struct explorer_answer **answer, const
 /* ---- where the ranks are ---- */
 
 bool steps_is_running(const struct steps *s, int rank);
-/* All ranks have ended, or one ended the job. */
-bool steps_is_over(const struct steps *s);
-bool steps_is_aborted(const struct steps *s);
+/* How the run has ended, or that it goes on. */
+enum ending steps_ending(const struct steps *s);
 /* By an error or MPI_Abort that was told. */
 bool steps_has_failed(const struct steps *s, int rank);
 bool steps_has_finalized(const struct steps *s, int rank);
@@ -97,18 +93,21 @@ bool steps_withheld(const struct steps *s);
 
 /* The moves, where no rank runs; -1: some rank goes on. */
 int steps_moves(struct steps *s, struct move *moves, int room);
+/* Whether the move at this place says less of its look than another one there. */
+bool steps_is_early(struct steps *s, int place);
 void steps_take(struct steps *s, struct move move);
-/* No move is left: ranks that only look are told no. Whether there were such ranks, and they hadn't been told too
- * often. */
+/* No move is left: ranks that only look are told no, unless it is a deadlock. Whether they were. */
 bool steps_say_no(struct steps *s);
 /* In words what a move is, of which %0 is the place. */
 void steps_say_move(struct steps *s, struct move move, char *text, size_t room, struct place *place);
 
 /* ---- what is told ---- */
 
+/* What differs in collectives that not all members have entered, once the run is over; of others it is told before. */
+void steps_tell_collectives(struct steps *s);
 void steps_tell_deadlock(struct steps *s);
 void steps_tell_rest(struct steps *s);
-void steps_note(struct steps *s, int rank, enum weight weight, const char *text);
+void steps_note(struct steps *s, int rank, enum finding_kind kind, const char *text);
 /* In the order of ranks: how many. */
 int steps_findings(struct steps *s, const struct finding **findings);
 bool steps_has_mismatch(const struct steps *s);

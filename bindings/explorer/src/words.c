@@ -35,9 +35,21 @@ static const char usage[] =
     "  --patience S     so long a rank may compute without a call (10)\n"
     "  --stdin FILE     rank 0 reads it\n"
     "\n"
+    "A program that is linked with MPICH or Open MPI, which `kombazily check` tells by its libraries, is run by its\n"
+    "own MPI and recorded, and the calls that were recorded are explored. For such a program alone:\n"
+    "\n"
+    "  --runs K         so many recorded runs at most (20)\n"
+    "  --records FOLDER the records are kept there\n"
+    "  --mpiexec WORDS  the command that starts its ranks (mpiexec.hydra, mpirun.openmpi, ..)\n"
+    "  --mpicc COMMAND  its compiler, which makes the recorder (mpicc.mpich, mpicc.openmpi, ..)\n"
+    "  --patience S     a run in which no rank made a new call for so long is ended (10)\n"
+    "\n"
+    "-n, --both, --synchronous, --each, --most, --seconds, --results, --output, --quiet, --stdin and --html are as\n"
+    "above; that each order was tried is not claimed of it.\n"
+    "\n"
     "The status is 0: nothing; 1: something is wrong or left over; 2: these words are wrong; 6: the program\n"
-    "can't be run. What it finds, misses and says falsely: docs/CHECKING.md. That no choice that matters is left\n"
-    "out is argued and tested, and not proved.\n";
+    "can't be run, or is none of MPI. What it finds, misses and says falsely: docs/CHECKING.md. That no choice that\n"
+    "matters is left out is argued and tested, and not proved.\n";
 
 /* A word, and where its number or its text goes. */
 struct word {

@@ -61,6 +61,14 @@ int main(int n, char **v) {
         } else if (!strcmp(op, "allreduce")) {
             int x = me, sum;
             MPI_Allreduce(&x, &sum, 1, MPI_INT, MPI_SUM, MPI_COMM_WORLD);
+        } else if (!strcmp(op, "scan")) {
+            int x = me, sum;
+            MPI_Scan(&x, &sum, 1, MPI_INT, MPI_SUM, MPI_COMM_WORLD);
+        } else if (!strcmp(op, "iallreduce")) {
+            static int own = 1, sums[256];
+            MPI_Iallreduce(&own, &sums[atoi(a)], 1, MPI_INT, MPI_SUM, MPI_COMM_WORLD, &reqs[atoi(a)]);
+        } else if (!strcmp(op, "ibarrier")) {
+            MPI_Ibarrier(MPI_COMM_WORLD, &reqs[atoi(a)]);
         } else if (!strcmp(op, "barrier")) {
             MPI_Barrier(MPI_COMM_WORLD);
         } else if (!strcmp(op, "abort")) {

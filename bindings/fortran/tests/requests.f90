@@ -80,6 +80,7 @@ contains
     call MPI_SEND(own, 1, MPI_INTEGER, other, 21, MPI_COMM_WORLD, ierror)
     call MPI_WAITANY(3, requests, index, status, ierror)
     call check(index == 3 .and. status(MPI_TAG) == 21 .and. x(2) == 4, 'waitany')
+    call MPI_BARRIER(MPI_COMM_WORLD, ierror)
     call MPI_SEND(own, 1, MPI_INTEGER, other, 20, MPI_COMM_WORLD, ierror)
     flag = .false.
     do while (.not. flag)

@@ -73,8 +73,43 @@ static int move(const char *kind, struct side *s, struct side *r, int root, MPI_
     return MPI_Alltoallv(s->room, s->row, s->places, s->type, r->room, r->row, r->places, r->type, comm);
 }
 
-/* KIND COMM ROOT OP, and two sides. */
-static void play_coll(char **w) {
+/* ---- those that don't wait ---- */
+
+static MPI_Request begin_reduction(const char *kind, struct side *s, struct side *r, MPI_Op op, int root,
+                                   MPI_Comm comm) {
+    const struct side *data = s->own != NULL ? s : r;
+    MPI_Request q = MPI_REQUEST_NULL;
+    if (is(kind, "reduce")) MPI_Ireduce(s->room, r->room, data->count, data->type, op, root, comm, &q);
+    else if (is(kind, "allreduce")) MPI_Iallreduce(s->room, r->room, data->count, data->type, op, comm, &q);
+    else if (is(kind, "scan")) MPI_Iscan(s->room, r->room, data->count, data->type, op, comm, &q);
+    else if (is(kind, "exscan")) MPI_Iexscan(s->room, r->room, data->count, data->type, op, comm, &q);
+    else if (is(kind, "reduce_scatter")) MPI_Ireduce_scatter(s->room, r->room, data->row, data->type, op, comm, &q);
+    else MPI_Ireduce_scatter_block(s->room, r->room, data->count, data->type, op, comm, &q);
+    return q;
+}
+
+static MPI_Request begin_move(const char *kind, struct side *s, struct side *r, int root, MPI_Comm comm) {
+    MPI_Request q = MPI_REQUEST_NULL;
+    if (is(kind, "barrier")) MPI_Ibarrier(comm, &q);
+    else if (is(kind, "bcast")) MPI_Ibcast(s->room, s->count, s->type, root, comm, &q);
+    else if (is(kind, "gather")) MPI_Igather(s->room, s->count, s->type, r->room, r->count, r->type, root, comm, &q);
+    else if (is(kind, "gatherv"))
+        MPI_Igatherv(s->room, s->count, s->type, r->room, r->row, r->places, r->type, root, comm, &q);
+    else if (is(kind, "scatter")) MPI_Iscatter(s->room, s->count, s->type, r->room, r->count, r->type, root, comm, &q);
+    else if (is(kind, "scatterv"))
+        MPI_Iscatterv(s->room, s->row, s->places, s->type, r->room, r->count, r->type, root, comm, &q);
+    else if (is(kind, "allgather")) MPI_Iallgather(s->room, s->count, s->type, r->room, r->count, r->type, comm, &q);
+    else if (is(kind, "allgatherv"))
+        MPI_Iallgatherv(s->room, s->count, s->type, r->room, r->row, r->places, r->type, comm, &q);
+    else if (is(kind, "alltoall")) MPI_Ialltoall(s->room, s->count, s->type, r->room, r->count, r->type, comm, &q);
+    else MPI_Ialltoallv(s->room, s->row, s->places, s->type, r->room, r->row, r->places, r->type, comm, &q);
+    return q;
+}
+
+/* ---- both ---- */
+
+/* KIND COMM ROOT OP, and two sides; of one that doesn't wait, the request that ends it. */
+static void play_coll(char **w, struct played *later) {
     const MPI_Comm comm = comm_of(w[1]);
     const char *kind = w[0];
     const int root = number(w[2]);
@@ -82,48 +117,23 @@ static void play_coll(char **w) {
     bool sends_all = is(kind, "scatter") || is(kind, "alltoall") || is(kind, "reduce_scatter_block");
     bool receives_all = is(kind, "gather") || is(kind, "allgather") || is(kind, "alltoall") || is_reduction;
     struct side s = side_of(w + 4, comm, sends_all), r = side_of(w + 6, comm, receives_all);
-    if (is_reduction) reduce(kind, &s, &r, op_of(w[3]), root, comm);
-    else move(kind, &s, &r, root, comm);
+    if (later == NULL) {
+        if (is_reduction) reduce(kind, &s, &r, op_of(w[3]), root, comm);
+        else move(kind, &s, &r, root, comm);
+    } else {
+        const MPI_Request q = is_reduction ? begin_reduction(kind, &s, &r, op_of(w[3]), root, comm)
+                                           : begin_move(kind, &s, &r, root, comm);
+        add_part(later, q, s.own);
+        add_part(later, MPI_REQUEST_NULL, r.own);
+        s.own = r.own = NULL;
+    }
     drop(&s);
     drop(&r);
 }
 
-/* ---- those that don't wait: messages of no bytes on the communicator's shadow, as MPI has each rank wait ---- */
-
-/* Which ranks wait for which by the end of a collective: `to` waits for `from`. */
-static bool waits_for(const char *kind, int root, int to, int from) {
-    if (is(kind, "bcast") || is(kind, "scatter") || is(kind, "scatterv")) return from == root;
-    if (is(kind, "gather") || is(kind, "gatherv") || is(kind, "reduce")) return to == root;
-    if (is(kind, "scan") || is(kind, "exscan")) return from < to;
-    return true;
-}
-
-/* NAME KIND COMM ROOT OP ..; each communicator's have tags of their own, in turn. */
-static void play_icoll(char **w) {
-    enum { TURNS = 30000, KNOWN = 4096 };
-    static int turns[KNOWN];
-    const MPI_Comm comm = shadow_of(w[2]);
-    const int root = number(w[3]), tag = turns[number(w[2]) % KNOWN]++ % TURNS;
-    struct played *it = request_of(w[0]);
-    int me, size;
-    MPI_Comm_rank(comm, &me);
-    MPI_Comm_size(comm, &size);
-    for (int other = 0; other < size; other++) {
-        MPI_Request part = MPI_REQUEST_NULL;
-        if (other != me && waits_for(w[1], root, other, me)) {
-            MPI_Isend(NULL, 0, MPI_BYTE, other, tag, comm, &part);
-            add_part(it, part, NULL);
-        }
-        if (other != me && waits_for(w[1], root, me, other)) {
-            MPI_Irecv(NULL, 0, MPI_BYTE, other, tag, comm, &part);
-            add_part(it, part, NULL);
-        }
-    }
-}
-
 bool play_collectives(const struct line *line) {
-    if (is_word(line, "coll")) play_coll(line->words + 1);
-    else if (is_word(line, "icoll")) play_icoll(line->words + 1);
+    if (is_word(line, "coll")) play_coll(line->words + 1, NULL);
+    else if (is_word(line, "icoll")) play_coll(line->words + 2, request_of(line->words[1]));
     else return false;
     return true;
 }

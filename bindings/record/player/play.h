@@ -51,10 +51,9 @@ void *room_of(long count, MPI_Datatype type);
 /* ---- playing.c ---- */
 
 struct settings {
-    bool pinned;   /* receives of any source name whom they took in the run */
-    bool steered;  /* those that took nothing name whom they were steered to */
-    bool untyped;  /* all data are bytes */
-    bool shadowed; /* each communicator has another one for collectives that don't wait */
+    bool pinned;  /* receives of any source name whom they took in the run */
+    bool steered; /* those that took nothing name whom they were steered to */
+    bool untyped; /* all data are bytes */
 };
 extern struct settings set;
 enum { STATUS_OPEN_END = 96 };
@@ -65,8 +64,6 @@ _Noreturn void give_up(const char *why, const char *detail);
 
 void open_communicators(void);
 MPI_Comm comm_of(const char *word);
-MPI_Comm shadow_of(const char *word);
-void drop_shadows(void);
 /* Plays a line that makes or frees communicators: false, it is another one. */
 bool play_communicators(const struct line *line);
 

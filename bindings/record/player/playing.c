@@ -1,6 +1,6 @@
 /* Plays the record of a rank: see play.h.
  *
- *   kombazily-play [--pinned [--steered]] [--untyped] [--shadowed] FOLDER     by kombazily-check
+ *   kombazily-play [--pinned [--steered]] [--untyped] FOLDER     by kombazily-check
  *   kombazily-play --look FOLDER                                              says which of these words the record
  * needs
  */
@@ -55,7 +55,6 @@ static void play_cancel(const struct record *record, int at) {
 
 static void end_as(const char *how) {
     free_types();
-    drop_shadows();
     if (strcmp(how, "finalize") == 0) MPI_Finalize();
     exit(0);
 }
@@ -90,16 +89,14 @@ void play(const struct record *record) {
 static int look(const char *folder) {
     enum { MOST = 1024 };
     struct record record;
-    bool is_untyped = false, is_shadowed = false;
+    bool is_untyped = false;
     for (int rank = 0, size = MOST; rank < size; rank++) {
         if (!read_record(folder, rank, &record)) continue;
         size = record.size;
-        for (int i = 0; i < record.count; i++) {
+        for (int i = 0; i < record.count; i++)
             is_untyped |= is_word(&record.lines[i], "type") && !is_known_type(&record.lines[i]);
-            is_shadowed |= is_word(&record.lines[i], "icoll");
-        }
     }
-    printf("%s%s\n", is_untyped ? "--untyped " : "", is_shadowed ? "--shadowed" : "");
+    puts(is_untyped ? "--untyped" : "");
     return 0;
 }
 
@@ -110,7 +107,6 @@ static const char *read_words(int count, char **words) {
         if (strcmp(words[i], "--pinned") == 0) set.pinned = true;
         else if (strcmp(words[i], "--steered") == 0) set.steered = true;
         else if (strcmp(words[i], "--untyped") == 0) set.untyped = true;
-        else if (strcmp(words[i], "--shadowed") == 0) set.shadowed = true;
         else if (i == count - 1) return words[i];
         else give_up("no such word: ", words[i]);
     }

@@ -62,10 +62,13 @@ static MPI_Datatype by_name(const char *name) {
     return MPI_DATATYPE_NULL;
 }
 
+/* Packed data may be received as what was packed, and the other way round (MPI 3.1, 4.2), which this library doesn't
+ * take: they are told by their size alone, too. */
 bool is_known_type(const struct line *line) {
     const int size = number(line->words[2]);
     for (int i = 3; i + 1 < line->count; i += 2)
-        if (by_name(line->words[i + 1]) == MPI_DATATYPE_NULL) return false;
+        if (by_name(line->words[i + 1]) == MPI_DATATYPE_NULL || strcmp(line->words[i + 1], "MPI_PACKED") == 0)
+            return false;
     return size == 0 || line->count > 3;
 }
 

@@ -1,6 +1,6 @@
-//! By which way a process has its place, and what its launcher says: functions that C calls before it makes a rank.
+//! By which way a process has its place, what its launcher says, and how long frames are: functions that C calls before it makes a rank.
 
-ghost use Rattle.std.specs.Prelude.{◌≡◌, ◌⊎◌, MatchOption, false, true, unwrap_or};
+ghost use Rattle.std.specs.Prelude.{◌≡◌, ◌⊎◌, MatchOption, None, Some, false, true, unwrap_or};
 ghost use Rattle.launcher_words.specs.Answers.{answer_in, is_version, separator};
 ghost use Rattle.launcher_words.specs.Lengths.{record_length};
 ghost use Rattle.launcher_words.specs.Places.{IsPlace, place_text};
@@ -10,6 +10,7 @@ ghost use Rattle.launcher_words.specs.Ways.{IsWay};
 ghost use Rattle.launcher_words.specs.Words.{value_of};
 ghost use Rattle.launcher_words.specs.declared.place.ToldPlace.{ToldPlace};
 ghost use Rattle.launcher_words.specs.declared.way.Way.{Way};
+ghost use Rattle.rank_environment.specs.Frames.{frame_of};
 
 use launcher_words::{ToldPlace, ToldPlaceRecord, WayRecord, Wire};
 use std::alloc::Global;
@@ -21,6 +22,17 @@ pub extern "C" fn kombazily_way(has_words: bool, environment: &[u8], way: &mut W
     ensures { (found : Way) × IsWay has_words environment.now found × (way.new ≡ way_record found) }
 {
     *way = launcher_words::way_of(has_words, environment).record();
+}
+
+/// How many bytes of data a frame has at most in a job of ranks at these addresses, by the text of `KOMBAZILY_FRAME`, if
+/// it is told; 0 where that spells no number that a job may have.
+#[unsafe(no_mangle)]
+pub extern "C" fn kombazily_frame(is_told: bool, text: &[u8], addresses: &[u32]) -> u32
+    ensures told { is_told ≡ true → result ≡ unwrap_or (frame_of (Some text.now) addresses.now) 0 }
+    ensures usual { is_told ≡ false → result ≡ unwrap_or (frame_of None addresses.now) 0 }
+{
+    let told = if is_told { Some(text) } else { None };
+    rank_environment::frame_of(told, addresses).unwrap_or(0)
 }
 
 /// Copies the value of a key in a line of a launcher out: how many bytes it has. It is 0 where there is none, where it

@@ -63,7 +63,8 @@ fn fold_whole(
         return OUT_OF_MEMORY;
     };
     accumulate(reduction, &mut all, &next);
-    turn_elements(basic, all.as_bytes(), high);
+    let whole = all.into_whole();
+    turn_elements(basic, whole.as_bytes(), high);
     0
 }
 

@@ -27,9 +27,8 @@ use Rattle.incarnation.specs.declared.place.Place.{Place}
 use Rattle.point_to_point_calls.specs.Refusals.{IsRefusal}
 use Rattle.point_to_point_calls.specs.declared.refusal.Refusal.{Refusal}
 use Rattle.point_to_point_calls.specs.declared.refusal.Refusal.TheVariants.{OutOfMemory}
-use Rattle.vocabulary.specs.MessageLimits.{limit_of}
 use Rattle.vocabulary.specs.declared.message_limit.MessageLimit.{MessageLimit}
-use Rattle.c_rank.specs.State.{IsNoPlace, RankState, place_said}
+use Rattle.c_rank.specs.State.{AreLimits, IsNoPlace, RankState, place_said}
 use Rattle.c_rank.specs.declared.records.PlaceRecord.{PlaceRecord}
 
 -- more waits behind
@@ -274,13 +273,13 @@ stays_back a s b t kept_too o p first is stays none back late =
     (gone.0, gone.1 ∙ same)
 
 -- where there is a place and memory is wanting
-pub no_memory : (p : PlaceRecord) (limit : MessageLimit) (place : Place) (n : ℕ) → limit_of limit ≡ p.message_limit →
+pub no_memory : (p : PlaceRecord) (limit : MessageLimit) (place : Place) (n : ℕ) → AreLimits p limit →
     place ≡ place_said p limit → place_fault place ≡ None → n ≡ 14 → IsNoPlace p n
-no_memory p limit place n bytes said none is =
+no_memory p limit place n limits said none is =
     inr (
       limit,
       (
-        bytes,
+        limits,
         (
           OutOfMemory,
           (subst (λ (f : Option Refusal). IsRefusal f OutOfMemory) (sym (ap place_fault (sym said) ∙ none)) refl, is),

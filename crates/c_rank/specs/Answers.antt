@@ -1,5 +1,5 @@
 -- What a rank's replies are in numbers.
-use Rattle.std.specs.Prelude.{◌≡◌, ◌*◌, ◌^◌, ◌-◌, ℕ, List, length, min, Option, Some, None, Result, Ok, Err}
+use Rattle.std.specs.Prelude.{◌≡◌, ◌*◌, ◌^◌, ◌-◌, ℕ, List, length, min, take, Option, Some, None, Result, Ok, Err}
 use Rattle.vocabulary.specs.BasicTypes.{code_of, size_of}
 use Rattle.vocabulary.specs.declared.basic_type.BasicType.{BasicType}
 use Rattle.vocabulary.specs.declared.basic_type.BasicType.TheVariants.{Uint16}
@@ -96,7 +96,7 @@ plain a = record { answer = a; received = None }
 abbrev pub with_data : AnswerRecord → Contents → (count : ℕ) → Told
 with_data a b count = record {
   answer = record a { basic = code_of b.basic; count = count; bytes = min (count * size_of b.basic) (2 ^ 64 - 1) };
-  received = Some (record { buffer = b; count = count });
+  received = Some (record { buffer = record b { values = take count b.values }; count = count });
 }
 
 -- a send is finished (1); a receive has its data (2), none of them (3), or its peer was started anew (4); a receive was

@@ -66,5 +66,5 @@ HandsAll old most kept_too len o into_old into_new new =
 -- Where the slice may be too short for a datagram, nothing goes and nothing changes.
 pub record HandsNext (old : RankState) (most : ℕ) (kept_too : Bool) (len : ℕ) (o : OutgoingRecord)
     (into_old into_new : List ℕ) (new : RankState) : Type 0 where
-  pub short : length into_old < 1232 → (len ≡ 0) × (o.count ≡ 0) × (into_new ≡ into_old) × (new ≡ old)
-  pub enough : 1232 ≤ length into_old → HandsAll old most kept_too len o into_old into_new new
+  pub short : length into_old < 61648 → (len ≡ 0) × (o.count ≡ 0) × (into_new ≡ into_old) × (new ≡ old)
+  pub enough : 61648 ≤ length into_old → HandsAll old most kept_too len o into_old into_new new

@@ -1,12 +1,12 @@
 -- What a rank is: its engine, the data of its last answer, and what it sends.
-use Rattle.std.specs.Prelude.{◌≡◌, ◌⊎◌, ◌/◌, ◌<◌, ◌==◌, ℕ, List, [], Bool, true, false, Option, None, Result, Ok, Err}
+use Rattle.std.specs.Prelude.{◌≡◌, ◌⊎◌, ◌/◌, ◌%◌, ◌<◌, ◌==◌, ℕ, List, [], Bool, true, false, Option, None, Result, Ok, Err}
 use Rattle.incarnation.specs.declared.place.Place.{Place}
 use Rattle.engine.specs.Places.{place_fault}
 use Rattle.engine.specs.Ticks.{TickGives}
 use Rattle.engine_calls.specs.EngineState.{EngineState, opening}
 use Rattle.point_to_point_calls.specs.Refusals.{IsRefusal, number_of_refusal}
 use Rattle.point_to_point_calls.specs.declared.refusal.Refusal.{Refusal}
-use Rattle.vocabulary.specs.MessageLimits.{limit_of}
+use Rattle.vocabulary.specs.MessageLimits.{frame_limit_of, limit_of}
 use Rattle.vocabulary.specs.declared.message_limit.MessageLimit.{MessageLimit}
 use Rattle.outgoing_datagrams.specs.HandedDatagrams.{SendingState}
 use Rattle.round_trips.specs.Trips.{near}
@@ -32,7 +32,20 @@ pub record RankState : Type 0 where
 abbrev pub IsNoLimit : ℕ → Type 0
 IsNoLimit bytes = (bytes < 1048576) ⊎ (2147483647 < bytes)
 
--- the place that the numbers say, in a job of this message limit
+-- no job has frames of so many bytes of data at most
+abbrev pub IsNoFrame : ℕ → Type 0
+IsNoFrame bytes = (bytes < 1024) ⊎ ((61440 < bytes) ⊎ (0 < bytes % 8))
+
+-- no job has such limits
+abbrev pub HasNoLimits : PlaceRecord → Type 0
+HasNoLimits p = IsNoLimit p.message_limit ⊎ IsNoFrame p.frame_limit
+
+-- the limits that the numbers say
+pub record AreLimits (p : PlaceRecord) (limit : MessageLimit) : Type 0 where
+  pub bytes : limit_of limit ≡ p.message_limit
+  pub frame : frame_limit_of limit ≡ p.frame_limit
+
+-- the place that the numbers say, in a job of these limits
 abbrev pub place_said : PlaceRecord → MessageLimit → Place
 place_said p limit = record {
   endpoint = record { rank = p.rank; incarnation = p.incarnation };
@@ -45,7 +58,7 @@ place_said p limit = record {
 -- take no time, and its clock is at 0
 pub record IsOpening (p : PlaceRecord) (r : RankState) : Type 0 where
   pub limit : MessageLimit
-  pub bytes : limit_of limit ≡ p.message_limit
+  pub limits : AreLimits p limit
   pub engine : r.engine ≡ opening (place_said p limit)
   pub received : r.received ≡ None
   pub waiting : r.sending.waiting ≡ []
@@ -58,11 +71,11 @@ abbrev pub number_of_result : Result (Unit {0}) Refusal → ℕ
 number_of_result (Ok done) = 0
 number_of_result (Err refused) = number_of_refusal refused
 
--- why there is no rank: no job has such a message limit (84), or the engine has no such place
+-- why there is no rank: no job has such limits (84), or the engine has no such place
 abbrev pub IsNoPlace : PlaceRecord → ℕ → Type 0
 IsNoPlace p n =
-    (IsNoLimit p.message_limit × (n ≡ 84)) ⊎
-    ((limit : MessageLimit) × ((limit_of limit ≡ p.message_limit) × ((why : Refusal)
+    (HasNoLimits p × (n ≡ 84)) ⊎
+    ((limit : MessageLimit) × (AreLimits p limit × ((why : Refusal)
     × (IsRefusal (place_fault (place_said p limit)) why × (n ≡ number_of_refusal why)))))
 
 -- ---- its clock

@@ -214,7 +214,10 @@ fn with_data(answer: AnswerRecord, buffer: Buffer, count: u64) -> Told
             bytes: count.saturating_mul(u64::from(basic.size())),
             ..answer
         },
-        received: Some(ReceivedData { buffer, count }),
+        received: Some(ReceivedData {
+            buffer: buffer.into_front(count as usize),
+            count,
+        }),
     }
 }
 

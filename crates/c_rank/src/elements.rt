@@ -120,14 +120,11 @@ pub fn elements_in(alloc: Global, basic: BasicType, bytes: &[u8]) -> Result<Buff
     Ok(Buffer::from_bytes(basic, own))
 }
 
-/// Elements of zero bytes, so many of them. The only error is want of memory.
+/// Elements of zero bytes, so many of them: the room of a receive, which costs what comes into it. The only error is
+/// want of memory.
+#[tactic(auto, using(datatypes::proofs::RoomLaws::zero_values))]
 pub fn zero_elements(alloc: Global, basic: BasicType, count: u64) -> Result<Buffer, AllocError>
     ensures { IfOk result (λ buffer. buffer ≡ zeros basic count) }
 {
-    let size = u64::from(basic.size());
-    let Some(len) = count.checked_mul(size) else {
-        return Err(AllocError);
-    };
-    let bytes = vec![in alloc; 0u8; len as usize]?;
-    Ok(Buffer::from_bytes(basic, bytes))
+    Buffer::zeros(alloc, basic, count as usize)
 }

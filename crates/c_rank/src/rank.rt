@@ -11,8 +11,8 @@ ghost use Rattle.sessions.specs.Peers.{IsIdlePeer};
 ghost use Rattle.c_rank.specs.Clocks.{after_all, going, told_waits, trips_behind, waits_in};
 ghost use Rattle.c_rank.specs.Calls.{Answers, AnswersMeant, Tells, TellsReply, look_told, type_out};
 ghost use Rattle.c_rank.specs.OutgoingDatagrams.{HandsFirst, HandsNext, KeepsBack, KeepsRest, StaysSo, pending};
-ghost use Rattle.c_rank.specs.State.{IsNoLimit, IsNoPlace, IsOpening, IsSameTime, TellsTime, Ticks, number_of_result};
-ghost use Rattle.c_rank.specs.State.{place_said};
+ghost use Rattle.c_rank.specs.State.{AreLimits, HasNoLimits, IsNoLimit, IsNoPlace, IsOpening, IsSameTime, TellsTime, Ticks};
+ghost use Rattle.c_rank.specs.State.{number_of_result, place_said};
 ghost use Rattle.c_rank.specs.AnswerCopies.{Takes, TakesOf};
 ghost use Rattle.vocabulary.specs.MessageLimits.{limit_of};
 ghost use Rattle.c_rank.specs.declared.meaning.Meant.TheVariants as meant;
@@ -21,8 +21,8 @@ use crate::answers::{Told, answer_of_kind, fact_answer, refusal, reply_told, tol
 use crate::elements::turn_elements;
 use crate::meaning::{Meant, meaning_of};
 use crate::records::{AnswerRecord, CallRecord, PlaceRecord};
-use datagram::{Bytes, LONGEST_DATAGRAM};
-use datatypes::Buffer;
+use datagram::{Bytes, GREATEST_DATAGRAM};
+use datatypes::WholeBuffer;
 use engine::{Call, Engine, Place, Probe, Refusal, Reply, Request};
 use outgoing_datagrams::{OutgoingRecord, Sending};
 use round_trips::RoundTrips;
@@ -48,9 +48,9 @@ const MILLISECOND: u64 = 1_000_000;
 /// The data of an answer: the first elements of a buffer.
 #[derive(Drop)]
 pub struct ReceivedData {
-    /// The buffer.
-    pub buffer: Buffer,
-    /// How many of its elements they are.
+    /// These elements, as many as there are in the buffer.
+    pub buffer: WholeBuffer,
+    /// How many they are.
     pub count: u64,
 }
 
@@ -102,13 +102,20 @@ fn limit_of(bytes: u64) -> Option<MessageLimit>
     MessageLimit::of_bytes(bytes as u32)
 }
 
-/// The place that the numbers say; 84 for a message limit that no job has.
-fn place_of(told: &PlaceRecord) -> Result<Place, u8>
-    ensures ok { IfOk result (λ p. (p ≡ place_said told.now p.message_limit) ×
-        (limit_of p.message_limit ≡ told.now.message_limit)) }
-    ensures err { IfErr result (λ n. (n ≡ 84) × IsNoLimit told.now.message_limit) }
+/// The limits that the numbers say, if a job may have them.
+fn limits_of(told: &PlaceRecord) -> Option<MessageLimit>
+    ensures some { IfSome result (AreLimits told.now) }
+    ensures none { IfNone result (HasNoLimits told.now) }
 {
-    let Some(message_limit) = limit_of(told.message_limit) else {
+    limit_of(told.message_limit)?.with_frame(told.frame_limit)
+}
+
+/// The place that the numbers say; 84 for limits that no job has.
+fn place_of(told: &PlaceRecord) -> Result<Place, u8>
+    ensures ok { IfOk result (λ p. (p ≡ place_said told.now p.message_limit) × AreLimits told.now p.message_limit) }
+    ensures err { IfErr result (λ n. (n ≡ 84) × HasNoLimits told.now) }
+{
+    let Some(message_limit) = limits_of(told) else {
         return Err(NO_LIMIT);
     };
     Ok(Place {
@@ -162,7 +169,7 @@ fn note_all(trips: &mut RoundTrips, list: &[(u16, Bytes)], now: u64)
 
 impl Rank {
     /// The rank at this place, at its start. Refused with 84 for a message limit that isn't from 1,048,576 to
-    /// 2,147,483,647, with 5 where the rank isn't below the size, with 13 where the size is above 1,024, and with 14.
+    /// 2,147,483,647, and for a frame limit that isn't a multiple of 8 from 1,024 to 61,440, with 5 where the rank isn't below the size, with 13 where the size is above 1,024, and with 14.
     pub fn new(alloc: Global, place: &PlaceRecord) -> Result<Rank, u8>
         ensures opening { IfOk result (IsOpening place.now) }
         ensures refused { IfErr result (IsNoPlace place.now) }
@@ -351,7 +358,7 @@ impl Rank {
         ensures empty { self.old.sending.waiting ≡ [] → self.new.engine.sessions.out ≡ [] }
         ensures rest { KeepsRest self.old self.new }
     {
-        if self.sending.is_through() {
+        if self.sending.is_through() && !self.engine.is_through() {
             let mut emitted = self.engine.take_out();
             hold_back(&self.trips, &mut emitted);
             note_all(&mut self.trips, &emitted, self.sending.micros());
@@ -396,7 +403,7 @@ impl Rank {
     }
 
     /// Hands out what goes next: at most `most` datagrams, or one, which stand one behind the other in the slice. Answers
-    /// how many bytes they are. Nothing goes where the slice may be too short for a datagram.
+    /// how many bytes they are. Nothing goes where the slice may be too short for a datagram of some job.
     pub fn next(
         &mut self,
         most: u32,
@@ -407,7 +414,7 @@ impl Rank {
         ensures { HandsNext self.old most kept_too result outgoing.new into.old into.new self.new }
     {
         outgoing.count = 0;
-        if into.len() < LONGEST_DATAGRAM {
+        if into.len() < GREATEST_DATAGRAM {
             return 0;
         }
         let len = self.hand_out_all(most, kept_too, outgoing, into);

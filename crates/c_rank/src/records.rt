@@ -29,6 +29,8 @@ pub struct PlaceRecord {
     pub size: u16,
     /// The incarnation at which the rank runs.
     pub incarnation: u16,
+    /// The most bytes of data of a frame.
+    pub frame_limit: u32,
 }
 
 /// What is asked of a rank. Each kind reads some of the fields.

@@ -15,6 +15,7 @@ mod note;
 mod refusal;
 mod role;
 mod root;
+mod standing;
 mod tally;
 mod verdict;
 

@@ -4,7 +4,7 @@ ghost use Rattle.std.specs.Prelude.{◌≡◌};
 ghost use Rattle.collective_messages.specs.Messages.{IsWithinType, says};
 ghost use Rattle.payload.specs.Spellings.{payload_text};
 
-use datatypes::Buffer;
+use datatypes::WholeBuffer;
 use payload::{Choice, Direction, NewGroup, Payload, PayloadContent, Record};
 use vocabulary::Endpoint;
 
@@ -16,7 +16,7 @@ pub enum MessageContent {
     /// Nothing: that the sender has entered, or that all have.
     Nothing(Direction),
     /// Elements.
-    Elements(Direction, Buffer),
+    Elements(Direction, WholeBuffer),
     /// The context of a copy.
     Context(u64),
     /// What the sender asks for in a split.
@@ -24,7 +24,7 @@ pub enum MessageContent {
     /// That the receiver gets MPI_COMM_NULL.
     NullCommunicator,
     /// The context of the communicator that the receiver gets, and the ranks in `world` of its members, in order.
-    NewGroup(u64, Buffer),
+    NewGroup(u64, WholeBuffer),
 }
 
 /// A message that a rank sends in a collective.

@@ -10,6 +10,7 @@ ghost use Rattle.payload.specs.declared.record.Record.TheVariants as records;
 ghost use Rattle.binomial_trees.specs.Trees.{children, rotate, rotate_back};
 
 use crate::verdict::is_at;
+use alike::Alike;
 use binomial_trees::{children, parent, rotate, rotate_back};
 use groups::Group;
 use payload::{Record, Rooted};
@@ -32,6 +33,15 @@ impl Model for Role {
     ghost Value = { RoleState };
 
     ghost view = { λ r. record { decides = r.decides; above = r.above; feeders = r.feeders.items; onward = r.onward.items } };
+}
+
+impl Alike for Role {
+    fn stands_as(&self, other: &Self) -> bool {
+        self.decides == other.decides
+            && self.above == other.above
+            && self.feeders.as_slice() == other.feeders.as_slice()
+            && self.onward.as_slice() == other.onward.as_slice()
+    }
 }
 
 impl Role {

@@ -61,44 +61,6 @@ whole_step basic bytes values rest =
     let len : length (bytes ++ bytes_of size values) ≡ (n + length values) * size = omega (arith, length-append bytes (bytes_of size values)) in
     no_rest size (n + length values) (bytes ++ bytes_of size values) (sizes basic).positive len
 
--- the elements in so many bytes from the start of one are so many elements from it
-pub block_values : (basic : BasicType) (values : List ℕ) (start count : ℕ) → AreWithin (size_of basic) values →
-    start + count ≤ length values
-    → values_of (size_of basic)
-    (take (count * size_of basic) (drop (start * size_of basic) (bytes_of (size_of basic) values))) ≡
-    take count (drop start values)
-block_values basic values start count within fits =
-    let size = size_of basic in
-    let bytes = bytes_of size values in
-    let positive = (sizes basic).positive in
-    let len : length bytes ≡ length values * size = length-bytes_of size values in
-    let both : (start + count) * size ≡ start * size + count * size = add-mul start count size in
-    let most : (start + count) * size ≤ length values * size = mul-le-mul_right size fits in
-    let front : start * size ≤ length bytes = omega arith in
-    let rest : count * size ≤ length (drop (start * size) bytes) = omega (arith, length-drop (start * size) bytes) in
-    values_of-take size (drop (start * size) bytes) count positive rest
-    ∙ ap (take count) (values_of-drop size bytes start positive front ∙
-    ap (drop start) (values_of-bytes_of size values positive within))
-
--- so many bytes from the start of one are there
-pub block_room : (basic : BasicType) (values : List ℕ) (start count : ℕ) → start + count ≤ length values
-    → count * size_of basic ≤ length (drop (start * size_of basic) (bytes_of (size_of basic) values))
-block_room basic values start count fits =
-    let size = size_of basic in
-    let len : length (bytes_of size values) ≡ length values * size = length-bytes_of size values in
-    let both : (start + count) * size ≡ start * size + count * size = add-mul start count size in
-    let most : (start + count) * size ≤ length values * size = mul-le-mul_right size fits in
-    omega (arith, length-drop (start * size) (bytes_of size values))
-
--- the bytes before it are there
-pub front_room : (basic : BasicType) (values : List ℕ) (start count : ℕ) → start + count ≤ length values
-    → start * size_of basic ≤ length (bytes_of (size_of basic) values)
-front_room basic values start count fits =
-    let size = size_of basic in
-    let len : length (bytes_of size values) ≡ length values * size = length-bytes_of size values in
-    let most : start * size ≤ length values * size = mul-le-mul_right size (omega arith) in
-    omega arith
-
 -- ---- blocks that are alike
 
 -- the type that a code stands for is the one whose code it is

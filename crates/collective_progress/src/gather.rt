@@ -25,7 +25,7 @@ fn joined_bytes<'a>(
     let mut bytes = Vec::new(alloc);
     for rank in ranks {
         if let Some(block) = seat.block_known(mine, *rank) {
-            bytes.extend_from_slice(block.as_bytes())?;
+            block.append_to(&mut bytes)?;
         }
     }
     Ok(bytes)

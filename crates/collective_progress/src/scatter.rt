@@ -13,10 +13,6 @@ pub fn block_at(alloc: Global, all: &Buffer, place: u16, count: u32) -> Result<B
     ensures { IfOk result
         (λ block. block ≡ record { basic = all.now.basic; values = block_at place count all.now.values }) }
 {
-    let size = usize::from(all.basic().size());
-    let start = usize::from(place) * count as usize * size;
-    let (_, rest) = all.as_bytes().split_at(start);
-    let (block, _) = rest.split_at(count as usize * size);
-    let bytes = Vec::from_slice(alloc, block)?;
-    Ok(Buffer::from_bytes(all.basic(), bytes))
+    let count = count as usize;
+    all.part(alloc, usize::from(place) * count, count)
 }

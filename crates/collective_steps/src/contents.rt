@@ -127,7 +127,7 @@ fn group_content(alloc: Global, communicator: &Communicator) -> Result<MessageCo
     ensures { IfOk result (λ given. given ≡ given_of (Some communicator.now)) }
 {
     let ranks = elements_of(alloc, communicator.group.ranks())?;
-    Ok(MessageContent::NewGroup(communicator.context.number(), ranks))
+    Ok(MessageContent::NewGroup(communicator.context.number(), ranks.into_whole()))
 }
 
 /// The first of these communicators that has a rank among its members.
@@ -194,7 +194,7 @@ pub(crate) fn block_content(
     ensures { IfOk result (λ made. made ≡ given.Elements way block.now) }
 {
     match block.try_clone(alloc) {
-        Ok(block) => Ok(MessageContent::Elements(way, block)),
+        Ok(block) => Ok(MessageContent::Elements(way, block.into_whole())),
         Err(refused) => Err(refused),
     }
 }

@@ -26,7 +26,10 @@ fn fold_given<'a>(
         operation block.now)) }
 {
     match reduce_blocks(alloc, seat, seat.inside.role.feeders(), operation, block) {
-        Ok(Some(all)) => Ok(Some(MessageContent::Elements(Direction::TowardsRoot, all))),
+        Ok(Some(all)) => Ok(Some(MessageContent::Elements(
+            Direction::TowardsRoot,
+            all.into_whole(),
+        ))),
         Ok(None) => Ok(None),
         Err(refused) => Err(refused),
     }

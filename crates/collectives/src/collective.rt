@@ -4,7 +4,7 @@
 //! which changes nothing but room, and then it is carried out, which can't fail.
 
 ghost use Rattle.std.specs.Prelude.{◌≡◌, ◌<◌, ◌≤◌, ◌+◌, ◌^◌, ◌==◌, IfErr, IfOk, None, Some, [], if◌then◌else◌, vec_len};
-ghost use Rattle.std.specs.Prelude.{vec_capacity};
+ghost use Rattle.std.specs.Prelude.{IsTrue, vec_capacity};
 ghost use Rattle.std.specs.Option.{option_copied};
 ghost use Rattle.collectives.specs.Calls.{entered, entry_rule, inside_in, inside_of, is_ended, kept_with, learned};
 ghost use Rattle.collectives.specs.Calls.{lesson_ending, limit_at, most_collectives, present_met, with_note};
@@ -13,6 +13,7 @@ ghost use Rattle.collectives.specs.State.{after_step, has_told, left, opening, t
 ghost use Rattle.collective_steps.specs.Steps.{MeetsLimit, contexts_after, ending_of};
 
 use crate::limits::{has_former, is_limited, members_incarnation};
+use alike::{Alike, are_alike};
 use collective_messages::{
     CollectiveRefusal, Entry, Inside, Note, Tally, count_in, drop_notes, raise, role_of,
 };
@@ -109,6 +110,17 @@ impl Collective {
         ensures { option_copied result ≡ self.now.state.present }
     {
         self.present.as_ref()
+    }
+
+    /// Whether both are of one endpoint, are in the same collective, have entered as many in each context, counted in
+    /// the same order, and keep the same notes in the same order, whatever room they have.
+    pub fn stands_as(&self, other: &Collective) -> bool
+        ensures { IsTrue result → self.now.state ≡ other.now.state }
+    {
+        self.own == other.own
+            && self.present.stands_as(&other.present)
+            && are_alike(&self.tallies, &other.tallies)
+            && are_alike(&self.kept, &other.kept)
     }
 
     /// The first rule that entering would break now, of 6 (the rank is in a collective) and 4 (no communicator is held

@@ -9,9 +9,10 @@ use Rattle.communicators.specs.declared.fault.CommunicatorFault.{CommunicatorFau
 use Rattle.context_agreement.specs.Communicators.{ContextsState}
 use Rattle.perfect_groups.specs.Calls.{Enter}
 use Rattle.perfect_groups.specs.Faults.{fault_by, is_within}
+use Rattle.vocabulary.specs.declared.message_limit.MessageLimit.{MessageLimit}
 
 pub entry_allowed : EntriesAreAllowed →
-    (limit : ℕ) (s : State) (h : ContextsState) (is_blocked : Bool) (known : List ℕ) (place : ℕ) (x : Entry)
+    (limit : MessageLimit) (s : State) (h : ContextsState) (is_blocked : Bool) (known : List ℕ) (place : ℕ) (x : Entry)
     (found : Option CommunicatorFault) →
     option_map number_of_fault found
     ≡ or_limited

@@ -190,7 +190,7 @@ fn received_through(alloc: Global) -> Option<[u8; 6]> {
     };
     let message = bytes(alloc, &[7, 8])?;
     match receive_outcome(judged(region)?, empty_status(), message) {
-        Outcome::Received(_status, buffer) => match buffer.as_bytes() {
+        Outcome::Received(_status, buffer) => match buffer.into_whole().as_bytes() {
             [a, b, c, d, e, f] => Some([*a, *b, *c, *d, *e, *f]),
             _ => None,
         },

@@ -5,6 +5,7 @@ ghost use Rattle.std.specs.Option.{option_copied};
 ghost use Rattle.perfect_queues.specs.Groups.{rank_in};
 ghost use Rattle.communicator_members.specs.Statuses.{status_in};
 
+use alike::{Alike, are_alike};
 use std::alloc::{AllocError, Global};
 use std::marker::Model;
 use std::rc::RcSlice;
@@ -79,6 +80,12 @@ impl Members {
         ensures { result ≡ rank_in self.now member }
     {
         rank_among(self.ranks.as_slice(), member) as u16
+    }
+}
+
+impl Alike for Members {
+    fn stands_as(&self, other: &Self) -> bool {
+        are_alike(self.as_slice(), other.as_slice())
     }
 }
 

@@ -35,7 +35,9 @@ use Rattle.perfect_groups.specs.Operations.{bytes_of, is_undefined}
 use Rattle.perfect_queues.specs.Groups.{rank_in}
 use Rattle.reductions.specs.Operations.{is_defined}
 use Rattle.vocabulary.specs.BasicTypes.{size_of}
+use Rattle.vocabulary.specs.MessageLimits.{limit_of}
 use Rattle.vocabulary.specs.declared.endpoint.Endpoint.{Endpoint}
+use Rattle.vocabulary.specs.declared.message_limit.MessageLimit.{MessageLimit}
 
 -- ---- what is handed in
 
@@ -58,7 +60,7 @@ data_at t (Scatter root scattered basic count) = t && is_other_type scattered ba
 data_at t _ = false
 
 -- the machine's rules on what is entered, by whether the caller is the root, and how many members there are
-abbrev rules_at : (limit : ℕ) → (is_root : Bool) → (size : ℕ) → CollectiveCall → Option ℕ → Option ℕ
+abbrev rules_at : (limit : MessageLimit) → (is_root : Bool) → (size : ℕ) → CollectiveCall → Option ℕ → Option ℕ
 rules_at limit t n p w =
     if data_at t p then Some 2 else
     (if nat_lt (block_limit limit) ((part_of p).record_is.count * bytes_of (part_of p).record_is.basic)
@@ -68,8 +70,8 @@ rules_at limit t n p w =
     (if is_undefined (part_of p).record_is.operation (part_of p).record_is.basic then Some 9 else w)))
 
 -- they are those of the program
-rules_same : (limit : ℕ) (t : Bool) (n : ℕ) (w : Option ℕ) (x : Entry) →
-    rules_at limit t n (call_of x) w ≡ option_or (option_map number_of_rule (rule_broken limit t n x)) w
+rules_same : (limit : MessageLimit) (t : Bool) (n : ℕ) (w : Option ℕ) (x : Entry) →
+    rules_at limit t n (call_of x) w ≡ option_or (option_map number_of_rule (rule_broken (limit_of limit) t n x)) w
 rules_same limit true n w entries.Barrier = in_order false (nat_lt (block_limit limit) 0 || false) false false w
 rules_same limit false n w entries.Barrier = in_order false (nat_lt (block_limit limit) 0 || false) false false w
 rules_same limit true n w (entries.Bcast root b) =
@@ -120,7 +122,7 @@ root_same entries.Dup = refl
 root_same (entries.Split choice) = refl
 
 -- the machine's faults of an entry, by the communicator that the call names
-abbrev entering_fault : (limit : ℕ) (e : Endpoint) → (known : ℕ → ℕ) → Option Communicator → CollectiveCall → Option ℕ
+abbrev entering_fault : (limit : MessageLimit) (e : Endpoint) → (known : ℕ → ℕ) → Option Communicator → CollectiveCall → Option ℕ
 entering_fault limit e known o p =
     if is_none o then Some 4 else
     (if wrong_data o e p then Some 2 else
@@ -130,7 +132,7 @@ entering_fault limit e known o p =
     (if has_replaced known o then Some 11 else None)))))
 
 -- by whether the caller is the root, and how many members it has
-by_root : (limit : ℕ) (e : Endpoint) (known : ℕ → ℕ) (c : Communicator) (x : Entry)
+by_root : (limit : MessageLimit) (e : Endpoint) (known : ℕ → ℕ) (c : Communicator) (x : Entry)
     → entering_fault limit e known (Some c) (call_of x)
     ≡ rules_at limit (rank_in (group_of c) e.rank == (part_of (call_of x)).record_is.root) (length c.members) (call_of x)
     (if has_replaced known (Some c) then Some 11 else None)
@@ -144,10 +146,10 @@ by_root limit e known c entries.Dup = refl
 by_root limit e known c (entries.Split choice) = refl
 
 -- the rules on an entry of a communicator that is held, where one is
-held_judged : (limit : ℕ) (e : Endpoint) (known : ℕ → ℕ) (o : Option held.Communicator) (x : Entry)
+held_judged : (limit : MessageLimit) (e : Endpoint) (known : ℕ → ℕ) (o : Option held.Communicator) (x : Entry)
     → entering_fault limit e known (option_map (communicator_of e) o) (call_of x)
     ≡ cond (is_none (option_map (communicator_of e) o)) (Some 4)
-    (option_or (option_map number_of_rule (rule_in limit e o x))
+    (option_or (option_map number_of_rule (rule_in (limit_of limit) e o x))
     (cond (has_replaced known (option_map (communicator_of e) o)) (Some 11) None))
 held_judged limit e known None x = refl
 held_judged limit e known (Some c) x =
@@ -162,21 +164,21 @@ held_judged limit e known (Some c) x =
     ∙ rules_same limit (rank_in c.group e.rank == root_of (record_of x)) (length c.group) w x)))
 
 -- an entry breaks 6, 4, a rule on what is handed in, or 11
-pub entry_judged : (limit : ℕ) (b : Bool) (s : State) (h : ContextsState) (known : ℕ → ℕ) (comm : Option ℕ) (x : Entry) →
+pub entry_judged : (limit : MessageLimit) (b : Bool) (s : State) (h : ContextsState) (known : ℕ → ℕ) (comm : Option ℕ) (x : Entry) →
     fault_by limit b no_requests s.own known (membership_of s h) (Enter comm (call_of x))
     ≡ cond b (Some 6) (cond (is_none (held_at (membership_of s h) comm)) (Some 4)
-    (option_or (option_map number_of_rule (rule_in limit s.own (held_in h comm) x))
+    (option_or (option_map number_of_rule (rule_in (limit_of limit) s.own (held_in h comm) x))
     (cond (has_replaced known (held_at (membership_of s h) comm)) (Some 11) None)))
 entry_judged limit true s h known comm x = refl
 entry_judged limit false s h known comm x =
     subst (λ (o : Option Communicator). entering_fault limit s.own known o (call_of x)
     ≡ cond (is_none o) (Some 4)
-    (option_or (option_map number_of_rule (rule_in limit s.own (held_in h comm) x))
+    (option_or (option_map number_of_rule (rule_in (limit_of limit) s.own (held_in h comm) x))
     (cond (has_replaced known o) (Some 11) None)))
     (sym (held_same s h comm)) (held_judged limit s.own known (held_in h comm) x)
 
 -- a question breaks 6 or 4
-pub question_judged : (limit : ℕ) (b : Bool) (e : Endpoint) (known : ℕ → ℕ) (m : Membership) (comm : Option ℕ) (q : Question) →
+pub question_judged : (limit : MessageLimit) (b : Bool) (e : Endpoint) (known : ℕ → ℕ) (m : Membership) (comm : Option ℕ) (q : Question) →
     fault_by limit b no_requests e known m (Inquire comm (question_of q))
     ≡ cond b (Some 6) (cond (is_none (held_at m comm) || asks_of_none m (question_of q)) (Some 4) None)
 question_judged limit true e known m comm q = refl
@@ -204,7 +206,7 @@ none_of_two false c q = q
 pub entries_allowed : EntriesAreAllowed
 entries_allowed limit s h b known comm x q = go comm
     (chain (b || is_within (membership_of s h).present) (is_none (held_at (membership_of s h) comm))
-    (option_map number_of_rule (rule_in limit s.own (held_in h comm) x))
+    (option_map number_of_rule (rule_in (limit_of limit) s.own (held_in h comm) x))
     (has_replaced known (held_at (membership_of s h) comm))
     (limit_in s h comm x)
     (ap (λ (o : Option ℕ). or_limited o (limit_in s h comm x))

@@ -9,6 +9,7 @@ ghost use Rattle.context_agreement.specs.Communicators.{after_install, is_same, 
 use crate::communicator::Communicator;
 use crate::context::Context;
 use crate::refusal::ContextRefusal;
+use alike::are_alike;
 use groups::Group;
 use std::alloc::Global;
 use std::marker::Model;
@@ -175,6 +176,17 @@ impl Contexts {
         ensures { option_copied result ≡ slice_get self.now.state.held place }
     {
         self.held.get(place)
+    }
+
+    /// Whether both are of one rank and incarnation, hold the same communicators in the same order and give the same
+    /// context next, whatever room they have.
+    pub fn stands_as(&self, other: &Contexts) -> bool
+        ensures { IsTrue result → self.now.state ≡ other.now.state }
+    {
+        self.rank == other.rank
+            && self.incarnation == other.incarnation
+            && self.next_serial == other.next_serial
+            && are_alike(&self.held, &other.held)
     }
 
     /// The place of the communicator with this context, where the rank holds it.

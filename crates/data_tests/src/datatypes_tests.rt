@@ -2,7 +2,7 @@
 
 ghost use Rattle.std.specs.Prelude.{◌≡◌, ◌∷◌, [], IfOk};
 
-use datatypes::{Buffer, Element, IndexedBlock, Layout, LayoutRefusal, number_of};
+use datatypes::{Buffer, Element, IndexedBlock, Layout, LayoutRefusal, WholeBuffer, number_of};
 use reductions::{ReduceOp, Reduction, accumulate, fold};
 use std::alloc::{AllocError, Global};
 use std::test::Fail;
@@ -162,7 +162,7 @@ fn long_blocks_are_sent(rt: HostRuntime) {
 }
 
 /// Whether a message comes to the places of a layout in a buffer.
-fn is_received(message: &Buffer, layout: &Layout, buffer: &mut Buffer) -> bool {
+fn is_received(message: &WholeBuffer, layout: &Layout, buffer: &mut Buffer) -> bool {
     message.len() as u64 <= layout.place_count(1) && buffer.unpack(message, layout, 1).is_ok()
 }
 
@@ -170,7 +170,7 @@ fn is_received(message: &Buffer, layout: &Layout, buffer: &mut Buffer) -> bool {
 /// sides of the gaps of the first copy, and the last of the message, which ends in the third copy.
 fn received_blocks(alloc: Global) -> Option<[Option<u64>; 6]> {
     let layout = int32(alloc)?.vector(alloc, 2, 16, 20).ok()?;
-    let message = counted(alloc).ok()?;
+    let message = counted(alloc).ok()?.into_whole();
     let mut buffer = Buffer::new(alloc, BasicType::Int32);
     buffer.push_copies(0, 112).ok()?;
     if message.len() as u64 > layout.place_count(3) {
@@ -195,7 +195,7 @@ fn long_blocks_are_received(rt: HostRuntime) {
 
 /// Whether 7 and 8 come to places 1 and 2 of six.
 fn received(alloc: Global, layout: &Layout) -> Option<bool> {
-    let message = int32s(alloc, &[7, 8]).ok()?;
+    let message = int32s(alloc, &[7, 8]).ok()?.into_whole();
     let mut six = int32s(alloc, &[0, 0, 0, 0, 0, 0]).ok()?;
     Some(is_received(&message, layout, &mut six) && holds(&six, &[0, 7, 8, 0, 0, 0]))
 }
@@ -204,6 +204,51 @@ fn received(alloc: Global, layout: &Layout) -> Option<bool> {
 fn elements_are_received(rt: HostRuntime) {
     let layout = indexed(rt.alloc()).expect(&rt, "a layout");
     assert_eq!(rt; received(rt.alloc(), &layout), Some(true));
+}
+
+/// A room of 20,000 elements, which are many bytes, behind a message of two.
+fn long_room(alloc: Global) -> Option<Buffer> {
+    let mut room = Buffer::zeros(alloc, BasicType::Int32, 20_000).ok()?;
+    let message = int32s(alloc, &[7, 8]).ok()?.into_whole();
+    if room.basic() != message.basic() || message.len() > room.len() {
+        return None;
+    }
+    room.overwrite(&message);
+    Some(room)
+}
+
+/// Its length, elements on both sides of the message's end, and the last one; those of a part; and how many bytes its
+/// first three elements have.
+fn long_room_told(alloc: Global) -> Option<([Option<u64>; 4], usize, usize)> {
+    let room = long_room(alloc)?;
+    let part = match room.len() {
+        20_000 => room.part(alloc, 1, 19_999).ok()?,
+        _ => return None,
+    };
+    let elements = [room.get(1), room.get(2), part.get(0), part.get(19_998)];
+    let len = room.len();
+    Some((elements, len, room.into_front(3).byte_len()))
+}
+
+#[test]
+fn a_long_room_has_the_message_and_zeros(rt: HostRuntime) {
+    let elements = [Some(8), Some(0), Some(8), Some(0)];
+    assert_eq!(rt; long_room_told(rt.alloc()), Some((elements, 20_000, 12)));
+}
+
+/// Whether a long room's bytes are as many as it tells, the second element's and the last one's among them.
+fn has_long_bytes(alloc: Global) -> Option<bool> {
+    let room = long_room(alloc)?;
+    let mut bytes = Vec::new(alloc);
+    room.append_to(&mut bytes).ok()?;
+    let whole = room.try_clone(alloc).ok()?.into_whole();
+    let is_same = whole.as_bytes() == bytes.as_slice() && bytes.len() == 80_000;
+    Some(is_same && bytes.get(7) == Some(&8) && bytes.last() == Some(&0))
+}
+
+#[test]
+fn a_long_room_has_all_its_bytes(rt: HostRuntime) {
+    assert_eq!(rt; has_long_bytes(rt.alloc()), Some(true));
 }
 
 /// Whether an element of int8 is told by this text.

@@ -2,6 +2,7 @@
 
 use rendezvous::{AnnouncedPayload, ComingPayload, Transfers, WholePayload, count_of, pieces_of};
 use std::alloc::Global;
+use vocabulary::MessageLimit;
 
 /// So many bytes, each of which is its place modulo 251.
 fn bytes(alloc: Global, count: usize) -> Option<Vec<u8>> {
@@ -21,7 +22,7 @@ fn said(whole: &WholePayload, sent: &[u8]) -> (u64, u32, bool) {
 fn begun(alloc: Global, total: usize) -> Option<Transfers> {
     let mut transfers = Transfers::new(alloc, 4).ok()?;
     transfers.reserve_coming().ok()?;
-    let payload = ComingPayload::new(alloc, 3, 0, 77, 8, total).ok()?;
+    let payload = ComingPayload::new(alloc, MessageLimit::least(), 3, 0, 77, 8, total).ok()?;
     if !transfers.is_next(3, 0) {
         return None;
     }
@@ -36,7 +37,7 @@ fn passed(alloc: Global) -> Option<(usize, usize, Option<(u64, u32, bool)>, bool
     let mut transfers = begun(alloc, 2500)?;
     let mut early = Vec::new(alloc);
     let mut given = None;
-    for piece in pieces_of(alloc, &all).ok()? {
+    for piece in pieces_of(alloc, MessageLimit::least(), &all).ok()? {
         if !transfers.payload_is_due(3, 0, piece.offset, piece.bytes) {
             return None;
         }
@@ -49,7 +50,7 @@ fn passed(alloc: Global) -> Option<(usize, usize, Option<(u64, u32, bool)>, bool
         }
     }
     Some((
-        count_of(&all),
+        count_of(MessageLimit::least(), &all),
         early.len(),
         given,
         transfers.is_coming(3, 0),
@@ -62,6 +63,22 @@ fn a_payload_is_handed_out_whole_with_its_last_piece(rt: HostRuntime) {
         passed(rt.alloc()),
         Some((3, 2, Some((77, 8, true)), false))
     );
+}
+
+/// In how many pieces 65,536 bytes go in a job whose frames have at most so many, and how long the last one is.
+fn pieces_in(alloc: Global, frame: u32) -> Option<(usize, usize)> {
+    let limit = MessageLimit::least().with_frame(frame)?;
+    let all = bytes(alloc, 65536)?;
+    let pieces = pieces_of(alloc, limit, &all).ok()?;
+    let last = pieces.last()?;
+    Some((pieces.len(), last.bytes.len()))
+}
+
+#[test]
+fn pieces_are_as_long_as_the_frames_of_the_job(rt: HostRuntime) {
+    assert_eq!(rt; pieces_in(rt.alloc(), 1024), Some((64, 1024)));
+    assert_eq!(rt; pieces_in(rt.alloc(), 61440), Some((2, 4096)));
+    assert_eq!(rt; pieces_in(rt.alloc(), 61448), None);
 }
 
 /// Of a payload of two pieces that is taken out with the second one and put back: whether it comes before and after

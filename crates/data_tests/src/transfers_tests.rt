@@ -3,7 +3,7 @@
 use datatypes::Buffer;
 use rendezvous::*;
 use std::alloc::Global;
-use vocabulary::BasicType;
+use vocabulary::{BasicType, MessageLimit};
 
 /// A message of so many bytes, of which no two neighbours are the same.
 fn message(alloc: Global, count: usize) -> Option<Buffer> {
@@ -45,7 +45,15 @@ fn collect(alloc: Global, transfers: &mut Transfers, transfer: u32, count: usize
     let Ok(()) = transfers.reserve_collection() else {
         return false;
     };
-    match Collection::new(alloc, 0, transfer, 9, BasicType::Byte, count) {
+    match Collection::new(
+        alloc,
+        MessageLimit::least(),
+        0,
+        transfer,
+        9,
+        BasicType::Byte,
+        count,
+    ) {
         Ok(collection) => {
             transfers.collect(collection);
             true
@@ -71,12 +79,14 @@ fn bring(transfers: &mut Transfers, pieces: &[Piece<'_>]) -> Option<(usize, Coll
 /// In how many pieces the message that rank 0 offers arrives, for which request, and whether as it was.
 fn deliver(alloc: Global, from: &Transfers, to: &mut Transfers) -> Option<(usize, usize, bool)> {
     let offer = from.offer(1, 0)?;
-    let Ok(pieces) = pieces(alloc, &offer.elements) else {
+    let Ok(pieces) = pieces(alloc, MessageLimit::least(), &offer.elements) else {
         return None;
     };
     let (count, collected) = bring(to, pieces.as_slice())?;
-    let is_same = collected.elements.as_bytes() == offer.elements.as_bytes();
-    Some((count, collected.request, is_same))
+    let request = collected.request;
+    let came = collected.elements.into_whole();
+    let is_same = came.as_bytes() == offer.elements.as_bytes();
+    Some((count, request, is_same))
 }
 
 /// The same of a message of so many bytes, from its announcement on.

@@ -4,8 +4,10 @@ use Rattle.std.specs.Prelude.{Err, Bool, true, nat_le, nat_lt, ◌==◌, if◌th
 use Rattle.byteorder.specs.Endian.{big_number}
 use Rattle.vocabulary.specs.declared.basic_type.BasicType.{BasicType}
 use Rattle.vocabulary.specs.BasicTypes.{code_of, size_of, type_at}
-use Rattle.vocabulary.specs.Limits.{eager_limit, highest_tag}
-use Rattle.vocabulary.specs.Modes.{is_standard, may_be_announced, mode_at}
+use Rattle.vocabulary.specs.Limits.{greatest_frame, highest_tag}
+use Rattle.vocabulary.specs.MessageLimits.{frame_limit_of}
+use Rattle.vocabulary.specs.declared.message_limit.MessageLimit.{MessageLimit}
+use Rattle.vocabulary.specs.Modes.{is_standard, mode_at}
 use Rattle.datagram.specs.declared.refusal.DatagramRefusal.{DatagramRefusal}
 use Rattle.datagram.specs.declared.refusal.DatagramRefusal.TheVariants as refusals
 use Rattle.datagram.specs.declared.kinds.DatagramKind.{DatagramKind}
@@ -51,18 +53,18 @@ kind_of bytes =
     (guard (slice_index bytes 4 == 2) refusals.Version
     (required (kind_at (slice_index bytes 5)) refusals.Kind)))
 
--- how long a body of this kind may be, in bytes
-abbrev pub length_fits : DatagramKind → ℕ → Bool
-length_fits kinds.Frame n = nat_le n 1200
-length_fits kinds.Ack n = n == 8
-length_fits kinds.Reset n = n == 0
+-- how long a body of this kind may be, in bytes, where a frame has so many bytes of data at most
+abbrev pub length_fits : (frame : ℕ) → DatagramKind → ℕ → Bool
+length_fits frame kinds.Frame n = nat_le n (frame + 176)
+length_fits frame kinds.Ack n = n == 8
+length_fits frame kinds.Reset n = n == 0
 
 -- the bytes behind the header, which must be as many as it says and may be: 25
-unfoldable pub body_of : DatagramKind → List ℕ → Result (List ℕ) DatagramRefusal
-body_of kind bytes =
+unfoldable pub body_of : (frame : ℕ) → DatagramKind → List ℕ → Result (List ℕ) DatagramRefusal
+body_of frame kind bytes =
     let body = drop 32 bytes in
     guard (number_at 14 2 bytes == length body) refusals.Length
-    (guard (length_fits kind (length body)) refusals.Length
+    (guard (length_fits frame kind (length body)) refusals.Length
     (Ok body))
 
 -- the header's fields
@@ -102,7 +104,7 @@ unfoldable pub eager_of : List ℕ → Result EagerText DatagramRefusal
 eager_of body = do
   o ← opening_of body
   guard (is_standard o.mode) refusals.BadFrame
-      (guard (nat_le (length (drop 20 body)) eager_limit) refusals.BadFrame
+      (guard (nat_le (length (drop 20 body)) greatest_frame) refusals.BadFrame
       (guard (length (drop 20 body) == o.count * size_of o.basic) refusals.BadFrame
       (Ok (record {
         plane = o.plane;
@@ -118,16 +120,15 @@ unfoldable pub request_of : List ℕ → Result RequestText DatagramRefusal
 request_of body =
     guard (length body == 24) refusals.BadFrame (do
       o ← opening_of body
-      guard (may_be_announced o.mode (o.count * size_of o.basic)) refusals.BadFrame
-          (Ok (record {
-            mode = o.mode;
-            plane = o.plane;
-            basic = o.basic;
-            tag = o.tag;
-            context = o.context;
-            count = o.count;
-            transfer = number_at 20 4 body;
-          })))
+      Ok (record {
+        mode = o.mode;
+        plane = o.plane;
+        basic = o.basic;
+        tag = o.tag;
+        context = o.context;
+        count = o.count;
+        transfer = number_at 20 4 body;
+      }))
 
 -- a CTS, or 30
 unfoldable pub clear_of : List ℕ → Result ClearText DatagramRefusal
@@ -142,9 +143,8 @@ unfoldable pub data_of : List ℕ → Result DataText DatagramRefusal
 data_of body =
     guard (nat_lt 12 (length body)) refusals.BadFrame
     (guard (number_at 0 4 body == 0x04000000) refusals.BadFrame
-    (guard (nat_le (length (drop 12 body)) eager_limit) refusals.BadFrame
-    (guard (number_at 8 4 body % eager_limit == 0) refusals.BadFrame
-    (Ok (record { transfer = number_at 4 4 body; offset = number_at 8 4 body; bytes = drop 12 body })))))
+    (guard (nat_le (length (drop 12 body)) greatest_frame) refusals.BadFrame
+    (Ok (record { transfer = number_at 4 4 body; offset = number_at 8 4 body; bytes = drop 12 body }))))
 
 -- what was read, as a frame
 abbrev pub as_frame : {A : Type 0} → (A → FrameText) → Result A DatagramRefusal → Result FrameText DatagramRefusal
@@ -175,20 +175,25 @@ content_of kinds.Frame n body = do
   f ← frame_of body
   Ok (FrameBody f)
 
--- what all of the bytes say, or the first fault, however long a message they speak of
-unfoldable pub datagram_of : List ℕ → Result DatagramText DatagramRefusal
-datagram_of bytes = do
+-- what all of the bytes say, or the first fault, where a frame has so many bytes of data at most; how long a message
+-- they speak of doesn't matter
+unfoldable pub datagram_up_to : (frame : ℕ) → List ℕ → Result DatagramText DatagramRefusal
+datagram_up_to frame bytes = do
   kind ← kind_of bytes
-  body ← body_of kind bytes
+  body ← body_of frame kind bytes
   content ← content_of kind (number_at 24 8 bytes) body
   Ok (record { header = header_of bytes; body = content })
 
--- what was read, where it speaks of no message of more bytes than the limit, or 30
-abbrev pub bounded : (limit : ℕ) → Result DatagramText DatagramRefusal → Result DatagramText DatagramRefusal
+-- the same in any job
+abbrev pub datagram_of : List ℕ → Result DatagramText DatagramRefusal
+datagram_of bytes = datagram_up_to greatest_frame bytes
+
+-- what was read, where it speaks of no longer message or frame than the limit allows, or 30
+abbrev pub bounded : (limit : MessageLimit) → Result DatagramText DatagramRefusal → Result DatagramText DatagramRefusal
 bounded limit read = do
   d ← read
   guard (body_is_within limit d.body) refusals.BadFrame (Ok d)
 
--- what all of the bytes say in a job whose messages have at most so many bytes, or the first fault
-unfoldable pub datagram_within : (limit : ℕ) → List ℕ → Result DatagramText DatagramRefusal
-datagram_within limit bytes = bounded limit (datagram_of bytes)
+-- what all of the bytes say in a job with this limit, or the first fault
+unfoldable pub datagram_within : (limit : MessageLimit) → List ℕ → Result DatagramText DatagramRefusal
+datagram_within limit bytes = bounded limit (datagram_up_to (frame_limit_of limit) bytes)

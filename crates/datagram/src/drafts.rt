@@ -6,6 +6,7 @@ ghost use Rattle.datagram.specs.Spellings.{content_text, datagram_text, spelling
 use crate::bytes::{Bytes, Storage};
 use crate::datagram::{Content, Datagram};
 use crate::refusal::DatagramRefusal;
+use crate::wire_format::LONGEST_DATAGRAM;
 use crate::writing::write;
 use std::alloc::Global;
 use std::marker::Model;
@@ -16,6 +17,9 @@ const SHORT_BODY: usize = 32;
 
 /// The memory of at most so many datagrams is kept for those to come: as many as the largest message has.
 const MOST_SPARE: usize = 1024;
+
+/// And of no more than so many bytes, were all as long as the last one: as many as 1,024 of a script's have.
+const MOST_BYTES: usize = MOST_SPARE * LONGEST_DATAGRAM;
 
 /// Where datagrams are spelled, and the memory of those that are gone, for those to come. It saves asking for memory,
 /// and nothing else: contracts see nothing of it.
@@ -130,7 +134,7 @@ impl Drafts {
         let Storage::Shared(items) = &bytes.storage else {
             return;
         };
-        if self.spare.len() < MOST_SPARE {
+        if self.spare.len() < MOST_SPARE && items.len() <= MOST_BYTES / (self.spare.len() + 1) {
             if let Ok(items) = items.clone() {
                 let _ = self.spare.push(items);
             }

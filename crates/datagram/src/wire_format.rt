@@ -1,5 +1,7 @@
 //! The lengths and fixed fields of the format. Reading and writing take them from here.
 
+use vocabulary::{EAGER_LIMIT, GREATEST_FRAME};
+
 /// The first four bytes of every datagram.
 pub(crate) const MAGIC: u32 = 0x4d50_5544;
 
@@ -28,8 +30,11 @@ pub(crate) const CLEAR_BYTES: usize = 8;
 /// The length of a DATA frame without its data, in bytes.
 pub(crate) const DATA_BYTES: usize = 12;
 
-/// The length of the longest body, in bytes.
-pub(crate) const LONGEST_BODY: usize = 1_200;
+/// By how many bytes a body may be longer than the data that a frame of the job has at most.
+pub(crate) const BODY_BEYOND_DATA: usize = 176;
 
-/// The length of the longest datagram, in bytes.
-pub const LONGEST_DATAGRAM: usize = HEADER_BYTES + LONGEST_BODY;
+/// The length of the longest datagram of a job of scripts, in bytes.
+pub const LONGEST_DATAGRAM: usize = HEADER_BYTES + BODY_BEYOND_DATA + EAGER_LIMIT;
+
+/// The length of the longest datagram of any job, in bytes.
+pub const GREATEST_DATAGRAM: usize = HEADER_BYTES + BODY_BEYOND_DATA + GREATEST_FRAME;

@@ -5,3 +5,4 @@ pub mod RunLaws
 pub mod FillLaws
 pub mod CombinationLaws
 pub mod BlockLaws
+pub mod RoomLaws

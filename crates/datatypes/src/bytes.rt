@@ -1,13 +1,13 @@
 //! Numbers of a given size as bytes, the highest byte first.
 
 ghost use Rattle.std.specs.Prelude.{◌≡◌, ◌≤◌, ◌<◌, ◌+◌, ◌*◌, ◌^◌, ◌++◌, length, take, drop, replicate, slice_set};
-ghost use Rattle.std.specs.Prelude.{vec_len, vec_capacity, if◌then◌else◌, is_ok};
+ghost use Rattle.std.specs.Prelude.{vec_len, vec_capacity, if◌then◌else◌, is_ok, IfOk};
 ghost use Rattle.byteorder.specs.Endian.{big_bytes};
 ghost use Rattle.datatypes.specs.Contents.{element_at, values_of, bytes_of, copies_of, AreWhole};
 ghost use Rattle.datatypes.specs.Pieces.{piece_at};
 
 use byteorder::{BigEndian, ByteOrder};
-use std::alloc::AllocError;
+use std::alloc::{AllocError, Global};
 
 /// Puts the bytes of `front` over the first ones.
 pub fn put_over(bytes: &mut Vec<u8>, front: &[u8])
@@ -132,4 +132,45 @@ pub fn put_number_at(bytes: &mut [u8], number: u64, size: usize, place: usize)
     let mut room = [0; 8];
     write_number(&mut room, number, size);
     copy_within(bytes, place * size, piece(&room, size, 0));
+}
+
+/// Puts the number in `size` bytes at a place of a vector, where each place has `size` bytes.
+pub fn put_number(bytes: &mut Vec<u8>, number: u64, size: usize, place: usize)
+    requires low { 1 ≤ size }
+    requires high { size ≤ 8 }
+    requires fits { number < 256 ^ size }
+    requires bytes { AreWhole size bytes.old.items }
+    requires place { place < length (values_of size bytes.old.items) }
+    ensures whole { AreWhole size bytes.new.items }
+    ensures values { values_of size bytes.new.items ≡ slice_set (values_of size bytes.old.items) place number }
+{
+    put_number_at(bytes, number, size, place);
+}
+
+/// A copy of the bytes, with memory for so many. The only error is want of memory.
+pub fn copy_with_room(alloc: Global, bytes: &[u8], room: usize) -> Result<Vec<u8>, AllocError>
+    ensures items { IfOk result (λ copy. copy.items ≡ bytes.now) }
+    ensures room { IfOk result (λ copy. room ≤ vec_capacity copy) }
+{
+    let mut copy = Vec::with_capacity(alloc, room)?;
+    copy.extend_from_slice(bytes)?;
+    Ok(copy)
+}
+
+/// Appends more bytes, for which there is memory.
+pub fn append_reserved(bytes: &mut Vec<u8>, more: &[u8])
+    requires { length bytes.old.items + length more.now ≤ vec_capacity bytes.old }
+    ensures items { bytes.new.items ≡ bytes.old.items ++ more.now }
+    ensures capacity { vec_capacity bytes.old ≤ vec_capacity bytes.new }
+{
+    bytes.extend_from_slice(more).unwrap();
+}
+
+/// Appends so many zeros, for which there is memory.
+pub fn append_zeros(bytes: &mut Vec<u8>, zeros: usize)
+    requires { length bytes.old.items + zeros ≤ vec_capacity bytes.old }
+    ensures { bytes.new.items ≡ bytes.old.items ++ replicate zeros 0 }
+{
+    let len = bytes.len() + zeros;
+    bytes.resize(len, 0).unwrap();
 }

@@ -2,10 +2,12 @@
 
 ghost use Rattle.std.specs.Prelude.{◌≡◌, length};
 ghost use Rattle.vocabulary.specs.BasicTypes.{size_of};
-ghost use Rattle.datatypes.specs.Combinations.{combined_values};
+ghost use Rattle.datatypes.specs.Combinations.{combined_values, IsLike};
 ghost use Rattle.datatypes.specs.Contents.{values_of, AreWhole};
 
+use crate::buffer::Buffer;
 use crate::bytes::{number_at, put_number_at};
+use crate::whole_buffer::WholeBuffer;
 use vocabulary::BasicType;
 
 /// What makes one element of two of one basic type.
@@ -64,4 +66,22 @@ pub fn combine_bytes<P: PairOp>(op: &P, size: usize, all: &mut Vec<u8>, next: &[
         (values_of size next.now) }
 {
     combine_sized(op, size, all, next);
+}
+
+/// Puts what is made of each element and that of `next` at the same place in its place. `next` may end in zeros that
+/// aren't written, so its elements are looked at one by one.
+pub fn combine_each<P: PairOp>(op: &P, all: &mut WholeBuffer, next: &Buffer)
+    requires basic { all.old.basic ≡ P.type_of op.now }
+    requires like { IsLike all.old.basic all.old.values next.now }
+    ensures { all.new ≡
+        record all.old {
+          values = combined_values (P.makes op.now) all.old.values next.now.values;
+        } }
+{
+    for place in 0..next.len() {
+        let this = all.number(place);
+        let that = next.number(place);
+        let number = op.apply(this, that);
+        all.set_number(place, number);
+    }
 }

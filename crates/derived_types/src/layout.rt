@@ -11,6 +11,7 @@ use crate::block::IndexedBlock;
 use crate::construction::{append_blocks, append_copies, append_vector, occurs_twice};
 use crate::refusal::LayoutRefusal;
 use crate::span::{Span, span_or_refusal};
+use alike::{Alike, are_alike};
 use std::alloc::{AllocError, Global};
 use std::marker::Model;
 use vocabulary::BasicType;
@@ -334,5 +335,11 @@ fn or_refused(made: Result<Layout, AllocError>) -> Result<Layout, LayoutRefusal>
     match made {
         Ok(layout) => Ok(layout),
         Err(_) => Err(LayoutRefusal::OutOfMemory),
+    }
+}
+
+impl Alike for Layout {
+    fn stands_as(&self, other: &Self) -> bool {
+        self.basic == other.basic && are_alike(&self.offsets, &other.offsets)
     }
 }

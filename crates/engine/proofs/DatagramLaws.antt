@@ -7,15 +7,14 @@ use Rattle.std.specs.Prelude.{IfErr, OnOk, slice_index}
 use Rattle.vocabulary.specs.declared.endpoint.Endpoint.{Endpoint}
 use Rattle.datagram.specs.declared.datagram.Header.{Header}
 use Rattle.datagram.specs.declared.refusal.DatagramRefusal as reading
-use Rattle.datagram.specs.declared.refusal.DatagramRefusal.TheVariants as readings
 use Rattle.rendezvous.specs.Payloads.{Whole}
 use Rattle.collective_steps.specs.declared.step.Ending.{Ending}
 use Rattle.rendezvous.specs.PayloadState as payloads
 use Rattle.rendezvous.specs.PayloadState.{is_due, whole_with}
 use Rattle.datagram.specs.Spellings.{BodyText, DataText, EagerText, FrameBody, AckBody, ResetBody, DatagramText}
 use Rattle.datagram.specs.Spellings.{OutgoingText, body_is_within}
-use Rattle.datagram.specs.ByteMeanings.{bounded, datagram_of, datagram_within, guard}
-use Rattle.vocabulary.specs.MessageLimits.{limit_of}
+use Rattle.datagram.specs.ByteMeanings.{datagram_of, datagram_within, guard}
+use Rattle.datagram.proofs.InJob.{InJob, in_job}
 use Rattle.incarnation.specs.declared.judgement.Judgement.{Judgement}
 use Rattle.incarnation.specs.declared.judgement.Judgement.TheVariants.{Current, Learn}
 use Rattle.incarnation.specs.declared.refusal.IncarnationRefusal as judging
@@ -170,7 +169,10 @@ carried_by (Some (OfMessage t)) old new h x gives =
 carried_by (Some (OfAnnouncement t)) old new h x gives =
     record { frames = answer_to h t ∷ []; carried = ap (λ (e : EngineState). e.sessions) gives.1 }
 carried_by (Some (OfAnswer t)) old new h x gives =
-    record { frames = data_for old.payloads h t; carried = ap (λ (e : EngineState). e.sessions) gives.1 }
+    record {
+      frames = data_for old.sessions.place.message_limit old.payloads h t;
+      carried = ap (λ (e : EngineState). e.sessions) gives.1;
+    }
 carried_by (Some (OfPiece t)) old new h x gives =
     piece_carried (is_due old.payloads h.source.rank t.transfer t.offset t.bytes)
     (whole_with old.payloads h.source.rank t.transfer t.bytes) old new h t x gives
@@ -182,20 +184,20 @@ known_carried old new h goes = ap (λ (s : SessionsState). s.known) goes.carried
     known_sends (links.after_heard old (Some h)) goes.frames
 
 -- where anything is heard in what was read, it is within the job's limit
-within_limit : (test : Bool) (s : SessionsState) (d : DatagramText) (bytes : List ℕ) (h : HeardText) →
-    heard_in s (guard test readings.BadFrame (Ok d)) bytes ≡ Ok h →
+within_limit : (test : Bool) (why : reading.DatagramRefusal) (s : SessionsState) (d : DatagramText) (bytes : List ℕ)
+    (h : HeardText) → heard_in s (guard test why (Ok d)) bytes ≡ Ok h →
     heard_by (judgement (knowledge s) d.header) s d bytes ≡ Ok h
-within_limit true s d bytes h is = is
-within_limit false s d bytes h is = absurd cc
+within_limit true why s d bytes h is = is
+within_limit false why s d bytes h is = absurd cc
 
 -- so it is by what the bytes say
 heard_by_text : (s : SessionsState) (bytes : List ℕ) (d : DatagramText) (h : HeardText) → datagram_of bytes ≡ Ok d →
     heard_of s bytes ≡ Ok h → heard_by (judgement (knowledge s) d.header) s d bytes ≡ Ok h
-unfolding heard_of datagram_within
+unfolding heard_of
 heard_by_text s bytes d h is heard =
-    within_limit (body_is_within (limit_of s.place.message_limit) d.body) s d bytes h
-    (sym (ap (λ (r : Result DatagramText reading.DatagramRefusal).
-    heard_in s (bounded (limit_of s.place.message_limit) r) bytes) is) ∙ heard)
+    let j : InJob s.place.message_limit bytes d = in_job s.place.message_limit bytes d is in
+    within_limit (body_is_within s.place.message_limit d.body) j.0 s d bytes h
+    (sym (ap (λ (r : Result DatagramText reading.DatagramRefusal). heard_in s r bytes) j.1) ∙ heard)
 
 -- the source of what was taken in is known at the incarnation in its header
 pub heard_is_known : (old new : EngineState) (bytes : List ℕ) (h : HeardText) (result : Result (Unit {0}) Refusal) →
@@ -280,7 +282,7 @@ read_tells (Ok d) s bytes = judged_tells (judgement (knowledge s) d.header) s d 
 
 bytes_tell : (bytes : List ℕ) (s : SessionsState) → ResetsTell (heard_of s bytes)
 unfolding heard_of
-bytes_tell bytes s = read_tells (datagram_within (limit_of s.place.message_limit) bytes) s bytes
+bytes_tell bytes s = read_tells (datagram_within s.place.message_limit bytes) s bytes
 
 -- nothing but the sessions changed
 abbrev IsElsewhere : EngineState → EngineState → Type 0

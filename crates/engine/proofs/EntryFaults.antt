@@ -25,7 +25,8 @@ use Rattle.engine_calls.specs.EngineState.{EngineState, member_of}
 use Rattle.engine_calls.specs.Faults.{broken, fault_of, is_busy}
 use Rattle.engine_calls.specs.Refusals.{first_fault, of_entry_rule, of_rule}
 use Rattle.engine_calls.specs.declared.call.Call.TheVariants as calls
-use Rattle.vocabulary.specs.MessageLimits.{limit_of}
+use Rattle.vocabulary.specs.MessageLimits.{least, limit_of}
+use Rattle.vocabulary.specs.declared.message_limit.MessageLimit.{MessageLimit}
 
 -- the refusal with a number
 abbrev refusal_of : ℕ → Refusal
@@ -79,7 +80,7 @@ pub entry_ruled : (e : EngineState) (b : Bool) (known : List ℕ) (place : Place
     known ≡ e.sessions.known → place ≡ e.sessions.place →
     option_map number_of_fault o
     ≡ or_limited
-    (fault_by (limit_of place.message_limit) (b || is_within (member_of e.groups).present) no_requests
+    (fault_by place.message_limit (b || is_within (member_of e.groups).present) no_requests
     e.groups.collective.own (known_by known)
     (member_of e.groups) (Enter comm (call_of x)))
     (limit_in e.groups.collective e.groups.contexts comm x) →
@@ -87,10 +88,10 @@ pub entry_ruled : (e : EngineState) (b : Bool) (known : List ℕ) (place : Place
 entry_ruled e b known place comm x o blocked knows placed is =
     let m : Membership = member_of e.groups in
     let limit : Bool = limit_in e.groups.collective e.groups.contexts comm x in
-    let most : ℕ = limit_of e.sessions.place.message_limit in
+    let most : MessageLimit = e.sessions.place.message_limit in
     by_number o ∙ ap (option_map refusal_of) is
     ∙ ap (λ (p : Place). option_map refusal_of
-    (or_limited (fault_by (limit_of p.message_limit) (b || is_within m.present) no_requests e.groups.collective.own
+    (or_limited (fault_by p.message_limit (b || is_within m.present) no_requests e.groups.collective.own
     (known_by known) m (Enter comm (call_of x))) limit)) placed
     ∙ ap (λ (t : Bool). option_map refusal_of
     (or_limited (fault_by most (t || is_within m.present) no_requests e.groups.collective.own (known_by known) m
@@ -101,7 +102,7 @@ entry_ruled e b known place comm x o blocked knows placed is =
     ∙ ap (λ (f : Option ℕ). option_map refusal_of (or_limited f limit))
     (entry_judged most (is_busy e) e.groups.collective e.groups.contexts (known_by e.sessions.known) comm x)
     ∙ in_order (is_busy e) (is_none (held_at m comm))
-    (rule_in most e.groups.collective.own (held_in e.groups.contexts comm) x)
+    (rule_in (limit_of most) e.groups.collective.own (held_in e.groups.contexts comm) x)
     (has_replaced (known_by e.sessions.known) (held_at m comm)) limit
 
 none_of : (b n : Bool) (o : Option Rule) (r l : Bool) → fault_in b n o r l ≡ None → or_limited (number_by b n o r) l ≡
@@ -120,12 +121,12 @@ entry_allowed allowed e now comm x same met =
     let free : fault_of e (calls.Enter comm x) ≡ None = subst (λ (s : EngineState). fault_of s (calls.Enter comm x) ≡ None) (sym same) met in
     let m : Membership = member_of e.groups in
     let limit : Bool = limit_in e.groups.collective e.groups.contexts comm x in
-    let most : ℕ = limit_of e.sessions.place.message_limit in
+    let most : MessageLimit = e.sessions.place.message_limit in
     allowed most e.groups.collective e.groups.contexts (is_some e.core.blocked) (known_by e.sessions.known) comm x
     (ap (λ (f : Option ℕ). or_limited f limit)
     (entry_judged most (is_busy e) e.groups.collective e.groups.contexts (known_by e.sessions.known) comm x)
     ∙ none_of (is_busy e) (is_none (held_at m comm))
-    (rule_in most e.groups.collective.own (held_in e.groups.contexts comm) x)
+    (rule_in (limit_of most) e.groups.collective.own (held_in e.groups.contexts comm) x)
     (has_replaced (known_by e.sessions.known) (held_at m comm)) limit free)
 
 -- at its place
@@ -146,18 +147,18 @@ in_turn false false = refl
 
 pub question_ruled : (e : EngineState) (b : Bool) (comm : Option ℕ) (q : Question) (o : Option CommunicatorFault) →
     b ≡ is_some e.core.blocked →
-    ((limit : ℕ) (known : ℕ → ℕ) → option_map number_of_fault o
+    ((limit : MessageLimit) (known : ℕ → ℕ) → option_map number_of_fault o
     ≡ fault_by limit (b || is_within (member_of e.groups).present) no_requests e.groups.collective.own known
     (member_of e.groups) (Inquire comm (question_of q))) →
     option_map of_rule o ≡ fault_of e (calls.Ask comm q)
 question_ruled e b comm q o blocked is =
     let m : Membership = member_of e.groups in
     let nobody : ℕ → ℕ = λ r. 0 in
-    by_number o ∙ ap (option_map refusal_of) (is 0 nobody)
+    by_number o ∙ ap (option_map refusal_of) (is least nobody)
     ∙ ap (λ (t : Bool). option_map refusal_of
-    (fault_by 0 (t || is_within m.present) no_requests e.groups.collective.own nobody m
+    (fault_by least (t || is_within m.present) no_requests e.groups.collective.own nobody m
     (Inquire comm (question_of q)))) blocked
-    ∙ ap (option_map refusal_of) (question_judged 0 (is_busy e) e.groups.collective.own nobody m comm q)
+    ∙ ap (option_map refusal_of) (question_judged least (is_busy e) e.groups.collective.own nobody m comm q)
     ∙ in_turn (is_busy e) (is_none (held_at m comm) || asks_of_none m (question_of q))
 
 held_by : (b n : Bool) → first_fault (broken b refusals.Request) (broken n refusals.Communicator) ≡ None → n ≡ false

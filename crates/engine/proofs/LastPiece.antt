@@ -39,7 +39,7 @@ noticed_beside e q h w new on is = record {
   ended = is.ended;
   payloads = is.payloads
       ∙ ap (λ (l : Option Endpoint). after_announcing (payloads_met q l)
-      (step_payloads (numbers_met e.core h) is.ready.step.messages)) (no_lesson h on);
+      (step_payloads e.sessions.place.message_limit (numbers_met e.core h) is.ready.step.messages)) (no_lesson h on);
   sessions = is.sessions;
 }
 

@@ -9,3 +9,4 @@ pub mod DatagramLaws
 pub mod TurnLaws
 pub mod LastPiece
 pub mod WithoutMemory
+pub mod Standings

@@ -134,11 +134,11 @@ pub record IsCounted (core : CoreState) (before : payloads.State) (s : SessionsS
   pub taken : d ≡ after_news c (lesson_alone h)
   pub begun : e ≡ with_numbers d (counted d.transfers.numbers ps)
   pub numbers : ns ≡ numbers_met c h
-  pub next : counted ns ps ≡ step_numbers ns ms
+  pub next : counted ns ps ≡ step_numbers s.place.message_limit ns ms
   pub whole : AreWhole ms
   pub goes : step_limit s ns (Some h) ms ≡ None
   pub sent : links ≡ after_event s (Some h) (step_sendings s.place ns ms)
-  pub announced : ps ≡ step_payloads ns ms
+  pub announced : ps ≡ step_payloads s.place.message_limit ns ms
   pub same : q0 ≡ before
   pub left : q1 ≡ payloads_met q0 (lesson_in h)
   pub added : q2 ≡ after_announcing q1 ps
@@ -153,9 +153,10 @@ told core before s h ms c d e ns ps q0 q1 q2 links count =
     let first : ns ≡ numbers_met core h = count.numbers ∙ ap (λ (x : CoreState). numbers_met x h) count.kept in
     let news : d ≡ after_news core (lesson_alone h) = count.taken ∙ ap (λ (x : CoreState). after_news x (lesson_alone h)) count.kept in
     let rest : q1 ≡ payloads_met before (lesson_in h) = count.left ∙ ap (λ (q : payloads.State). payloads_met q (lesson_in h)) count.same in
-    let next : counted (after_news core (lesson_alone h)).transfers.numbers ps ≡ step_numbers (numbers_met core h) ms =
+    let next : counted (after_news core (lesson_alone h)).transfers.numbers ps ≡
+    step_numbers s.place.message_limit (numbers_met core h) ms =
     ap (λ (n : List Numbers). counted n ps) (news_numbers core h ∙ sym first) ∙ count.next
-    ∙ ap (λ (n : List Numbers). step_numbers n ms) first in
+    ∙ ap (λ (n : List Numbers). step_numbers s.place.message_limit n ms) first in
     record {
       whole = count.whole;
       goes = subst (λ (n : List Numbers). step_limit s n (Some h) ms ≡ None) first count.goes;
@@ -163,7 +164,7 @@ told core before s h ms c d e ns ps q0 q1 q2 links count =
           ∙ ap (λ (n : List Numbers). with_numbers (after_news core (lesson_alone h)) n) next;
       payloads = count.added ∙ ap (λ (q : payloads.State). after_announcing q ps) rest
           ∙ ap (λ (l : List Announced). after_announcing (payloads_met before (lesson_in h)) l)
-          (count.announced ∙ ap (λ (n : List Numbers). step_payloads n ms) first);
+          (count.announced ∙ ap (λ (n : List Numbers). step_payloads s.place.message_limit n ms) first);
       sessions = count.sent ∙ ap (λ (n : List Numbers). after_event s (Some h) (step_sendings s.place n ms)) first;
     }
 

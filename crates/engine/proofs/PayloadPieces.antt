@@ -1,5 +1,5 @@
 -- Payloads of collectives in pieces: the frames of their answers and of their data.
-use Rattle.std.proofs.Common.{◌≡◌, Result, Ok, Err, ℕ, ◌<◌, ◌≤◌, Bool, true, false, List, [], ◌∷◌, length, map, Option}
+use Rattle.std.proofs.Common.{◌≡◌, Result, Ok, Err, ℕ, ◌<◌, Bool, true, false, List, [], ◌∷◌, length, map, Option}
 use Rattle.std.proofs.Common.{Some, None, refl, sym, ap, subst, ◌∙◌}
 use Rattle.std.specs.Prelude.{All, IfErr, OnOk}
 use Rattle.std.proofs.lemmas.List.{length-map}
@@ -16,7 +16,9 @@ use Rattle.rendezvous.specs.declared.piece.Piece.{Piece}
 use Rattle.sessions.specs.Events.{AreFor, CanSend, sendings}
 use Rattle.sessions.specs.HeardBytes.{HeardText}
 use Rattle.datagram.specs.declared.frame.Outgoing.{Outgoing}
+use Rattle.vocabulary.specs.MessageLimits.{frame_limit_of}
 use Rattle.vocabulary.specs.Modes.{is_standard}
+use Rattle.vocabulary.specs.declared.message_limit.MessageLimit.{MessageLimit}
 use Rattle.vocabulary.specs.declared.mode.Mode.{Mode}
 use Rattle.vocabulary.specs.declared.mode.Mode.TheVariants.{Standard, Synchronous}
 use Rattle.engine.proofs.Replies.{can_send, data_are_for}
@@ -57,27 +59,36 @@ said rank transfer (p ∷ ps) =
     (said rank transfer ps)
 
 -- what is handed to the sessions is the data, all of them in order
-pub data_are : (rank transfer : ℕ) (os : List Outgoing) (ps qs : List Piece) (bytes : List ℕ) →
+pub data_are : (limit : MessageLimit) (rank transfer : ℕ) (os : List Outgoing) (ps qs : List Piece) (bytes : List ℕ) →
     os ≡ map (framed rank transfer) qs → qs ≡ ps →
-    map (λ (p : Piece). (p.offset, p.bytes.now)) ps ≡ pieces_of bytes → sendings os ≡ data_sent rank transfer bytes
-data_are rank transfer os ps qs bytes made same are =
+    map (λ (p : Piece). (p.offset, p.bytes.now)) ps ≡ pieces_of (frame_limit_of limit) bytes →
+    sendings os ≡ data_sent limit rank transfer bytes
+data_are limit rank transfer os ps qs bytes made same are =
     ap sendings made ∙ ap (λ (xs : List Piece). sendings (map (framed rank transfer) xs)) same ∙ said rank transfer ps
     ∙ ap (λ (xs : List (ℕ × List ℕ)). data_frames rank transfer xs) are
 
 -- they go to the rank that asked for them
-pub data_go_to : (rank transfer count : ℕ) (bytes : List ℕ) → count ≡ length (pieces_of bytes) →
-    AreFor rank count (data_sent rank transfer bytes)
-data_go_to rank transfer count bytes is = record {
-  each = data_are_for rank transfer (pieces_of bytes);
-  many = length-map (pieces_of bytes) (data_frame rank transfer) ∙ sym is;
+pub data_go_to : (limit : MessageLimit) (rank transfer count : ℕ) (bytes : List ℕ) →
+    count ≡ length (pieces_of (frame_limit_of limit) bytes) → AreFor rank count (data_sent limit rank transfer bytes)
+data_go_to limit rank transfer count bytes is = record {
+  each = data_are_for rank transfer (pieces_of (frame_limit_of limit) bytes);
+  many = length-map (pieces_of (frame_limit_of limit) bytes) (data_frame rank transfer) ∙ sym is;
 }
 
+-- the same told of a place
+pub data_go_at : (p q : Place) (rank transfer count : ℕ) (bytes : List ℕ) → p ≡ q →
+    count ≡ length (pieces_of (frame_limit_of p.message_limit) bytes) →
+    AreFor rank count (data_sent q.message_limit rank transfer bytes)
+data_go_at p q rank transfer count bytes same is =
+    subst (λ (r : Place). AreFor rank count (data_sent r.message_limit rank transfer bytes)) same
+    (data_go_to p.message_limit rank transfer count bytes is)
+
 -- the sessions can send them
-pub data_can_go : (p : Place) (rank transfer : ℕ) (bytes : List ℕ) → rank < p.size → length bytes ≤ 2147483647 →
-    All (CanSend p) (data_sent rank transfer bytes)
-data_can_go p rank transfer bytes there limit =
-    can_send p.size p (data_frames rank transfer (pieces_of bytes)) refl
-    (data_go p.size rank transfer bytes there limit)
+pub data_can_go : (p : Place) (limit : MessageLimit) (rank transfer : ℕ) (bytes : List ℕ) → rank < p.size →
+    All (CanSend p) (data_sent limit rank transfer bytes)
+data_can_go p limit rank transfer bytes there =
+    can_send p.size p (data_frames rank transfer (pieces_of (frame_limit_of limit) bytes)) refl
+    (data_go limit p.size rank transfer bytes there)
 
 -- no frame goes to a rank
 pub none_for : (rank : ℕ) → AreFor rank 0 []

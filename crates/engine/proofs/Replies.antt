@@ -5,6 +5,8 @@ use Rattle.std.specs.List.{AllByRecursion}
 use Rattle.std.proofs.lemmas.List.Elements.{All-cons, All-nil}
 use Rattle.vocabulary.specs.declared.endpoint.Endpoint.{Endpoint}
 use Rattle.vocabulary.specs.BasicTypes.{size_of}
+use Rattle.vocabulary.specs.MessageLimits.{frame_limit_of}
+use Rattle.vocabulary.specs.declared.message_limit.MessageLimit.{MessageLimit}
 use Rattle.datatypes.specs.Contents.{bytes_of}
 use Rattle.datagram.specs.declared.kinds.Clearance.{Clearance}
 use Rattle.datagram.specs.declared.kinds.Clearance.TheVariants.{Send, Drop}
@@ -41,12 +43,13 @@ pub data_are_for : (rank transfer : ℕ) (ps : List (ℕ × List ℕ)) → AreFr
 data_are_for rank transfer [] = tt
 data_are_for rank transfer (p ∷ ps) = (refl, data_are_for rank transfer ps)
 
-wanted_are_for : (rank : ℕ) (clearance : Clearance) (o : Option Offer) →
-    AreFramesFor rank (wanted_frames rank clearance o)
-wanted_are_for rank Drop o = tt
-wanted_are_for rank Send None = tt
-wanted_are_for rank Send (Some o) =
-    data_are_for rank o.transfer (pieces_of (bytes_of (size_of o.elements.basic) o.elements.values))
+wanted_are_for : (limit : MessageLimit) (rank : ℕ) (clearance : Clearance) (o : Option Offer) →
+    AreFramesFor rank (wanted_frames limit rank clearance o)
+wanted_are_for limit rank Drop o = tt
+wanted_are_for limit rank Send None = tt
+wanted_are_for limit rank Send (Some o) =
+    data_are_for rank o.transfer
+    (pieces_of (frame_limit_of limit) (bytes_of (size_of o.elements.basic) o.elements.values))
 
 answer_is_for : (slots : List (Option TableEntry)) (r : Option PostedReceive) (s : Endpoint) (t : RequestText) →
     AreFramesFor s.rank (as_list (answer_on_arrival slots (arrival_at r (announced_of s t))))
@@ -59,7 +62,8 @@ called_are_for c s None = tt
 called_are_for c s (Some (EagerFrame t)) = tt
 called_are_for c s (Some (RequestFrame t)) =
     answer_is_for c.slots (receive_at c.queues.posted (receive_for (announced_of s t) c.queues.posted)) s t
-called_are_for c s (Some (ClearFrame t)) = wanted_are_for s.rank t.clearance (offered c.transfers s.rank t.transfer)
+called_are_for c s (Some (ClearFrame t)) =
+    wanted_are_for c.place.message_limit s.rank t.clearance (offered c.transfers s.rank t.transfer)
 called_are_for c s (Some (DataFrame t)) = tt
 
 -- so many frames go to the rank that spoke

@@ -191,8 +191,8 @@ of_clearance Drop = inl refl
 of_answer : (p : payloads.State) (s : SessionsState) (h : HeardText) (t : ClearText) →
     AreTurnFaults (answer_fault p s h t)
 of_answer p s h t =
-    both (unwanted t.clearance) (fault_of_sessions (event_limit s (Some h) (data_for p h t))) (of_clearance t.clearance)
-    (of_event s h (data_for p h t))
+    both (unwanted t.clearance) (fault_of_sessions (event_limit s (Some h) (data_for s.place.message_limit p h t)))
+    (of_clearance t.clearance) (of_event s h (data_for s.place.message_limit p h t))
 
 of_piece : (due : Bool) (w : Option Whole) (e new : EngineState) (h : HeardText) (t : DataText) (r : Refusal) →
     PieceGivesBy due w e h t (Err r) new → IsTurnRefusal r

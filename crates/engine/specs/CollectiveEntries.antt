@@ -23,8 +23,12 @@ pub record Goes (old : PartsState) (place : ℕ) (x : Entry) (ending : Option En
       (Ok (ending, step)) new.groups.collective new.groups.contexts
   pub whole : AreWhole step.messages
   pub goes : step_limit old.sessions old.core.transfers.numbers None step.messages ≡ None
-  pub counted : new.core ≡ with_numbers old.core (step_numbers old.core.transfers.numbers step.messages)
-  pub kept : new.payloads ≡ after_announcing old.payloads (step_payloads old.core.transfers.numbers step.messages)
+  pub counted : new.core ≡
+      with_numbers old.core
+      (step_numbers old.sessions.place.message_limit old.core.transfers.numbers step.messages)
+  pub kept : new.payloads ≡
+      after_announcing old.payloads
+      (step_payloads old.sessions.place.message_limit old.core.transfers.numbers step.messages)
   pub sent : new.sessions ≡
       after_event old.sessions None (step_sendings old.sessions.place old.core.transfers.numbers step.messages)
 

@@ -51,8 +51,10 @@ use Rattle.sessions.specs.HeardBytes.{
 use Rattle.sessions.specs.SessionsState.{SessionsState}
 use Rattle.sessions.specs.declared.heard.Unheard.{Unheard}
 use Rattle.sessions.specs.declared.refusal.SessionRefusal as lower
+use Rattle.vocabulary.specs.MessageLimits.{frame_limit_of}
 use Rattle.vocabulary.specs.Modes.{is_standard}
 use Rattle.vocabulary.specs.declared.endpoint.Endpoint.{Endpoint}
+use Rattle.vocabulary.specs.declared.message_limit.MessageLimit.{MessageLimit}
 use Rattle.engine.specs.declared.notices.ReceivedPayload.{ReceivedPayload}
 use Rattle.engine.specs.declared.notice_kinds.Notice.{Notice}
 use Rattle.engine.specs.declared.notice_kinds.Notice.TheVariants as notices
@@ -184,8 +186,8 @@ pub record IsTold (c : CoreState) (p : payloads.State) (s : SessionsState) (h : 
     (c2 : CoreState) (p2 : payloads.State) (s2 : SessionsState) : Type 0 where
   pub whole : AreWhole ms
   pub goes : step_limit s (numbers_met c h) (Some h) ms ≡ None
-  pub core : c2 ≡ with_numbers (after_news c (lesson_alone h)) (step_numbers (numbers_met c h) ms)
-  pub payloads : p2 ≡ after_announcing (payloads_met p (lesson_in h)) (step_payloads (numbers_met c h) ms)
+  pub core : c2 ≡ with_numbers (after_news c (lesson_alone h)) (step_numbers s.place.message_limit (numbers_met c h) ms)
+  pub payloads : p2 ≡ after_announcing (payloads_met p (lesson_in h)) (step_payloads s.place.message_limit (numbers_met c h) ms)
   pub sessions : s2 ≡ after_event s (Some h) (step_sendings s.place (numbers_met c h) ms)
 
 -- A message of a collective is taken in: it is read, the rank does of itself what follows, and the others are told;
@@ -199,14 +201,17 @@ pub record IsNoticed (old : EngineState) (before : payloads.State) (h : HeardTex
   pub whole : AreWhole ready.step.messages
   pub goes : step_limit old.sessions (numbers_met old.core h) (Some h) ready.step.messages ≡ None
   pub core : new.core ≡
-      with_numbers (after_news old.core (lesson_alone h)) (step_numbers (numbers_met old.core h) ready.step.messages)
+      with_numbers (after_news old.core (lesson_alone h))
+      (step_numbers old.sessions.place.message_limit (numbers_met old.core h) ready.step.messages)
   pub collective : new.groups.collective ≡ after_step (with_note (met_by old h) ready.note) ready.step.outcome
   pub contexts : new.groups.contexts ≡ contexts_after old.groups.contexts ready.step.drawn ready.step.outcome
   pub ended :
       new.ended ≡
       or_before (ending_of old.groups.contexts ready.step.outcome)
       (or_before (ended_by old.groups (lesson_in h)) old.ended)
-  pub payloads : new.payloads ≡ after_announcing before (step_payloads (numbers_met old.core h) ready.step.messages)
+  pub payloads : new.payloads ≡
+      after_announcing before
+      (step_payloads old.sessions.place.message_limit (numbers_met old.core h) ready.step.messages)
   pub sessions : new.sessions ≡
       after_event old.sessions (Some h) (step_sendings old.sessions.place (numbers_met old.core h) ready.step.messages)
 
@@ -245,8 +250,9 @@ answer_to h t =
     record { target = h.source.rank; frame = ClearFrame (record { clearance = Send; transfer = t.transfer }) }
 
 -- what comes from then on
-abbrev pub coming_by : HeardText → RequestText → Coming
-coming_by h t = record {
+abbrev pub coming_by : MessageLimit → HeardText → RequestText → Coming
+coming_by limit h t = record {
+  limit = limit;
   source = h.source.rank;
   transfer = t.transfer;
   context = t.context;
@@ -270,7 +276,7 @@ after_announcement e h t = record {
   core = with_numbers (after_news e.core (lesson_alone h)) (with_announced (numbers_met e.core h) h.source.rank);
   groups = groups_met e.groups (lesson_in h);
   ended = or_before (ended_by e.groups (lesson_in h)) e.ended;
-  payloads = after_begin (payloads_met e.payloads (lesson_in h)) (coming_by h t);
+  payloads = after_begin (payloads_met e.payloads (lesson_in h)) (coming_by e.core.place.message_limit h t);
   sessions = after_event e.sessions (Some h) (answer_to h t ∷ []);
 }
 
@@ -282,18 +288,18 @@ AnnouncementGives old h t (Err e) new = IsRefusal (announcement_fault old.core o
 
 -- ---- payloads of collectives that the rank announced
 
--- the data of a payload of these bytes, all of them in order
-abbrev pub data_sent : (rank transfer : ℕ) → List ℕ → List OutgoingText
-data_sent rank transfer bytes = data_frames rank transfer (pieces_of bytes)
+-- the data of a payload of these bytes in a job with this limit, all of them in order
+abbrev pub data_sent : MessageLimit → (rank transfer : ℕ) → List ℕ → List OutgoingText
+data_sent limit rank transfer bytes = data_frames rank transfer (pieces_of (frame_limit_of limit) bytes)
 
 -- the same of one that was announced, where one was
-abbrev pub data_of : (rank transfer : ℕ) → Option Announced → List OutgoingText
-data_of rank transfer None = []
-data_of rank transfer (Some a) = data_sent rank transfer a.bytes
+abbrev pub data_of : MessageLimit → (rank transfer : ℕ) → Option Announced → List OutgoingText
+data_of limit rank transfer None = []
+data_of limit rank transfer (Some a) = data_sent limit rank transfer a.bytes
 
 -- the data that an answer asks for
-abbrev pub data_for : payloads.State → HeardText → ClearText → List OutgoingText
-data_for p h t = data_of h.source.rank t.transfer (announced_to p h.source.rank t.transfer)
+abbrev pub data_for : MessageLimit → payloads.State → HeardText → ClearText → List OutgoingText
+data_for limit p h t = data_of limit h.source.rank t.transfer (announced_to p h.source.rank t.transfer)
 
 -- a payload of a collective is always wanted: an answer that says otherwise is refused (our own)
 abbrev pub unwanted : Clearance → Option Refusal
@@ -302,13 +308,15 @@ unwanted Drop = Some refusals.BadFrame
 
 -- the first rule or limit that an answer meets: 30, 13
 abbrev pub answer_fault : payloads.State → SessionsState → HeardText → ClearText → Option Refusal
-answer_fault p s h t = first_fault (unwanted t.clearance) (fault_of_sessions (event_limit s (Some h) (data_for p h t)))
+answer_fault p s h t =
+    first_fault (unwanted t.clearance)
+    (fault_of_sessions (event_limit s (Some h) (data_for s.place.message_limit p h t)))
 
 -- the data go out, and the payload isn't kept any more
 abbrev pub after_answered : EngineState → HeardText → ClearText → EngineState
 after_answered e h t = record e {
   payloads = after_answer e.payloads h.source.rank t.transfer;
-  sessions = after_event e.sessions (Some h) (data_for e.payloads h t);
+  sessions = after_event e.sessions (Some h) (data_for e.sessions.place.message_limit e.payloads h t);
 }
 
 -- so it is, or a rule, a limit or want of memory refused it, and nothing changed

@@ -95,5 +95,6 @@ IsCounted old h t new =
     (new.core.state ≡
     with_numbers (after_news old.core.state (lesson_alone h))
     (with_announced (numbers_met old.core.state h) h.source.rank))
-    × (new.core.payloads.state ≡ after_begin (payloads_met old.core.payloads.state (lesson_in h)) (coming_by h t))
+    × (new.core.payloads.state ≡
+    after_begin (payloads_met old.core.payloads.state (lesson_in h)) (coming_by old.core.state.place.message_limit h t))
     × (new.sessions ≡ after_event old.sessions (Some h) (answer_to h t ∷ []))

@@ -1,15 +1,16 @@
 //! The engine of one rank.
 
-ghost use Rattle.std.specs.Prelude.{◌≡◌, ◌≤◌, ◌+◌, ◌*◌, ◌↔◌, length, All, IsTrue, IfOk, OnOk, OnErr, None, IfErr};
+ghost use Rattle.std.specs.Prelude.{◌≡◌, ◌≤◌, ◌+◌, ◌*◌, ◌↔◌, [], length, All, IsTrue, IfOk, OnOk, OnErr, None, IfErr};
 ghost use Rattle.point_to_point_calls.specs.Refusals.{IsRefusal};
 ghost use Rattle.sessions.specs.Peers.{IsIdlePeer};
 ghost use Rattle.sessions.specs.SessionsState.{SessionGives};
 ghost use Rattle.engine.specs.Places.{place_fault};
 ghost use Rattle.engine_calls.specs.EngineState.{completion_by, completion_of, opening, without_completion};
-ghost use Rattle.engine_calls.specs.EngineState.{without_out};
+ghost use Rattle.engine_calls.specs.EngineState.{trimmed, without_out};
 ghost use Rattle.engine.specs.Ticks.{TickGives, after_wait};
 
 use crate::parts::Parts;
+use alike::Alike;
 use collectives::Ending;
 use communicators::Communicators;
 use datagram::Bytes;
@@ -92,6 +93,16 @@ impl Engine {
         }
     }
 
+    /// Whether both stand alike: one place and clock, the same communicators, collectives, requests, messages and
+    /// transfers, and the same sessions, with all that is known of others, waits or goes out. For how much more there is
+    /// memory makes no difference, nor how many empty places are at the end of the table of requests. It takes no memory.
+    #[tactic(auto, using(crate::proofs::Standings::engine_same))]
+    pub fn stands_as(&self, other: &Engine) -> bool
+        ensures { IsTrue result → trimmed self.now ≡ trimmed other.now }
+    {
+        self.parts.stands_as(&other.parts) && self.ended.stands_as(&other.ended)
+    }
+
     /// Which rank of which job this is, and at which incarnation.
     pub fn place(&self) -> Place
         ensures sessions { result ≡ self.now.sessions.place }
@@ -137,6 +148,13 @@ impl Engine {
         ensures rest { self.new ≡ without_out self.old }
     {
         self.parts.sessions.take_out()
+    }
+
+    /// Whether all was handed out that was emitted.
+    pub fn is_through(&self) -> bool
+        ensures { IsTrue result ↔ (self.now.sessions.out ≡ []) }
+    {
+        self.parts.sessions.is_through()
     }
 
     /// Gives the list back that `take_out` handed out, so that what is emitted next has its room. What it holds is

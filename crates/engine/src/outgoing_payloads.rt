@@ -26,7 +26,7 @@ use point_to_point_calls::frames_of;
 use rendezvous::{AnnouncedPayload, ComingPayload, count_of, pieces_of};
 use sessions::{Heard, Sessions};
 use std::alloc::Global;
-use vocabulary::Mode;
+use vocabulary::{MessageLimit, Mode};
 
 /// The limit that what is heard meets, which so many frames answer: see `Sessions::limit_of_replies`.
 pub(crate) fn limit_of(sessions: &Sessions, heard: Heard<'_>, count: usize) -> Option<Refusal>
@@ -101,7 +101,8 @@ fn make_place(
     heard: Heard<'_>,
     request: RequestToSend,
 ) -> Result<ComingPayload, Refusal>
-    ensures ok { IfOk result (λ payload. payload ≡ coming_by (heard_text heard.entry) (request_text request)) }
+    ensures ok { IfOk result (λ payload.
+        payload ≡ coming_by core.old.state.place.message_limit (heard_text heard.entry) (request_text request)) }
     ensures room { OnOk result (0 < core.new.payloads.more_coming) }
     ensures kept { core.new ≡ record core.old {
       payloads = record core.old.payloads { more_coming = core.new.payloads.more_coming };
@@ -110,6 +111,7 @@ fn make_place(
 {
     let Ok(payload) = ComingPayload::new(
         alloc,
+        core.place().message_limit,
         heard.source.rank,
         request.transfer,
         request.context,
@@ -139,14 +141,15 @@ pub(crate) fn announced_for<'a>(
 /// The frames of all data of a payload for a rank, lent from it; or want of memory (14).
 fn data_frames<'a>(
     alloc: Global,
+    limit: MessageLimit,
     rank: u16,
     transfer: u32,
     bytes: &'a [u8],
 ) -> Result<Vec<Outgoing<'a>>, Refusal>
-    ensures ok { IfOk result (λ frames. sendings frames.items ≡ data_sent rank transfer bytes.now) }
+    ensures ok { IfOk result (λ frames. sendings frames.items ≡ data_sent limit rank transfer bytes.now) }
     ensures err { IfErr result (λ e. e ≡ Refusal.OutOfMemory) }
 {
-    let Ok(pieces) = pieces_of(alloc, bytes) else {
+    let Ok(pieces) = pieces_of(alloc, limit, bytes) else {
         return Err(Refusal::OutOfMemory);
     };
     frames_of(alloc, rank, transfer, &pieces)
@@ -167,24 +170,25 @@ fn send_data(
     ensures none { OnOk result
         (fault_of_sessions
         (event_limit sessions.old (Some (heard_text heard.entry))
-        (data_sent heard.entry.source.rank transfer bytes.now)) ≡ None) }
+        (data_sent sessions.old.place.message_limit heard.entry.source.rank transfer bytes.now)) ≡ None) }
     ensures sent { OnOk result
         (sessions.new ≡
         after_event sessions.old (Some (heard_text heard.entry))
-        (data_sent heard.entry.source.rank transfer bytes.now)) }
+        (data_sent sessions.old.place.message_limit heard.entry.source.rank transfer bytes.now)) }
     ensures err { IfErr result
         (IsRefusal
         (fault_of_sessions
         (event_limit sessions.old (Some (heard_text heard.entry))
-        (data_sent heard.entry.source.rank transfer bytes.now)))) }
+        (data_sent sessions.old.place.message_limit heard.entry.source.rank transfer bytes.now)))) }
     ensures unchanged { OnErr result (sessions.new ≡ sessions.old) }
     ensures within { OnOk result (StaysWithin (Some (heard_text heard.entry)) sessions.old sessions.new) }
     ensures placed { sessions.new.place ≡ sessions.old.place }
 {
-    if let Some(limit) = limit_of(sessions, heard, count_of(bytes)) {
-        return Err(limit);
+    let limit = sessions.place().message_limit;
+    if let Some(met) = limit_of(sessions, heard, count_of(limit, bytes)) {
+        return Err(met);
     }
-    let frames = data_frames(alloc, heard.source.rank, transfer, bytes)?;
+    let frames = data_frames(alloc, limit, heard.source.rank, transfer, bytes)?;
     carry_out(sessions, heard, &frames)
 }
 
@@ -222,7 +226,8 @@ impl Parts {
         requires there { heard.source.rank < self.old.sessions.place.size }
         requires allowed { announcement_fault self.old.core.state self.old.sessions (heard_text heard)
             (request_text request) ≡ None }
-        requires coming { coming ≡ coming_by (heard_text heard) (request_text request) }
+        requires coming { coming ≡
+            coming_by self.old.core.state.place.message_limit (heard_text heard) (request_text request) }
         requires room { 0 < self.old.core.payloads.more_coming }
         ensures exact { OnOk result
             (IsCounted self.old (heard_text heard.entry) (request_text request) self.new) }

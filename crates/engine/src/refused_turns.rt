@@ -92,9 +92,13 @@ fn limit_of_data(
     requires { CanHear sessions.now (Some (heard_text heard)) }
     ensures { result ≡ fault_of_sessions
         (event_limit sessions.now (Some (heard_text heard.entry))
-        (data_sent heard.entry.source.rank transfer bytes.now)) }
+        (data_sent sessions.now.place.message_limit heard.entry.source.rank transfer bytes.now)) }
 {
-    limit_of(sessions, heard, count_of(bytes))
+    limit_of(
+        sessions,
+        heard,
+        count_of(sessions.place().message_limit, bytes),
+    )
 }
 
 /// The refusal of the answer to a payload that this rank announced.

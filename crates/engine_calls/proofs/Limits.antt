@@ -3,6 +3,7 @@ use Rattle.point_to_point_calls.specs.declared.sends.Destination.{Destination}
 use Rattle.std.proofs.Common.{◌≡◌, ◌==◌, ℕ, [], ◌∷◌, Bool, true, false, Option, Some, None, refl, sym, ap, subst}
 use Rattle.std.proofs.lemmas.Option.{same_Some}
 use Rattle.std.specs.Prelude.{option_map}
+use Rattle.vocabulary.specs.declared.message_limit.MessageLimit.{MessageLimit}
 use Rattle.vocabulary.specs.declared.mode.Mode.{Mode}
 use Rattle.datagram.specs.Spellings.{FrameText, OutgoingText}
 use Rattle.datatypes.specs.Contents.{Contents}
@@ -39,12 +40,12 @@ none_by s None is = refl
 none_by s (Some f) is = absurd cc
 
 -- the frame of a send goes to the rank that it was sent to, where that is another one
-target_by : (own : Bool) (t : State) (mode : Mode) (d : Destination) (m : Contents) →
-    option_map (λ f. f.target) (frame_unless own t mode d m) ≡ rank_unless own d
-target_by true t mode d m = refl
-target_by false t mode d m = refl
+target_by : (own : Bool) (limit : MessageLimit) (t : State) (mode : Mode) (d : Destination) (m : Contents) →
+    option_map (λ f. f.target) (frame_unless own limit t mode d m) ≡ rank_unless own d
+target_by true limit t mode d m = refl
+target_by false limit t mode d m = refl
 
 pub target_is : (p : Place) (t : State) (mode : Mode) (d : Option Destination) (m : Contents) →
     option_map (λ f. f.target) (frame_to p t mode d m) ≡ rank_to p d
 target_is p t mode None m = refl
-target_is p t mode (Some d) m = target_by (d.rank == p.endpoint.rank) t mode d m
+target_is p t mode (Some d) m = target_by (d.rank == p.endpoint.rank) p.message_limit t mode d m

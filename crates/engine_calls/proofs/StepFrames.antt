@@ -3,7 +3,7 @@ use Rattle.std.proofs.Common.{◌≡◌, ℕ, zero, suc, ◌+◌, ◌*◌, ◌<�
 use Rattle.std.proofs.Common.{append_assoc, Bool, true, false, cond, List, [], ◌∷◌, ◌++◌, length, map, filter, take}
 use Rattle.std.proofs.Common.{get_or, Option, Some, None, refl, sym, ap, subst, ◌∙◌, arith}
 use Rattle.std.specs.Prelude.{All, if◌then◌else◌, nat_le, nat_lt}
-use Rattle.std.proofs.lemmas.Bool.{leb-true, lt-ltb, ltb-false, ltb-true}
+use Rattle.std.proofs.lemmas.Bool.{leb-true, ltb-false, ltb-true}
 use Rattle.std.proofs.lemmas.List.{append-nil, map_more}
 use Rattle.std.proofs.lemmas.List.Elements.{All-append, All-cons, All-filter, All-nil, filter-append}
 use Rattle.collective_messages.specs.Messages.{says}
@@ -15,6 +15,9 @@ use Rattle.payload.specs.Spellings.{spelling}
 use Rattle.point_to_point_calls.specs.declared.refusal.Refusal.{Refusal}
 use Rattle.point_to_point_calls.specs.declared.refusal.Refusal.TheVariants as refusals
 use Rattle.rendezvous.specs.State.{is_full_to, next_to}
+use Rattle.vocabulary.specs.MessageLimits.{frame_limit_of}
+use Rattle.vocabulary.specs.declared.message_limit.MessageLimit.{MessageLimit}
+use Rattle.vocabulary.proofs.MessageLimits.{frame_most}
 use Rattle.rendezvous.specs.declared.transfers.Numbers.{Numbers}
 use Rattle.sessions.specs.declared.peers.Peer.{Peer}
 use Rattle.sessions.specs.declared.refusal.SessionRefusal as lower
@@ -79,36 +82,36 @@ and_stops : (a b : Bool) → b ≡ false → (a && b) ≡ false
 and_stops true b is = is
 and_stops false b is = refl
 
-numbers_snoc : (ns : List Numbers) (xs : List CollectiveMessage) (m : CollectiveMessage) →
-    step_numbers ns (xs ++ m ∷ []) ≡ numbers_after (step_numbers ns xs) m
-numbers_snoc ns [] m = refl
-numbers_snoc ns (x ∷ xs) m = numbers_snoc (numbers_after ns x) xs m
+numbers_snoc : (limit : MessageLimit) (ns : List Numbers) (xs : List CollectiveMessage) (m : CollectiveMessage) →
+    step_numbers limit ns (xs ++ m ∷ []) ≡ numbers_after limit (step_numbers limit ns xs) m
+numbers_snoc limit ns [] m = refl
+numbers_snoc limit ns (x ∷ xs) m = numbers_snoc limit (numbers_after limit ns x) xs m
 
-sent_snoc : (ns : List Numbers) (xs : List CollectiveMessage) (m : CollectiveMessage) →
-    messages_sent ns (xs ++ m ∷ []) ≡ messages_sent ns xs ++ sending_of_message (step_numbers ns xs) m ∷ []
-sent_snoc ns [] m = refl
-sent_snoc ns (x ∷ xs) m =
-    ap (λ (t : List OutgoingText). sending_of_message ns x ∷ t) (sent_snoc (numbers_after ns x) xs m)
+sent_snoc : (limit : MessageLimit) (ns : List Numbers) (xs : List CollectiveMessage) (m : CollectiveMessage) →
+    messages_sent limit ns (xs ++ m ∷ []) ≡ messages_sent limit ns xs ++ sending_of_message limit (step_numbers limit ns xs) m ∷ []
+sent_snoc limit ns [] m = refl
+sent_snoc limit ns (x ∷ xs) m =
+    ap (λ (t : List OutgoingText). sending_of_message limit ns x ∷ t) (sent_snoc limit (numbers_after limit ns x) xs m)
 
 -- what is kept of one message
-abbrev kept_of : List Numbers → CollectiveMessage → List Announced
-kept_of ns m = payload_kept (transfer_of ns m) m.target.rank (spelling (says m))
+abbrev kept_of : MessageLimit → List Numbers → CollectiveMessage → List Announced
+kept_of limit ns m = payload_kept (transfer_of limit ns m) m.target.rank (spelling (says m))
 
-kept_snoc : (ns : List Numbers) (xs : List CollectiveMessage) (m : CollectiveMessage) →
-    step_payloads ns (xs ++ m ∷ []) ≡ step_payloads ns xs ++ kept_of (step_numbers ns xs) m
-kept_snoc ns [] m = append-nil (kept_of ns m)
-kept_snoc ns (x ∷ xs) m =
-    ap (λ (t : List Announced). kept_of ns x ++ t) (kept_snoc (numbers_after ns x) xs m)
-    ∙ sym (append_assoc (kept_of ns x) (step_payloads (numbers_after ns x) xs)
-    (kept_of (step_numbers (numbers_after ns x) xs) m))
+kept_snoc : (limit : MessageLimit) (ns : List Numbers) (xs : List CollectiveMessage) (m : CollectiveMessage) →
+    step_payloads limit ns (xs ++ m ∷ []) ≡ step_payloads limit ns xs ++ kept_of limit (step_numbers limit ns xs) m
+kept_snoc limit ns [] m = append-nil (kept_of limit ns m)
+kept_snoc limit ns (x ∷ xs) m =
+    ap (λ (t : List Announced). kept_of limit ns x ++ t) (kept_snoc limit (numbers_after limit ns x) xs m)
+    ∙ sym (append_assoc (kept_of limit ns x) (step_payloads limit (numbers_after limit ns x) xs)
+    (kept_of limit (step_numbers limit (numbers_after limit ns x) xs) m))
 
 go_snoc : (p : Place) (ns : List Numbers) (xs : List CollectiveMessage) (m : CollectiveMessage) →
-    all_can_go p ns (xs ++ m ∷ []) ≡ (all_can_go p ns xs && can_go p (step_numbers ns xs) m)
+    all_can_go p ns (xs ++ m ∷ []) ≡ (all_can_go p ns xs && can_go p (step_numbers p.message_limit ns xs) m)
 go_snoc p ns [] m = and_true (can_go p ns m)
 go_snoc p ns (x ∷ xs) m =
-    ap (λ (b : Bool). can_go p ns x && b) (go_snoc p (numbers_after ns x) xs m)
-    ∙ and_more (can_go p ns x) (all_can_go p (numbers_after ns x) xs)
-    (can_go p (step_numbers (numbers_after ns x) xs) m)
+    ap (λ (b : Bool). can_go p ns x && b) (go_snoc p (numbers_after p.message_limit ns x) xs m)
+    ∙ and_more (can_go p ns x) (all_can_go p (numbers_after p.message_limit ns x) xs)
+    (can_go p (step_numbers p.message_limit (numbers_after p.message_limit ns x) xs) m)
 
 whole_snoc : (xs : List CollectiveMessage) (m : CollectiveMessage) → AreWhole xs → IsWhole m → AreWhole (xs ++ m ∷ [])
 whole_snoc [] m all one = (one, tt)
@@ -118,14 +121,14 @@ snoc : (p : Place) (ns : List Numbers) (xs : List CollectiveMessage) (m : Collec
     (ps qs : List Announced) (n2 n3 : List Numbers) →
     AreReady p ns xs fs ps n2 → IsAdded p n2 m fs gs ps qs n3 → AreReady p ns (xs ++ m ∷ []) gs qs n3
 snoc p ns xs m fs gs ps qs n2 n3 ready added =
-    let one : IsAdded p (step_numbers ns xs) m fs gs ps qs n3 = subst (λ (n : List Numbers). IsAdded p n m fs gs ps qs n3) ready.numbers added in
+    let one : IsAdded p (step_numbers p.message_limit ns xs) m fs gs ps qs n3 = subst (λ (n : List Numbers). IsAdded p n m fs gs ps qs n3) ready.numbers added in
     record {
-      go = go_snoc p ns xs m ∙ ap (λ (b : Bool). b && can_go p (step_numbers ns xs) m) ready.go ∙ one.goes;
-      frames = one.frames ∙ ap (λ (t : List OutgoingText). t ++ sending_of_message (step_numbers ns xs) m ∷
-          []) ready.frames ∙ sym (sent_snoc ns xs m);
-      kept = one.kept ∙ ap (λ (t : List Announced). t ++ kept_of (step_numbers ns xs) m) ready.kept ∙
-          sym (kept_snoc ns xs m);
-      numbers = one.numbers ∙ sym (numbers_snoc ns xs m);
+      go = go_snoc p ns xs m ∙ ap (λ (b : Bool). b && can_go p (step_numbers p.message_limit ns xs) m) ready.go ∙ one.goes;
+      frames = one.frames ∙ ap (λ (t : List OutgoingText). t ++ sending_of_message p.message_limit (step_numbers p.message_limit ns xs) m ∷
+          []) ready.frames ∙ sym (sent_snoc p.message_limit ns xs m);
+      kept = one.kept ∙ ap (λ (t : List Announced). t ++ kept_of p.message_limit (step_numbers p.message_limit ns xs) m) ready.kept ∙
+          sym (kept_snoc p.message_limit ns xs m);
+      numbers = one.numbers ∙ sym (numbers_snoc p.message_limit ns xs m);
       whole = whole_snoc xs m ready.whole one.whole;
     }
 
@@ -149,12 +152,12 @@ one_more p ns ms i d fs gs ps qs n2 n3 within ready added =
 
 stops_at : (p : Place) (ns : List Numbers) (ms : List CollectiveMessage) (i : ℕ) (d : CollectiveMessage) →
     i < length ms →
-    can_go p (step_numbers ns (take i ms)) (get_or ms i d) ≡ false → all_can_go p ns ms ≡ false
+    can_go p (step_numbers p.message_limit ns (take i ms)) (get_or ms i d) ≡ false → all_can_go p ns ms ≡ false
 stops_at p ns [] i d within is = absurd (omega (arith, within))
-stops_at p ns (m ∷ ms) zero d within is = ap (λ (b : Bool). b && all_can_go p (numbers_after ns m) ms) is
+stops_at p ns (m ∷ ms) zero d within is = ap (λ (b : Bool). b && all_can_go p (numbers_after p.message_limit ns m) ms) is
 stops_at p ns (m ∷ ms) (suc i) d within is =
-    and_stops (can_go p ns m) (all_can_go p (numbers_after ns m) ms)
-    (stops_at p (numbers_after ns m) ms i d (omega (arith, within)) is)
+    and_stops (can_go p ns m) (all_can_go p (numbers_after p.message_limit ns m) ms)
+    (stops_at p (numbers_after p.message_limit ns m) ms i d (omega (arith, within)) is)
 
 -- a test that fails stops a step
 stop_of : (b : Bool) → (if b then None else Some refusals.Limit) ≡ Some refusals.Limit → b ≡ false
@@ -197,7 +200,7 @@ one_left_out p ns n2 ms i d fs ps e within ready is =
     stops_as (if can_go p n2 (get_or ms i d) then None else Some refusals.Limit) (if all_can_go p ns ms then None else
     Some refusals.Limit) e
     (λ stop.
-    let fails : can_go p (step_numbers ns (take i ms)) (get_or ms i d) ≡ false =
+    let fails : can_go p (step_numbers p.message_limit ns (take i ms)) (get_or ms i d) ≡ false =
     subst (λ (n : List Numbers). can_go p n (get_or ms i d) ≡ false) ready.numbers
     (stop_of (can_go p n2 (get_or ms i d)) stop) in
     ap (λ (b : Bool). cond b None (Some refusals.Limit)) (stops_at p ns ms i d within fails))
@@ -210,10 +213,11 @@ or_of true b is = inl refl
 or_of false b is = inr is
 
 -- what can go has at most as many bytes as a message
-limited : (ns : List Numbers) (rank count : ℕ) → is_sendable ns rank count ≡ true → count ≤ 2147483647
-limited ns rank count is =
-    elim (or_of (nat_le count 1024) (nat_le count 2147483647 && not (is_full_to ns rank)) is) [
-      | inl small ↦ omega (arith, leb-true count 1024 small)
+limited : (limit : MessageLimit) (ns : List Numbers) (rank count : ℕ) → is_sendable limit ns rank count ≡ true →
+    count ≤ 2147483647
+limited limit ns rank count is =
+    elim (or_of (nat_le count (frame_limit_of limit)) (nat_le count 2147483647 && not (is_full_to ns rank)) is) [
+      | inl small ↦ omega (arith, leb-true count (frame_limit_of limit) small, frame_most limit)
       | inr large ↦ leb-true count 2147483647 (both_of (nat_le count 2147483647) (not (is_full_to ns rank)) large).0
     ]
 
@@ -223,14 +227,15 @@ not_false false is = refl
 
 -- what is too long for a frame can go where a number is left
 pub left_for : (p : Place) (ns : List Numbers) (m : CollectiveMessage) (count : ℕ) →
-    count ≡ length (spelling (says m)) → can_go p ns m ≡ true → 1024 < count →
+    count ≡ length (spelling (says m)) → can_go p ns m ≡ true → frame_limit_of p.message_limit < count →
     is_full_to ns m.target.rank ≡ false
 left_for p ns m count counted is large =
-    let parts = both_of (nat_lt m.target.rank p.size) (nat_le m.number 2147483647 && is_sendable ns m.target.rank (length (spelling (says m)))) is in
-    let rest = both_of (nat_le m.number 2147483647) (is_sendable ns m.target.rank (length (spelling (says m)))) parts.1 in
-    elim (or_of (nat_le (length (spelling (says m))) 1024) (nat_le (length (spelling (says m))) 2147483647 &&
-    not (is_full_to ns m.target.rank)) rest.1) [
-      | inl small ↦ absurd (omega (arith, leb-true (length (spelling (says m))) 1024 small, counted, large))
+    let parts = both_of (nat_lt m.target.rank p.size) (nat_le m.number 2147483647 && is_sendable p.message_limit ns m.target.rank (length (spelling (says m)))) is in
+    let rest = both_of (nat_le m.number 2147483647) (is_sendable p.message_limit ns m.target.rank (length (spelling (says m)))) parts.1 in
+    elim (or_of (nat_le (length (spelling (says m))) (frame_limit_of p.message_limit))
+    (nat_le (length (spelling (says m))) 2147483647 && not (is_full_to ns m.target.rank)) rest.1) [
+      | inl small ↦ absurd
+          (omega (arith, leb-true (length (spelling (says m))) (frame_limit_of p.message_limit) small, counted, large))
       | inr room ↦ not_false (is_full_to ns m.target.rank)
           (both_of (nat_le (length (spelling (says m))) 2147483647) (not (is_full_to ns m.target.rank)) room).1
     ]
@@ -239,40 +244,39 @@ left_for p ns m count counted is large =
 pub few_bytes : (p : Place) (ns : List Numbers) (m : CollectiveMessage) (count : ℕ) →
     count ≡ length (spelling (says m)) → can_go p ns m ≡ true → count ≤ 2147483647
 few_bytes p ns m count counted is =
-    let parts = both_of (nat_lt m.target.rank p.size) (nat_le m.number 2147483647 && is_sendable ns m.target.rank (length (spelling (says m)))) is in
-    let rest = both_of (nat_le m.number 2147483647) (is_sendable ns m.target.rank (length (spelling (says m)))) parts.1 in
-    omega (arith, counted, limited ns m.target.rank (length (spelling (says m))) rest.1)
+    let parts = both_of (nat_lt m.target.rank p.size) (nat_le m.number 2147483647 && is_sendable p.message_limit ns m.target.rank (length (spelling (says m)))) is in
+    let rest = both_of (nat_le m.number 2147483647) (is_sendable p.message_limit ns m.target.rank (length (spelling (says m)))) parts.1 in
+    omega (arith, counted, limited p.message_limit ns m.target.rank (length (spelling (says m))) rest.1)
 
-frame_fits : (b : Bool) (transfer context number : ℕ) (bytes : List ℕ) → nat_lt 1024 (length bytes) ≡ b →
-    number ≤ 2147483647 → length bytes ≤ 2147483647 →
+frame_fits : (b : Bool) (frame transfer context number : ℕ) (bytes : List ℕ) → nat_lt frame (length bytes) ≡ b →
+    frame ≤ 61440 → number ≤ 2147483647 →
     FrameFits (payload_frame (cond b (Some transfer) None) context number bytes)
-frame_fits true transfer context number bytes large tag few =
-    let some : 1024 < length bytes * 1 = omega (arith, ltb-true 1024 (length bytes) large) in
-    record { tag = tag; large = lt-ltb 1024 (length bytes * 1) some; plane = refl }
-frame_fits false transfer context number bytes small tag few =
+frame_fits true frame transfer context number bytes large most tag = record { tag = tag; plane = refl }
+frame_fits false frame transfer context number bytes small most tag =
     let size : length bytes ≡ length bytes * 1 = omega arith in
-    record { tag = tag; size = size; limit = ltb-false 1024 (length bytes) small; plane = refl }
+    let few : length bytes ≤ 61440 = omega (arith, ltb-false frame (length bytes) small, most) in
+    record { tag = tag; size = size; limit = few; plane = refl }
 
 one_sends : (p : Place) (ns : List Numbers) (m : CollectiveMessage) → can_go p ns m ≡ true →
-    CanSend p (sending_of_message ns m)
+    CanSend p (sending_of_message p.message_limit ns m)
 one_sends p ns m is =
-    let parts = both_of (nat_lt m.target.rank p.size) (nat_le m.number 2147483647 && is_sendable ns m.target.rank (length (spelling (says m)))) is in
-    let rest = both_of (nat_le m.number 2147483647) (is_sendable ns m.target.rank (length (spelling (says m)))) parts.1 in
+    let parts = both_of (nat_lt m.target.rank p.size) (nat_le m.number 2147483647 && is_sendable p.message_limit ns m.target.rank (length (spelling (says m)))) is in
+    let rest = both_of (nat_le m.number 2147483647) (is_sendable p.message_limit ns m.target.rank (length (spelling (says m)))) parts.1 in
     record {
       there = ltb-true m.target.rank p.size parts.0;
-      fits = frame_fits (is_large m) (next_to ns m.target.rank) m.context m.number (spelling (says m)) refl
-          (leb-true m.number 2147483647 rest.0)
-          (limited ns m.target.rank (length (spelling (says m))) rest.1);
+      fits = frame_fits (is_large p.message_limit m) (frame_limit_of p.message_limit) (next_to ns m.target.rank)
+          m.context m.number (spelling (says m)) refl (frame_most p.message_limit)
+          (leb-true m.number 2147483647 rest.0);
     }
 
 -- the sessions can send the frames of a step
 pub all_send : (p : Place) (ns : List Numbers) (ms : List CollectiveMessage) → all_can_go p ns ms ≡ true →
-    All (CanSend p) (messages_sent ns ms)
+    All (CanSend p) (messages_sent p.message_limit ns ms)
 all_send p ns [] is = All-nil (CanSend p)
 all_send p ns (m ∷ ms) is =
-    let parts = both_of (can_go p ns m) (all_can_go p (numbers_after ns m) ms) is in
-    All-cons (CanSend p) (sending_of_message ns m) (messages_sent (numbers_after ns m) ms) (one_sends p ns m parts.0)
-    (all_send p (numbers_after ns m) ms parts.1)
+    let parts = both_of (can_go p ns m) (all_can_go p (numbers_after p.message_limit ns m) ms) is in
+    All-cons (CanSend p) (sending_of_message p.message_limit ns m) (messages_sent p.message_limit (numbers_after p.message_limit ns m) ms) (one_sends p ns m parts.0)
+    (all_send p (numbers_after p.message_limit ns m) ms parts.1)
 
 -- and what was written out of one
 pub written_send : (p q : Place) (ns n2 : List Numbers) (ms : List CollectiveMessage) (fs gs : List OutgoingText)
@@ -398,10 +402,11 @@ step_goes p s ns n2 h ms fs gs ps place same ready is =
 -- and leaves what its step does
 pub step_sent : (p : Place) (s t : SessionsState) (ns n2 : List Numbers) (h : Option HeardText)
     (ms : List CollectiveMessage) (fs gs : List OutgoingText) (ps : List Announced) →
-    gs ≡ fs → AreReady p ns ms fs ps n2 → t ≡ after_event s h (by_rank s.place.size gs) →
+    p ≡ s.place → gs ≡ fs → AreReady p ns ms fs ps n2 → t ≡ after_event s h (by_rank s.place.size gs) →
     t ≡ after_event s h (step_sendings s.place ns ms)
-step_sent p s t ns n2 h ms fs gs ps same ready is =
-    is ∙ ap (λ (hs : List OutgoingText). after_event s h (by_rank s.place.size hs)) (same ∙ ready.frames)
+step_sent p s t ns n2 h ms fs gs ps place same ready is =
+    let here : AreReady s.place ns ms fs ps n2 = subst (λ (q : Place). AreReady q ns ms fs ps n2) place ready in
+    is ∙ ap (λ (hs : List OutgoingText). after_event s h (by_rank s.place.size hs)) (same ∙ here.frames)
 
 -- what is handed to the sessions is what was written out, in the order of the ranks
 pub frames_are : (p q : Place) (fs : List OutgoingText) (os us : List Outgoing) → q ≡ p →

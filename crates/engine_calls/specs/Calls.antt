@@ -146,8 +146,12 @@ pub record IsEntered (old : EngineState) (comm : Option ℕ) (x : Entry) (reply 
   pub goes : step_limit old.sessions old.core.transfers.numbers None step.messages ≡ None
   pub sessions : new.sessions ≡
       after_event old.sessions None (step_sendings old.sessions.place old.core.transfers.numbers step.messages)
-  pub core : new.core ≡ with_numbers old.core (step_numbers old.core.transfers.numbers step.messages)
-  pub payloads : new.payloads ≡ after_announcing old.payloads (step_payloads old.core.transfers.numbers step.messages)
+  pub core : new.core ≡
+      with_numbers old.core
+      (step_numbers old.sessions.place.message_limit old.core.transfers.numbers step.messages)
+  pub payloads : new.payloads ≡
+      after_announcing old.payloads
+      (step_payloads old.sessions.place.message_limit old.core.transfers.numbers step.messages)
   pub ended : new.ended ≡ old.ended
 
 -- what an answer to a question says

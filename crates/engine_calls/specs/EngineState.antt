@@ -35,6 +35,10 @@ pub record EngineState : Type 0 where
   -- what it knows of the other ranks, its links with them, the time, and what was emitted
   pub sessions : SessionsState
 
+-- the engine, without the empty places at the end of its table of requests
+abbrev pub trimmed : EngineState → EngineState
+trimmed e = record e { core = cores.trimmed e.core }
+
 -- what of an engine a call of the core doesn't look at
 pub record Rest : Type 0 where
   pub ended : Option Ending

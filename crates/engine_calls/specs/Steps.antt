@@ -62,9 +62,9 @@ written w = record { target = w.target; frame = part_frame w.context w.number w.
 pub record IsAdded (p : Place) (ns : List Numbers) (m : CollectiveMessage) (fs gs : List OutgoingText)
     (ps qs : List Announced) (ns2 : List Numbers) : Type 0 where
   pub goes : can_go p ns m ≡ true
-  pub frames : gs ≡ fs ++ sending_of_message ns m ∷ []
-  pub kept : qs ≡ ps ++ payload_kept (transfer_of ns m) m.target.rank (spelling (says m))
-  pub numbers : ns2 ≡ numbers_after ns m
+  pub frames : gs ≡ fs ++ sending_of_message p.message_limit ns m ∷ []
+  pub kept : qs ≡ ps ++ payload_kept (transfer_of p.message_limit ns m) m.target.rank (spelling (says m))
+  pub numbers : ns2 ≡ numbers_after p.message_limit ns m
   pub whole : IsWhole m
 
 -- all messages of a step are written out: each can go, these are their frames, these payloads are kept, and they are
@@ -72,9 +72,9 @@ pub record IsAdded (p : Place) (ns : List Numbers) (m : CollectiveMessage) (fs g
 pub record AreReady (p : Place) (ns : List Numbers) (ms : List CollectiveMessage) (fs : List OutgoingText)
     (ps : List Announced) (ns2 : List Numbers) : Type 0 where
   pub go : all_can_go p ns ms ≡ true
-  pub frames : fs ≡ messages_sent ns ms
-  pub kept : ps ≡ step_payloads ns ms
-  pub numbers : ns2 ≡ step_numbers ns ms
+  pub frames : fs ≡ messages_sent p.message_limit ns ms
+  pub kept : ps ≡ step_payloads p.message_limit ns ms
+  pub numbers : ns2 ≡ step_numbers p.message_limit ns ms
   pub whole : AreWhole ms
 
 -- why a step isn't sent: the limit that it meets, or want of memory

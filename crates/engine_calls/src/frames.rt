@@ -8,7 +8,7 @@ ghost use Rattle.payload.specs.Spellings.{spelling};
 ghost use Rattle.sessions.specs.Events.{CanSend, after_event, event_limit, sendings};
 ghost use Rattle.sessions.specs.HeardBytes.{CanHear, heard_option};
 ghost use Rattle.sessions.specs.Windows.{StaysWithin};
-ghost use Rattle.vocabulary.specs.Limits.{eager_limit, greatest_limit};
+ghost use Rattle.vocabulary.specs.Limits.{greatest_frame, greatest_limit};
 ghost use Rattle.engine_calls.specs.Frames.{AreWhole, IsWhole, all_can_go, by_rank, can_go, lesson_in, numbers_heard};
 ghost use Rattle.engine_calls.specs.Frames.{payload_frame, payload_kept, step_limit, step_numbers, step_payloads};
 ghost use Rattle.engine_calls.specs.Frames.{step_sendings, transfer_of};
@@ -25,7 +25,7 @@ use point_to_point::{Core, Refusal};
 use rendezvous::{AnnouncedPayload, Transfers};
 use sessions::{Heard, Sessions};
 use std::alloc::Global;
-use vocabulary::{BasicType, EAGER_LIMIT, GREATEST_LIMIT, HIGHEST_TAG, Mode};
+use vocabulary::{BasicType, GREATEST_LIMIT, HIGHEST_TAG, Mode};
 
 /// What goes in the frame of a message.
 #[derive(Drop)]
@@ -87,7 +87,8 @@ fn transfer_of(
     requires count { count ≡ length (spelling (says message.now)) }
     requires left { AreLeft (with_lesson lesson transfers.now.state.numbers) announced.now }
     ensures ok { IfOk result (λ transfer. transfer
-        ≡ transfer_of (counted (with_lesson lesson transfers.now.state.numbers) announced.now) message.now) }
+        ≡ transfer_of place.message_limit (counted (with_lesson lesson transfers.now.state.numbers) announced.now)
+        message.now) }
     ensures goes { OnOk result
         (can_go place (counted (with_lesson lesson transfers.now.state.numbers) announced.now) message.now ≡ true) }
     ensures err { IfErr result (IsLeftOut
@@ -96,7 +97,7 @@ fn transfer_of(
     if message.target.rank >= place.size || message.number > HIGHEST_TAG {
         return Err(Refusal::Limit);
     }
-    if count <= EAGER_LIMIT {
+    if count <= place.message_limit.frame_bytes() as usize {
         return Ok(None);
     }
     if count > GREATEST_LIMIT {
@@ -143,7 +144,7 @@ fn add_whole(
     frames: &mut Vec<Written>,
 ) -> Result<(), Refusal>
     requires says { bytes.items ≡ spelling (says message.now) }
-    requires small { length bytes.items ≤ eager_limit }
+    requires small { length bytes.items ≤ greatest_frame }
     ensures ok { OnOk result (map written frames.new.items ≡ map written frames.old.items
         ++ (record {
           target = message.now.target.rank;
@@ -471,10 +472,12 @@ pub fn send_step(
         (step_sendings sessions.old.place
         (numbers_heard core.old.state.transfers.numbers (heard_option heard.entry)) messages.now)) }
     ensures announced { IfOk result (λ announced. announced.items ≡
-        step_payloads (numbers_heard core.old.state.transfers.numbers (heard_option heard.entry)) messages.now) }
+        step_payloads sessions.old.place.message_limit
+        (numbers_heard core.old.state.transfers.numbers (heard_option heard.entry)) messages.now) }
     ensures counted { IfOk result (λ announced.
         counted (numbers_heard core.old.state.transfers.numbers (heard_option heard.entry)) announced.items ≡
-        step_numbers (numbers_heard core.old.state.transfers.numbers (heard_option heard.entry)) messages.now) }
+        step_numbers sessions.old.place.message_limit
+        (numbers_heard core.old.state.transfers.numbers (heard_option heard.entry)) messages.now) }
     ensures left { IfOk result (λ announced.
         AreLeft (numbers_heard core.old.state.transfers.numbers (heard_option heard.entry)) announced.items) }
     ensures room { IfOk result (λ announced. length announced.items ≤ core.new.payloads.more_announced) }

@@ -16,6 +16,7 @@ mod receives;
 mod refusal;
 mod reply;
 mod sends;
+mod standing;
 mod waits;
 
 pub use call::Call;

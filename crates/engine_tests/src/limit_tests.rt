@@ -65,11 +65,11 @@ fn a_send_has_as_many_bytes_as_its_job_allows(rt: HostRuntime) {
     );
 }
 
-/// How the announcement of a message that only its sender's limit allows is refused.
-fn refusal_of_announcement(alloc: Global) -> Option<Option<u8>> {
-    let mut sender = rank(alloc, 0, MessageLimit::greatest())?;
+/// How the frame of a message of so many bytes is refused, which goes by its sender's limits, at a rank of a script.
+fn refusal_of_frame(alloc: Global, limit: MessageLimit, count: usize) -> Option<Option<u8>> {
+    let mut sender = rank(alloc, 0, limit)?;
     let mut receiver = rank(alloc, 1, MessageLimit::least())?;
-    let sent = send(alloc, &mut sender, BEYOND);
+    let sent = send(alloc, &mut sender, count);
     let emitted = sender.take_out();
     let mut number = None;
     for (_target, bytes) in emitted.as_slice() {
@@ -87,7 +87,24 @@ fn refusal_of_announcement(alloc: Global) -> Option<Option<u8>> {
 
 #[test]
 fn an_announcement_beyond_the_limit_is_no_frame(rt: HostRuntime) {
-    assert_eq!(rt; refusal_of_announcement(rt.alloc()), Some(Some(30)));
+    assert_eq!(rt;
+        refusal_of_frame(rt.alloc(), MessageLimit::greatest(), BEYOND),
+        Some(Some(30))
+    );
+}
+
+/// The limit of a message of scripts, with the longest frames that a job may have.
+fn with_long_frames() -> Option<MessageLimit> {
+    MessageLimit::least().with_frame(61_440)
+}
+
+fn refusal_of_long_frame(alloc: Global) -> Option<Option<u8>> {
+    refusal_of_frame(alloc, with_long_frames()?, 2_000)
+}
+
+#[test]
+fn a_frame_is_no_longer_than_those_of_its_job(rt: HostRuntime) {
+    assert_eq!(rt; refusal_of_long_frame(rt.alloc()), Some(Some(25)));
 }
 
 /// How many elements the wait that was blocked received.
@@ -123,9 +140,9 @@ fn bytes_that_come(alloc: Global, sender: &mut Engine, receiver: &mut Engine) ->
     received(receiver)
 }
 
-fn transfer(alloc: Global) -> Option<u64> {
-    let mut sender = rank(alloc, 0, MessageLimit::greatest())?;
-    let mut receiver = rank(alloc, 1, MessageLimit::greatest())?;
+fn transfer(alloc: Global, limit: MessageLimit) -> Option<u64> {
+    let mut sender = rank(alloc, 0, limit)?;
+    let mut receiver = rank(alloc, 1, limit)?;
     let count = bytes_that_come(alloc, &mut sender, &mut receiver);
     drop(sender);
     drop(receiver);
@@ -134,7 +151,19 @@ fn transfer(alloc: Global) -> Option<u64> {
 
 #[test]
 fn a_message_beyond_the_limit_of_scripts_comes_whole(rt: HostRuntime) {
-    assert_eq!(rt; transfer(rt.alloc()), Some(1_048_577));
+    assert_eq!(rt;
+        transfer(rt.alloc(), MessageLimit::greatest()),
+        Some(1_048_577)
+    );
+}
+
+fn transfer_in_long_frames(alloc: Global) -> Option<u64> {
+    transfer(alloc, MessageLimit::greatest().with_frame(61_440)?)
+}
+
+#[test]
+fn a_message_comes_whole_in_frames_of_61_440_bytes(rt: HostRuntime) {
+    assert_eq!(rt; transfer_in_long_frames(rt.alloc()), Some(1_048_577));
 }
 
 /// How many datagrams go out at 10 ms of a frame that went out at 0.

@@ -1,5 +1,8 @@
 //! The operations of a rank that haven't ended.
 
+ghost use Rattle.std.specs.Prelude.{◌≡◌, OnOk};
+ghost use Rattle.error_lines.specs.Calls.{named_by};
+
 use crate::met_error::MetError;
 use crate::outcomes::{ending_error, outcome_error};
 use crate::refused::refused_error;
@@ -81,24 +84,32 @@ impl Operations {
         self.open.as_slice()
     }
 
-    /// The line of this number makes this call. The only error is want of memory.
-    pub fn on_call(&mut self, line: usize, call: &Call) -> Result<(), AllocError> {
-        self.line = line;
-        self.starts = started_by(call);
-        self.room = None;
+    /// The requests that this call names are those of the last call from now on.
+    fn note_named(&mut self, call: &Call) -> Result<(), AllocError>
+        ensures { OnOk result (self.new.named.items ≡ named_by call.now) }
+    {
         self.named.clear();
         match call {
-            Call::Wait(request) | Call::Test(request) => self.named.push(*request)?,
+            Call::Wait(request) | Call::Test(request) | Call::Mrecv(request, _) => {
+                self.named.push(*request)?;
+            }
             Call::Waitany(list) | Call::Waitall(list) => {
                 self.named.extend_from_slice(list.as_slice())?;
-            }
-            Call::Mrecv(request, region) => {
-                self.room = Some(room_in(region));
-                self.named.push(*request)?;
             }
             _ => {}
         }
         Ok(())
+    }
+
+    /// The line of this number makes this call. The only error is want of memory.
+    pub fn on_call(&mut self, line: usize, call: &Call) -> Result<(), AllocError> {
+        self.line = line;
+        self.starts = started_by(call);
+        self.room = match call {
+            Call::Mrecv(_, region) => Some(room_in(region)),
+            _ => None,
+        };
+        self.note_named(call)
     }
 
     fn start(&mut self, request: Request) -> Result<(), AllocError> {

@@ -1,9 +1,15 @@
 //! The names of types and operations.
 
+ghost use Rattle.std.specs.Prelude.{◌≡◌};
+ghost use Rattle.error_lines.specs.Names.{operation_name};
+ghost use Rattle.tokens.specs.Grammar.{type_word};
+
 use vocabulary::{BasicType, Operation};
 
 /// The name of a type, as scripts have it.
-pub(crate) fn type_name(basic: BasicType) -> &'static str {
+pub(crate) fn type_name(basic: BasicType) -> &'static str
+    ensures { result.now ≡ type_word basic }
+{
     match basic {
         BasicType::Int8 => "int8",
         BasicType::Int16 => "int16",
@@ -20,7 +26,9 @@ pub(crate) fn type_name(basic: BasicType) -> &'static str {
 }
 
 /// The name of an operation, as scripts have it.
-pub(crate) fn operation_name(operation: Operation) -> &'static str {
+pub(crate) fn operation_name(operation: Operation) -> &'static str
+    ensures { result.now ≡ operation_name operation }
+{
     match operation {
         Operation::Max => "max",
         Operation::Min => "min",

@@ -1,5 +1,6 @@
 //! How far a rank is between two turns.
 
+use alike::Alike;
 use engine::Reply;
 
 /// What the runner waits for.
@@ -19,6 +20,23 @@ pub enum RunnerState<C> {
     Blocked(C),
     /// It has ended with this status; the line of the script where that is a faulty one.
     Over(u8, Option<usize>),
+}
+
+impl<C: Alike> Alike for RunnerState<C> {
+    fn stands_as(&self, other: &Self) -> bool {
+        match (self, other) {
+            (RunnerState::Ready(told), RunnerState::Ready(other_told)) => told.stands_as(
+                other_told,
+            ),
+            (RunnerState::Blocked(call), RunnerState::Blocked(other_call)) => {
+                call.stands_as(other_call)
+            }
+            (RunnerState::Over(status, line), RunnerState::Over(other_status, other_line)) => {
+                status == other_status && line == other_line
+            }
+            _ => false,
+        }
+    }
 }
 
 /// Where a rank stands between two turns.

@@ -20,7 +20,7 @@ fn add_plays(alloc: Global, page: &mut Vec<u8>, explored: &Explored) -> Result<(
     if explored.tried_findings {
         add(
             page,
-            "not every choice was tried, but each that can lead to another finding.\n",
+            "not every choice was tried, plays that stood alike were broken off.\n",
         )
     } else if !explored.tried_all {
         let text = format!(in alloc;

@@ -14,6 +14,7 @@ use crate::selection::{
     INLINE, append_selected, at_positions, count, first_fault, first_ranks, holds_all, is_among,
     other_positions, place_of,
 };
+use alike::Alike;
 use smallvec::SmallVec;
 use std::alloc::Global;
 use std::marker::Model;
@@ -226,5 +227,11 @@ impl Group {
         } else {
             GroupComparison::Unequal
         }
+    }
+}
+
+impl Alike for Group {
+    fn stands_as(&self, other: &Self) -> bool {
+        self.ranks() == other.ranks()
     }
 }

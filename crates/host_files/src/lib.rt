@@ -10,4 +10,4 @@ mod slots;
 pub use fault::{FileFault, HostFault};
 pub use file::{hosts_in_list, hosts_of};
 pub use host::Host;
-pub use slots::{hosts_of_ranks, slot_count};
+pub use slots::{hosts_of_more_ranks, hosts_of_ranks, slot_count};

@@ -6,4 +6,4 @@ mod message;
 mod report;
 
 pub use message::{FoundWords, message_text, words_in};
-pub use report::{Report, ReportKind, next_report, push_report};
+pub use report::{Report, ReportKind, next_report, push_report, told_end};

@@ -1,8 +1,10 @@
 //! What a keeper reports: what its program writes as it comes, and how it ends.
 
 ghost use Rattle.std.specs.Prelude.{◌≡◌, ◌<◌, ◌≤◌, ◌++◌, ◌^◌, MatchOption, OnOk, length};
+ghost use Rattle.host_keepers.specs.Ends.{ending_told, first_byte, told_end};
 ghost use Rattle.host_keepers.specs.Reports.{HasNoReport, IsFirstReport, kind_code, kind_of_code, report_text, said_size};
 
+use launch_keeper::ProgramEnding;
 use std::alloc::AllocError;
 
 /// What a report is of.
@@ -55,6 +57,38 @@ pub struct Report<'a> {
     pub kind: ReportKind,
     /// Its bytes.
     pub bytes: &'a [u8],
+}
+
+impl Report<'_> {
+    /// The number that the report says: its first byte, 0 where it has none.
+    pub fn number(&self) -> u8
+        ensures { result ≡ first_byte self.now.bytes.now }
+    {
+        self.bytes.first().copied().unwrap_or(0)
+    }
+
+    /// How the program ended, where the report tells that.
+    pub fn ending(&self) -> Option<ProgramEnding>
+        ensures { result ≡ ending_told self.now.kind (first_byte self.now.bytes.now) }
+    {
+        match self.kind {
+            ReportKind::Output | ReportKind::Errors => None,
+            ReportKind::Status => Some(ProgramEnding::Status(self.number())),
+            ReportKind::Signal => Some(ProgramEnding::Signal(self.number())),
+            ReportKind::Nothing => Some(ProgramEnding::NotStarted),
+        }
+    }
+}
+
+/// The report of a program's end: of what it is, and the number that it says.
+pub fn told_end(ending: ProgramEnding) -> (ReportKind, u8)
+    ensures { result ≡ told_end ending }
+{
+    match ending {
+        ProgramEnding::Status(status) => (ReportKind::Status, status),
+        ProgramEnding::Signal(signal) => (ReportKind::Signal, signal),
+        ProgramEnding::NotStarted | ProgramEnding::WithoutStatus => (ReportKind::Nothing, 0),
+    }
 }
 
 /// Adds a report to a text: the byte of its kind, how many bytes it has as four bytes, the highest first, and these.

@@ -7,6 +7,7 @@ ghost use Rattle.incarnation.specs.Judgements.{JudgeGives, judgement};
 use crate::judgement::Judgement;
 use crate::place::Place;
 use crate::refusal::IncarnationRefusal;
+use alike::{Alike, are_alike};
 use datagram::Header;
 use std::alloc::Global;
 use std::marker::Model;
@@ -127,5 +128,11 @@ impl Peers {
     {
         let known = &mut self.known[rank as usize];
         *known = (*known).max(incarnation);
+    }
+}
+
+impl Alike for Peers {
+    fn stands_as(&self, other: &Self) -> bool {
+        self.place.stands_as(&other.place) && are_alike(&self.known, &other.known)
     }
 }

@@ -1,5 +1,6 @@
 //! Where a process stands.
 
+use alike::Alike;
 use vocabulary::{Endpoint, MessageLimit};
 
 /// Which process of which job this is.
@@ -13,4 +14,13 @@ pub struct Place {
     pub job: u64,
     /// How many bytes of data a message of the job may have.
     pub message_limit: MessageLimit,
+}
+
+impl Alike for Place {
+    fn stands_as(&self, other: &Self) -> bool {
+        self.endpoint == other.endpoint
+            && self.size == other.size
+            && self.job == other.job
+            && self.message_limit == other.message_limit
+    }
 }

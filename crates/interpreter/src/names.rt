@@ -4,6 +4,7 @@ ghost use Rattle.std.specs.Prelude.{◌≡◌, IfOk, OnOk, Option, Some, None};
 ghost use Rattle.script_calls.specs.Tables.{value_at};
 ghost use Rattle.interpreter.specs.NamesState.{no_names, here, is_lent, is_root, place_named, with_buffer, given_back};
 
+use alike::Alike;
 use datatypes::{Buffer, Layout};
 use line_diagnostics::{Holder, Slot};
 use script_calls::{NamedCommunicator, NamedMessage, NamedRequest, Table, empty_status};
@@ -40,6 +41,18 @@ impl Model for Names {
       communicators = n.communicators;
       last = n.last;
     } };
+}
+
+impl Alike for Names {
+    fn stands_as(&self, other: &Self) -> bool {
+        self.rank == other.rank
+            && self.buffers.stands_as(&other.buffers)
+            && self.layouts.stands_as(&other.layouts)
+            && self.requests.stands_as(&other.requests)
+            && self.messages.stands_as(&other.messages)
+            && self.communicators.stands_as(&other.communicators)
+            && self.last == other.last
+    }
 }
 
 impl Names {

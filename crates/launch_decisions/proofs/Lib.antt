@@ -1,1 +1,2 @@
 pub mod RankLaws
+pub mod ByteLaws

@@ -1,6 +1,10 @@
 //! A program that is watched: it ends once the launcher is gone, or asks for its end.
 
+ghost use Rattle.std.specs.Prelude.{◌≡◌, Some, true, is_some, IfOk, IfSome, OnOk};
+ghost use Rattle.std.specs.Process.{child_status};
+
 use crate::ending::terminate;
+use launch_decisions::is_grace_over;
 use libc::net::{POLLIN, poll};
 use libc::types::pollfd;
 use std::io;
@@ -18,9 +22,6 @@ const SHORT_WAITS: u64 = 16;
 
 /// The time between two later looks, in milliseconds.
 const LONG_WAIT: i32 = 20;
-
-/// How many milliseconds a program has to end by itself once it is asked to.
-const GRACE: u128 = 900;
 
 /// How many bytes of output are read at a time.
 const ROOM: usize = 16_384;
@@ -70,13 +71,18 @@ impl<'a, R: AllocGlobal + Processes + Clock> Watch<'a, R> {
     }
 
     /// Whether the launcher asked for the program's end.
-    pub fn is_asked(&self) -> bool {
+    pub fn is_asked(&self) -> bool
+        ensures { result ≡ is_some self.now.asked }
+    {
         self.asked.is_some()
     }
 
-    /// Takes in what the launcher says, and asks the program to end where it says so. An error where the launcher is
-    /// gone.
-    fn listen<P: OpenProcess>(&mut self, child: &Child<P>) -> io::Result<()> {
+    /// Takes in what the launcher says, and asks the program to end where it says so, once: its time to end begins with
+    /// the first word. An error where the launcher is gone.
+    fn listen<P: OpenProcess>(&mut self, child: &Child<P>) -> io::Result<()>
+        ensures asked { OnOk result (is_some self.new.asked ≡ true) }
+        ensures first { IfSome self.old.asked (λ asked. self.new.asked ≡ Some asked) }
+    {
         let mut word = [0u8; 1];
         if libc::read(LAUNCHER, &mut word) <= 0 {
             return Err(io::Error::from(ErrorKind::BrokenPipe));
@@ -91,7 +97,8 @@ impl<'a, R: AllocGlobal + Processes + Clock> Watch<'a, R> {
     /// Kills a program that was asked to end and had the time to.
     fn hurry<P: OpenProcess>(&self, child: &mut Child<P>) -> io::Result<()> {
         if let Some(asked) = self.asked {
-            if asked.elapsed(self.rt)?.as_millis() >= GRACE {
+            let passed = asked.elapsed(self.rt)?.as_millis();
+            if is_grace_over(u64::try_from(passed).unwrap_or(u64::MAX)) {
                 child.kill()?;
             }
         }
@@ -105,7 +112,9 @@ impl<'a, R: AllocGlobal + Processes + Clock> Watch<'a, R> {
         child: &mut Child<P>,
         fd: RawFd,
         time: i32,
-    ) -> io::Result<bool> {
+    ) -> io::Result<bool>
+        ensures { IfSome self.old.asked (λ asked. self.new.asked ≡ Some asked) }
+    {
         let time = if self.is_asked() { LONG_WAIT } else { time };
         let ready = wait_for(fd, time);
         if ready.launcher {
@@ -140,7 +149,9 @@ impl<'a, R: AllocGlobal + Processes + Clock> Watch<'a, R> {
     }
 
     /// The program's status, once it has ended. An error where the launcher is gone.
-    pub fn await_end<P: OpenProcess>(&mut self, child: &mut Child<P>) -> io::Result<ExitStatus> {
+    pub fn await_end<P: OpenProcess>(&mut self, child: &mut Child<P>) -> io::Result<ExitStatus>
+        ensures { IfOk result (λ status. child_status child.new ≡ Some status) }
+    {
         for look in 0..u64::MAX {
             if let Some(status) = child.try_wait()? {
                 return Ok(status);

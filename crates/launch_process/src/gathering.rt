@@ -1,5 +1,9 @@
 //! Listening to all keepers at once, and ending the others where a rank has failed for good.
 
+ghost use Rattle.std.specs.Prelude.{◌≡◌, IfOk, option_map};
+ghost use Rattle.std.specs.Process.{child_status};
+ghost use Rattle.launch_process.specs.Endings.{IsSettled};
+
 use crate::reports::{tell_lost, whole_report};
 use launch_decisions::{AbortLine, Failure, first_failure};
 use launch_keeper::Report;
@@ -81,11 +85,18 @@ impl<P: OpenProcess<Stdout: AsRawFd> + Drop> Listened<P> {
     }
 
     /// Keeps its report, which has ended, and answers the rank's last status; `None` where it isn't whole.
-    fn settle(&mut self, alloc: Global) -> io::Result<Option<u8>> {
-        let has_succeeded = self.keeper.wait()?.success();
+    fn settle(&mut self, alloc: Global) -> io::Result<Option<u8>>
+        ensures settled { IfOk result (λ _.
+            IsSettled (child_status self.new.keeper) self.old.bytes.items self.new.report) }
+        ensures status { IfOk result (λ status. status ≡ option_map (λ report. report.status) self.new.report) }
+    {
+        let ended = self.keeper.wait()?;
         let bytes = mem::replace(&mut self.bytes, Vec::new(alloc));
-        self.report = whole_report(bytes, has_succeeded);
-        Ok(self.report.as_ref().map(|report| report.status))
+        self.report = whole_report(bytes, ended);
+        match &self.report {
+            Some(report) => Ok(Some(report.status)),
+            None => Ok(None),
+        }
     }
 
     /// Its report, where it is whole.

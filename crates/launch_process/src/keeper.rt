@@ -1,28 +1,27 @@
 //! A keeper: it starts the program of one rank, and starts it again where it may.
 
+ghost use Rattle.std.specs.Prelude.{IfOk};
+ghost use Rattle.std.specs.Process.{child_status};
+ghost use Rattle.launch_process.specs.Endings.{HasEnded};
+
 use crate::child::Watch;
-use launch_decisions::{Next, Start, ending_by, start_command};
+use launch_decisions::{Next, Start, ending_of, start_command};
 use launch_keeper::{EndingLine, ProgramEnding, Report, Words};
 use launch_plan::Plan;
 use std::io;
 use std::io::{ErrorKind, Write};
 use std::os::fd::AsRawFd;
-use std::os::unix::process::ExitStatusExt;
-use std::process::{Child, ExitStatus, OpenProcess, Processes, Stdio};
+use std::process::{Child, OpenProcess, Processes, Stdio};
 use std::time::Clock;
-
-/// What became of a program that ended so.
-fn ending_of(status: ExitStatus) -> ProgramEnding {
-    let byte = |number: i32| u8::try_from(number).ok();
-    ending_by(status.code().and_then(byte), status.signal().and_then(byte))
-}
 
 /// Adds what the program writes to the output, and waits for its end.
 fn follow<R: AllocGlobal + Processes + Clock, P: OpenProcess<Stdout: AsRawFd>>(
     watch: &mut Watch<'_, R>,
     child: &mut Child<P>,
     output: &mut Vec<u8>,
-) -> io::Result<ProgramEnding> {
+) -> io::Result<ProgramEnding>
+    ensures { IfOk result (λ ending. HasEnded (child_status child.new) ending) }
+{
     if let Some(mut pipe) = child.stdout.take() {
         watch.collect(child, &mut pipe, output)?;
     }

@@ -1,22 +1,19 @@
 //! What keepers report.
 
-ghost use Rattle.std.specs.Prelude.{◌≡◌, [], false, true, None, MatchOption};
-ghost use Rattle.launch_keeper.specs.Reports.{IsReport};
+ghost use Rattle.launch_process.specs.Endings.{IsReportBehind};
 
 use launch_keeper::{LostKeeperLine, Report};
 use std::alloc::Global;
 use std::io;
 use std::io::{ErrorKind, Read};
-use std::process::{Child, OpenProcess};
+use std::process::{Child, ExitStatus, OpenProcess};
 
-/// The report that these bytes of a keeper are; `None` where there are none, or the keeper failed: then they may be a
-/// part of it. It takes no memory.
-pub fn whole_report(bytes: Vec<u8>, has_succeeded: bool) -> Option<Report>
-    ensures failed { has_succeeded ≡ false → result ≡ None }
-    ensures whole { has_succeeded ≡ true →
-        MatchOption result (bytes.items ≡ []) (λ report. IsReport bytes.items report) }
+/// The report that these bytes of a keeper are, which ended so; `None` where there are none, or the keeper failed: then
+/// they may be a part of it. It takes no memory.
+pub fn whole_report(bytes: Vec<u8>, status: ExitStatus) -> Option<Report>
+    ensures { IsReportBehind status bytes.items result }
 {
-    if !has_succeeded {
+    if !status.success() {
         return None;
     }
     Report::from_bytes(bytes)
@@ -31,8 +28,7 @@ pub fn report_of<P: OpenProcess + Drop>(
     if let Some(mut pipe) = keeper.stdout.take() {
         pipe.read_to_end(&mut bytes)?;
     }
-    let has_succeeded = keeper.wait()?.success();
-    Ok(whole_report(bytes, has_succeeded))
+    Ok(whole_report(bytes, keeper.wait()?))
 }
 
 /// Tells that a rank's keeper ended before its report, and answers that as an error.

@@ -3,6 +3,7 @@ use Rattle.std.proofs.Common.{◌≡◌, ℕ, zero, suc, ◌<◌, Bool, true, fa
 use Rattle.std.proofs.Common.{if◌then◌else◌, ◌==◌, refl, sym, ap, subst, arith}
 use Rattle.std.proofs.lemmas.Bool.{eqb-true, le-leb}
 use Rattle.layouts.specs.Layouts.{copies_at}
+use Rattle.vocabulary.specs.MessageLimits.{frame_limit_of, limit_of}
 use Rattle.perfect_groups.specs.Calls.{OfCollective, OfRequests, receive_on}
 use Rattle.perfect_groups.specs.Collectives.{Allreduce, CommDup, Part, part_of}
 use Rattle.perfect_groups.specs.Communicators.{Communicator, context_number, first_endpoint, self_of, world_of}
@@ -155,7 +156,7 @@ stuck =
     (running (prints ∷ sends 0 0 (2 ∷ []) ∷ []) None (waiting_for 0 (receiver 1 0)) [])
 
 deadlock_leads : Leads next_of (two (at_start 2 (by_rank deadlock) 0) (at_start 2 (by_rank deadlock) 1)) stuck
-unfolding copies_at
+unfolding copies_at limit_of frame_limit_of
 deadlock_leads =
     first_goes _ _ (running (waits 0 ∷ prints ∷ sends 1 0 (1 ∷ []) ∷ []) (started 0) (receiver 0 1) []) stuck refl
     (first_goes _ _ (running (prints ∷ sends 1 0 (1 ∷ []) ∷ []) None (waiting_for 0 (receiver 0 1)) []) stuck refl
@@ -206,7 +207,7 @@ abbrev played : Courses Script
 played = two (over has_answer ((2 ∷ []) ∷ [])) (over has_answered ((1 ∷ []) ∷ []))
 
 ping_pong_leads : Leads next_of (two (at_start 2 (by_rank ping_pong) 0) (at_start 2 (by_rank ping_pong) 1)) played
-unfolding copies_at
+unfolding copies_at limit_of frame_limit_of
 ping_pong_leads =
     first_goes _ _ (running (waits 0 ∷ receives 1 (Some 2) ∷ waits 1 ∷ prints ∷ []) (started 0) served []) played refl
     (first_goes _ _ (running (receives 1 (Some 2) ∷ waits 1 ∷ prints ∷ []) None (waiting_for 0 served) []) played refl
@@ -255,7 +256,7 @@ abbrev summed : Courses Script
 summed = two (over (has_entered 0 1) ((3 ∷ []) ∷ [])) (over (has_entered 1 2) ((3 ∷ []) ∷ []))
 
 sums_lead : Leads next_of (two (at_start 2 (by_rank sums) 0) (at_start 2 (by_rank sums) 1)) summed
-unfolding copies_at operations.combined
+unfolding copies_at limit_of frame_limit_of operations.combined
 sums_lead =
     first_goes _ _ (running (prints ∷ []) None (is_inside 0 1) []) summed refl
     (second_goes _ _ (running (prints ∷ []) None (is_inside 1 2) []) summed refl
@@ -310,7 +311,7 @@ tags_received =
     two (over sent_two []) (over (received_by (receive 0 6 ∷ any_receive ∷ []) (0 ∷ 1 ∷ [])) ((2 ∷ []) ∷ (1 ∷ []) ∷ []))
 
 tags_lead : Leads next_of (two (at_start 2 (by_rank by_tags) 0) (at_start 2 (by_rank by_tags) 1)) tags_received
-unfolding copies_at
+unfolding copies_at limit_of frame_limit_of
 tags_lead =
     two_sent (at_start 2 (by_rank by_tags) 1) tags_received
     (second_goes _ _
@@ -353,7 +354,7 @@ abbrev order_received : Courses Script
 order_received = two (over sent_two []) (over (received_by two_receives (1 ∷ 0 ∷ [])) ((2 ∷ []) ∷ (1 ∷ []) ∷ []))
 
 order_leads : Leads next_of (two (at_start 2 (by_rank in_order) 0) (at_start 2 (by_rank in_order) 1)) order_received
-unfolding copies_at
+unfolding copies_at limit_of frame_limit_of
 order_leads =
     two_sent (at_start 2 (by_rank in_order) 1) order_received
     (second_goes _ _
@@ -429,7 +430,7 @@ abbrev copied : Courses Script
 copied = two (over copy_sent_two []) (over (copy_received_by (0 ∷ [])) ((2 ∷ []) ∷ []))
 
 copies_lead : Leads next_of (two (at_start 2 (by_rank on_copies) 0) (at_start 2 (by_rank on_copies) 1)) copied
-unfolding copies_at
+unfolding copies_at limit_of frame_limit_of
 copies_lead =
     first_goes _ _ (running (sends 1 5 (1 ∷ []) ∷ sends_on 2 1 5 (2 ∷ []) ∷ []) None (is_copying 0) []) copied refl
     (second_goes _ _ (running (receives_on 2 0 None ∷ waits 0 ∷ prints ∷ []) None (is_copying 1) []) copied refl
@@ -460,7 +461,7 @@ abbrev refused_end : Courses Script
 refused_end = two (over (opened 2 0) ((5 ∷ []) ∷ [])) (over (opened 2 1) [])
 
 refused_leads : Leads next_of (two (at_start 2 (by_rank refused) 0) (at_start 2 (by_rank refused) 1)) refused_end
-unfolding copies_at
+unfolding copies_at limit_of frame_limit_of
 refused_leads =
     first_goes _ _ (running (prints ∷ []) (Some (Refused 5)) (opened 2 0) []) refused_end refl
     (first_goes _ _ (running [] None (opened 2 0) ((5 ∷ []) ∷ [])) refused_end refl

@@ -18,7 +18,7 @@ use Rattle.perfect_queues.specs.Outcomes.{Outcome, Sent}
 use Rattle.perfect_queues.specs.Requests.{Request, Finished, Gone, all_changed}
 use Rattle.perfect_queues.specs.State.{Local, knows_at_first}
 use Rattle.vocabulary.specs.Endpoints.{is_same}
-use Rattle.vocabulary.specs.Limits.{send_limit}
+use Rattle.vocabulary.specs.MessageLimits.{least}
 use Rattle.vocabulary.specs.declared.endpoint.Endpoint.{Endpoint}
 use Rattle.one_meaning.specs.Pairs.{Queues, resolved}
 
@@ -88,7 +88,7 @@ present_of (Some (ForRequests w)) = None
 present_of (Some (InCollective c k p)) = Some (Inside c k p)
 
 -- a rank's own part of the machine's state, as far as calls depend on it: requests, of which those that were answered
--- are gone (3.7.3); and how many bytes a message of a script may have
+-- are gone (3.7.3); and how many bytes a message and a frame of a script may have
 abbrev pub local_of : (rank : ℕ) → Account → Local
 local_of r a =
     record {
@@ -96,7 +96,7 @@ local_of r a =
       blocked = awaited_of a.waiting;
       known = knows_at_first (first_endpoint r);
       queue = λ s c. [];
-      message_limit = send_limit;
+      message_limit = least;
     }
 
 -- what it holds of communicators

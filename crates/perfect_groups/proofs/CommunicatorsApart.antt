@@ -306,7 +306,7 @@ send_taken n s h =
     l = s.queues.at rank_0
 
     to : Endpoint × Message
-    to = message_to Standard rank_0 (receiver l.known 0) 1 7 Int32 (data_of (whole (numbers (1 ∷ []))))
+    to = message_to l.message_limit Standard rank_0 (receiver l.known 0) 1 7 Int32 (data_of (whole (numbers (1 ∷ []))))
         (length l.requests)
 
     call_is : queue_call (s.groups.of rank_0) sends_own ≡ Some own_call

@@ -1,5 +1,5 @@
--- How many bytes a message may have is one number of the job, in each of its runs.
-use Rattle.std.proofs.Common.{◌≡◌, ℕ, ◌*◌, List, [], ◌∷◌, length, Option, Some, None, refl, ◌∙◌}
+-- How many bytes a message and a frame may have are two numbers of the job, in each of its runs.
+use Rattle.std.proofs.Common.{◌≡◌, ◌*◌, List, [], ◌∷◌, length, Option, Some, None, refl, ◌∙◌}
 use Rattle.std.proofs.lemmas.Bool.{lt-ltb}
 use Rattle.perfect_groups.specs.CallLaws.{LargeBlocksAreRefused, LimitIsOfJob}
 use Rattle.perfect_groups.specs.Calls.{Call, queue_call}
@@ -11,10 +11,11 @@ use Rattle.perfect_groups.specs.Runs.{after_run}
 use Rattle.perfect_queues.specs.Steps.{after_step}
 use Rattle.vocabulary.specs.BasicTypes.{size_of}
 use Rattle.vocabulary.specs.declared.endpoint.Endpoint.{Endpoint}
+use Rattle.vocabulary.specs.declared.message_limit.MessageLimit.{MessageLimit}
 use Rattle.perfect_queues.proofs.LimitLaws.{limit_put, limit_settle, limit_start, limit_step}
 
--- the limit at an endpoint
-abbrev at : Machine → Endpoint → ℕ
+-- the limits at an endpoint
+abbrev at : Machine → Endpoint → MessageLimit
 at s x = (s.queues.at x).message_limit
 
 limit_move : (s : Machine) (e : Endpoint) (y : Move) (x : Endpoint) → at (after_move s e y) x ≡ at s x

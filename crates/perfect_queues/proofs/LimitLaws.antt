@@ -1,6 +1,7 @@
 -- No event changes how many bytes a message of an endpoint may have.
-use Rattle.std.proofs.Common.{◌≡◌, ℕ, Bool, true, false, List, [], ◌∷◌, Option, Some, None, ◌*◌}
+use Rattle.std.proofs.Common.{◌≡◌, ℕ, List, [], ◌∷◌, Option, Some, None}
 use Rattle.std.proofs.Common.{if◌then◌else◌, refl, sym, ap, ◌∙◌}
+use Rattle.vocabulary.specs.declared.message_limit.MessageLimit.{MessageLimit}
 use Rattle.perfect_queues.specs.Calls.{Call, Isend, Irecv, Wait, Test, Cancel, Iprobe, Improbe, Mrecv, after_answer}
 use Rattle.perfect_queues.specs.Calls.{after_call, after_cancel, after_mrecv, after_settling, after_test, message_sent}
 use Rattle.perfect_queues.specs.Calls.{ready_answer, send}
@@ -96,5 +97,5 @@ limit_run : (s : State) (vs : List Event) (x : Endpoint) →
 limit_run s [] x = refl
 limit_run s (v ∷ vs) x = limit_run (after_event s v) vs x ∙ limit_event s v x
 
-pub limit_stays : (limit : ℕ) → LimitStays limit
+pub limit_stays : (limit : MessageLimit) → LimitStays limit
 limit_stays limit = record { in_event = limit_event; in_runs = limit_run (opening limit) }

@@ -1,12 +1,16 @@
 -- Histories that no run has: followed entry by entry, up to the answer that can't come.
-use Rattle.std.proofs.Common.{◌≡◌, ℕ, zero, suc, Bool, List, [], ◌∷◌, ◌++◌, Option, Some, None, if◌then◌else◌}
+use Rattle.std.proofs.Common.{◌≡◌, ℕ, zero, suc, Bool, true, nat_le, List, [], ◌∷◌, ◌++◌, Option, Some, None, if◌then◌else◌}
 use Rattle.std.proofs.Common.{slice_get, option_map, refl, sym, ap, subst, ◌∙◌, arith}
 use Rattle.std.specs.List.{AllByRecursion}
+use Rattle.std.proofs.lemmas.Bool.{le-leb}
 use Rattle.layouts.specs.Layouts.{copies_at}
 use Rattle.vocabulary.specs.BasicTypes.{code_of}
 use Rattle.vocabulary.specs.declared.envelope.Source.TheVariants.{Rank}
 use Rattle.perfect_queues.specs.Calls.{Call, Isend, Irecv, Wait, Started, Done, Blocked, ready_answer, after_settling}
 use Rattle.perfect_queues.specs.Calls.{after_answer}
+use Rattle.vocabulary.specs.declared.message_limit.MessageLimit.{MessageLimit}
+use Rattle.vocabulary.specs.MessageLimits.{frame_limit_of}
+use Rattle.vocabulary.proofs.MessageLimits.{frame_least}
 use Rattle.perfect_queues.specs.Completions.{One, Answer, ForOne, Unanswered, Waits, outcome_at}
 use Rattle.perfect_queues.specs.CounterExamples.{IsNoHistory, received_twice, overtaken, other_data, other_type}
 use Rattle.perfect_queues.specs.CounterExamples.{one_message, replaced_by_nobody, sends, receives, waits, arrives}
@@ -65,7 +69,7 @@ pub kept : (b : Option Unanswered) → IsNoProbe b → (rs : List Request) (ms :
     AllByRecursion (IsStill ms) rs → IsKept (Holds b rs ms)
 kept b idle rs ms all = still_kept b rs ms idle (all_still rs ms all)
 
-pub opens : (limit : ℕ) → Stands (opening limit) (Holds None [] [])
+pub opens : (limit : MessageLimit) → Stands (opening limit) (Holds None [] [])
 opens limit =
     record {
       now = λ r. refl;
@@ -98,12 +102,17 @@ sent_stands : (rs : List Request) (ms : List Message) (s : State) (a b c : ℕ) 
     Stands (sent_to s (three a b c) 0) (Holds None rs (ms ++ three a b c ∷ []))
 sent_stands rs ms s a b c h = record { now = h.now; knows = h.knows; part = more_here rs ms (s.at rank_1) a b c h.part }
 
+-- three elements are no more than a frame has
+is_small : (limit : MessageLimit) → nat_le 12 (frame_limit_of limit) ≡ true
+is_small limit = le-leb 12 (frame_limit_of limit) (let least = frame_least limit in omega (arith, least))
+
 start_stands : (rs : List Request) (ms : List Message) (s : State) (a b c : ℕ) → Stands s (Holds None rs ms) →
     Stands (start s rank_0 (Some (send_of a b c))) (Holds None rs (ms ++ three a b c ∷ []))
 unfolding copies_at
 start_stands rs ms s a b c h =
-    subst (λ (i : ℕ). Stands (sent_to s (three a b c) i) (Holds None rs (ms ++ three a b c ∷ []))) (sym h.knows)
-    (sent_stands rs ms s a b c h)
+    rw (is_small (s.at rank_0).message_limit)
+    (subst (λ (i : ℕ). Stands (sent_to s (three a b c) i) (Holds None rs (ms ++ three a b c ∷ []))) (sym h.knows)
+    (sent_stands rs ms s a b c h))
 
 knows_settled : (l : Local) (o : Option (Answer × List ℕ)) → l.known 1 ≡ 0 → (after_answer l o).known 1 ≡ 0
 knows_settled l None h = h

@@ -10,6 +10,7 @@ use Rattle.vocabulary.specs.Endpoints.{is_same}
 use Rattle.vocabulary.specs.declared.envelope.Source.TheVariants.{Rank}
 use Rattle.vocabulary.specs.declared.envelope.Status.{Status}
 use Rattle.vocabulary.specs.declared.endpoint.Endpoint.{Endpoint}
+use Rattle.vocabulary.specs.declared.message_limit.MessageLimit.{MessageLimit}
 use Rattle.perfect_queues.specs.Calls.{Call, Reply, Blocked, Done, Improbe, Iprobe, Irecv, Isend, Started, Wait}
 use Rattle.perfect_queues.specs.Calls.{after_answer, after_settling, immediate_reply, ready_answer}
 use Rattle.perfect_queues.specs.Completions.{Answer, ForMatch, ForOne, ForProbe, Looks, One, Searches, Took, Unanswered}
@@ -626,7 +627,7 @@ never_sent n P fixed keeps s steps vs h are tells run q =
     after : State
     after = steps_at (start s rank_0 (Some (Wait (One (Some 0))))) rank_0 steps
 
-opens_both : (limit : ℕ) → Both (opening limit) None [] (Holds None [] [])
+opens_both : (limit : MessageLimit) → Both (opening limit) None [] (Holds None [] [])
 opens_both limit = record { stands = opens limit; sender = (refl, refl) }
 
 alone_sent : (n : ℕ) →

@@ -19,7 +19,7 @@ use Rattle.perfect_queues.specs.Steps.{Finish, FinishSend, See, TakeOut}
 use Rattle.vocabulary.specs.declared.basic_type.BasicType.TheVariants.{Int32}
 use Rattle.vocabulary.specs.declared.envelope.Source.TheVariants.{Rank}
 use Rattle.layouts.specs.Layouts.{copies_at}
-use Rattle.vocabulary.specs.Limits.{send_limit}
+use Rattle.vocabulary.specs.MessageLimits.{frame_limit_of, least, limit_of}
 
 -- the message of a standard send of three elements, and that of a synchronous one whose request is rank 0's first
 abbrev message : Message
@@ -37,8 +37,8 @@ sent = At rank_0 (Some (Isend Standard world (Rank 1) (Some 7) (numbers (1 ∷ 2
 abbrev sent_to_wait : Event
 sent_to_wait = At rank_0 (Some (Isend Synchronous world (Rank 1) (Some 7) (numbers (1 ∷ 2 ∷ 3 ∷ [])))) []
 
-receive_is_blocked : IsHistory 2 send_limit (receive_after_taking Blocked)
-unfolding copies_at
+receive_is_blocked : IsHistory 2 least (receive_after_taking Blocked)
+unfolding copies_at limit_of frame_limit_of
 receive_is_blocked = (
   sent ∷ At rank_1 (Some (Improbe (for_tag None))) (TakeOut (for_tag None) [] message [] ∷ []) ∷
       At rank_1 (Some (Irecv three_from_0)) [] ∷ At rank_1 (Some (Wait (One (Some 1)))) [] ∷ [],
@@ -73,8 +73,8 @@ receive_is_blocked = (
   refl,
 )
 
-send_is_blocked : IsHistory 2 send_limit (sends_synchronously ∷ send_answers Blocked ∷ [])
-unfolding copies_at
+send_is_blocked : IsHistory 2 least (sends_synchronously ∷ send_answers Blocked ∷ [])
+unfolding copies_at limit_of frame_limit_of
 send_is_blocked = (
   sent_to_wait ∷ At rank_0 (Some (Wait (One (Some 0)))) [] ∷ [],
   (
@@ -93,8 +93,8 @@ nothing_taken : (j : ℕ) (g : Option (List ℕ)) (m : Message) → slice_get (G
 nothing_taken zero g m h = absurd (grind arith)
 nothing_taken (suc j) g m h = absurd (grind arith)
 
-send_is_finished : IsHistory 2 send_limit finished_when_received
-unfolding copies_at
+send_is_finished : IsHistory 2 least finished_when_received
+unfolding copies_at limit_of frame_limit_of
 send_is_finished = (
   sent_to_wait ∷ At rank_1 (Some (Improbe (for_tag None))) (TakeOut (for_tag None) [] awaited [] ∷ []) ∷
       At rank_1 (Some (Mrecv (Some 0) zeros)) (Finish 0 (receive_of None awaited zeros) awaited ∷ []) ∷
@@ -146,8 +146,8 @@ send_is_finished = (
   refl,
 )
 
-tag_is_its_own : IsHistory 2 send_limit (sees_by_tag 7)
-unfolding copies_at
+tag_is_its_own : IsHistory 2 least (sees_by_tag 7)
+unfolding copies_at limit_of frame_limit_of
 tag_is_its_own = (
   sent ∷ At rank_1 (Some (Iprobe (for_tag (Some 7)))) (See (for_tag (Some 7)) [] message [] ∷ []) ∷ [],
   (
@@ -178,8 +178,8 @@ tag_is_its_own = (
   refl,
 )
 
-nothing_is_seen : IsHistory 2 send_limit (looks_after_posting None)
-unfolding copies_at
+nothing_is_seen : IsHistory 2 least (looks_after_posting None)
+unfolding copies_at limit_of frame_limit_of
 nothing_is_seen = (
   sent ∷ At rank_1 (Some (Irecv three_from_0)) [] ∷ At rank_1 (Some (Iprobe (for_tag None))) [] ∷ [],
   (

@@ -12,7 +12,8 @@ use Rattle.perfect_queues.specs.Refusals.{world}
 use Rattle.perfect_queues.specs.Runs.{IsHistory}
 use Rattle.vocabulary.specs.declared.basic_type.BasicType.TheVariants.{Uint32}
 use Rattle.vocabulary.specs.declared.envelope.Source.TheVariants.{Rank}
-use Rattle.vocabulary.specs.Limits.{send_limit}
+use Rattle.vocabulary.specs.MessageLimits.{least}
+use Rattle.vocabulary.specs.declared.message_limit.MessageLimit.{MessageLimit}
 
 -- rank 0 sends these elements to rank 1 with tag 7, and its request has this serial
 abbrev pub sends : (serial : ℕ) → List ℕ → Entry
@@ -75,13 +76,13 @@ replaced_by_nobody = replaced_after []
 
 -- that no run, among however many ranks, is seen so
 abbrev pub IsNoHistory : List Entry → Type 0
-IsNoHistory history = (n limit : ℕ) → IsHistory n limit history → ⊥
+IsNoHistory history = (n : ℕ) (limit : MessageLimit) → IsHistory n limit history → ⊥
 
 -- Each has a twin that is a history and differs from it in the forbidden part alone: the second wait is
 -- blocked, the first message comes first, the data are those that were sent and the type is that of the buffer, the
 -- sender was started anew
 pub record AreHistories : Type 0 where
-  pub second_is_blocked : IsHistory 2 send_limit (second_receive Blocked)
-  pub first_comes_first : IsHistory 2 send_limit (first_of_two (1 ∷ 2 ∷ 3 ∷ []))
-  pub data_are_sent : IsHistory 2 send_limit (one_message (arrives (1 ∷ 2 ∷ 3 ∷ [])))
-  pub sender_was_replaced : IsHistory 2 send_limit (replaced_after (Restarted 0 ∷ []))
+  pub second_is_blocked : IsHistory 2 least (second_receive Blocked)
+  pub first_comes_first : IsHistory 2 least (first_of_two (1 ∷ 2 ∷ 3 ∷ []))
+  pub data_are_sent : IsHistory 2 least (one_message (arrives (1 ∷ 2 ∷ 3 ∷ [])))
+  pub sender_was_replaced : IsHistory 2 least (replaced_after (Restarted 0 ∷ []))

@@ -14,7 +14,7 @@ use Rattle.perfect_queues.specs.Refusals.{world}
 use Rattle.perfect_queues.specs.Runs.{IsHistory}
 use Rattle.vocabulary.specs.declared.envelope.Source.TheVariants.{Any, Rank}
 use Rattle.vocabulary.specs.declared.envelope.Status.{Status}
-use Rattle.vocabulary.specs.Limits.{send_limit}
+use Rattle.vocabulary.specs.MessageLimits.{least}
 
 -- a probe on world from any rank, with a tag or any
 abbrev pub for_tag : Option ℕ → Probe
@@ -74,8 +74,8 @@ looks_after_posting seen =
 -- Each has a twin that is a history and differs from it in the forbidden part alone: the wait is blocked; the send is
 -- finished once its message is received; the tag is the message's; nothing is seen
 pub record ProbesHaveHistories : Type 0 where
-  pub receive_is_blocked : IsHistory 2 send_limit (receive_after_taking Blocked)
-  pub send_is_blocked : IsHistory 2 send_limit (sends_synchronously ∷ send_answers Blocked ∷ [])
-  pub send_is_finished : IsHistory 2 send_limit finished_when_received
-  pub tag_is_its_own : IsHistory 2 send_limit (sees_by_tag 7)
-  pub nothing_is_seen : IsHistory 2 send_limit (looks_after_posting None)
+  pub receive_is_blocked : IsHistory 2 least (receive_after_taking Blocked)
+  pub send_is_blocked : IsHistory 2 least (sends_synchronously ∷ send_answers Blocked ∷ [])
+  pub send_is_finished : IsHistory 2 least finished_when_received
+  pub tag_is_its_own : IsHistory 2 least (sees_by_tag 7)
+  pub nothing_is_seen : IsHistory 2 least (looks_after_posting None)

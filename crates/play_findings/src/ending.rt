@@ -29,7 +29,8 @@ fn cannot_go_on(player: &Played) -> bool
     }
 }
 
-fn has_ended_well(player: &Played) -> bool
+/// Whether a rank has ended with status 0.
+pub(crate) fn has_ended_well(player: &Played) -> bool
     ensures { IsTrue result ↔ HasEndedWell player.now.state }
 {
     match player.state() {

@@ -1,11 +1,11 @@
 //! What is told of errors, of what nobody waited for, and of messages that nobody received.
 
+use crate::ending::has_ended_well;
 use crate::started::{Operation, OperationKind, Standing};
 use crate::teller::Teller;
 use error_lines::{MetError, error_line};
 use play_events::ErrorAt;
 use play_waits::{Group, Leftover, Page, add_source, add_tag};
-use script_plays::{Played, RunnerState};
 use std::alloc::AllocError;
 use vocabulary::{Source, Status};
 
@@ -40,10 +40,6 @@ fn add_status(page: &mut Page, status: Status) -> Result<(), AllocError> {
     add_source(page, status.source)?;
     page.add(" with ")?;
     add_tag(page, status.tag)
-}
-
-fn ended_well(player: &Played) -> bool {
-    matches!(player.state(), RunnerState::Over(0, _))
 }
 
 impl Teller<'_, '_, '_> {
@@ -158,9 +154,9 @@ impl Teller<'_, '_, '_> {
     pub(crate) fn add_unended(&self, page: &mut Page) -> Result<(), AllocError> {
         for rank in 0..self.size {
             if let Some(player) = self.outcome.players.get(rank as usize) {
-                if ended_well(player) {
+                if has_ended_well(player) {
                     for (place, one) in self.operations.of(rank).iter().enumerate() {
-                        if one.standing != Standing::Ended {
+                        if one.is_left() {
                             self.add_open(page, rank, place)?;
                         }
                     }

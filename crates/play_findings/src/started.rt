@@ -1,5 +1,8 @@
 //! What a call of a rank starts.
 
+ghost use Rattle.std.specs.Prelude.{◌≡◌, ◌==◌};
+ghost use Rattle.play_findings.specs.Started.{ended_by, finished_by, is_left, taken_by};
+
 use engine::{Call, Outcome, Reply, Request, Send};
 use play_waits::Communicators;
 use vocabulary::{Source, Status};
@@ -44,7 +47,9 @@ pub struct Operation {
 }
 
 /// The status of the message that an operation took which ended so.
-pub(crate) fn taken_by(outcome: &Outcome) -> Option<Status> {
+pub(crate) fn taken_by(outcome: &Outcome) -> Option<Status>
+    ensures { result ≡ taken_by outcome.now }
+{
     match outcome {
         Outcome::Received(status, _) | Outcome::Ended(_, status, _) => Some(*status),
         _ => None,
@@ -89,6 +94,49 @@ impl Operation {
             took,
             standing: Standing::Open,
         })
+    }
+
+    /// Whether this request stands for it.
+    pub(crate) fn is_of(&self, request: Request) -> bool
+        ensures { result ≡ (self.now.request.serial == request.serial) }
+    {
+        self.request.serial == request.serial
+    }
+
+    /// The same, once its rank was told that it ended so.
+    pub(crate) fn ended_by(self, outcome: &Outcome) -> Operation
+        ensures { result ≡ ended_by self outcome.now }
+    {
+        let took = match taken_by(outcome) {
+            Some(status) => Some(status),
+            None => self.took,
+        };
+        Operation {
+            standing: Standing::Ended,
+            took,
+            ..self
+        }
+    }
+
+    /// The same, once it is finished so, and its rank hasn't asked for that.
+    pub(crate) fn finished_by(self, outcome: &Outcome) -> Operation
+        ensures { result ≡ finished_by self outcome.now }
+    {
+        Operation {
+            standing: Standing::Finished,
+            took: taken_by(outcome),
+            ..self
+        }
+    }
+
+    /// Whether its rank was never told how it ended.
+    pub(crate) fn is_left(&self) -> bool
+        ensures { result ≡ is_left self.now.standing }
+    {
+        match self.standing {
+            Standing::Ended => false,
+            Standing::Finished | Standing::Open => true,
+        }
     }
 
     /// Whether it took a message on this communicator from this member with this tag.

@@ -7,8 +7,8 @@ use crate::printed::add_printed;
 use line_diagnostics::explanation;
 use play_events::{Account, ShownLines};
 use play_waits::{
-    Communicators, Entered, Group, Page, Wait, Waiter, Waiting, add_elements, add_knot, blocked_in,
-    cycle_in, knot_in, waiting_of,
+    Communicators, Entered, Group, Page, Wait, Waiter, Waiting, add_cycle, add_elements,
+    blocked_in, cycle_in, waiting_of,
 };
 use script_files::parse;
 use script_plays::{Played, RunnerState};
@@ -160,7 +160,6 @@ impl Teller<'_, '_, '_> {
     /// Adds whom each rank waits for that can't go on.
     fn add_waits(&self, page: &mut Page) -> Result<(), PlayError> {
         let mut waits = Vec::new(self.alloc);
-        let mut direct = Vec::new(self.alloc);
         for rank in 0..self.size {
             let mut wait = Wait {
                 whom: Vec::new(self.alloc),
@@ -171,29 +170,12 @@ impl Teller<'_, '_, '_> {
                 wait.whom.extend_from_slice(&waiting.whom)?;
                 wait.any_of.extend_from_slice(&waiting.any_of)?;
             }
-            direct.push(Vec::from_slice(self.alloc, &wait.whom)?)?;
             waits.push(wait)?;
         }
-        let cycle = cycle_in(self.alloc, &direct)?;
-        if !cycle.is_empty() {
-            self.add_cycle(page, &cycle)?;
-        } else if let Some(knot) = knot_in(self.alloc, &waits)? {
-            add_knot(page, &waits, &knot)?;
+        if let Some(cycle) = cycle_in(self.alloc, &waits)? {
+            add_cycle(page, &waits, &cycle)?;
         }
         Ok(())
-    }
-
-    fn add_cycle(&self, page: &mut Page, cycle: &[u16]) -> Result<(), AllocError> {
-        page.add("a cycle: ")?;
-        for (place, rank) in cycle.iter().enumerate() {
-            page.add(match place {
-                0 => "",
-                1 => " waits for ",
-                _ => ", which waits for ",
-            })?;
-            page.add_rank(*rank)?;
-        }
-        page.add("\n")
     }
 
     /// Adds which communicator it is.

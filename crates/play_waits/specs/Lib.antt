@@ -1,1 +1,2 @@
 pub mod AwaitedMembers
+pub mod GivenRequests

@@ -133,7 +133,7 @@ fn knot_at(alloc: Global, waits: &[Wait], rank: u16) -> Result<Option<Knot>, All
 
 /// The knot of the lowest rank that waits for any of several, each of which waits for it in the end; none where there
 /// is no such rank. Of each rank it is said whom it waits for.
-pub fn knot_in(alloc: Global, waits: &[Wait]) -> Result<Option<Knot>, AllocError> {
+pub(crate) fn knot_in(alloc: Global, waits: &[Wait]) -> Result<Option<Knot>, AllocError> {
     for rank in 0..u16::try_from(waits.len()).unwrap_or(u16::MAX) {
         if let Some(knot) = knot_at(alloc, waits, rank)? {
             return Ok(Some(knot));
@@ -177,7 +177,7 @@ fn add_wait(page: &mut Page, waits: &[Wait], rank: u16) -> Result<(), AllocError
 }
 
 /// Adds who waits for whom, from the rank on that waits for any of several.
-pub fn add_knot(page: &mut Page, waits: &[Wait], knot: &Knot) -> Result<(), AllocError> {
+pub(crate) fn add_knot(page: &mut Page, waits: &[Wait], knot: &Knot) -> Result<(), AllocError> {
     let Some(first) = knot.ranks.first() else {
         return Ok(());
     };

@@ -13,9 +13,9 @@ mod waiting;
 mod words;
 
 pub use all_communicators::{Communicators, communicators_of, line_at};
-pub use cycle::cycle_in;
+pub use cycle::{Cycle, CycleArrow, add_cycle, cycle_in};
 pub use entered::Entered;
-pub use knot::{Knot, Wait, add_knot, knot_in};
+pub use knot::{Knot, Wait};
 pub use leftover::{Leftover, answer_of, left_of, leftovers_of};
 pub use one_communicator::Group;
 pub use page::Page;

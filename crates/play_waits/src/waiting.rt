@@ -1,7 +1,8 @@
 //! Whom a rank waits for.
 
-ghost use Rattle.std.specs.Prelude.{◌≡◌, ◌++◌, filter, OnOk};
+ghost use Rattle.std.specs.Prelude.{◌≡◌, ◌++◌, ◌==◌, ◌&&◌, filter, OnOk};
 ghost use Rattle.play_waits.specs.AwaitedMembers.{is_awaited};
+ghost use Rattle.play_waits.specs.GivenRequests.{names};
 
 use crate::all_communicators::Communicators;
 use crate::entered::Entered;
@@ -37,7 +38,10 @@ pub struct Waiter<'h, 'c> {
     pub communicators: &'c Communicators,
 }
 
-fn names(reply: &Option<Reply>, request: Request) -> bool {
+/// Whether a call was answered with this request, or with this message that was taken out.
+fn names(reply: &Option<Reply>, request: Request) -> bool
+    ensures { result ≡ names reply.now request }
+{
     match reply {
         Some(Reply::Started(started)) => started.serial == request.serial,
         Some(Reply::Matched(Some((Some(message), _)))) => message.serial == request.serial,
@@ -45,10 +49,17 @@ fn names(reply: &Option<Reply>, request: Request) -> bool {
     }
 }
 
+/// Whether this rank was given this request there.
+fn gives(entry: &HistoryEntry, rank: u16, request: Request) -> bool
+    ensures { result ≡ ((entry.now.endpoint.rank == rank) && names entry.now.reply request) }
+{
+    entry.endpoint.rank == rank && names(&entry.reply, request)
+}
+
 /// The call of this rank that gave this request.
 fn call_of(history: &[HistoryEntry], rank: u16, request: Request) -> Option<&Call> {
     for entry in history {
-        if entry.endpoint.rank == rank && names(&entry.reply, request) {
+        if gives(entry, rank, request) {
             if let Event::Call(_, call) = &entry.event {
                 return Some(call);
             }

@@ -91,7 +91,7 @@ there_if false o n rank is there = absurd cc
 pub offer_is_there : (c : CoreState) (s : RoutedSend) (rank : ℕ) → free_fault c (Isend s) ≡ None →
     announced_to c.place s ≡ Some rank → rank < c.place.size
 offer_is_there c s rank none is =
-    there_if (is_announced s.send.mode (sent_from s.send.from))
+    there_if (is_announced c.place.message_limit s.send.mode (sent_from s.send.from))
     (rank_to c.place (destination s.route.named s.send.tag s.route.context))
     c.place.size rank is (rank_is_there c.place s (free_send c s none))
 

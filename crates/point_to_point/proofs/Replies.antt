@@ -1,5 +1,5 @@
 -- The frames that news call for can go, and are few.
-use Rattle.std.proofs.Common.{◌≡◌, ℕ, zero, suc, ◌+◌, ◌*◌, ◌%◌, ◌<◌, ◌≤◌, Bool, true, false, cond, List, [], ◌∷◌}
+use Rattle.std.proofs.Common.{◌≡◌, ℕ, zero, suc, ◌+◌, ◌*◌, ◌<◌, ◌≤◌, Bool, true, false, cond, List, [], ◌∷◌}
 use Rattle.std.proofs.Common.{length, Option, Some, None, refl, sym, ap, ◌∙◌, arith, subst}
 use Rattle.std.specs.Prelude.{◌==◌, IfSome, is_some, position, slice_index_or}
 use Rattle.std.specs.List.{AllByRecursion}
@@ -14,7 +14,7 @@ use Rattle.datatypes.specs.Contents.{bytes_of}
 use Rattle.datatypes.specs.ContentLaws.{length-bytes_of}
 use Rattle.datagram.specs.declared.kinds.Clearance.{Clearance}
 use Rattle.datagram.specs.declared.kinds.Clearance.TheVariants.{Send, Drop}
-use Rattle.datagram.specs.Spellings.{EagerFrame, RequestFrame, ClearFrame, DataFrame, FrameText, RequestText}
+use Rattle.datagram.specs.Spellings.{DataFits, EagerFrame, RequestFrame, ClearFrame, DataFrame, FrameText, RequestText}
 use Rattle.datagram.specs.Spellings.{OutgoingText}
 use Rattle.match_queues.specs.declared.envelope.PostedReceive.{PostedReceive}
 use Rattle.match_queues.specs.Arrivals.{arrival_at}
@@ -23,7 +23,10 @@ use Rattle.rendezvous.specs.declared.offer.Offer.{Offer}
 use Rattle.rendezvous.specs.Offers.{is_to, offer_at}
 use Rattle.rendezvous.specs.Pieces.{pieces_of}
 use Rattle.rendezvous.specs.State.{State, after_drop, fresh, is_next, offered}
-use Rattle.rendezvous.specs.WholePieces.{AreCut, joined}
+use Rattle.rendezvous.specs.WholePieces.{AreCut, IsCut, joined}
+use Rattle.vocabulary.specs.MessageLimits.{frame_limit_of}
+use Rattle.vocabulary.specs.declared.message_limit.MessageLimit.{MessageLimit}
+use Rattle.vocabulary.proofs.MessageLimits.{frame_least, frame_most}
 use Rattle.rendezvous.proofs.PieceLaws.{pieces}
 use Rattle.requests.specs.declared.table.TableEntry.{TableEntry}
 use Rattle.point_to_point.specs.CoreState.{CoreState, IsKept, IsOfferFor}
@@ -40,55 +43,44 @@ use Rattle.point_to_point.proofs.Endings.{left_part, nothing_offered}
 joined_length : (p : ℕ × List ℕ) (ps : List (ℕ × List ℕ)) → length (joined (p ∷ ps)) ≡ length p.1 + length (joined ps)
 joined_length p ps = length-append p.1 (joined ps)
 
-piece_fits : (n start : ℕ) → start ≡ n * 1024 → start % 1024 ≡ 0
-piece_fits n start at = omega (arith, at)
+-- a piece that is cut so has no more bytes than any frame
+piece_fits : (frame n transfer : ℕ) (p : ℕ × List ℕ) (ps : List (ℕ × List ℕ)) → frame ≤ 61440 → IsCut frame n p ps →
+    DataFits (record { transfer = transfer; offset = p.0; bytes = p.1 })
+piece_fits frame n transfer p ps most cut = record { some = omega (arith, cut.some); limit = omega (arith, cut.most, most) }
 
-next_start : (n len rest : ℕ) → len ≡ 1024 → n * 1024 + (len + rest) ≤ 2147483647 → suc n * 1024 + rest ≤ 2147483647
-next_start n len rest full within = omega (arith, full, within)
+next_start : (frame n len rest : ℕ) → 1024 ≤ frame → len ≡ frame → n * 1024 + (len + rest) ≤ 2147483647 →
+    suc n * 1024 + rest ≤ 2147483647
+next_start frame n len rest least full within = omega (arith, least, full, within)
 
--- pieces from a number on, which go on to an end within the limit of a message
-can_go_from : (size rank transfer n : ℕ) (ps : List (ℕ × List ℕ)) → rank < size → AreCut 1024 n ps →
-    n * 1024 + length (joined ps) ≤ 2147483647 →
-    AllByRecursion (CanGo size) (data_frames rank transfer ps)
-can_go_from size rank transfer n [] there cut within = tt
-can_go_from size rank transfer n (p ∷ []) there cut within =
-    let aligned = piece_fits n p.0 cut.0.offset in (
-      record {
-        fits = record { aligned = aligned; some = omega (arith, cut.0.some); limit = cut.0.most };
-        there = there;
-      },
-      tt,
-    )
-can_go_from size rank transfer n (p ∷ q ∷ ps) there cut within =
+-- pieces from a number on
+can_go_from : (frame size rank transfer n : ℕ) (ps : List (ℕ × List ℕ)) → frame ≤ 61440 → rank < size →
+    AreCut frame n ps → AllByRecursion (CanGo size) (data_frames rank transfer ps)
+can_go_from frame size rank transfer n [] most there cut = tt
+can_go_from frame size rank transfer n (p ∷ ps) most there cut = (
+  record { fits = piece_fits frame n transfer p ps most cut.0; there = there },
+  can_go_from frame size rank transfer (suc n) ps most there cut.1,
+)
+
+-- those of a message are few, since all but the last have 1,024 bytes at least
+few_from : (frame n : ℕ) (ps : List (ℕ × List ℕ)) → 1024 ≤ frame → AreCut frame n ps →
+    n * 1024 + length (joined ps) ≤ 2147483647 → n + length ps ≤ 2097152
+few_from frame n [] least cut within = omega (arith, within)
+few_from frame n (p ∷ []) least cut within = omega (arith, joined_length p [], cut.0.some, within)
+few_from frame n (p ∷ q ∷ ps) least cut within =
     let sized = joined_length p (q ∷ ps) in
-    let aligned = piece_fits n p.0 cut.0.offset in
-    let next = next_start n (length p.1) (length (joined (q ∷ ps))) cut.0.full (omega (arith, sized, within)) in (
-      record {
-        fits =
-            record { aligned = aligned; some = omega (arith, cut.0.some); limit = cut.0.most };
-        there =
-            there;
-      },
-      can_go_from size rank transfer (suc n) (q ∷ ps) there cut.1 next,
-    )
+    let next = next_start frame n (length p.1) (length (joined (q ∷ ps))) least cut.0.full (omega (arith, sized, within)) in
+    omega (arith, few_from frame (suc n) (q ∷ ps) least cut.1 next)
 
-few_from : (n : ℕ) (ps : List (ℕ × List ℕ)) → AreCut 1024 n ps → n * 1024 + length (joined ps) ≤ 2147483647 →
-    n + length ps ≤ 2097152
-few_from n [] cut within = omega (arith, within)
-few_from n (p ∷ []) cut within = omega (arith, joined_length p [], cut.0.some, within)
-few_from n (p ∷ q ∷ ps) cut within =
-    let sized = joined_length p (q ∷ ps) in
-    let next = next_start n (length p.1) (length (joined (q ∷ ps))) cut.0.full (omega (arith, sized, within)) in
-    omega (arith, few_from (suc n) (q ∷ ps) cut.1 next)
-
-bounded : (bytes : List ℕ) → length bytes ≤ 2147483647 → 0 * 1024 + length (joined (pieces_of bytes)) ≤ 2147483647
-bounded bytes limit = omega (arith, ap length ((pieces bytes).all), limit)
+bounded : (limit : MessageLimit) (bytes : List ℕ) → length bytes ≤ 2147483647 →
+    0 * 1024 + length (joined (pieces_of (frame_limit_of limit) bytes)) ≤ 2147483647
+bounded limit bytes few = omega (arith, ap length ((pieces limit bytes).all), few)
 
 -- the data of so many bytes can go
-pub data_go : (size rank transfer : ℕ) (bytes : List ℕ) → rank < size → length bytes ≤ 2147483647 →
-    AllByRecursion (CanGo size) (data_frames rank transfer (pieces_of bytes))
-data_go size rank transfer bytes there limit =
-    can_go_from size rank transfer 0 (pieces_of bytes) there ((pieces bytes).cut) (bounded bytes limit)
+pub data_go : (limit : MessageLimit) (size rank transfer : ℕ) (bytes : List ℕ) → rank < size →
+    AllByRecursion (CanGo size) (data_frames rank transfer (pieces_of (frame_limit_of limit) bytes))
+data_go limit size rank transfer bytes there =
+    can_go_from (frame_limit_of limit) size rank transfer 0 (pieces_of (frame_limit_of limit) bytes) (frame_most limit)
+    there ((pieces limit bytes).cut)
 
 -- the bytes of an offer are within the limit
 offer_bytes : (size : ℕ) (o : Offer) → IsOfferFor size o →
@@ -97,24 +89,25 @@ offer_bytes size o kept = omega (arith, length-bytes_of (size_of o.elements.basi
 
 -- ITS FRAMES
 
-wanted_go : (size rank : ℕ) (clearance : Clearance) (o : Option Offer) →
+wanted_go : (limit : MessageLimit) (size rank : ℕ) (clearance : Clearance) (o : Option Offer) →
     IfSome o (λ (x : Offer). IsOfferFor size x × (rank < size)) →
-    AllByRecursion (CanGo size) (wanted_frames rank clearance o)
-wanted_go size rank Drop o kept = tt
-wanted_go size rank Send None kept = tt
-wanted_go size rank Send (Some o) kept =
+    AllByRecursion (CanGo size) (wanted_frames limit rank clearance o)
+wanted_go limit size rank Drop o kept = tt
+wanted_go limit size rank Send None kept = tt
+wanted_go limit size rank Send (Some o) kept =
     let bytes = bytes_of (size_of o.elements.basic) o.elements.values in
-    data_go size rank o.transfer bytes kept.1 (offer_bytes size o kept.0)
+    data_go limit size rank o.transfer bytes kept.1
 
-wanted_few : (size rank : ℕ) (clearance : Clearance) (o : Option Offer) →
+wanted_few : (limit : MessageLimit) (size rank : ℕ) (clearance : Clearance) (o : Option Offer) →
     IfSome o (λ (x : Offer). IsOfferFor size x × (rank < size)) →
-    length (wanted_frames rank clearance o) ≤ 2097152
-wanted_few size rank Drop o kept = omega arith
-wanted_few size rank Send None kept = omega arith
-wanted_few size rank Send (Some o) kept =
+    length (wanted_frames limit rank clearance o) ≤ 2097152
+wanted_few limit size rank Drop o kept = omega arith
+wanted_few limit size rank Send None kept = omega arith
+wanted_few limit size rank Send (Some o) kept =
     let bytes = bytes_of (size_of o.elements.basic) o.elements.values in
-    let count : 0 + length (pieces_of bytes) ≤ 2097152 = few_from 0 (pieces_of bytes) ((pieces bytes).cut) (bounded bytes (offer_bytes size o kept.0)) in
-    omega (arith, count, length-map (pieces_of bytes) (data_frame rank o.transfer))
+    let ps = pieces_of (frame_limit_of limit) bytes in
+    let count : 0 + length ps ≤ 2097152 = few_from (frame_limit_of limit) 0 ps (frame_least limit) ((pieces limit bytes).cut) (bounded limit bytes (offer_bytes size o kept.0)) in
+    omega (arith, count, length-map ps (data_frame rank o.transfer))
 
 -- THE OFFER THAT IS ANSWERED
 
@@ -161,10 +154,10 @@ met_is_kept true c s transfer kept =
     (sym (nothing_offered c.transfers s.rank transfer)) tt
 
 -- nothing is wanted of a rank that was started anew
-pub nothing_wanted : (t : State) (rank transfer : ℕ) (clearance : Clearance) →
-    wanted_frames rank clearance (offered (after_drop t rank) rank transfer) ≡ []
-nothing_wanted t rank transfer Drop = refl
-nothing_wanted t rank transfer Send = ap (wanted_frames rank Send) (nothing_offered t rank transfer)
+pub nothing_wanted : (limit : MessageLimit) (t : State) (rank transfer : ℕ) (clearance : Clearance) →
+    wanted_frames limit rank clearance (offered (after_drop t rank) rank transfer) ≡ []
+nothing_wanted limit t rank transfer Drop = refl
+nothing_wanted limit t rank transfer Send = ap (wanted_frames limit rank Send) (nothing_offered t rank transfer)
 
 -- THE ANSWER TO AN ANNOUNCEMENT
 
@@ -206,7 +199,7 @@ go lesson c s (Some (RequestFrame t)) kept none =
     (receive_for (announced_of s t) (after_lesson lesson c s).queues.posted))
     s t (source_is_there lesson c s t kept none)
 go lesson c s (Some (ClearFrame t)) kept none =
-    wanted_go c.place.size s.rank t.clearance (offered (after_lesson lesson c s).transfers s.rank t.transfer)
+    wanted_go (after_lesson lesson c s).place.message_limit c.place.size s.rank t.clearance (offered (after_lesson lesson c s).transfers s.rank t.transfer)
     (met_is_kept lesson c s t.transfer kept)
 go lesson c s (Some (DataFrame t)) kept none = tt
 
@@ -217,7 +210,7 @@ few lesson c s None kept = omega arith
 few lesson c s (Some (EagerFrame t)) kept = omega arith
 few lesson c s (Some (RequestFrame t)) kept = one_at_most _
 few lesson c s (Some (ClearFrame t)) kept =
-    wanted_few c.place.size s.rank t.clearance (offered (after_lesson lesson c s).transfers s.rank t.transfer)
+    wanted_few (after_lesson lesson c s).place.message_limit c.place.size s.rank t.clearance (offered (after_lesson lesson c s).transfers s.rank t.transfer)
     (met_is_kept lesson c s t.transfer kept)
 few lesson c s (Some (DataFrame t)) kept = omega arith
 
@@ -234,16 +227,17 @@ frames_are_few c n kept = few n.lesson c n.source n.frame kept
 -- HOW MANY THEY ARE
 
 -- of a rank that was started anew none
-pub no_many_wanted : (t : State) (rank transfer : ℕ) (clearance : Clearance) →
-    0 ≡ length (wanted_frames rank clearance (offered (after_drop t rank) rank transfer))
-no_many_wanted t rank transfer clearance = sym (ap length (nothing_wanted t rank transfer clearance))
+pub no_many_wanted : (limit : MessageLimit) (t : State) (rank transfer : ℕ) (clearance : Clearance) →
+    0 ≡ length (wanted_frames limit rank clearance (offered (after_drop t rank) rank transfer))
+no_many_wanted limit t rank transfer clearance = sym (ap length (nothing_wanted limit t rank transfer clearance))
 
 -- there is one for each piece of an offer that is wanted
-pub wanted_many : (rank : ℕ) (o : Offer) (n : ℕ) →
-    n ≡ length (pieces_of (bytes_of (size_of o.elements.basic) o.elements.values)) →
-    n ≡ length (wanted_frames rank Send (Some o))
-wanted_many rank o n is =
-    is ∙ sym (length-map (pieces_of (bytes_of (size_of o.elements.basic) o.elements.values))
+pub wanted_many : (limit : MessageLimit) (rank : ℕ) (o : Offer) (n : ℕ) →
+    n ≡ length (pieces_of (frame_limit_of limit) (bytes_of (size_of o.elements.basic) o.elements.values)) →
+    n ≡ length (wanted_frames limit rank Send (Some o))
+wanted_many limit rank o n is =
+    is ∙ sym (length-map
+    (pieces_of (frame_limit_of limit) (bytes_of (size_of o.elements.basic) o.elements.values))
     (data_frame rank o.transfer))
 
 -- an announcement is answered by one frame where a receive waits for its message

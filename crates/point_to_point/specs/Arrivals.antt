@@ -119,7 +119,8 @@ answer_to_announced c s t = answer_on_arrival c.slots (arrival_of c.queues (anno
 abbrev pub frame_calls_for : CoreState → Endpoint → FrameText → List OutgoingText
 frame_calls_for c s (EagerFrame t) = []
 frame_calls_for c s (RequestFrame t) = as_list (answer_to_announced c s t)
-frame_calls_for c s (ClearFrame t) = wanted_frames s.rank t.clearance (offered c.transfers s.rank t.transfer)
+frame_calls_for c s (ClearFrame t) =
+    wanted_frames c.place.message_limit s.rank t.clearance (offered c.transfers s.rank t.transfer)
 frame_calls_for c s (DataFrame t) = []
 
 -- the same of the frame that came, if one did
@@ -158,7 +159,8 @@ KeysFit true (Some keys) c s = keys.items ≡ keys_ending c s
 
 -- what is collected of the message that is announced, if a receive finds it and wants its data
 abbrev pub collection_for_announced : CoreState → Endpoint → RequestText → Option Collecting
-collection_for_announced c s t = collection_on_arrival c.slots (arrival_of c.queues (announced_of s t))
+collection_for_announced c s t =
+    collection_on_arrival c.place.message_limit c.slots (arrival_of c.queues (announced_of s t))
 
 -- what is collected from then on, by the frame that came, if one did
 abbrev pub collection_for : CoreState → Endpoint → Option FrameText → Option Collecting

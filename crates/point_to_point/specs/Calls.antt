@@ -144,8 +144,10 @@ CanPost sources.Null h = Unit {0}
 
 -- what a receive from this source begins to collect, where the message that it finds is announced and wanted
 abbrev pub collection_on_receive : Source → CoreState → (key : ℕ) → RoutedReceive → Option Collecting
-collection_on_receive sources.Any c key v = collection_on_post v.receive.into key (found_by c v)
-collection_on_receive (sources.Rank rank) c key v = collection_on_post v.receive.into key (found_by c v)
+collection_on_receive sources.Any c key v =
+    collection_on_post c.place.message_limit v.receive.into key (found_by c v)
+collection_on_receive (sources.Rank rank) c key v =
+    collection_on_post c.place.message_limit v.receive.into key (found_by c v)
 collection_on_receive sources.Null c key v = None
 
 -- what a receive begins to collect, if it does: this is the place for its data, and it can be kept

@@ -15,6 +15,7 @@ use Rattle.rendezvous.specs.State as transfers
 use Rattle.rendezvous.specs.declared.transfers.Numbers.{Numbers}
 use Rattle.requests.specs.declared.table.TableEntry.{TableEntry}
 use Rattle.requests.specs.Table.{message_in, slot_at}
+use Rattle.requests.specs.Trimmed as tables
 use Rattle.requests.specs.declared.answer.Answer.{Answer}
 use Rattle.requests.specs.declared.awaited_requests.Awaited.{Awaited}
 
@@ -31,6 +32,10 @@ pub record CoreState : Type 0 where
   pub blocked : Option Awaited
   -- the blocked call's answer, until it is taken out
   pub completion : Option Answer
+
+-- the core, without the empty places at the end of its table of requests
+abbrev pub trimmed : CoreState → CoreState
+trimmed c = record c { slots = tables.trimmed c.slots }
 
 -- WHAT A CORE KEEPS
 

@@ -147,7 +147,8 @@ message_frame c q into = answer_on_post into (message_for_receive c q)
 -- what is collected from then on, under the message's key, if anything is
 abbrev pub collection_on_message : CoreState → Option Request → Region → Option Collecting
 collection_on_message c None into = None
-collection_on_message c (Some q) into = collection_on_post into q.key (message_in (progress_at c.slots q.key q.serial))
+collection_on_message c (Some q) into =
+    collection_on_post c.place.message_limit into q.key (message_in (progress_at c.slots q.key q.serial))
 
 -- the core once the message is received into a region: it is matched with that, which has ended or collects its data;
 -- and an own send that waited for it has ended
@@ -155,7 +156,8 @@ abbrev pub received : CoreState → Request → Region → CoreState
 received c q into = record c {
   slots = own_key_sent (own_send_of (message_in (progress_at c.slots q.key q.serial)))
       (after_receive c.slots q.key into);
-  transfers = transfers_on_post c.transfers into q.key (message_in (progress_at c.slots q.key q.serial));
+  transfers = transfers_on_post c.place.message_limit c.transfers into q.key
+      (message_in (progress_at c.slots q.key q.serial));
 }
 
 -- What the receive of a message answers and leaves: it is waited for, and so answered in its own call where it has

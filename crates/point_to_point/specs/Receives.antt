@@ -73,7 +73,7 @@ pub record IsPosting (old : CoreState) (v : RoutedReceive) (r : Request) (new : 
         started;
     serial = old.serial + 1;
     queues = after_post old.queues (posted_by r.key v);
-    transfers = transfers_on_post old.transfers v.receive.into r.key
+    transfers = transfers_on_post old.place.message_limit old.transfers v.receive.into r.key
         (message_at old.queues.unexpected (message_for (posted_by r.key v) old.queues.unexpected));
   }
 

@@ -43,7 +43,7 @@ unfoldable pub after_message : CoreState → Message → CoreState
 after_message c m = record c {
   queues = after_arrival c.queues m;
   slots = slots_on_arrival c.slots (arrival_of c.queues m);
-  transfers = transfers_on_arrival c.transfers c.slots (arrival_of c.queues m);
+  transfers = transfers_on_arrival c.place.message_limit c.transfers c.slots (arrival_of c.queues m);
 }
 
 -- so it is where the destination is the own rank

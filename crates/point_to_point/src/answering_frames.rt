@@ -32,7 +32,7 @@ impl Core {
         answer: ClearToSend,
     ) -> Result<Vec<Outgoing<'_>>, Refusal>
         ensures ok { IfOk result (λ frames. map outgoing_text frames.items
-            ≡ wanted_frames source.rank answer.clearance
+            ≡ wanted_frames (after_lesson lesson self.now.state source).place.message_limit source.rank answer.clearance
             (offered (after_lesson lesson self.now.state source).transfers source.rank answer.transfer)) }
         ensures err { IfErr result (λ e. e ≡ refusals.OutOfMemory) }
         ensures need { OnErr result (asks_for_data answer.clearance
@@ -45,7 +45,7 @@ impl Core {
             return Ok(Vec::new(self.alloc));
         }
         match self.transfers.offer(source.rank, answer.transfer) {
-            Some(offer) => data_frames(self.alloc, source.rank, offer),
+            Some(offer) => data_frames(self.alloc, self.place.message_limit, source.rank, offer),
             None => Ok(Vec::new(self.alloc)),
         }
     }
@@ -95,7 +95,8 @@ impl Core {
     /// offered to it.
     #[tactic(auto, using(crate::proofs::Replies::no_many_wanted, crate::proofs::Replies::wanted_many))]
     fn wanted_count(&self, source: Endpoint, lesson: bool, answer: ClearToSend) -> usize
-        ensures { result ≡ length (wanted_frames source.rank answer.clearance
+        ensures { result ≡ length
+            (wanted_frames (after_lesson lesson self.now.state source).place.message_limit source.rank answer.clearance
             (offered (after_lesson lesson self.now.state source).transfers source.rank answer.transfer)) }
     {
         if lesson {
@@ -105,7 +106,7 @@ impl Core {
             return 0;
         }
         match self.transfers.offer(source.rank, answer.transfer) {
-            Some(offer) => piece_count(&offer.elements),
+            Some(offer) => piece_count(self.place.message_limit, &offer.elements),
             None => 0,
         }
     }
@@ -151,7 +152,7 @@ impl Core {
     }
 
     /// The frames that news that break no rule call for, lent from the core: the answer to an announcement that is
-    /// matched, and the data of an offer that are wanted. They are at most 1,024. It fails for want of memory alone
+    /// matched, and the data of an offer that are wanted. They are at most 2,097,152. It fails for want of memory alone
     /// (14), and only where an announcement is matched or data are asked for.
     pub fn frames_for<'a>(
         &'a self,

@@ -27,7 +27,8 @@ impl Core {
     fn receive_or_keep(&mut self, message: Message, collection: Option<Collection>)
         requires room { 0 < self.old.messages }
         requires answerable { IsAnswerable self.old.state.place.size message message.body }
-        requires collection { collection ≡ collection_on_arrival self.old.state.slots (arrival_of self.old.state.queues message) }
+        requires collection { collection ≡ collection_on_arrival self.old.state.place.message_limit self.old.state.slots
+            (arrival_of self.old.state.queues message) }
         requires place { is_some collection ≡ true → 0 < self.old.collections }
         ensures exact { self.new.state ≡ after_message self.old.state message }
         ensures placed { self.new.state.place ≡ self.old.state.place }
@@ -74,7 +75,7 @@ impl Core {
     fn announce(&mut self, source: Endpoint, request: RequestToSend, collection: Option<Collection>)
         requires room { 0 < self.old.messages }
         requires next { is_next self.old.state.transfers.numbers source.rank request.transfer ≡ true }
-        requires collection { collection ≡ collection_on_arrival self.old.state.slots
+        requires collection { collection ≡ collection_on_arrival self.old.state.place.message_limit self.old.state.slots
             (arrival_of self.old.state.queues (announced_of source (request_text request))) }
         requires place { is_some collection ≡ true → 0 < self.old.collections }
         ensures exact { self.new.state ≡ after_announcement self.old.state source (request_text request) }

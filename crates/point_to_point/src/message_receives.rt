@@ -63,6 +63,7 @@ impl Core {
         match message {
             Some(message) => collection_on_post(
                 self.alloc,
+                self.place.message_limit,
                 into,
                 message.key,
                 self.requests.message(message),

@@ -204,7 +204,7 @@ impl Core {
     {
         let message = announced_of(source, request);
         let found = self.match_for(source, &message, keys);
-        collection_of_match(self.alloc, found, &message)
+        collection_of_match(self.alloc, self.place.message_limit, found, &message)
     }
 
     /// The place for the data of the message that the frame announces, if one came and announces one.

@@ -1,10 +1,11 @@
 //! The core of one rank.
 
-ghost use Rattle.std.specs.Prelude.{◌≡◌, IfErr, IfOk, None, is_some};
+ghost use Rattle.std.specs.Prelude.{◌≡◌, IfErr, IfOk, IsTrue, None, is_some};
 ghost use Rattle.rendezvous.specs.PayloadState as payloads;
-ghost use Rattle.point_to_point.specs.CoreState.{opening};
+ghost use Rattle.point_to_point.specs.CoreState.{opening, trimmed};
 ghost use Rattle.point_to_point_calls.specs.declared.refusal.Refusal.TheVariants as refusals;
 
+use alike::Alike;
 use incarnation::Place;
 use match_queues::Queues;
 use point_to_point_calls::Refusal;
@@ -86,6 +87,22 @@ impl Core {
         ensures { result ≡ self.now.state.place }
     {
         self.place
+    }
+
+    /// Whether both stand alike: one place, the same queues, transfers, payloads and requests, and the same blocked call
+    /// and answer, and the next request gets the same key. For how much more there is memory makes no difference, nor how
+    /// many empty places are at the end of the table of requests.
+    pub fn stands_as(&self, other: &Core) -> bool
+        ensures state { IsTrue result → trimmed self.now.state ≡ trimmed other.now.state }
+        ensures payloads { IsTrue result → self.now.payloads.state ≡ other.now.payloads.state }
+        ensures vacant { IsTrue result → self.now.vacant ≡ other.now.vacant }
+    {
+        self.place == other.place
+            && self.queues.stands_as(&other.queues)
+            && self.transfers.stands_as(&other.transfers)
+            && self.requests.stands_as(&other.requests)
+            && self.blocked.stands_as(&other.blocked)
+            && self.completion.stands_as(&other.completion)
     }
 
     /// Whether an earlier call is blocked on requests.

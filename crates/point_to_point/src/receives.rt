@@ -120,6 +120,7 @@ impl Core {
             Source::Null => Ok(None),
             Source::Any | Source::Rank(_) => collection_on_post(
                 self.alloc,
+                self.place.message_limit,
                 &sought.routed.receive.into,
                 self.requests.next_key(),
                 self.message_at(&sought.routed, sought.found),
@@ -215,7 +216,8 @@ impl Core {
         requires fit { CanReceive routed.receive.into }
         requires found { found ≡ place_for (posted_by 0 routed) self.old.places }
         requires collection { collection ≡
-            collection_on_post routed.receive.into self.old.vacant (found_by self.old.state routed) }
+            collection_on_post self.old.state.place.message_limit routed.receive.into self.old.vacant
+            (found_by self.old.state routed) }
         requires place { is_some collection ≡ true → 0 < self.old.collections }
         ensures exact { IsPosting self.old.state routed result self.new.state }
         ensures placed { self.new.state.place ≡ self.old.state.place }

@@ -16,13 +16,9 @@ use Rattle.requests.specs.Regions.{byte_count, handed_of, sent_from}
 use Rattle.incarnation.specs.declared.place.Place.{Place}
 use Rattle.point_to_point_calls.specs.declared.call.RoutedSend.{RoutedSend}
 use Rattle.point_to_point_calls.specs.declared.sends.Destination.{Destination}
-use Rattle.vocabulary.specs.declared.mode.Mode.{Mode}
-use Rattle.vocabulary.specs.declared.mode.Mode.TheVariants.{Standard, Synchronous}
-use Rattle.vocabulary.specs.Modes.{may_be_announced}
 use Rattle.point_to_point_calls.specs.SendRules.{
   IsSendable,
   destination,
-  is_announced,
   rank_to,
   rank_unless,
   send_fault,
@@ -61,12 +57,6 @@ unfolding send_fault
 has_target p s none = grind (arith, common_steps, none)
 
 -- THE FRAME
-
--- what is announced may be
-pub announced_is : (m : Mode) (c : Contents) → is_announced m c ≡ true →
-    may_be_announced m (length c.values * size_of c.basic) ≡ true
-announced_is Standard c h = h
-announced_is Synchronous c h = refl
 
 -- what may be sent has few elements
 pub few_elements : (tag : ℕ) (c : Contents) → IsSendable tag c → length c.values ≤ greatest_limit

@@ -2,6 +2,8 @@
 use Rattle.std.specs.Prelude.{ℕ, ◌<◌, ◌||◌, Bool, true, false, List, [], map, Option, Some, None, is_some}
 use Rattle.vocabulary.specs.declared.endpoint.Endpoint.{Endpoint}
 use Rattle.vocabulary.specs.BasicTypes.{size_of}
+use Rattle.vocabulary.specs.MessageLimits.{frame_limit_of}
+use Rattle.vocabulary.specs.declared.message_limit.MessageLimit.{MessageLimit}
 use Rattle.datatypes.specs.Contents.{bytes_of, values_of}
 use Rattle.datagram.specs.declared.kinds.Clearance.{Clearance}
 use Rattle.datagram.specs.declared.kinds.Clearance.TheVariants.{Send, Drop}
@@ -139,10 +141,10 @@ abbrev pub answer_by_match : Option Match → Message → Option OutgoingText
 answer_by_match None m = None
 answer_by_match (Some f) m = answer_by f.wanted m m.body
 
--- what is collected once an announced message found this, if it found one
-abbrev pub collection_by_match : Option Match → Message → Option Collecting
-collection_by_match None m = None
-collection_by_match (Some f) m = collection_on_match f.wanted m m.body f.key
+-- what is collected once an announced message found this, if it found one, in a job with this limit
+abbrev pub collection_by_match : MessageLimit → Option Match → Message → Option Collecting
+collection_by_match limit None m = None
+collection_by_match limit (Some f) m = collection_on_match limit f.wanted m m.body f.key
 
 -- WHAT IT GIVES TO OTHERS
 
@@ -169,12 +171,13 @@ framed rank transfer p = record {
 abbrev pub data_frames : (rank transfer : ℕ) → List (ℕ × List ℕ) → List OutgoingText
 data_frames rank transfer ps = map (data_frame rank transfer) ps
 
--- the data of an offer, once its receiver wants them
-abbrev pub wanted_frames : (rank : ℕ) → Clearance → Option Offer → List OutgoingText
-wanted_frames rank Drop offer = []
-wanted_frames rank Send None = []
-wanted_frames rank Send (Some o) =
-    data_frames rank o.transfer (pieces_of (bytes_of (size_of o.elements.basic) o.elements.values))
+-- the data of an offer, once its receiver wants them, in a job with this limit
+abbrev pub wanted_frames : MessageLimit → (rank : ℕ) → Clearance → Option Offer → List OutgoingText
+wanted_frames limit rank Drop offer = []
+wanted_frames limit rank Send None = []
+wanted_frames limit rank Send (Some o) =
+    data_frames rank o.transfer
+    (pieces_of (frame_limit_of limit) (bytes_of (size_of o.elements.basic) o.elements.values))
 
 -- whether an answer asks for the data of an offer: it wants them, and they are offered
 abbrev pub asks_for_data : Clearance → Option Offer → Bool

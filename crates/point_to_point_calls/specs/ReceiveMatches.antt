@@ -21,6 +21,7 @@ use Rattle.match_queues.specs.declared.envelope.Announcement.{Announcement}
 use Rattle.match_queues.specs.declared.envelope.Body.{Body}
 use Rattle.match_queues.specs.declared.envelope.Body.TheVariants.{Whole, Own, Announced}
 use Rattle.vocabulary.specs.BasicTypes.{size_of}
+use Rattle.vocabulary.specs.declared.message_limit.MessageLimit.{MessageLimit}
 use Rattle.communicator_members.specs.Statuses.{status_in}
 use Rattle.requests.specs.Table.{slot_at, after_announcement, after_answer, after_finish, has_room, progress_on_match}
 use Rattle.requests.specs.Table.{wants_by}
@@ -50,9 +51,10 @@ abbrev pub slots_on_arrival : List (Option TableEntry) → Arrival → List (Opt
 slots_on_arrival slots (Matched r m) = slots_on_match slots r.request (status_of m) m.body
 slots_on_arrival slots Kept = slots
 
--- the collection of an announced message, of which nothing has come
-abbrev pub collecting : Message → Announcement → (key : ℕ) → Collecting
-collecting m a key = record {
+-- the collection of an announced message in a job with this limit, of which nothing has come
+abbrev pub collecting : MessageLimit → Message → Announcement → (key : ℕ) → Collecting
+collecting limit m a key = record {
+  limit = limit;
   source = m.sender.rank;
   transfer = a.transfer;
   request = key;
@@ -69,11 +71,12 @@ progress_on_post p (Some m) = progress_on_match p.into (status_in p.group (statu
 -- WHAT IS COLLECTED
 
 -- what is collected from then on, where a match is with an announced message that is wanted and has elements
-abbrev pub collection_on_match : (wanted : Bool) → Message → Body → (key : ℕ) → Option Collecting
-collection_on_match wanted m (Whole elements) key = None
-collection_on_match wanted m (Own own) key = None
-collection_on_match false m (Announced a) key = None
-collection_on_match true m (Announced a) key = if a.count == 0 then None else Some (collecting m a key)
+abbrev pub collection_on_match : MessageLimit → (wanted : Bool) → Message → Body → (key : ℕ) → Option Collecting
+collection_on_match limit wanted m (Whole elements) key = None
+collection_on_match limit wanted m (Own own) key = None
+collection_on_match limit false m (Announced a) key = None
+collection_on_match limit true m (Announced a) key =
+    if a.count == 0 then None else Some (collecting limit m a key)
 
 -- the transfers with what is collected from then on, if anything is
 abbrev pub transfers_with : transfers.State → Option Collecting → transfers.State
@@ -81,23 +84,24 @@ transfers_with t None = t
 transfers_with t (Some c) = transfers.after_collect t c
 
 -- what is collected from then on, by the message that a posted receive found, if it found one
-abbrev pub collection_on_post : Region → (key : ℕ) → Option Message → Option Collecting
-collection_on_post r key None = None
-collection_on_post r key (Some m) = collection_on_match (has_room r (basic_of m.body) (count_of m.body)) m m.body key
+abbrev pub collection_on_post : MessageLimit → Region → (key : ℕ) → Option Message → Option Collecting
+collection_on_post limit r key None = None
+collection_on_post limit r key (Some m) =
+    collection_on_match limit (has_room r (basic_of m.body) (count_of m.body)) m m.body key
 
 -- what is collected from then on, by what becomes of a message that came
-abbrev pub collection_on_arrival : List (Option TableEntry) → Arrival → Option Collecting
-collection_on_arrival slots (Matched r m) =
-    collection_on_match (wants_by (slot_at slots r.request) (basic_of m.body) (count_of m.body)) m m.body r.request
-collection_on_arrival slots Kept = None
+abbrev pub collection_on_arrival : MessageLimit → List (Option TableEntry) → Arrival → Option Collecting
+collection_on_arrival limit slots (Matched r m) =
+    collection_on_match limit (wants_by (slot_at slots r.request) (basic_of m.body) (count_of m.body)) m m.body r.request
+collection_on_arrival limit slots Kept = None
 
 -- the transfers once a receive was posted, which found that message or none
-abbrev pub transfers_on_post : transfers.State → Region → (key : ℕ) → Option Message → transfers.State
-transfers_on_post t r key found = transfers_with t (collection_on_post r key found)
+abbrev pub transfers_on_post : MessageLimit → transfers.State → Region → (key : ℕ) → Option Message → transfers.State
+transfers_on_post limit t r key found = transfers_with t (collection_on_post limit r key found)
 
 -- the transfers once a message came, by what became of it
-abbrev pub transfers_on_arrival : transfers.State → List (Option TableEntry) → Arrival → transfers.State
-transfers_on_arrival t slots became = transfers_with t (collection_on_arrival slots became)
+abbrev pub transfers_on_arrival : MessageLimit → transfers.State → List (Option TableEntry) → Arrival → transfers.State
+transfers_on_arrival limit t slots became = transfers_with t (collection_on_arrival limit slots became)
 
 -- THE ANSWER TO AN ANNOUNCED MESSAGE
 

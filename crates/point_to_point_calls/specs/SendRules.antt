@@ -2,8 +2,9 @@
 use Rattle.std.specs.Prelude.{◌≡◌, ℕ, ◌*◌, ◌≤◌, nat_lt, ◌==◌, length, Option, Some, None, Bool, true, false}
 use Rattle.std.specs.Prelude.{if◌then◌else◌}
 use Rattle.vocabulary.specs.BasicTypes.{size_of}
-use Rattle.vocabulary.specs.Limits.{eager_limit, greatest_limit, highest_tag}
-use Rattle.vocabulary.specs.MessageLimits.{limit_of}
+use Rattle.vocabulary.specs.Limits.{greatest_limit, highest_tag}
+use Rattle.vocabulary.specs.MessageLimits.{frame_limit_of, limit_of}
+use Rattle.vocabulary.specs.declared.message_limit.MessageLimit.{MessageLimit}
 use Rattle.vocabulary.specs.declared.envelope.Source.{Source}
 use Rattle.vocabulary.specs.declared.envelope.Source.TheVariants.{Any, Rank, Null}
 use Rattle.datatypes.specs.Contents.{Contents, bytes_of}
@@ -74,14 +75,14 @@ pub record IsSendable (tag : ℕ) (c : Contents) : Type 0 where
   pub count : length (bytes_of (size_of c.basic) c.values) ≤ greatest_limit
   pub tag_is : tag ≤ highest_tag
 
--- whether elements don't go in one frame
-abbrev pub is_large : Contents → Bool
-is_large c = nat_lt eager_limit (length c.values * size_of c.basic)
+-- whether elements don't go in one frame of a job with this limit
+abbrev pub is_large : MessageLimit → Contents → Bool
+is_large limit c = nat_lt (frame_limit_of limit) (length c.values * size_of c.basic)
 
 -- whether their message is announced: that of a synchronous send is, whatever it has (3.4)
-abbrev pub is_announced : Mode → Contents → Bool
-is_announced Standard c = is_large c
-is_announced Synchronous c = true
+abbrev pub is_announced : MessageLimit → Mode → Contents → Bool
+is_announced limit Standard c = is_large limit c
+is_announced limit Synchronous c = true
 
 -- the frame of these elements in this context and under this tag
 abbrev pub eager_frame : (context tag : ℕ) → Contents → FrameText
@@ -107,20 +108,20 @@ request_frame mode transfer context tag c = RequestFrame (record {
 })
 
 -- the frame of these elements: they go in it, or it announces them as the next transfer to their rank
-abbrev pub frame_with : State → Mode → Destination → Contents → FrameText
-frame_with t mode d c =
-    if is_announced mode c then request_frame mode (next_to t.numbers d.rank) d.context d.tag c else
+abbrev pub frame_with : MessageLimit → State → Mode → Destination → Contents → FrameText
+frame_with limit t mode d c =
+    if is_announced limit mode c then request_frame mode (next_to t.numbers d.rank) d.context d.tag c else
     eager_frame d.context d.tag c
 
 -- the frame that goes to another rank
-abbrev pub frame_unless : Bool → State → Mode → Destination → Contents → Option OutgoingText
-frame_unless true t mode d c = None
-frame_unless false t mode d c = Some (record { target = d.rank; frame = frame_with t mode d c })
+abbrev pub frame_unless : Bool → MessageLimit → State → Mode → Destination → Contents → Option OutgoingText
+frame_unless true limit t mode d c = None
+frame_unless false limit t mode d c = Some (record { target = d.rank; frame = frame_with limit t mode d c })
 
 -- the frame with which these elements go to their destination, where it is another rank
 abbrev pub frame_to : Place → State → Mode → Option Destination → Contents → Option OutgoingText
 frame_to p t mode None c = None
-frame_to p t mode (Some d) c = frame_unless (d.rank == p.endpoint.rank) t mode d c
+frame_to p t mode (Some d) c = frame_unless (d.rank == p.endpoint.rank) p.message_limit t mode d c
 
 -- the rank of a destination, where it is another one
 abbrev pub rank_unless : Bool → Destination → Option ℕ
@@ -136,12 +137,12 @@ rank_to p (Some d) = rank_unless (d.rank == p.endpoint.rank) d
 -- in one frame
 abbrev pub announced_to : Place → RoutedSend → Option ℕ
 announced_to p s =
-    if is_announced s.send.mode (sent_from s.send.from)
+    if is_announced p.message_limit s.send.mode (sent_from s.send.from)
     then rank_to p (destination s.route.named s.send.tag s.route.context) else None
 
 -- so it is of a send to this destination
 abbrev pub announced_by : Place → Send → Option Destination → Option ℕ
-announced_by p s d = if is_announced s.mode (sent_from s.from) then rank_to p d else None
+announced_by p s d = if is_announced p.message_limit s.mode (sent_from s.from) then rank_to p d else None
 
 -- where its message goes, and to whom it is announced, is decided
 pub record IsAddressed (p : Place) (s : AddressedSend) : Type 0 where

@@ -3,6 +3,7 @@
 ghost use Rattle.std.specs.Prelude.{◌≡◌, true, IfOk, IfErr, OnErr, is_some, map};
 ghost use Rattle.datagram.specs.Spellings.{outgoing_text};
 ghost use Rattle.vocabulary.specs.BasicTypes.{size_of};
+ghost use Rattle.vocabulary.specs.MessageLimits.{frame_limit_of};
 ghost use Rattle.datatypes.specs.Contents.{bytes_of};
 ghost use Rattle.rendezvous.specs.Pieces.{pieces_of};
 ghost use Rattle.point_to_point_calls.specs.Frames.{addressed, as_list};
@@ -12,6 +13,7 @@ use crate::refusal::Refusal;
 use datagram::{Data, Frame, Outgoing};
 use rendezvous::{Offer, Piece, pieces};
 use std::alloc::Global;
+use vocabulary::MessageLimit;
 
 /// The list of this frame, if there is one; or want of memory, where there is one.
 pub fn list_of<'a>(alloc: Global, frame: Option<Outgoing<'a>>) -> Result<Vec<Outgoing<'a>>, Refusal>
@@ -60,15 +62,16 @@ pub fn frames_of<'a>(
 #[tactic(auto, using(crate::proofs::Pieces::frames_are))]
 pub fn data_frames<'a>(
     alloc: Global,
+    limit: MessageLimit,
     rank: u16,
     offer: &'a Offer,
 ) -> Result<Vec<Outgoing<'a>>, Refusal>
     ensures ok { IfOk result (λ frames. map outgoing_text frames.items
         ≡ data_frames rank offer.now.transfer
-        (pieces_of (bytes_of (size_of offer.now.elements.basic) offer.now.elements.values))) }
+        (pieces_of (frame_limit_of limit) (bytes_of (size_of offer.now.elements.basic) offer.now.elements.values))) }
     ensures err { IfErr result (λ e. e ≡ Refusal.OutOfMemory) }
 {
-    let Ok(pieces) = pieces(alloc, &offer.elements) else {
+    let Ok(pieces) = pieces(alloc, limit, &offer.elements) else {
         return Err(Refusal::OutOfMemory);
     };
     frames_of(alloc, rank, offer.transfer, &pieces)

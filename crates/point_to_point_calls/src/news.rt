@@ -14,7 +14,7 @@ use datatypes::Buffer;
 use match_queues::{Announcement, Body, Message};
 use rendezvous::Collection;
 use std::alloc::Global;
-use vocabulary::Endpoint;
+use vocabulary::{Endpoint, MessageLimit};
 
 /// What is heard from another rank, as far as it concerns a core.
 #[derive(Clone, Copy)]
@@ -133,15 +133,16 @@ pub fn first_of(fault: Option<Refusal>, other: Option<Refusal>) -> Option<Refusa
 /// of memory, where something is collected.
 pub fn collection_of_match(
     alloc: Global,
+    limit: MessageLimit,
     found: Option<Match>,
     message: &Message,
 ) -> Result<Option<Collection>, Refusal>
-    ensures ok { IfOk result (λ collection. collection ≡ collection_by_match found message.now) }
+    ensures ok { IfOk result (λ collection. collection ≡ collection_by_match limit found message.now) }
     ensures err { IfErr result (λ e. e ≡ Refusal.OutOfMemory) }
-    ensures need { OnErr result (is_some (collection_by_match found message.now) ≡ true) }
+    ensures need { OnErr result (is_some (collection_by_match limit found message.now) ≡ true) }
 {
     match found {
-        Some(found) => collection_on_match(alloc, found.wanted, message, found.key),
+        Some(found) => collection_on_match(alloc, limit, found.wanted, message, found.key),
         None => Ok(None),
     }
 }

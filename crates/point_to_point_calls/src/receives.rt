@@ -17,7 +17,7 @@ use match_queues::{Body, Message};
 use rendezvous::Collection;
 use requests::{Posted, Region, RequestProgress, match_body};
 use std::alloc::Global;
-use vocabulary::{HIGHEST_TAG, Source, Status};
+use vocabulary::{HIGHEST_TAG, MessageLimit, Source, Status};
 
 /// Whether the tag is above the greatest one.
 pub fn is_tag_above(tag: Option<u32>) -> bool
@@ -88,18 +88,20 @@ pub fn progress_on_post(posted: Posted, found: Option<Message>) -> RequestProgre
 /// announced and is wanted, or want of memory for it.
 pub fn collection_on_post(
     alloc: Global,
+    limit: MessageLimit,
     into: &Region,
     key: usize,
     found: Option<&Message>,
 ) -> Result<Option<Collection>, Refusal>
-    ensures ok { IfOk result (λ collection. collection ≡ collection_on_post into.now key (option_copied found.entry)) }
+    ensures ok { IfOk result
+        (λ collection. collection ≡ collection_on_post limit into.now key (option_copied found.entry)) }
     ensures err { IfErr result (λ e. e ≡ Refusal.OutOfMemory) }
-    ensures need { OnErr result (is_some (collection_on_post into.now key (option_copied found.entry)) ≡ true) }
+    ensures need { OnErr result (is_some (collection_on_post limit into.now key (option_copied found.entry)) ≡ true) }
 {
     match found {
         Some(message) => {
             let wanted = into.has_room(message.basic(), message.count() as u64);
-            collection_on_match(alloc, wanted, message, key)
+            collection_on_match(alloc, limit, wanted, message, key)
         }
         None => Ok(None),
     }
@@ -109,13 +111,15 @@ pub fn collection_on_post(
 /// memory for it.
 pub(crate) fn collection_on_match(
     alloc: Global,
+    limit: MessageLimit,
     wanted: bool,
     message: &Message,
     key: usize,
 ) -> Result<Option<Collection>, Refusal>
-    ensures ok { IfOk result (λ collection. collection ≡ collection_on_match wanted message.now message.now.body key) }
+    ensures ok { IfOk result
+        (λ collection. collection ≡ collection_on_match limit wanted message.now message.now.body key) }
     ensures err { IfErr result (λ e. e ≡ Refusal.OutOfMemory) }
-    ensures need { OnErr result (is_some (collection_on_match wanted message.now message.now.body key) ≡ true) }
+    ensures need { OnErr result (is_some (collection_on_match limit wanted message.now message.now.body key) ≡ true) }
 {
     let Body::Announced(announcement) = &message.body else {
         return Ok(None);
@@ -128,6 +132,7 @@ pub(crate) fn collection_on_match(
     }
     match Collection::new(
         alloc,
+        limit,
         message.sender.rank,
         announcement.transfer,
         key,

@@ -1,10 +1,12 @@
 //! What a send is: the first rule that it breaks, its frame, and its message to the own rank.
 
-ghost use Rattle.std.specs.Prelude.{◌≡◌, ◌<◌, Some, None, IfErr, IfOk, IfSome, false, true};
+ghost use Rattle.std.specs.Prelude.{◌≡◌, ◌<◌, ◌≤◌, ◌*◌, Some, None, IfErr, IfOk, IfSome, false, length};
 ghost use Rattle.datagram.specs.Spellings.{frame_text, FrameFits};
 ghost use Rattle.perfect_queues.specs.Buffers.{differs_in_type, is_too_short};
 ghost use Rattle.perfect_queues.specs.Refusals.{is_no_tag, is_no_target};
 ghost use Rattle.requests.specs.Regions.{handed_of, sent_from};
+ghost use Rattle.vocabulary.specs.BasicTypes.{size_of};
+ghost use Rattle.vocabulary.specs.Limits.{greatest_frame};
 ghost use Rattle.point_to_point_calls.specs.Calls.{IsPacked, IsWithin};
 ghost use Rattle.point_to_point_calls.specs.CoreCalls as calls;
 ghost use Rattle.point_to_point_calls.specs.Frames.{addressed};
@@ -23,7 +25,7 @@ use match_queues::{Body, Message, OwnSend};
 use rendezvous::Transfers;
 use requests::Request;
 use std::alloc::Global;
-use vocabulary::{EAGER_LIMIT, Mode, Source};
+use vocabulary::{MessageLimit, Mode, Source};
 
 /// A send with its route, and where its message goes.
 #[derive(Drop)]
@@ -126,11 +128,12 @@ pub fn rank_to(place: Place, destination: Option<Destination>) -> Option<u16>
     }
 }
 
-/// Whether these elements do not go in one frame.
-fn is_large(elements: &Buffer) -> bool
-    ensures { result ≡ is_large elements.now }
+/// Whether these elements do not go in one frame of a job with this limit.
+fn is_large(limit: MessageLimit, elements: &Buffer) -> bool
+    ensures exact { result ≡ is_large limit elements.now }
+    ensures small { result ≡ false → length elements.now.values * size_of elements.now.basic ≤ greatest_frame }
 {
-    elements.byte_len() > EAGER_LIMIT
+    elements.byte_len() > limit.frame_bytes() as usize
 }
 
 /// To which other rank the message of a send to this destination is announced, if it is: that of a synchronous send, or
@@ -139,7 +142,9 @@ fn announced_to(place: Place, send: &Send, destination: Option<Destination>) -> 
     ensures { result ≡ announced_by place send.now destination }
 {
     if let Mode::Standard = send.mode
-        && !send.from.is_above(EAGER_LIMIT)
+        && !send
+            .from
+            .is_above(place.message_limit.frame_bytes() as usize)
     {
         return None;
     }
@@ -161,12 +166,12 @@ pub fn address(place: Place, routed: RoutedSend) -> AddressedSend
 }
 
 /// Whether the message of these elements is announced.
-fn is_announced(mode: Mode, elements: &Buffer) -> bool
-    ensures exact { result ≡ is_announced mode elements.now }
-    ensures small { result ≡ false → is_large elements.now ≡ false }
+fn is_announced(limit: MessageLimit, mode: Mode, elements: &Buffer) -> bool
+    ensures exact { result ≡ is_announced limit mode elements.now }
+    ensures small { result ≡ false → length elements.now.values * size_of elements.now.basic ≤ greatest_frame }
 {
     match mode {
-        Mode::Standard => is_large(elements),
+        Mode::Standard => is_large(limit, elements),
         Mode::Synchronous => true,
     }
 }
@@ -174,7 +179,7 @@ fn is_announced(mode: Mode, elements: &Buffer) -> bool
 /// The frame of these elements in a context and under a tag, lent from them.
 fn eager_frame(context: u64, tag: u32, elements: &Buffer) -> Frame<'_>
     requires sendable { IsSendable tag elements.now }
-    requires small { is_large elements.now ≡ false }
+    requires small { length elements.now.values * size_of elements.now.basic ≤ greatest_frame }
     ensures exact { frame_text result ≡ eager_frame context tag elements.now }
     ensures fits { FrameFits (frame_text result) }
 {
@@ -184,7 +189,7 @@ fn eager_frame(context: u64, tag: u32, elements: &Buffer) -> Frame<'_>
         tag,
         context,
         count: elements.len() as u32,
-        elements: elements.as_bytes(),
+        elements: elements.short_bytes(),
     })
 }
 
@@ -196,8 +201,7 @@ fn request_frame(
     tag: u32,
     elements: &Buffer,
 ) -> Frame<'static>
-    requires sendable { IsSendable tag elements.now }
-    requires large { is_announced mode elements.now ≡ true }
+    requires { IsSendable tag elements.now }
     ensures exact { frame_text result ≡ request_frame mode transfer context tag elements.now }
     ensures fits { FrameFits (frame_text result) }
 {
@@ -214,16 +218,17 @@ fn request_frame(
 
 /// The frame of these elements for a rank: they go in it, or it announces them as the next transfer there.
 fn frame_with<'a>(
+    limit: MessageLimit,
     transfers: &Transfers,
     mode: Mode,
     destination: Destination,
     elements: &'a Buffer,
 ) -> Frame<'a>
     requires { IsSendable destination.tag elements.now }
-    ensures exact { frame_text result ≡ frame_with transfers.now.state mode destination elements.now }
+    ensures exact { frame_text result ≡ frame_with limit transfers.now.state mode destination elements.now }
     ensures fits { FrameFits (frame_text result) }
 {
-    if is_announced(mode, elements) {
+    if is_announced(limit, mode, elements) {
         return request_frame(
             mode,
             transfers.next_to(destination.rank),
@@ -256,7 +261,7 @@ pub fn frame_to<'a>(
             }
             Some(Outgoing {
                 target: destination.rank,
-                frame: frame_with(transfers, mode, destination, elements),
+                frame: frame_with(place.message_limit, transfers, mode, destination, elements),
             })
         }
         None => None,
@@ -332,6 +337,6 @@ pub fn own_message(
 pub fn show_widths(routed: &RoutedSend)
     ensures { IsWithin (calls.Isend routed.now) }
 {
-    let _bytes = routed.send.from.buffer.as_bytes();
+    routed.send.from.buffer.show_widths();
     let _context = routed.route.context;
 }

@@ -5,6 +5,7 @@
 //! by itself stands in its clauses, whatever the wire is.
 #![tactic(auto)]
 
+mod traffic;
 mod transport;
 mod wire;
 

@@ -6,6 +6,7 @@ ghost use Rattle.port_transport.specs.declared.wire.WireEvent.TheVariants.{Went,
 ghost use Rattle.port_transport.specs.Wires.{arrived};
 ghost use Rattle.port_transport.specs.Ports.{GoesOrStays, IsAcknowledgement, Passes, going, port_of, received_in, with_end};
 
+use crate::traffic::Traffic;
 use crate::wire::{Wire, WireFault};
 use delayed_acknowledgements::{
     Acknowledgement, Delay, DelayedAcknowledgement, delayed_of, is_urgent, sent_before,
@@ -37,7 +38,7 @@ pub struct PortTransport<W: Wire> {
     /// What the acknowledgement said that was handed over last.
     last: Option<Acknowledgement>,
     /// Whether a datagram was sent or handed out since the last wait.
-    has_carried: bool,
+    traffic: Traffic,
     /// The line that is written, with its end.
     text: Vec<u8>,
 }
@@ -98,7 +99,7 @@ impl<W: Wire> PortTransport<W> {
             kept: None,
             delay: Delay::start(now),
             last: None,
-            has_carried: false,
+            traffic: Traffic::none(),
             text: Vec::new(alloc),
         }
     }
@@ -251,7 +252,7 @@ impl<W: Wire> PortTransport<W> {
     fn note_carried(&mut self)
         ensures { self.new ≡ self.old }
     {
-        self.has_carried = true;
+        self.traffic.note(true);
     }
 
     /// Hands a datagram over for a rank. It goes at once, but for an acknowledgement, which may be kept back. Where the
@@ -289,7 +290,7 @@ impl<W: Wire> PortTransport<W> {
         ensures others { (self.new.first ≡ self.old.first) × (self.new.kept ≡ self.old.kept) }
     {
         let found = self.wire.receive(buffer)?;
-        self.has_carried = self.has_carried || found.is_some();
+        self.traffic.note(found.is_some());
         Ok(found)
     }
 
@@ -349,9 +350,7 @@ impl<W: Wire> PortTransport<W> {
     fn has_carried(&mut self) -> bool
         ensures { self.new ≡ self.old }
     {
-        let before = self.has_carried;
-        self.has_carried = false;
-        before
+        self.traffic.take()
     }
 
     /// The wire waits.

@@ -40,7 +40,7 @@ use Rattle.requests.specs.Table.{is_message, progress_at}
 use Rattle.requests.specs.declared.awaited_requests.Awaited.TheVariants as awaiteds
 use Rattle.requests.specs.declared.table.RequestProgress.{RequestProgress}
 use Rattle.requests.specs.declared.table.Request.{Request}
-use Rattle.vocabulary.specs.MessageLimits.{limit_of}
+use Rattle.vocabulary.specs.declared.message_limit.MessageLimit.{MessageLimit}
 use Rattle.vocabulary.specs.declared.endpoint.Endpoint.{Endpoint}
 
 -- ---- what a call gave
@@ -159,7 +159,8 @@ first_numbers false false false false false false false true j z = absurd (grind
 first_numbers false false false false false false false false true z = absurd (grind arith)
 first_numbers false false false false false false false false false z = absurd (grind arith)
 
-never_13 : (limit : ℕ) (blocked : Bool) (f : ℕ → Standing) (e : Endpoint) (known : ℕ → ℕ) (m : Membership) (c : machine.Call) →
+never_13 : (limit : MessageLimit) (blocked : Bool) (f : ℕ → Standing) (e : Endpoint) (known : ℕ → ℕ) (m : Membership)
+    (c : machine.Call) →
     fault_by limit blocked f e known m c ≡ Some 13 → ⊥
 never_13 limit blocked f e known m c h =
     first_numbers (blocked || wrong_request f c) (wrong_communicator m c) (wrong_type e m c) (wrong_count limit e m c)
@@ -175,7 +176,8 @@ idle_fault : (e : EngineState) (c : machine.Call) → IsOrderly e → is_busy e 
     fault e.sessions.place.endpoint (view blank (core_of e.core e.sessions.known)) (member_of e.groups) c ≡
     own_fault e c
 idle_fault e c o idle =
-    ap₂ (λ (b : Bool) (f : ℕ → Standing). fault_by (limit_of e.core.place.message_limit) b f e.sessions.place.endpoint (known_by e.sessions.known)
+    ap₂ (λ (b : Bool) (f : ℕ → Standing). fault_by e.core.place.message_limit b f e.sessions.place.endpoint
+    (known_by e.sessions.known)
     (member_of e.groups) c)
     ((neither (is_some e.core.blocked) (is_within (member_of e.groups).present) idle).1 ∙ sym idle)
     (fun_ext (λ k. standing_alike e.core.slots e.core.serial k (record { below = o.below; apart = o.apart })))
@@ -218,7 +220,8 @@ full_none e call o idle (inr limit) =
     go : IsReason (fault e.sessions.place.endpoint (view blank (core_of e.core e.sessions.known)) (member_of e.groups)
         (call_meant (calm_core e.core) call)) refusals.Limit → own_fault e (call_meant e.core call) ≡ None
     go (MachinesFault h) =
-        absurd (never_13 (limit_of e.core.place.message_limit) (is_busy e) (λ k. standing_of (found e.core.slots k)) e.sessions.place.endpoint
+        absurd (never_13 e.core.place.message_limit (is_busy e) (λ k. standing_of (found e.core.slots k))
+        e.sessions.place.endpoint
         (known_by e.sessions.known) (member_of e.groups) (call_meant e.core call) (there (Some 13) h))
     go (NoRoom room h) = there None h
 
@@ -270,7 +273,8 @@ own_refusals e mid call back why o gives = go (is_busy e) refl (refused e mid ca
         IsReason (own_fault e (call_meant e.core call)) why
     go true busy because =
         by_rule (own_fault e (call_meant e.core call)) refusals.Request why because
-        (ap (λ (b : Bool). fault_by (limit_of e.core.place.message_limit) b (λ k. standing_of (found e.core.slots k)) e.sessions.place.endpoint
+        (ap (λ (b : Bool). fault_by e.core.place.message_limit b (λ k. standing_of (found e.core.slots k))
+        e.sessions.place.endpoint
         (known_by e.sessions.known) (member_of e.groups) (call_meant e.core call)) busy)
     go false idle because = free_refusal e call why o idle because
 

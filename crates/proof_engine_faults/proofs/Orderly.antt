@@ -18,7 +18,6 @@ use Rattle.proof_network_bridge.proofs.Reasons.{engines_are_ranks}
 use Rattle.proof_network_bridge.specs.Alone.{IsRank, IsSomeRank}
 use Rattle.proof_pure_network.specs.Core.{Core}
 use Rattle.proof_queue_calls.specs.Halves.{AreInWorld}
-use Rattle.vocabulary.specs.MessageLimits.{limit_of}
 use Rattle.vocabulary.specs.declared.endpoint.Endpoint.{Endpoint}
 
 -- ---- an engine that is a rank
@@ -77,8 +76,8 @@ new_engines_are_orderly p inside = record {
   inside = λ comm c k x held at.
       new_in_world p.size p.endpoint inside comm c k x
       (named_same (fresh_member p.size p.endpoint) (member_of (opening p).groups) comm
-      (held_same p.endpoint (opening p).groups ((new_group_network p.size (limit_of p.message_limit)).member p.endpoint)
-      (openings_are_shown p.size (limit_of p.message_limit) p.endpoint)) ∙ held) at;
+      (held_same p.endpoint (opening p).groups ((new_group_network p.size p.message_limit).member p.endpoint)
+      (openings_are_shown p.size p.message_limit p.endpoint)) ∙ held) at;
   placed = refl;
   own = refl;
   width = (opening_known p inside).width;

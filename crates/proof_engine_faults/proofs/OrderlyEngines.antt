@@ -69,7 +69,6 @@ use Rattle.sessions.specs.Peers.{with_wait}
 use Rattle.sessions.specs.SessionsState.{SessionsState, knowledge}
 use Rattle.sessions.specs.declared.heard.Unheard.{Unheard}
 use Rattle.sessions.specs.declared.refusal.SessionRefusal.{SessionRefusal}
-use Rattle.vocabulary.specs.MessageLimits.{limit_of}
 use Rattle.vocabulary.specs.declared.endpoint.Endpoint.{Endpoint}
 
 -- ---- what changes leave it so
@@ -274,7 +273,7 @@ heard_leaves_by (Some (OfAnnouncement t)) old new h other core g =
     (ap (λ (e : EngineState). e.groups) g.1)
 heard_leaves_by (Some (OfAnswer t)) old new h other core g =
     by_hearing old new core
-    (heard_knows old.sessions new.sessions h (data_for old.payloads h t) other
+    (heard_knows old.sessions new.sessions h (data_for old.sessions.place.message_limit old.payloads h t) other
     (ap (λ (e : EngineState). e.sessions) g.1))
     (ap (λ (e : EngineState). e.groups.collective.own) g.1)
     (λ some was. subst
@@ -433,7 +432,7 @@ unheard judgings.StaleSource source b h is = cc
 heard_other : (s : SessionsState) (bytes : List ℕ) (h : HeardText) → heard_of s bytes ≡ Ok h →
     h.source.rank ≢ s.place.endpoint.rank
 unfolding heard_of
-heard_other s bytes h is = by_reading (datagram_within (limit_of s.place.message_limit) bytes) is
+heard_other s bytes h is = by_reading (datagram_within s.place.message_limit bytes) is
   where
     by_judging : (d : DatagramText) (o : Result Judgement judging.IncarnationRefusal) →
         judgement (knowledge s) d.header ≡ o → heard_by o s d bytes ≡ Ok h → h.source.rank ≢ s.place.endpoint.rank

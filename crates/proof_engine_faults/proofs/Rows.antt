@@ -27,7 +27,6 @@ use Rattle.requests.specs.declared.table.TableEntry.{TableEntry}
 use Rattle.requests.specs.declared.table.RequestProgress.{RequestProgress}
 use Rattle.requests.specs.declared.table.RequestProgress.TheVariants as progresses
 use Rattle.std.specs.Prelude.{slice_index}
-use Rattle.vocabulary.specs.MessageLimits.{limit_of}
 use Rattle.vocabulary.specs.declared.endpoint.Endpoint.{Endpoint}
 
 -- ---- a request by its serial
@@ -363,7 +362,7 @@ core_of c known =
       known = λ r. slice_index known r;
       held =
           [];
-      message_limit = limit_of c.place.message_limit;
+      message_limit = c.place.message_limit;
     }
 
 pub calm_is_shown : (c : CoreState) (known : List ℕ) → IsOrdered c.slots c.serial → length known ≡ c.place.size →
@@ -379,6 +378,7 @@ calm_is_shown c known o width itself = record {
   under_way = under_way c.place known c.slots c.serial;
   taken = none_taken nothing.from known c.place (rows_from c.slots 0 c.serial) c.slots;
   blocked = refl;
+  limited = refl;
   width = width;
   known_alike = λ r. refl;
   itself = itself;

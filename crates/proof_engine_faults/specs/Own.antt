@@ -1,7 +1,6 @@
 -- The fault that the machine finds with a call of an engine, by what the engine itself holds.
 use Rattle.std.specs.Prelude.{◌≡◌, ℕ, ◌<◌, List, [], ◌∷◌, length, Option, Some, None, if◌then◌else◌, ◌==◌, slice_get}
 use Rattle.std.specs.Prelude.{slice_index}
-use Rattle.vocabulary.specs.MessageLimits.{limit_of}
 use Rattle.communicators.specs.Rules.{known_by}
 use Rattle.engine_calls.specs.Calls.{CallGives, IsTaken}
 use Rattle.engine_calls.specs.EngineState.{EngineState, member_of, opening}
@@ -46,7 +45,7 @@ standing_of (Some (progresses.Finished o)) = standing_of_outcome (outcome_seen o
 -- it holds
 abbrev pub own_fault : EngineState → machine.Call → Option ℕ
 own_fault e call =
-    fault_by (limit_of e.core.place.message_limit) (is_busy e) (λ k. standing_of (found e.core.slots k))
+    fault_by e.core.place.message_limit (is_busy e) (λ k. standing_of (found e.core.slots k))
     e.sessions.place.endpoint (known_by e.sessions.known) (member_of e.groups) call
 
 -- What is asked of the engine: its requests have serials of their own, all below the next; its communicators are of

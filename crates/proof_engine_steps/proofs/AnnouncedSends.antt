@@ -11,6 +11,7 @@ use Rattle.vocabulary.specs.Limits.{highest_tag, greatest_limit}
 use Rattle.vocabulary.specs.MessageLimits.{limit_of}
 use Rattle.vocabulary.proofs.MessageLimits.{limit_most}
 use Rattle.vocabulary.specs.declared.endpoint.Endpoint.{Endpoint}
+use Rattle.vocabulary.specs.declared.message_limit.MessageLimit.{MessageLimit}
 use Rattle.vocabulary.specs.declared.mode.Mode.{Mode}
 use Rattle.vocabulary.specs.declared.envelope.Source.{Source}
 use Rattle.vocabulary.specs.declared.envelope.Source.TheVariants.{Rank}
@@ -56,7 +57,7 @@ record MayAnnounce (mode : Mode) (old : CoreState) (to context tag : ℕ) (c : C
   pub apart : to ≡ old.place.endpoint.rank → ⊥
   pub low : tag ≤ highest_tag
   pub wide : context < 2 ^ 64
-  pub large : is_announced mode c ≡ true
+  pub large : is_announced old.place.message_limit mode c ≡ true
   pub limit : length c.values * size_of c.basic ≤ greatest_limit
   pub within : AreWithin (size_of c.basic) c.values
   pub free : is_full_to old.transfers.numbers to ≡ false
@@ -67,7 +68,8 @@ below a b c h k = omega (arith, h, k)
 -- one that meets no rule and no limit may
 may_announce : (old : CoreState) (s : RoutedSend) (to tag : ℕ) → s.route.named ≡ Rank to → s.send.tag ≡ Some tag →
     (to == old.place.endpoint.rank) ≡ false → KeepsRules old.place s → IsWithin (calls.Isend s) →
-    is_announced s.send.mode (sent_from s.send.from) ≡ true → free_fault old (calls.Isend s) ≡ None →
+    is_announced old.place.message_limit s.send.mode (sent_from s.send.from) ≡ true →
+    free_fault old (calls.Isend s) ≡ None →
     MayAnnounce s.send.mode old to s.route.context tag (sent_from s.send.from)
 may_announce old s to tag target_is tag_is other kept within large fine =
     record {
@@ -117,14 +119,15 @@ large_holds mode a old known core q new to context tag c shown may sent =
 pub large_send_shown : (a : Announcements) (old new : CoreState) (known : List ℕ) (core : Core) (s : RoutedSend)
     (q : Request) (to tag : ℕ) → IsShown a old known core → old.blocked ≡ None →
     s.route.named ≡ Rank to → s.send.tag ≡ Some tag → (to == old.place.endpoint.rank) ≡ false → KeepsRules old.place s →
-    IsWithin (calls.Isend s) → is_announced s.send.mode (sent_from s.send.from) ≡ true →
+    IsWithin (calls.Isend s) → is_announced old.place.message_limit s.send.mode (sent_from s.send.from) ≡ true →
     free_fault old (calls.Isend s) ≡ None → IsSending old s q new →
     IsCalled a old known core (calls.Isend s) (calls.Started q) new
 large_send_shown a old new known core s q to tag shown free target_is tag_is other kept within large fine is_sent =
     started_call a old new known core (calls.Isend s) q after (record {
       is = called_send core own s ∙
           (ap₂ (λ (t : Source) (g : Option ℕ). core_sent s.send.mode own core s.route.context t g c) target_is tag_is
-          ∙ core_announces s.send.mode core own to (slice_index known to) s.route.context tag c other may.large
+          ∙ core_announces s.send.mode core own to (slice_index known to) s.route.context tag c other
+          (subst (λ (l : MessageLimit). is_announced l s.send.mode c ≡ true) (sym shown.limited) may.large)
           (shown.known_alike to));
       fit = send_fit old.place core s core_is kept;
       place = ap (λ (x : CoreState). x.place) sent.rest;
@@ -143,7 +146,7 @@ large_send_shown a old new known core s q to tag shown free target_is tag_is oth
       leaves = subst (λ (f : Option OutgoingText). AllByRecursion (CanLeave old.place) (as_list f)) (sym frame_is) (
         announcing_leaves s.send.mode old.place to (next_to old.transfers.numbers to) s.route.context tag c may.wide
             may.there
-            may.apart may.low may.large may.limit (shown.under_way.numbered.most to),
+            may.apart may.low may.limit (shown.under_way.numbered.most to),
         tt,
       );
       reply = ap (λ (n : ℕ). Some (call_seen (calls.Isend s), Some (machine.Started n)))

@@ -104,7 +104,7 @@ arrived_so e became queues =
       queues = queues;
       slots = slots_on_arrival e.slots became;
       transfers =
-          transfers_on_arrival e.transfers e.slots became;
+          transfers_on_arrival e.place.message_limit e.transfers e.slots became;
     }
 
 -- What an announced message leaves of both, and what is answered
@@ -172,7 +172,8 @@ answered_matched agree links e known core rows m x k key p h part t =
         held = h.held ∙ ap (λ (ms : List Message). map (held_of links.from) ms) (sym t.unexpected);
         under_way =
             subst (λ (b : Bool). AreUnderWay links known e.place left
-            (transfers_with e.transfers (collection_on_match b (announced_as m x) (Announced x) key))
+            (transfers_with e.transfers (collection_on_match e.place.message_limit b (announced_as m x) (Announced x)
+            key))
             (after_arrival e.queues (announced_as m x)).unexpected) alike.wanted
             (matched_under_way links known e.place rows left e.transfers e.queues.unexpected
             (after_arrival e.queues (announced_as m x)).unexpected m x k key p (has_room p x.basic x.count)

@@ -22,6 +22,7 @@ use Rattle.requests.specs.Table.{progress_on_answer, slot_answered, slot_at}
 use Rattle.requests.specs.declared.table.TableEntry.{TableEntry}
 use Rattle.requests.specs.declared.table.RequestProgress.{RequestProgress}
 use Rattle.point_to_point_calls.specs.FrameNews.{sent_by, wanted_frames}
+use Rattle.vocabulary.specs.declared.message_limit.MessageLimit.{MessageLimit}
 use Rattle.point_to_point.specs.CoreState.{CoreState}
 use Rattle.point_to_point.specs.Arrivals as hearing
 use Rattle.proof_pure_network.specs.Core.{Core, Effect, effect, with_jobs}
@@ -102,11 +103,13 @@ over_at core serial = with_jobs core (slice_set core.jobs serial (Over machine.S
 -- the core takes the answer
 core_answers : (core : Core) (s d : Endpoint) (serial : ℕ) (basic : BasicType) (values : List ℕ) (wanted : Bool) →
     s ≡ d → slice_get core.jobs serial ≡ Some (Offering d basic values) →
-    came core s (Cts serial wanted) ≡ effect (over_at core serial) (wanted_data d serial basic values wanted)
+    came core s (Cts serial wanted) ≡
+    effect (over_at core serial) (wanted_data core.message_limit d serial basic values wanted)
 core_answers core s d serial basic values wanted same job =
     let one : is_same d s ≡ true = subst (λ (x : Endpoint). is_same d x ≡ true) (sym same) (same_refl d) in
     ap (answered core s serial wanted) job
-    ∙ ap (λ (b : Bool). if b then effect (over_at core serial) (wanted_data d serial basic values wanted) else
+    ∙ ap (λ (b : Bool). if b
+    then effect (over_at core serial) (wanted_data core.message_limit d serial basic values wanted) else
     effect core []) one
 
 -- ---- THE RANK'S TABLE
@@ -174,25 +177,26 @@ quiet_data : (d : Endpoint) (k : ℕ) (ps : List (ℕ × List ℕ)) → AreQuiet
 quiet_data d k [] = tt
 quiet_data d k ((o, values) ∷ ps) = (tt, quiet_data d k ps)
 
-quiet_wanted : (d : Endpoint) (k : ℕ) (basic : BasicType) (values : List ℕ) (wanted : Bool) →
-    AreQuiet (wanted_data d k basic values wanted)
-quiet_wanted d k basic values true = quiet_data d k (cut basic values)
-quiet_wanted d k basic values false = tt
+quiet_wanted : (limit : MessageLimit) (d : Endpoint) (k : ℕ) (basic : BasicType) (values : List ℕ) (wanted : Bool) →
+    AreQuiet (wanted_data limit d k basic values wanted)
+quiet_wanted limit d k basic values true = quiet_data d k (cut limit basic values)
+quiet_wanted limit d k basic values false = tt
 
 -- where the data are wanted, they go out on both sides; else nothing does
-wanted_sent : (a : Announcements) (known : List ℕ) (rank serial : ℕ) (o : Offer) (clearance : Clearance) →
+wanted_sent : (limit : MessageLimit) (a : Announcements) (known : List ℕ) (rank serial : ℕ) (o : Offer)
+    (clearance : Clearance) →
     slice_get (a.to (endpoint_of known rank)) o.transfer ≡ Some (transfer_with serial o) →
     AreWithin (size_of o.elements.basic) o.elements.values →
-    AreSent a (all_gone known (wanted_frames rank clearance (Some o)))
-    (wanted_data (endpoint_of known rank) serial o.elements.basic o.elements.values (is_wanted clearance))
-wanted_sent a known rank serial o Drop there within = tt
-wanted_sent a known rank serial o Send there within =
-    data_sent a known rank o.transfer (transfer_with serial o) o.elements.values there within
+    AreSent a (all_gone known (wanted_frames limit rank clearance (Some o)))
+    (wanted_data limit (endpoint_of known rank) serial o.elements.basic o.elements.values (is_wanted clearance))
+wanted_sent limit a known rank serial o Drop there within = tt
+wanted_sent limit a known rank serial o Send there within =
+    data_sent limit a known rank o.transfer (transfer_with serial o) o.elements.values there within
 
 wanted_leave : (p : Place) (rank : ℕ) (o : Offer) (clearance : Clearance) → rank < p.size →
     (rank ≡ p.endpoint.rank → ⊥) → o.transfer < 2 ^ 32 →
     length o.elements.values * size_of o.elements.basic ≤ greatest_limit →
-    AllByRecursion (CanLeave p) (wanted_frames rank clearance (Some o))
+    AllByRecursion (CanLeave p) (wanted_frames p.message_limit rank clearance (Some o))
 wanted_leave p rank o Drop there apart width limit = tt
 wanted_leave p rank o Send there apart width limit =
     data_leave p rank o.transfer o.elements.basic o.elements.values there apart width limit
@@ -248,16 +252,21 @@ answers_are_taken links e known core s t frame m =
       place = refl;
       completion = refl;
       quiet = subst (λ (x : Effect). AreQuiet x.out) (sym core_is)
-          (quiet_wanted d answer.serial o.elements.basic o.elements.values (is_wanted t.clearance));
+          (quiet_wanted e.place.message_limit d answer.serial o.elements.basic o.elements.values
+          (is_wanted t.clearance));
       sends = subst
           (λ (x : Effect). AreSent links
-          (all_gone known (wanted_frames s.rank t.clearance (offered e.transfers s.rank t.transfer))) x.out)
+          (all_gone known (wanted_frames e.place.message_limit s.rank t.clearance
+          (offered e.transfers s.rank t.transfer))) x.out)
           (sym core_is)
-          (subst (λ (x : Option Offer). AreSent links (all_gone known (wanted_frames s.rank t.clearance x))
-          (wanted_data d answer.serial o.elements.basic o.elements.values (is_wanted t.clearance)))
+          (subst (λ (x : Option Offer). AreSent links
+          (all_gone known (wanted_frames e.place.message_limit s.rank t.clearance x))
+          (wanted_data e.place.message_limit d answer.serial o.elements.basic o.elements.values
+          (is_wanted t.clearance)))
           (sym found.found)
-          (wanted_sent links known s.rank answer.serial o t.clearance answer.announced answer.within));
-      leaves = subst (λ (x : Option Offer). AllByRecursion (CanLeave e.place) (wanted_frames s.rank t.clearance x))
+          (wanted_sent e.place.message_limit links known s.rank answer.serial o t.clearance answer.announced answer.within));
+      leaves = subst (λ (x : Option Offer). AllByRecursion (CanLeave e.place)
+          (wanted_frames e.place.message_limit s.rank t.clearance x))
           (sym found.found)
           (wanted_leave e.place s.rank o t.clearance m.there m.apart
           (subst (λ (n : ℕ). n < 2 ^ 32) (sym found.number) m.within.transfer) answer.limit);
@@ -280,8 +289,11 @@ answers_are_taken links e known core s t frame m =
 
     core_is : came core s frame ≡
         effect (over_at core answer.serial)
-        (wanted_data d answer.serial o.elements.basic o.elements.values (is_wanted t.clearance))
+        (wanted_data e.place.message_limit d answer.serial o.elements.basic o.elements.values (is_wanted t.clearance))
     core_is = ap (came core s) answer.frame_is
         ∙ core_answers core s d answer.serial o.elements.basic o.elements.values (is_wanted t.clearance) m.sender
         (ap (λ (js : List Job). slice_get js answer.serial) m.both.holding.jobs ∙
         job_at m.both.rows answer.serial o.request (offering d o) answer.row)
+        ∙ ap (λ (l : MessageLimit). effect (over_at core answer.serial)
+        (wanted_data l d answer.serial o.elements.basic o.elements.values (is_wanted t.clearance)))
+        m.both.holding.knowing.limited

@@ -7,6 +7,7 @@ use Rattle.perfect_queues.specs.Completions as machine
 use Rattle.perfect_queues.specs.Events.{told}
 use Rattle.perfect_queues.specs.Requests.{all_changed}
 use Rattle.vocabulary.specs.declared.endpoint.Endpoint.{Endpoint}
+use Rattle.vocabulary.specs.declared.message_limit.MessageLimit.{MessageLimit}
 use Rattle.incarnation.specs.declared.place.Place.{Place}
 use Rattle.match_queues.specs.State.{State}
 use Rattle.proof_pure_network.specs.Core.{Core}
@@ -27,7 +28,7 @@ use Rattle.proof_engine_view.specs.UnderWay.{AreTaken, AreUnderWay}
 use Rattle.proof_engine_steps.specs.Steps.{IsWoken, WakesAreShown}
 use Rattle.proof_engine_steps.proofs.WaitAnswers.{SayTheSame, completion_seen, completions_same, named_same_outcome}
 use Rattle.proof_engine_steps.proofs.WaitAnswers.{serials_of}
-use Rattle.proof_engine_steps.proofs.Knowledge.{IsKnown}
+use Rattle.proof_engine_steps.proofs.Knowledge.{IsKnown, knows}
 use Rattle.proof_engine_steps.proofs.NamedRequests.{all_follow}
 use Rattle.proof_engine_steps.proofs.BlockedAnswers.{ready_free, settled_is}
 use Rattle.proof_engine_steps.proofs.UnchangedTransfers.{same_without, under_way_still}
@@ -51,7 +52,7 @@ pub record Holding (links : Announcements) (e : CoreState) (known : List ℕ) (c
   pub held : core.held ≡ map (held_of links.from) e.queues.unexpected
   pub under_way : AreUnderWay links known e.place rows e.transfers e.queues.unexpected
   pub taken : AreTaken links.from known e.place rows e.slots
-  pub knowing : IsKnown e.place known core.known
+  pub knowing : IsKnown e.place known (knows core)
 
 -- what is held is shown, with what the call waits for
 pub shown_with : (links : Announcements) (e : CoreState) (known : List ℕ) (core : Core) (rows : List Row) →
@@ -68,16 +69,19 @@ shown_with links e known core rows h b =
       under_way = h.under_way;
       taken = h.taken;
       blocked = b;
+      limited = h.knowing.limited;
       width = h.knowing.width;
       known_alike = h.knowing.same;
       itself = h.knowing.itself;
     }
 
 -- what both know is as it was
-pub known_still : (p p' : Place) (known : List ℕ) (at at' : ℕ → ℕ) → IsKnown p known at → p' ≡ p → at' ≡ at →
+pub known_still : (p p' : Place) (known : List ℕ) (at at' : (ℕ → ℕ) × MessageLimit) → IsKnown p known at → p' ≡ p →
+    at' ≡ at →
     IsKnown p' known at'
 known_still p p' known at at' h ep ea =
-    subst (λ (x : Place). IsKnown x known at') (sym ep) (subst (λ (f : ℕ → ℕ). IsKnown p known f) (sym ea) h)
+    subst (λ (x : Place). IsKnown x known at') (sym ep) (subst (λ (f : (ℕ → ℕ) × MessageLimit). IsKnown p known f)
+    (sym ea) h)
 
 -- THE RANK
 
@@ -146,7 +150,7 @@ core_ready_is links e known core rows a h b named =
 pub holding_used : (links : Announcements) (e e' : CoreState) (known : List ℕ) (core core' : Core) (rows : List Row)
     (a : Awaited) (answer : Answer) (used : List Request) → Holding links e known core rows →
     completion e.slots a ≡ Some (answer, used) → core'.jobs ≡ all_changed closed core.jobs (serials_of used) →
-    core'.held ≡ core.held → core'.known ≡ core.known →
+    core'.held ≡ core.held → knows core' ≡ knows core →
     e'.slots ≡ without e.slots used → e'.serial ≡ e.serial → e'.queues ≡ e.queues → e'.transfers ≡ e.transfers →
     e'.place ≡ e.place → Holding links e' known core' (rows_without rows used)
 holding_used links e e' known core core' rows a answer used h g js hs kn sl se qu tr pl =
@@ -168,7 +172,7 @@ holding_used links e e' known core core' rows a answer used h g js hs kn sl se q
           (taken_without links.from known e.place (rows_without rows used) e.slots used
           (taken_same links.from known e.place rows (rows_without rows used) e.slots
           (keeps_same rows (rows_without rows used) (same_without used rows)) h.taken)));
-      knowing = known_still e.place e'.place known core.known core'.known h.knowing pl kn;
+      knowing = known_still e.place e'.place known (knows core) (knows core') h.knowing pl kn;
     }
 
 -- the core once its call was answered
@@ -241,7 +245,7 @@ holding_of links e known core s =
       held = s.held;
       under_way = s.under_way;
       taken = s.taken;
-      knowing = record { width = s.width; same = s.known_alike; itself = s.itself };
+      knowing = record { width = s.width; same = s.known_alike; limited = s.limited; itself = s.itself };
     }
 
 -- the law of waking

@@ -230,7 +230,7 @@ collection_is : (from : Endpoint → List Transfer) (known : List ℕ) (p : Plac
     (x : Announcement) (k key : ℕ) (r : Receive) →
     IsPartOf from known p m x →
     slice_get rows k ≡ Some (row_of key (Collecting r (held_of from (announced_as m x)) [])) →
-    IsCollectionOf from known rows (collecting (announced_as m x) x key)
+    IsCollectionOf from known rows (collecting p.message_limit (announced_as m x) x key)
 collection_is from known p rows m x k key r part row =
     record {
       serial = k;
@@ -256,7 +256,8 @@ pub matched_under_way : (a : Announcements) (known : List ℕ) (p : Place) (rows
     IsWritten rows rows' k key (matched_part r (held_of a.from (announced_as m x)) x.count wanted) →
     AllByRecursion (λ y. y ≡ key → ⊥) (collection_keys t.collections) →
     AllByRecursion (λ (n : Message). IsFromLink a.from known p rows' n n.body) ms' →
-    AreUnderWay a known p rows' (transfers_with t (collection_on_match wanted (announced_as m x) (Announced x) key)) ms'
+    AreUnderWay a known p rows'
+    (transfers_with t (collection_on_match p.message_limit wanted (announced_as m x) (Announced x) key)) ms'
 matched_under_way a known p rows rows' t ms ms' m x k key r true u part w apart from =
     by_test (x.count == 0) (0 == x.count) (none_alike x.count) w
   where
@@ -266,7 +267,8 @@ matched_under_way a known p rows rows' t ms ms' m x k key r true u part w apart 
     -- a message of no values is over with its match
     by_test : (b c : Bool) → b ≡ c →
         IsWritten rows rows' k key (if c then Over (outcome r (full h [])) else Collecting r h []) →
-        AreUnderWay a known p rows' (transfers_with t (if b then None else Some (collecting (announced_as m x) x key)))
+        AreUnderWay a known p rows'
+        (transfers_with t (if b then None else Some (collecting p.message_limit (announced_as m x) x key)))
         ms'
     by_test true true e v =
         under_way_with a known p rows rows' t t ms ms' u
@@ -274,7 +276,7 @@ matched_under_way a known p rows rows' t ms ms' m x k key r true u part w apart 
     by_test true false e v = absurd cc
     by_test false true e v = absurd cc
     by_test false false e v =
-        collected_with a known p rows rows' t ms ms' (collecting (announced_as m x) x key) k r h u v
+        collected_with a known p rows rows' t ms ms' (collecting p.message_limit (announced_as m x) x key) k r h u v
         (collection_is a.from known p rows' m x k key r part v.here) apart from
 matched_under_way a known p rows rows' t ms ms' m x k key r false u part w apart from =
     under_way_with a known p rows rows' t t ms ms' u

@@ -9,11 +9,14 @@ use Rattle.std.proofs.lemmas.List.{drop_at, get_or-drop, get_or-take, get_or_pas
 use Rattle.std.proofs.lemmas.List.{length-take, take-append-drop, take_all, take_at}
 use Rattle.vocabulary.specs.BasicTypes.{size_of}
 use Rattle.vocabulary.specs.Limits.{greatest_limit}
+use Rattle.vocabulary.specs.MessageLimits.{frame_limit_of}
+use Rattle.vocabulary.proofs.MessageLimits.{frame_most}
+use Rattle.vocabulary.specs.declared.message_limit.MessageLimit.{MessageLimit}
 use Rattle.vocabulary.specs.declared.basic_type.BasicType.{BasicType}
 use Rattle.datatypes.specs.Contents.{AreWithin, bytes_of}
 use Rattle.datatypes.specs.ContentLaws.{length-bytes_of, sizes}
 use Rattle.incarnation.specs.declared.place.Place.{Place}
-use Rattle.rendezvous.specs.Pieces.{piece_bytes, pieces_of}
+use Rattle.rendezvous.specs.Pieces.{pieces_of}
 use Rattle.rendezvous.specs.WholePieces.{AreCut, IsCut, joined}
 use Rattle.rendezvous.proofs.PieceLaws as bytes
 use Rattle.point_to_point_calls.specs.FrameNews as hearing
@@ -150,41 +153,41 @@ sent_from a known rank number each t there some (suc fuel) place before (x ∷ x
     )
 
 -- the data of a message go out as those of its core
-pub data_sent : (a : Announcements) (known : List ℕ) (rank number : ℕ) (t : Transfer) (elements : List ℕ) →
+pub data_sent : (limit : MessageLimit) (a : Announcements) (known : List ℕ) (rank number : ℕ) (t : Transfer)
+    (elements : List ℕ) →
     slice_get (a.to (endpoint_of known rank)) number ≡ Some t →
     AreWithin (size_of t.basic) elements →
-    AreSent a (all_gone known (hearing.data_frames rank number (pieces_of (bytes_of (size_of t.basic) elements))))
-    (data_frames (endpoint_of known rank) t.serial (cut t.basic elements))
-data_sent a known rank number t elements there within =
-    let p = bytes.pieces (bytes_of (size_of t.basic) elements) in
-    sent_from a known rank number (piece_values t.basic) t there (values.piece_some t.basic)
-    (length elements) 0 0 elements (pieces_of (bytes_of (size_of t.basic) elements)) (omega arith)
-    (λ some. omega arith) within
-    (subst (λ (n : ℕ). AreCut n 0 (pieces_of (bytes_of (size_of t.basic) elements))) (sym (values.piece_bytes t.basic))
-    p.cut) p.all
+    AreSent a
+    (all_gone known
+    (hearing.data_frames rank number (pieces_of (frame_limit_of limit) (bytes_of (size_of t.basic) elements))))
+    (data_frames (endpoint_of known rank) t.serial (cut limit t.basic elements))
+data_sent limit a known rank number t elements there within =
+    let all : List (ℕ × List ℕ) = pieces_of (frame_limit_of limit) (bytes_of (size_of t.basic) elements) in
+    let p = bytes.pieces limit (bytes_of (size_of t.basic) elements) in
+    let none : 0 ≡ 0 * piece_values limit t.basic = omega arith in
+    sent_from a known rank number (piece_values limit t.basic) t there (values.piece_some limit t.basic)
+    (length elements) 0 0 elements all (omega arith)
+    (λ some. none) within
+    (subst (λ (n : ℕ). AreCut n 0 all) (sym (values.piece_bytes limit t.basic)) p.cut) p.all
 
 -- ---- THAT THEY CAN LEAVE
 
 -- a piece of no more data than a message may have
 piece_leaves : (p : Place) (rank number : ℕ) → rank < p.size → (rank ≡ p.endpoint.rank → ⊥) → number < 2 ^ 32 →
-    (place : ℕ) (x : ℕ × List ℕ) (xs : List (ℕ × List ℕ)) → IsCut piece_bytes place x xs →
-    place * piece_bytes + length (x.1 ++ joined xs) ≤ greatest_limit →
+    (place : ℕ) (x : ℕ × List ℕ) (xs : List (ℕ × List ℕ)) → IsCut (frame_limit_of p.message_limit) place x xs →
+    place * frame_limit_of p.message_limit + length (x.1 ++ joined xs) ≤ greatest_limit →
     AllByRecursion (CanLeave p) (hearing.data_frames rank number (x ∷ []))
 piece_leaves p rank number there apart width place x xs here low =
     let len : length (x.1 ++ joined xs) ≡ length x.1 + length (joined xs) = length-append x.1 (joined xs) in
-    let offset : x.0 ≡ place * 1024 = here.offset in
+    let offset : x.0 ≡ place * frame_limit_of p.message_limit = here.offset in
     let some : 1 ≤ length x.1 = here.some in
-    let most : length x.1 ≤ 1024 = here.most in
-    let high : place < 2097152 = omega (arith, low, len, some) in (
+    let most : length x.1 ≤ frame_limit_of p.message_limit = here.most in
+    let longest : frame_limit_of p.message_limit ≤ 61440 = frame_most p.message_limit in (
       record {
         there = there;
         apart = apart;
-        fits = record {
-          aligned = omega (arith, offset);
-          some = omega (arith, some);
-          limit = most;
-        };
-        width = record { transfer = width; offset = omega (arith, offset, high) };
+        fits = record { some = omega (arith, some); limit = omega (arith, most, longest) };
+        width = record { transfer = width; offset = omega (arith, offset, low) };
       },
       tt,
     )
@@ -192,33 +195,41 @@ piece_leaves p rank number there apart width place x xs here low =
 -- and pieces of no more
 leave_from : (p : Place) (rank number : ℕ) → rank < p.size → (rank ≡ p.endpoint.rank → ⊥) → number < 2 ^ 32 →
     (place : ℕ) (ps : List (ℕ × List ℕ)) →
-    AreCut piece_bytes place ps → place * piece_bytes + length (joined ps) ≤ greatest_limit →
+    AreCut (frame_limit_of p.message_limit) place ps →
+    place * frame_limit_of p.message_limit + length (joined ps) ≤ greatest_limit →
     AllByRecursion (CanLeave p) (hearing.data_frames rank number ps)
 leave_from p rank number there apart width place [] are low = tt
 leave_from p rank number there apart width place (x ∷ []) (here, others) low =
     piece_leaves p rank number there apart width place x [] here low
-leave_from p rank number there apart width place (x ∷ z ∷ zs) (here, others) low = (
-  (piece_leaves p rank number there apart width place x (z ∷ zs) here low).0,
-  leave_from p rank number there apart width (suc place) (z ∷ zs) others
-      (omega (arith, length-append x.1 (joined (z ∷ zs)), here.full, low)),
-)
+leave_from p rank number there apart width place (x ∷ z ∷ zs) (here, others) low =
+    let full : length x.1 ≡ frame_limit_of p.message_limit = here.full in (
+      (piece_leaves p rank number there apart width place x (z ∷ zs) here low).0,
+      leave_from p rank number there apart width (suc place) (z ∷ zs) others
+          (omega (
+            arith,
+            length-append x.1 (joined (z ∷ zs)),
+            full,
+            suc-mul place (frame_limit_of p.message_limit),
+            low,
+          )),
+    )
 
 -- the pieces of so many bytes can leave
 pub bytes_leave : (p : Place) (rank number : ℕ) (sent : List ℕ) → rank < p.size → (rank ≡ p.endpoint.rank → ⊥) →
     number < 2 ^ 32 → length sent ≤ greatest_limit →
-    AllByRecursion (CanLeave p) (hearing.data_frames rank number (pieces_of sent))
+    AllByRecursion (CanLeave p) (hearing.data_frames rank number (pieces_of (frame_limit_of p.message_limit) sent))
 bytes_leave p rank number sent there apart width limit =
-    let q = bytes.pieces sent in
-    leave_from p rank number there apart width 0 (pieces_of sent) q.cut
-    (omega (arith, ap (λ (xs : List ℕ). length xs) q.all, limit))
+    let q = bytes.pieces p.message_limit sent in
+    let none : 0 * frame_limit_of p.message_limit ≡ 0 = omega arith in
+    leave_from p rank number there apart width 0 (pieces_of (frame_limit_of p.message_limit) sent) q.cut
+    (omega (arith, none, ap (λ (xs : List ℕ). length xs) q.all, limit))
 
 -- the data of a message can leave
 pub data_leave : (p : Place) (rank number : ℕ) (basic : BasicType) (elements : List ℕ) → rank < p.size →
     (rank ≡ p.endpoint.rank → ⊥) → number < 2 ^ 32 →
     length elements * size_of basic ≤ greatest_limit →
-    AllByRecursion (CanLeave p) (hearing.data_frames rank number (pieces_of (bytes_of (size_of basic) elements)))
+    AllByRecursion (CanLeave p)
+    (hearing.data_frames rank number (pieces_of (frame_limit_of p.message_limit) (bytes_of (size_of basic) elements)))
 data_leave p rank number basic elements there apart width limit =
-    let q = bytes.pieces (bytes_of (size_of basic) elements) in
-    let len : length (joined (pieces_of (bytes_of (size_of basic) elements))) ≡ length elements * size_of basic = ap (λ (xs : List ℕ). length xs) q.all ∙ length-bytes_of (size_of basic) elements in
-    leave_from p rank number there apart width 0 (pieces_of (bytes_of (size_of basic) elements)) q.cut
-    (omega (arith, len, limit))
+    let len : length (bytes_of (size_of basic) elements) ≡ length elements * size_of basic = length-bytes_of (size_of basic) elements in
+    bytes_leave p rank number (bytes_of (size_of basic) elements) there apart width (omega (arith, len, limit))

@@ -4,10 +4,11 @@ use Rattle.std.proofs.Common.{◌^◌, ◌≡◌, ℕ, ◌+◌, ◌*◌, ◌<◌
 use Rattle.std.proofs.Common.{length, Option, Some, None, if◌then◌else◌, nat_le, refl, sym, ap, ap₂, ◌∙◌, subst, arith}
 use Rattle.std.proofs.lemmas.Bool.{and_left, lt-leb, ltb-true}
 use Rattle.vocabulary.specs.BasicTypes.{size_of}
-use Rattle.vocabulary.specs.Limits.{eager_limit, highest_tag, greatest_limit}
+use Rattle.vocabulary.specs.Limits.{greatest_limit, highest_tag}
+use Rattle.vocabulary.specs.MessageLimits.{frame_limit_of}
+use Rattle.vocabulary.specs.declared.message_limit.MessageLimit.{MessageLimit}
 use Rattle.vocabulary.specs.Endpoints.{is_same}
 use Rattle.vocabulary.specs.declared.basic_type.BasicType.{BasicType}
-use Rattle.vocabulary.specs.Modes.{may_be_announced}
 use Rattle.vocabulary.specs.declared.endpoint.Endpoint.{Endpoint}
 use Rattle.vocabulary.specs.declared.mode.Mode.{Mode}
 use Rattle.vocabulary.specs.declared.mode.Mode.TheVariants.{Standard, Synchronous}
@@ -54,22 +55,22 @@ abbrev pub announcement_of : Core → Endpoint → (context tag : ℕ) → Basic
 announcement_of core d c tag basic values = (d, Rts c tag basic (length core.jobs) (length values))
 
 -- elements that are announced aren't finished in their own call, where they go to another rank
-waits_for_match : (mode : Mode) (own d : Endpoint) (x : Contents) → is_same d own ≡ false → is_announced mode x ≡ true →
-    machine.is_eager mode own d x.basic x.values ≡ false
-waits_for_match Standard own d x other large =
-    let few : nat_le (length x.values * size_of x.basic) eager_limit ≡ false = lt-leb (length x.values * size_of x.basic) eager_limit (ltb-true eager_limit (length x.values * size_of x.basic) large) in
+waits_for_match : (limit : MessageLimit) (mode : Mode) (own d : Endpoint) (x : Contents) → is_same d own ≡ false →
+    is_announced limit mode x ≡ true → machine.is_eager limit mode own d x.basic x.values ≡ false
+waits_for_match limit Standard own d x other large =
+    let few : nat_le (length x.values * size_of x.basic) (frame_limit_of limit) ≡ false = lt-leb (length x.values * size_of x.basic) (frame_limit_of limit) (ltb-true (frame_limit_of limit) (length x.values * size_of x.basic) large) in
     ap₂ (λ (a b : Bool). a || b) few other
-waits_for_match Synchronous own d x other large = refl
+waits_for_match limit Synchronous own d x other large = refl
 
 -- a send to another rank whose message is announced
 pub core_announces : (mode : Mode) (core : Core) (own : Endpoint) (to i c tag : ℕ) (x : Contents) →
-    (to == own.rank) ≡ false → is_announced mode x ≡ true → core.known to ≡ i →
+    (to == own.rank) ≡ false → is_announced core.message_limit mode x ≡ true → core.known to ≡ i →
     sends_to mode own core c (Rank to) (Some tag) x.basic x.values
     ≡ effect (core_offering core (record { rank = to; incarnation = i }) x.basic x.values)
     (announcement_of core (record { rank = to; incarnation = i }) c tag x.basic x.values ∷ [])
 core_announces mode core own to i c tag x other large known =
     ap (λ (b : Bool). sends own core d (is_same d own) c tag x.basic x.values b)
-    (waits_for_match mode own d x elsewhere large)
+    (waits_for_match core.message_limit mode own d x elsewhere large)
     ∙ (ap (λ (b : Bool). sends own core d b c tag x.basic x.values false) elsewhere
     ∙ ap (λ (n : ℕ). effect (core_offering core (record { rank = to; incarnation = n }) x.basic x.values)
     (announcement_of core (record { rank = to; incarnation = n }) c tag x.basic x.values ∷ [])) known)
@@ -84,8 +85,8 @@ core_announces mode core own to i c tag x other large known =
 
 -- it is announced to that rank
 pub is_announced_to : (p : Place) (s : RoutedSend) (to tag : ℕ) → s.route.named ≡ Rank to → s.send.tag ≡ Some tag →
-    (to == p.endpoint.rank) ≡ false → is_announced s.send.mode (sent_from s.send.from) ≡ true → announced_to p s ≡ Some
-    to
+    (to == p.endpoint.rank) ≡ false → is_announced p.message_limit s.send.mode (sent_from s.send.from) ≡ true →
+    announced_to p s ≡ Some to
 is_announced_to p s to tag target_is tag_is other large =
     ap (λ (b : Bool). if b then rank_to p (destination s.route.named s.send.tag s.route.context) else None) large
     ∙ (ap₂ (λ (t : Source) (g : Option ℕ). rank_to p (destination t g s.route.context)) target_is tag_is
@@ -121,8 +122,8 @@ none_waits Synchronous false q is = refl
 -- its request waits for the answer
 pub large_sending : (old new : CoreState) (s : RoutedSend) (q : Request) (to tag : ℕ) → s.route.named ≡ Rank to →
     s.send.tag ≡ Some tag → (to == old.place.endpoint.rank) ≡ false →
-    is_announced s.send.mode (sent_from s.send.from) ≡ true → IsSending old s q new → IsOffering old to
-    (sent_from s.send.from) q new
+    is_announced old.place.message_limit s.send.mode (sent_from s.send.from) ≡ true → IsSending old s q new →
+    IsOffering old to (sent_from s.send.from) q new
 large_sending old new s q to tag target_is tag_is other large sent =
     record {
       fresh = sent.fresh;
@@ -181,13 +182,14 @@ announcing_frame mode old to context tag c =
     record { target = to; frame = request_frame mode (next_to old.transfers.numbers to) context tag c }
 
 pub large_frame : (old : CoreState) (s : RoutedSend) (to tag : ℕ) → s.route.named ≡ Rank to → s.send.tag ≡ Some tag →
-    (to == old.place.endpoint.rank) ≡ false → is_announced s.send.mode (sent_from s.send.from) ≡ true →
+    (to == old.place.endpoint.rank) ≡ false → is_announced old.place.message_limit s.send.mode
+    (sent_from s.send.from) ≡ true →
     frame_of old s ≡ Some (announcing_frame s.send.mode old to s.route.context tag (sent_from s.send.from))
 large_frame old s to tag target_is tag_is other large =
     ap₂ (λ (t : Source) (g : Option ℕ). frame_to old.place old.transfers s.send.mode (destination t g s.route.context)
     c) target_is
     tag_is
-    ∙ (ap (λ (b : Bool). frame_unless b old.transfers s.send.mode
+    ∙ (ap (λ (b : Bool). frame_unless b old.place.message_limit old.transfers s.send.mode
     (record { rank = to; tag = tag; context = s.route.context }) c)
     other
     ∙ ap (λ (b : Bool). Some (record { target = to; frame = with_frame b })) large)
@@ -199,24 +201,18 @@ large_frame old s to tag target_is tag_is other large =
     with_frame b = if b then request_frame s.send.mode (next_to old.transfers.numbers to) s.route.context tag c else
         eager_frame s.route.context tag c
 
--- it may be announced by its size
-may_announce : (mode : Mode) (c : Contents) → is_announced mode c ≡ true →
-    may_be_announced mode (length c.values * size_of c.basic) ≡ true
-may_announce Standard c large = large
-may_announce Synchronous c large = refl
-
 -- it can leave the rank
 pub announcing_leaves : (mode : Mode) (p : Place) (to number context tag : ℕ) (c : Contents) → context < 2 ^ 64 →
-    to < p.size → (to ≡ p.endpoint.rank → ⊥) → tag ≤ highest_tag → is_announced mode c ≡ true →
+    to < p.size → (to ≡ p.endpoint.rank → ⊥) → tag ≤ highest_tag →
     length c.values * size_of c.basic ≤ greatest_limit → number ≤ most_transfers →
     CanLeave p (record { target = to; frame = request_frame mode number context tag c })
-announcing_leaves mode p to number context tag c wide there apart low large limit most =
+announcing_leaves mode p to number context tag c wide there apart low limit most =
     let size : 0 < size_of c.basic = (sizes c.basic).positive in
     let least : length c.values ≤ length c.values * size_of c.basic = grind arith in
     record {
       there = there;
       apart = apart;
-      fits = record { tag = low; large = may_announce mode c large; plane = tt };
+      fits = record { tag = low; plane = tt };
       width = record { context = wide; count = omega (arith, least, limit); transfer = omega (arith, most) };
     }
 

@@ -36,6 +36,7 @@ use Rattle.proof_engine_steps.proofs.NamedRequests.{NamedStay, named_same, named
 use Rattle.proof_engine_steps.proofs.RowLemmas.{set_jobs}
 use Rattle.proof_engine_steps.proofs.Tables.{Says, changed_table, held_at, says_some, set_is_set}
 use Rattle.proof_engine_steps.proofs.BlockedRanks.{Holding, known_still}
+use Rattle.proof_engine_steps.proofs.Knowledge.{knows}
 use Rattle.proof_engine_steps.proofs.UnchangedTransfers.{same_rows, under_way_with}
 use Rattle.proof_engine_steps.proofs.UnderWay.{SameTransfers, keeps_same, messages_keep, same_set, taken_changed}
 use Rattle.proof_engine_steps.proofs.Wholes.{arrival_keeps, arrival_leaves, whole, whole_of}
@@ -50,7 +51,7 @@ pub record Arrives (links : Announcements) (rows : List Row) (before slots : Lis
   pub posted : queues.posted ≡ posted_rows left
   pub held : after.core.held ≡ map (held_of links.from) queues.unexpected
   pub blocked : after.core.blocked ≡ core.blocked
-  pub known : after.core.known ≡ core.known
+  pub known : knows after.core ≡ knows core
   pub sends : after.out ≡ []
   pub waits : NamedStay rows left
   pub same : SameTransfers rows left
@@ -216,9 +217,10 @@ elements_hold match agree links old known core rows m c h =
         held = a.held;
         under_way =
             under_way_with links known old.place rows a.left old.transfers
-            (transfers_on_arrival old.transfers old.slots (arrival_of old.queues (whole m c))) old.queues.unexpected
+            (transfers_on_arrival old.place.message_limit old.transfers old.slots
+            (arrival_of old.queues (whole m c))) old.queues.unexpected
             (after_arrival old.queues (whole m c)).unexpected h.under_way a.same
-            (arrival_leaves old.transfers old.slots m c
+            (arrival_leaves old.place.message_limit old.transfers old.slots m c
             (receive_at old.queues.posted (receive_for (whole m c) old.queues.posted)))
             (arrival_keeps (λ (x : Message). IsFromLink links.from known old.place a.left x x.body) old.queues
             (whole m c)
@@ -226,7 +228,8 @@ elements_hold match agree links old known core rows m c h =
             h.under_way.messages) tt);
         taken = a.taken known old.place h.taken;
         knowing =
-            known_still old.place old.place known core.known (arrived core (held_of links.from (whole m c))).core.known
+            known_still old.place old.place known (knows core) (knows (arrived core
+            (held_of links.from (whole m c))).core)
             h.knowing refl a.known;
       };
       blocked = a.blocked;

@@ -280,7 +280,7 @@ abbrev left_with : CoreState → Request → Region → Option (List ℕ) → Op
 left_with old q into g o = record old {
   slots = own_key_sent (own_send_of o)
       (slice_set old.slots q.key (Some (record { serial = q.serial; progress = table.progress_of_message g o into })));
-  transfers = transfers_on_post old.transfers into q.key o;
+  transfers = transfers_on_post old.place.message_limit old.transfers into q.key o;
 }
 
 -- what stands there, as the progress of the request
@@ -300,7 +300,7 @@ received_is : (old : CoreState) (q : Request) (into : Region) (g : Option (List 
 received_is old q into g o at =
     ap₂ (λ (p : Option RequestProgress) (s : Option entries.TableEntry). record old {
       slots = own_key_sent (own_send_of (message_in p)) (slot_received s old.slots q.key into);
-      transfers = transfers_on_post old.transfers into q.key (message_in p);
+      transfers = transfers_on_post old.place.message_limit old.transfers into q.key (message_in p);
     }) (progress_held old q g o at) at
 
 -- and the frame that answers it
@@ -470,7 +470,8 @@ received_announced agree links old known core q into g m a shown has =
 
     left : transfers.State
     left = transfers_with old.transfers
-        (collection_on_match (has_room into a.basic a.count) (announced_as m a) (bodies.Announced a) q.key)
+        (collection_on_match old.place.message_limit (has_room into a.basic a.count) (announced_as m a)
+        (bodies.Announced a) q.key)
 
     alike : AnnouncedAlike links.from p (waiting_by (receive_by g (announced_as m a) into)) (announced_as m a) a
     alike = agree links.from p (waiting_by (receive_by g (announced_as m a) into)) (announced_as m a) a refl

@@ -29,7 +29,7 @@ opening_numbered p to known none =
     }
 
 pub opening_is_shown : OpeningIsShown
-opening_is_shown p limit a inside none =
+opening_is_shown p limit a limited inside none =
     let k = opening_known p inside in
     record {
       rows = [];
@@ -51,6 +51,7 @@ opening_is_shown p limit a inside none =
       };
       taken = λ key. tt;
       blocked = refl;
+      limited = sym limited;
       width = k.width;
       known_alike = k.same;
       itself = k.itself;

@@ -13,7 +13,7 @@ use Rattle.perfect_queues.specs.Refusals as rules
 use Rattle.vocabulary.specs.declared.basic_type.BasicType.{BasicType}
 use Rattle.vocabulary.specs.BasicTypes.{size_of}
 use Rattle.vocabulary.specs.Endpoints.{is_same}
-use Rattle.vocabulary.specs.Limits.{eager_limit}
+use Rattle.vocabulary.specs.MessageLimits.{frame_limit_of}
 use Rattle.vocabulary.specs.declared.endpoint.Endpoint.{Endpoint}
 use Rattle.vocabulary.specs.declared.mode.Mode.{Mode}
 use Rattle.vocabulary.specs.declared.mode.Mode.TheVariants.{Standard, Synchronous}
@@ -81,10 +81,11 @@ core_sends_own : (core : Core) (own : Endpoint) (c tag : ℕ) (basic : BasicType
     sends_to Standard own core c (Rank own.rank) (Some tag) basic values ≡
     arrived (pushed_over core) (cores.own_message own c tag basic values)
 core_sends_own core own c tag basic values known =
-    ap (λ (b : Bool). sends own core d b c tag basic values (nat_le (length values * size_of basic) eager_limit || b))
+    ap (λ (b : Bool). sends own core d b c tag basic values
+    (nat_le (length values * size_of basic) (frame_limit_of core.message_limit) || b))
     (itself core own known)
     ∙ ap (λ (b : Bool). sends own core d true c tag basic values b)
-    (or_true (nat_le (length values * size_of basic) eager_limit))
+    (or_true (nat_le (length values * size_of basic) (frame_limit_of core.message_limit)))
   where
     d : Endpoint
     d = machine.receiver core.known own.rank
@@ -95,7 +96,7 @@ own_frame : (old : CoreState) (s : RoutedSend) (to tag : ℕ) → s.route.named 
 own_frame old s to tag target_is tag_is own =
     ap₂ (λ (t : Source) (g : Option ℕ). frame_to old.place old.transfers s.send.mode (destination t g s.route.context)
     (sent_from s.send.from)) target_is tag_is
-    ∙ ap (λ (b : Bool). frame_unless b old.transfers s.send.mode
+    ∙ ap (λ (b : Bool). frame_unless b old.place.message_limit old.transfers s.send.mode
     (record { rank = to; tag = tag; context = s.route.context })
     (sent_from s.send.from)) own
 
@@ -284,9 +285,9 @@ away_send_shown : (links : Announcements) (old new : CoreState) (known : List �
     IsWithin (calls.Isend s) → free_fault old (calls.Isend s) ≡ None →
     IsSending old s q new → IsCalled links old known core (calls.Isend s) (calls.Started q) new
 away_send_shown links old new known core s q to tag shown free target_is tag_is other kept within fine sent =
-    go (is_announced s.send.mode (sent_from s.send.from)) refl
+    go (is_announced old.place.message_limit s.send.mode (sent_from s.send.from)) refl
   where
-    go : (b : Bool) → is_announced s.send.mode (sent_from s.send.from) ≡ b →
+    go : (b : Bool) → is_announced old.place.message_limit s.send.mode (sent_from s.send.from) ≡ b →
         IsCalled links old known core (calls.Isend s) (calls.Started q) new
     go false small =
         other_send_shown links old new known core s q to tag shown free target_is tag_is other kept within small sent

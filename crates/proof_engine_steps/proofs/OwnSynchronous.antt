@@ -53,6 +53,7 @@ use Rattle.proof_engine_steps.proofs.TakenRows.{IsLarge, IsUnmatched, back_pushe
 use Rattle.proof_engine_steps.proofs.TakenRows.{messages_forth, under_way_rows}
 use Rattle.proof_engine_steps.proofs.UnderWay.{after_grows_not, keeps_same, messages_keep, row_of}
 use Rattle.proof_engine_steps.proofs.BlockedRanks.{Holding, known_still}
+use Rattle.proof_engine_steps.proofs.Knowledge.{knows}
 use Rattle.proof_engine_steps.proofs.Wholes.{own_as, pushed, whole}
 
 -- ---- A REQUEST THAT ISN'T THERE YET IS NAMED BY NO MESSAGE
@@ -289,7 +290,7 @@ own_matched agree links e known core rows m o k key p h row none t =
           (messages_keep links.from known e.place rows a.left e.queues.unexpected (keeps_same rows a.left a.same)
           h.under_way.messages));
       taken = a.taken known e.place h.taken;
-      knowing = known_still e.place e.place known core.known between.known h.knowing refl a.known;
+      knowing = known_still e.place e.place known (knows core) (knows between) h.knowing refl a.known;
     }
 
     x : ends.Outcome

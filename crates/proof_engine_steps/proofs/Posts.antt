@@ -33,6 +33,8 @@ use Rattle.point_to_point_calls.specs.declared.refusal.Refusal.{Refusal}
 use Rattle.point_to_point_calls.specs.declared.refusal.Refusal.TheVariants as refusals
 use Rattle.point_to_point_calls.specs.Frames.{as_list}
 use Rattle.match_queues.specs.declared.envelope.Body.TheVariants.{Announced}
+use Rattle.vocabulary.specs.declared.message_limit.MessageLimit.{MessageLimit}
+use Rattle.proof_engine_steps.proofs.Knowledge.{knows}
 use Rattle.point_to_point_calls.specs.ReceiveMatches.{answer_on_post, collection_on_match, transfers_with, posted_by}
 use Rattle.point_to_point_calls.specs.ReceiveMatches.{progress_on_post, status_of, transfers_on_post, waiting_by}
 use Rattle.communicator_members.specs.Statuses.{status_in}
@@ -157,9 +159,9 @@ queues_of old new v q h = ap (λ (e : CoreState). e.queues) h.rest
 -- its transfers are as the message that was found leaves them
 transfers_of : (old new : CoreState) (v : RoutedReceive) (q : Request) (m : Option Message) → IsPosting old v q new →
     message_at old.queues.unexpected (message_for (posted_by q.key v) old.queues.unexpected) ≡ m →
-    new.transfers ≡ transfers_on_post old.transfers v.receive.into q.key m
+    new.transfers ≡ transfers_on_post old.place.message_limit old.transfers v.receive.into q.key m
 transfers_of old new v q m h e = ap (λ (c : CoreState). c.transfers) h.rest ∙
-    ap (transfers_on_post old.transfers v.receive.into q.key) e
+    ap (transfers_on_post old.place.message_limit old.transfers v.receive.into q.key) e
 
 -- the frame that it gives, by the message that was found
 frame_of : (old new : CoreState) (core : Core) (v : RoutedReceive) (q : Request) (m : Option Message) →
@@ -269,7 +271,7 @@ record IsEnded (links : Announcements) (old : CoreState) (core : Core) (v : Rout
   alike : x ≡ outcome_seen o
   jobs : left.jobs ≡ core.jobs ++ Over x ∷ []
   held : left.held ≡ earlier ++ later
-  known : left.known ≡ core.known
+  known : knows left ≡ knows core
   serial : e.serial ≡ old.serial + 1
   queues : e.queues ≡ after_post old.queues (posted_by key v)
   transfers : e.transfers ≡ old.transfers
@@ -390,7 +392,7 @@ post_ends_own links old new known core v q m own earlier later agree once shown 
       slots = own_key_sent (own_send_of y) h.started;
       serial = old.serial + 1;
       queues = after_post old.queues (posted_by q.key v);
-      transfers = transfers_on_post old.transfers v.receive.into q.key y;
+      transfers = transfers_on_post old.place.message_limit old.transfers v.receive.into q.key y;
     }) finds.message
 
     mine : IsOwnOf old.place shown.rows (own_as m own) own
@@ -425,9 +427,11 @@ abbrev found_rows : (links : Announcements) → List Row → (key : ℕ) → Rou
 found_rows links rows key v m a = rows ++ row_of key (left_by links.from (receive_seen v) m a) ∷ []
 
 -- the transfers, with what is collected if it is wanted
-abbrev found_transfers : transfers.State → (key : ℕ) → RoutedReceive → Message → Announcement → transfers.State
-found_transfers t key v m a =
-    transfers_with t (collection_on_match (has_room v.receive.into a.basic a.count) (announced_as m a) (Announced a)
+abbrev found_transfers : MessageLimit → transfers.State → (key : ℕ) → RoutedReceive → Message → Announcement →
+    transfers.State
+found_transfers limit t key v m a =
+    transfers_with t (collection_on_match limit (has_room v.receive.into a.basic a.count) (announced_as m a)
+    (Announced a)
     key)
 
 -- it is from its link
@@ -455,11 +459,12 @@ found_under_way : (links : Announcements) (old : CoreState) (known : List ℕ) (
     (m : Message) (a : Announcement) → (shown : IsShown links old known core) →
     slot_at old.slots key ≡ None → IsPartOf links.from known old.place (announced_as m a) a →
     AnnouncedAlike links.from (receive_seen v) (waiting_by v) (announced_as m a) a →
-    AreUnderWay links known old.place (found_rows links shown.rows key v m a) (found_transfers old.transfers key v m a)
+    AreUnderWay links known old.place (found_rows links shown.rows key v m a)
+    (found_transfers old.place.message_limit old.transfers key v m a)
     (after_post old.queues (posted_by key v)).unexpected
 found_under_way links old known core v key m a shown fresh part alike =
     subst (λ (b : Bool). AreUnderWay links known old.place (found_rows links shown.rows key v m a)
-    (transfers_with old.transfers (collection_on_match b (announced_as m a) (Announced a) key))
+    (transfers_with old.transfers (collection_on_match old.place.message_limit b (announced_as m a) (Announced a) key))
     (after_post old.queues (posted_by key v)).unexpected)
     alike.wanted
     (matched_under_way links known old.place shown.rows (found_rows links shown.rows key v m a) old.transfers
@@ -496,7 +501,8 @@ found_holds links old new known core v q m a earlier later shown h finds part al
     (sym (append-nil (posted_rows shown.rows)) ∙
     ap (λ (ps : List queued.PostedReceive). posted_rows shown.rows ++ ps) (sym waits_not)))))
     (sym (ap (λ (s : State). map (held_of links.from) s.unexpected) qs ∙ finds.unexpected))
-    (under_way_still links known old.place new.place rows' rows' (found_transfers old.transfers q.key v m a)
+    (under_way_still links known old.place new.place rows' rows'
+    (found_transfers old.place.message_limit old.transfers q.key v m a)
     new.transfers (after_post old.queues (posted_by q.key v)).unexpected new.queues.unexpected
     (found_under_way links old known core v q.key m a shown h.fresh part alike) (same_rows rows')
     (post_stays old new v q h).place

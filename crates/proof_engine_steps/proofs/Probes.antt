@@ -3,7 +3,6 @@ use Rattle.std.proofs.Common.{◌≡◌, ℕ, Bool, true, false, List, [], ◌�
 use Rattle.std.proofs.Common.{if◌then◌else◌, option_map, slice_get, refl, sym, ap, ap₂, ◌∙◌, subst, append-nil, ◌⊎◌}
 use Rattle.std.proofs.Common.{inl, inr}
 use Rattle.std.specs.List.{AllByRecursion}
-use Rattle.vocabulary.specs.MessageLimits.{limit_of}
 use Rattle.vocabulary.specs.declared.endpoint.Endpoint.{Endpoint}
 use Rattle.vocabulary.specs.declared.envelope.Source.{Source}
 use Rattle.vocabulary.specs.declared.envelope.Source.TheVariants as sources
@@ -205,7 +204,7 @@ looks_are_judged links old known core p shown = go old.blocked refl shown.blocke
         option_map number_of_refusal (look_fault_at b old p)
     go None is c = judged_free links old known core p shown is
     go (Some a) is c =
-        ap (λ (b : Option Unanswered). queue_fault_by old.place.size (limit_of old.place.message_limit) (is_held b)
+        ap (λ (b : Option Unanswered). queue_fault_by old.place.size old.place.message_limit (is_held b)
         (λ k. standing (slice_get (map (request_of blank) core.jobs) k)) (machine.Iprobe (probe_seen p))) c.0
 
 -- ---- MATCHING PROBES

@@ -258,10 +258,10 @@ pub part_under_way : (links : Announcements) (known : List ℕ) (p : Place) (row
     slice_get rows k ≡ Some (row_of key (Probed g o)) → IsPartOf links.from known p m a →
     AreUnderWay links known p
     (slice_set rows k (row_of key (matched_part r (held_of links.from (announced_as m a)) a.count wanted)))
-    (transfers_with t (collection_on_match wanted (announced_as m a) (bodies.Announced a) key)) ms
+    (transfers_with t (collection_on_match p.message_limit wanted (announced_as m a) (bodies.Announced a) key)) ms
 part_under_way links known p rows slots t ms k key g o m a r wanted u table at part =
     subst (λ (rs : List Row). AreUnderWay links known p rs
-    (transfers_with t (collection_on_match wanted (announced_as m a) (bodies.Announced a) key)) ms)
+    (transfers_with t (collection_on_match p.message_limit wanted (announced_as m a) (bodies.Announced a) key)) ms)
     (set-set rows k over new)
     (matched_under_way links known p mid (slice_set mid k new) t ms ms m a k key r wanted mid_under part
     (written_set mid k key (Over ends.Sent) (matched_part r (held_of links.from (announced_as m a)) a.count wanted) here

@@ -1,6 +1,5 @@
 -- Each call that meets a rule or a limit of a rank's core has a reason, and each that meets none is without a fault.
 use Rattle.std.proofs.Common.{◌≡◌, ℕ, List, map, Option, Some, None, slice_get, refl, ap, ◌∙◌, subst}
-use Rattle.vocabulary.specs.MessageLimits.{limit_of}
 use Rattle.perfect_queues.specs.Calls as machine
 use Rattle.perfect_queues.specs.Completions.{Unanswered}
 use Rattle.perfect_queues.specs.Refusals as rules
@@ -37,7 +36,7 @@ blocked_fault : (links : Announcements) (old : CoreState) (known : List ℕ) (co
 blocked_fault links old known core call a shown h =
     ap
     (λ (b : Option Unanswered).
-    queue_fault_by old.place.size (limit_of old.place.message_limit) (rules.is_held b)
+    queue_fault_by old.place.size old.place.message_limit (rules.is_held b)
     (λ k. rules.standing (slice_get (map (request_of blank) core.jobs) k)) (call_meant old call))
     (subst (λ (b : Option rank.Awaited). IsBlocked shown.rows b core.blocked) h shown.blocked).0
 

@@ -3,7 +3,6 @@ use Rattle.std.proofs.Common.{◌≡◌, ℕ, Bool, true, false, not, ◌||◌, 
 use Rattle.std.proofs.Common.{ap, ◌∙◌, subst}
 use Rattle.std.specs.List.{AllByRecursion}
 use Rattle.incarnation.specs.declared.place.Place.{Place}
-use Rattle.vocabulary.specs.MessageLimits.{limit_of}
 use Rattle.perfect_queues.specs.Calls as machine
 use Rattle.perfect_queues.specs.Completions as completions
 use Rattle.perfect_queues.specs.Refusals as rules
@@ -112,8 +111,8 @@ test_is_wait : (p : Place) (core : Core) (r : Option ℕ) → core.blocked ≡ N
 test_is_wait p core r free = fault_free p core (machine.Test r) free ∙
     (go r ∙ sym (fault_free p core (machine.Wait (completions.One r)) free))
   where
-    go : (r : Option ℕ) → queue_fault_by p.size (limit_of p.message_limit) false (standing_at core) (machine.Test r) ≡
-        queue_fault_by p.size (limit_of p.message_limit) false (standing_at core) (machine.Wait (completions.One r))
+    go : (r : Option ℕ) → queue_fault_by p.size p.message_limit false (standing_at core) (machine.Test r) ≡
+        queue_fault_by p.size p.message_limit false (standing_at core) (machine.Wait (completions.One r))
     go None = refl
     go (Some k) = sym (ap six_if (or_nothing (rules.is_missing (standing_at core k))))
 

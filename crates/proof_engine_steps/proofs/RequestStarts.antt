@@ -3,7 +3,6 @@ use Rattle.std.proofs.Common.{◌≡◌, ℕ, ◌+◌, Bool, true, false, List, 
 use Rattle.std.proofs.Common.{if◌then◌else◌, slice_get, refl, sym, ap, ◌∙◌, subst, arith, length-append}
 use Rattle.std.specs.List.{AllByRecursion}
 use Rattle.std.proofs.lemmas.List.{length-map}
-use Rattle.vocabulary.specs.MessageLimits.{limit_of}
 use Rattle.datagram.specs.Spellings.{OutgoingText}
 use Rattle.perfect_queues.specs.Calls as machine
 use Rattle.perfect_queues.specs.Completions.{Unanswered}
@@ -37,6 +36,7 @@ use Rattle.proof_engine_steps.proofs.BlockedAnswers.{settled_free, settled_is}
 use Rattle.proof_engine_steps.proofs.Tables.{Says, says_some, started_table}
 use Rattle.proof_engine_steps.proofs.UnderWay.{keeps_pushed, taken_more, taken_same, taken_set}
 use Rattle.proof_engine_steps.proofs.BlockedRanks.{Holding, known_still, shown_with}
+use Rattle.proof_engine_steps.proofs.Knowledge.{knows}
 pub use Rattle.proof_engine_steps.proofs.BlockedRanks.{holding_of}
 
 -- where the rank's call is not blocked, the core's isn't
@@ -53,10 +53,10 @@ shown_free links e known core rows h a b =
 -- the fault of a call while no other is blocked
 pub fault_free : (p : Place) (core : Core) (c : machine.Call) → core.blocked ≡ None →
     queue_fault p (view blank core) c ≡
-    queue_fault_by p.size (limit_of p.message_limit) false
+    queue_fault_by p.size p.message_limit false
     (λ k. standing (slice_get (map (request_of blank) core.jobs) k)) c
 fault_free p core c h =
-    ap (λ (b : Option Unanswered). queue_fault_by p.size (limit_of p.message_limit) (is_held b)
+    ap (λ (b : Option Unanswered). queue_fault_by p.size p.message_limit (is_held b)
     (λ k. standing (slice_get (map (request_of blank) core.jobs) k)) c) h
 
 -- no rule is broken
@@ -83,7 +83,7 @@ pub holding_started : (links links' : Announcements) (e e' : CoreState) (known :
     AreUnderWay links' known e'.place (rows ++ record { key = key; job = job } ∷ []) e'.transfers e'.queues.unexpected →
     AnnouncementsGrow links links' →
     IsTakenAt links'.from known e.place (rows ++ record { key = key; job = job } ∷ [])
-    (Some (record { serial = e.serial; progress = g })) → core'.known ≡ core.known → e'.place ≡ e.place →
+    (Some (record { serial = e.serial; progress = g })) → knows core' ≡ knows core → e'.place ≡ e.place →
     Holding links' e' known core' (rows ++ record { key = key; job = job } ∷ [])
 holding_started links links' e e' known core core' rows key g job h fresh set fits js se po he under grow here kn pl =
     record {
@@ -103,7 +103,7 @@ holding_started links links' e e' known core core' rows key g job h fresh set fi
           (taken_same links'.from known e.place rows (rows ++ record { key = key; job = job } ∷ []) e.slots
           (keeps_pushed rows (record { key = key; job = job }))
           (taken_more links links' known e.place rows e.slots grow h.taken)) here);
-      knowing = known_still e.place e'.place known core.known core'.known h.knowing pl kn;
+      knowing = known_still e.place e'.place known (knows core) (knows core') h.knowing pl kn;
     }
 
 -- a call that gives no frame sends none

@@ -1,7 +1,9 @@
 -- A send of a rank to another one, or to the null process, is that of its core in the network.
 use Rattle.datagram.specs.Spellings.{OutgoingText}
-use Rattle.vocabulary.specs.MessageLimits.{limit_of}
-use Rattle.vocabulary.specs.Limits.{eager_limit, highest_tag}
+use Rattle.vocabulary.specs.MessageLimits.{frame_limit_of, limit_of}
+use Rattle.vocabulary.proofs.MessageLimits.{frame_most}
+use Rattle.vocabulary.specs.declared.message_limit.MessageLimit.{MessageLimit}
+use Rattle.vocabulary.specs.Limits.{highest_tag}
 use Rattle.std.proofs.Common.{◌^◌, ◌≡◌, ℕ, ◌+◌, ◌*◌, ◌<◌, ◌≤◌, Bool, true, false, List, [], ◌∷◌, ◌++◌, length, Option}
 use Rattle.std.proofs.Common.{Some, None, if◌then◌else◌, ◌==◌, ◌||◌, ap₂, nat_le, nat_lt, slice_index, refl, sym, ap}
 use Rattle.std.proofs.Common.{◌∙◌, subst, arith, append-nil}
@@ -139,27 +141,30 @@ abbrev pub core_sent : Mode → Endpoint → Core → (context : ℕ) → Source
 core_sent mode e core context target tag c = sends_to mode e core context target tag c.basic c.values
 
 -- elements that aren't announced go in one frame
-few_of : (mode : Mode) (c : Contents) → is_announced mode c ≡ false → length c.values * size_of c.basic ≤ eager_limit
-few_of Standard c small = ltb-false eager_limit (length c.values * size_of c.basic) small
-few_of Synchronous c small = absurd cc
+few_of : (limit : MessageLimit) (mode : Mode) (c : Contents) → is_announced limit mode c ≡ false →
+    length c.values * size_of c.basic ≤ frame_limit_of limit
+few_of limit Standard c small = ltb-false (frame_limit_of limit) (length c.values * size_of c.basic) small
+few_of limit Synchronous c small = absurd cc
 
 -- and are finished in their own call
-needs_no_match : (mode : Mode) (own d : Endpoint) (c : Contents) → is_announced mode c ≡ false →
-    machine.is_eager mode own d c.basic c.values ≡ true
-needs_no_match Standard own d c small =
-    or_left (nat_le (length c.values * size_of c.basic) eager_limit) (is_same d own)
-    (le-leb (length c.values * size_of c.basic) eager_limit (few_of Standard c small))
-needs_no_match Synchronous own d c small = absurd cc
+needs_no_match : (limit : MessageLimit) (mode : Mode) (own d : Endpoint) (c : Contents) →
+    is_announced limit mode c ≡ false → machine.is_eager limit mode own d c.basic c.values ≡ true
+needs_no_match limit Standard own d c small =
+    or_left (nat_le (length c.values * size_of c.basic) (frame_limit_of limit)) (is_same d own)
+    (le-leb (length c.values * size_of c.basic) (frame_limit_of limit) (few_of limit Standard c small))
+needs_no_match limit Synchronous own d c small = absurd cc
 
 -- a small send to another rank
 core_sends : (mode : Mode) (core : Core) (own : Endpoint) (to i context tag : ℕ) (c : Contents) →
-    (to == own.rank) ≡ false → is_announced mode c ≡ false → core.known to ≡ i →
+    (to == own.rank) ≡ false → is_announced core.message_limit mode c ≡ false → core.known to ≡ i →
     sends_to mode own core context (Rank to) (Some tag) c.basic c.values ≡
     effect (pushed_over core) ((record { rank = to; incarnation = i }, Eager context tag c.basic c.values) ∷ [])
 core_sends mode core own to i context tag c other small known =
-    ap (λ (b : Bool). sends own core d b context tag c.basic c.values (machine.is_eager mode own d c.basic c.values))
+    ap (λ (b : Bool). sends own core d b context tag c.basic c.values
+    (machine.is_eager core.message_limit mode own d c.basic c.values))
     (and_left (to == own.rank) (core.known to == own.incarnation) other) ∙
-    (ap (λ (b : Bool). sends own core d false context tag c.basic c.values b) (needs_no_match mode own d c small) ∙
+    (ap (λ (b : Bool). sends own core d false context tag c.basic c.values b)
+    (needs_no_match core.message_limit mode own d c small) ∙
     ap (λ (n : ℕ). effect (pushed_over core)
     ((record { rank = to; incarnation = n }, Eager context tag c.basic c.values) ∷ [])) known)
   where
@@ -222,7 +227,8 @@ small_sending old new s q none no_wait sent =
     }
 
 -- nothing is announced that goes in one frame
-pub announced_small : (p : Place) (s : RoutedSend) → is_announced s.send.mode (sent_from s.send.from) ≡ false →
+pub announced_small : (p : Place) (s : RoutedSend) →
+    is_announced p.message_limit s.send.mode (sent_from s.send.from) ≡ false →
     announced_to p s ≡ None
 announced_small p s small =
     ap (λ (b : Bool). if b then rank_to p (destination s.route.named s.send.tag s.route.context) else None) small
@@ -231,7 +237,7 @@ announced_small p s small =
 pub announced_nowhere : (p : Place) (s : RoutedSend) → rank_to p (destination s.route.named s.send.tag s.route.context)
     ≡ None →
     announced_to p s ≡ None
-announced_nowhere p s nowhere = go (is_announced s.send.mode (sent_from s.send.from))
+announced_nowhere p s nowhere = go (is_announced p.message_limit s.send.mode (sent_from s.send.from))
   where
     go : (b : Bool) → (if b then rank_to p (destination s.route.named s.send.tag s.route.context) else None) ≡ None
     go true = nowhere
@@ -347,12 +353,13 @@ eager_for to context tag c = record { target = to; frame = eager_frame context t
 
 -- elements that go in one frame go in an eager one
 small_frame : (old : CoreState) (s : RoutedSend) (to tag : ℕ) → s.route.named ≡ Rank to → s.send.tag ≡ Some tag →
-    (to == old.place.endpoint.rank) ≡ false → is_announced s.send.mode (sent_from s.send.from) ≡ false →
+    (to == old.place.endpoint.rank) ≡ false → is_announced old.place.message_limit s.send.mode
+    (sent_from s.send.from) ≡ false →
     frame_of old s ≡ Some (eager_for to s.route.context tag (sent_from s.send.from))
 small_frame old s to tag target_is tag_is other small =
     ap₂ (λ (t : Source) (g : Option ℕ). frame_to old.place old.transfers s.send.mode (destination t g s.route.context)
     (sent_from s.send.from)) target_is tag_is
-    ∙ (ap (λ (b : Bool). frame_unless b old.transfers s.send.mode
+    ∙ (ap (λ (b : Bool). frame_unless b old.place.message_limit old.transfers s.send.mode
     (record { rank = to; tag = tag; context = s.route.context })
     (sent_from s.send.from)) other
     ∙ ap (λ (b : Bool). Some
@@ -366,17 +373,19 @@ small_frame old s to tag target_is tag_is other small =
 
 -- it can leave the rank
 eager_leaves : (p : Place) (to context tag : ℕ) (c : Contents) → context < 2 ^ 64 → to < p.size →
-    (to ≡ p.endpoint.rank → ⊥) → tag ≤ highest_tag → length c.values * size_of c.basic ≤ eager_limit →
+    (to ≡ p.endpoint.rank → ⊥) → tag ≤ highest_tag →
+    length c.values * size_of c.basic ≤ frame_limit_of p.message_limit →
     CanLeave p (eager_for to context tag c)
 eager_leaves p to context tag c wide there apart low count =
     let sized : length (bytes_of (size_of c.basic) c.values) ≡ length c.values * size_of c.basic = length-bytes_of (size_of c.basic) c.values in
     let size : 0 < size_of c.basic = (sizes c.basic).positive in
     let least : length c.values ≤ length c.values * size_of c.basic = grind arith in
+    let most : frame_limit_of p.message_limit ≤ 61440 = frame_most p.message_limit in
     record {
       there = there;
       apart = apart;
-      fits = record { tag = low; size = sized; limit = omega (arith, sized, count); plane = tt };
-      width = record { context = wide; count = omega (arith, least, count) };
+      fits = record { tag = low; size = sized; limit = omega (arith, sized, count, most); plane = tt };
+      width = record { context = wide; count = omega (arith, least, count, most) };
     }
 
 -- it stands for the network's, where each element has the width of its type
@@ -392,7 +401,8 @@ eager_stands context tag c within =
 pub other_send_shown : (links : Announcements) (old new : CoreState) (known : List ℕ) (core : Core) (s : RoutedSend)
     (q : Request) (to tag : ℕ) → IsShown links old known core → old.blocked ≡ None →
     s.route.named ≡ Rank to → s.send.tag ≡ Some tag → (to == old.place.endpoint.rank) ≡ false → KeepsRules old.place s →
-    IsWithin (calls.Isend s) → is_announced s.send.mode (sent_from s.send.from) ≡ false → IsSending old s q new →
+    IsWithin (calls.Isend s) → is_announced old.place.message_limit s.send.mode (sent_from s.send.from) ≡ false →
+    IsSending old s q new →
     IsCalled links old known core (calls.Isend s) (calls.Started q) new
 other_send_shown links old new known core s q to tag shown free target_is tag_is other kept within small is_sent =
     away_shown links old new known core s q
@@ -404,7 +414,8 @@ other_send_shown links old new known core s q to tag shown free target_is tag_is
     ap (λ (b : Bool). arrived_if b started (record { rank = to; tag = tag; context = s.route.context }) None c) other)
     (ap₂ (λ (t : Source) (g : Option ℕ). core_sent s.send.mode old.place.endpoint core s.route.context t g c) target_is
     tag_is ∙
-    core_sends s.send.mode core old.place.endpoint to (slice_index known to) s.route.context tag c other small
+    core_sends s.send.mode core old.place.endpoint to (slice_index known to) s.route.context tag c other
+    (subst (λ (l : MessageLimit). is_announced l s.send.mode c ≡ false) (sym shown.limited) small)
     (shown.known_alike to))
     refl (tt, tt)
     (subst (λ (f : Option OutgoingText). AreSent
@@ -425,8 +436,8 @@ other_send_shown links old new known core s q to tag shown free target_is tag_is
         (none_waits s.send.mode (is_to_itself old.place s) q (not_to_itself old.place s to tag target_is tag_is other))
         is_sent
 
-    few : length c.values * size_of c.basic ≤ eager_limit
-    few = few_of s.send.mode c small
+    few : length c.values * size_of c.basic ≤ frame_limit_of old.place.message_limit
+    few = few_of old.place.message_limit s.send.mode c small
 
     frame : frame_of old s ≡ Some (eager_for to s.route.context tag c)
     frame = small_frame old s to tag target_is tag_is other small

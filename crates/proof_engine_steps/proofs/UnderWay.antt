@@ -403,6 +403,7 @@ shown_counted old new c known core ns shown g numbered =
           shown.under_way;
       taken = taken_more old new known c.place shown.rows c.slots g shown.taken;
       blocked = shown.blocked;
+      limited = shown.limited;
       width = shown.width;
       known_alike = shown.known_alike;
       itself = shown.itself;

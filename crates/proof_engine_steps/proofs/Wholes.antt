@@ -16,6 +16,7 @@ use Rattle.match_queues.specs.Arrivals.{arrival_at}
 use Rattle.rendezvous.specs.State as transfers
 use Rattle.requests.specs.declared.table.TableEntry.{TableEntry}
 use Rattle.point_to_point_calls.specs.ReceiveMatches.{transfers_on_arrival}
+use Rattle.vocabulary.specs.declared.message_limit.MessageLimit.{MessageLimit}
 
 -- ---- one message
 
@@ -107,8 +108,9 @@ arrival_keeps P s m h w = go (receive_for m s.posted)
     go (Some i) = h
 
 -- a whole one leaves the transfers as they were
-pub arrival_leaves : (t : transfers.State) (slots : List (Option TableEntry)) (m : Message) (c : Contents)
+pub arrival_leaves : (limit : MessageLimit) (t : transfers.State) (slots : List (Option TableEntry)) (m : Message)
+    (c : Contents)
     (o : Option queued.PostedReceive) →
-    transfers_on_arrival t slots (arrival_at o (whole m c)) ≡ t
-arrival_leaves t slots m c None = refl
-arrival_leaves t slots m c (Some r) = refl
+    transfers_on_arrival limit t slots (arrival_at o (whole m c)) ≡ t
+arrival_leaves limit t slots m c None = refl
+arrival_leaves limit t slots m c (Some r) = refl

@@ -25,7 +25,7 @@ use Rattle.proof_engine_view.specs.Transfers.{Announcements}
 use Rattle.proof_engine_view.specs.UnderWay.{AreTaken}
 use Rattle.proof_engine_steps.specs.Steps.{IsFromOther, NoneUntold}
 use Rattle.proof_engine_steps.proofs.EndedRows.{ended_jobs, ended_row, held_left, posted_left}
-use Rattle.proof_engine_steps.proofs.Knowledge.{learnt_known}
+use Rattle.proof_engine_steps.proofs.Knowledge.{knows, learnt_known}
 use Rattle.proof_engine_steps.proofs.EndingKeys.{AreEnding}
 use Rattle.proof_engine_steps.proofs.LearnedMessages.{learned_taken}
 use Rattle.proof_engine_steps.proofs.RestartTransfers.{keys_end, learned_under_way}
@@ -91,7 +91,7 @@ learned_holds links e known core rows s h inside apart later untold =
           (sym keys_are)
           (learned_taken links.from known e.place rows e.slots r i (max (slice_index known r) i) keys h.table ending
           apart later h.taken);
-      knowing = learnt_known e.place known core.known r i h.knowing inside apart later;
+      knowing = learnt_known e.place known (knows core) r i h.knowing inside apart later;
     }
   where
     r : ℕ

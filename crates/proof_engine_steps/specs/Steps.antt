@@ -14,6 +14,7 @@ use Rattle.point_to_point_calls.specs.FrameNews.{NewsText}
 use Rattle.point_to_point.specs.Arrivals.{after_news, news_fault, news_frames}
 use Rattle.point_to_point.specs.Completions.{after_wake}
 use Rattle.vocabulary.specs.declared.endpoint.Endpoint.{Endpoint}
+use Rattle.vocabulary.specs.declared.message_limit.MessageLimit.{MessageLimit}
 use Rattle.perfect_queues.specs.Events.{call_and_reply, told}
 use Rattle.proof_pure_network.specs.Claims.{ClaimsOnce}
 use Rattle.proof_pure_network.specs.Core.{Core, Effect, effect, new_core, view}
@@ -28,16 +29,17 @@ use Rattle.proof_engine_view.specs.CoreViews.{IsSettled, IsShown}
 use Rattle.proof_engine_view.specs.FrameViews.{AreSent, CanLeave, IsMeant, all_gone}
 use Rattle.proof_engine_view.specs.Transfers.{Announcements, AnnouncementsGrow, after_out}
 
--- A core that starts, at whatever incarnation, holds what a new core of the network holds: nothing was announced on its
--- links, whatever was announced to it
+-- A core that starts, at whatever incarnation, holds what a new core of the network with its job's limit holds: nothing
+-- was announced on its links, whatever was announced to it
 abbrev pub OpeningIsShown : Type 0
 OpeningIsShown =
-    (p : Place) (limit : ℕ) (a : Announcements) → p.endpoint.rank < p.size → ((d : Endpoint) → a.to d ≡ []) →
+    (p : Place) (limit : MessageLimit) (a : Announcements) → p.message_limit ≡ limit → p.endpoint.rank < p.size →
+    ((d : Endpoint) → a.to d ≡ []) →
     IsShown a (opening p) (knowing.opening p).known (new_core limit p.endpoint)
 
 -- and no call of it is blocked whose answer is ready
 abbrev pub OpeningIsSettled : Type 0
-OpeningIsSettled = (limit : ℕ) (e : Endpoint) → IsSettled (new_core limit e)
+OpeningIsSettled = (limit : MessageLimit) (e : Endpoint) → IsSettled (new_core limit e)
 
 -- ---- calls
 

@@ -1,8 +1,9 @@
 -- The fault of a call on world.
-use Rattle.std.proofs.Common.{ℕ, ◌∙◌, Bool, false, [], ◌∷◌, ap}
+use Rattle.std.proofs.Common.{◌∙◌, Bool, false, [], ◌∷◌, ap}
 use Rattle.perfect_queues.specs.Refusals.{first_fault, is_count_wrong, is_held, is_rank_wrong, is_request_wrong}
 use Rattle.perfect_queues.specs.Refusals.{is_tag_wrong, is_type_wrong, standing}
 use Rattle.std.specs.Prelude.{◌||◌, slice_get}
+use Rattle.vocabulary.specs.declared.message_limit.MessageLimit.{MessageLimit}
 use Rattle.proof_engine_view.specs.Faults.{WorldFault, queue_fault_by}
 
 pub world_fault : WorldFault
@@ -18,5 +19,6 @@ world_fault p l c same fine =
     (is_rank_wrong p.size c, 5) ∷
     (false, 7) ∷ (false, 9) ∷ (false, 11) ∷ []))
     fine
-    ∙ ap (λ (limit : ℕ). queue_fault_by p.size limit (is_held l.blocked) (λ k. standing (slice_get l.requests k)) c)
+    ∙ ap (λ (limit : MessageLimit). queue_fault_by p.size limit (is_held l.blocked)
+    (λ k. standing (slice_get l.requests k)) c)
     same

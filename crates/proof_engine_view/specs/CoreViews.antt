@@ -40,6 +40,8 @@ pub record IsShown (a : Announcements) (c : CoreState) (known : List ℕ) (core 
   -- the messages that were taken out
   pub taken : AreTaken a.from known c.place rows c.slots
   pub blocked : IsBlocked rows c.blocked core.blocked
+  -- both have the limit of the job
+  pub limited : core.message_limit ≡ c.place.message_limit
   -- both know each rank at the same incarnation, and the rank itself at its own
   pub width : length known ≡ c.place.size
   pub known_alike : (r : ℕ) → core.known r ≡ slice_index known r

@@ -31,6 +31,7 @@ use Rattle.proof_pure_network.specs.Frames.{Values}
 use Rattle.proof_pure_network.specs.Network.{Network, hand_some, hear_at, here}
 use Rattle.vocabulary.specs.Endpoints.{is_same}
 use Rattle.vocabulary.specs.declared.endpoint.Endpoint.{Endpoint}
+use Rattle.vocabulary.specs.declared.message_limit.MessageLimit.{MessageLimit}
 
 -- ---- the word goes on
 
@@ -85,7 +86,7 @@ words_go_on n r frames notices w s i =
 
 -- what calls, words and frames keep of the links of messages
 keeps_midway : (P : Network → Type 0) → IsStable P →
-    (n limit r frames : ℕ) (notices : List ℕ) (hs : List Happening) (s : Endpoint) → P (new_group_network n limit).net →
+    (n : ℕ) (limit : MessageLimit) (r frames : ℕ) (notices : List ℕ) (hs : List Happening) (s : Endpoint) → P (new_group_network n limit).net →
     P (unsettled (run n hs (new_group_network n limit)) (here (run n hs (new_group_network n limit)).net r) s frames
     notices).net
 keeps_midway P stable n limit r frames notices hs s new =

@@ -42,6 +42,7 @@ use Rattle.proof_pure_network.proofs.Tellings.{IsKnown, met_knows}
 use Rattle.proof_group_network.proofs.UnderWay.{NetworkKept, NetworkDoing, note_some_doing, hear_doing_with_groups}
 use Rattle.proof_group_network.proofs.UnderWay.{with_net, hand_some_with_groups, call_doing_with_groups}
 use Rattle.proof_group_network.proofs.UnderWay.{settle_kept_with_groups}
+use Rattle.vocabulary.specs.declared.message_limit.MessageLimit.{MessageLimit}
 
 -- HAPPENINGS
 
@@ -381,7 +382,7 @@ run_kept_with_groups n V (h ∷ hs) w le x k =
 
 -- THE START
 
-new_sound : (n limit : ℕ) → Sound n (groups_in (new_group_network n limit))
+new_sound : (n : ℕ) (limit : MessageLimit) → Sound n (groups_in (new_group_network n limit))
 new_sound n limit =
     record {
       held = λ x r. (inl refl, (inr (inl (x, r, refl)), tt));
@@ -394,7 +395,7 @@ new_sound n limit =
     none_some_made : (cs : List Communicator) → ◌≡◌ {A = Option (List Communicator)} None (Some cs) → ⊥
     none_some_made cs h = absurd (grind arith)
 
-new_honest : (n limit : ℕ) →
+new_honest : (n : ℕ) (limit : MessageLimit) →
     Honest n (groups_in (new_group_network n limit)) (λ x. []) (λ s d. record { accepted = []; handed = λ i. false })
 new_honest n limit =
     record {
@@ -417,7 +418,7 @@ new_honest n limit =
     none_made : {y : List Communicator} → ◌≡◌ {A = Option (List Communicator)} None (Some y) → ⊥
     none_made h = absurd (grind arith)
 
-pub new_kept_with_groups : (n limit : ℕ) (V : Values) → NetworkKept n V (new_group_network n limit)
+pub new_kept_with_groups : (n : ℕ) (limit : MessageLimit) (V : Values) → NetworkKept n V (new_group_network n limit)
 new_kept_with_groups n limit V =
     record {
       sane = (new_kept n limit V).sane;

@@ -61,6 +61,7 @@ use Rattle.proof_pure_network.proofs.Pairs.{core_here}
 use Rattle.proof_pure_network.proofs.Simulation.{is_stale}
 use Rattle.proof_pure_network.proofs.SpeakerInvariant.{call_spoken, hand_spoken, hear_spoken, settle_spoken}
 use Rattle.proof_pure_network.proofs.Tellings.{IsKnown}
+use Rattle.vocabulary.specs.declared.message_limit.MessageLimit.{MessageLimit}
 
 pub record NetworkKept (n : ℕ) (V : Values) (w : GroupNetwork) : Type 0 where
   pub sane : Sane V w.net
@@ -411,7 +412,7 @@ settle_kept_with_groups n V w0 w e call real d lt cur limit lasting now fit =
       spoken = settle_spoken w.net e w.net.history d.spoken;
       honest = settled_honest n w.member w.entered w.made w.notices e real d.honest;
       lasting = λ r. subst (λ (u : ℕ → ℕ). u r ≤ 65535) (sym cur) (lasting r);
-      seen = subst (λ (l : ℕ). NetworkSeen V n l w'.history (views V w'.net) w'.net.link w'.net.current (groups_in w'))
+      seen = subst (λ (l : MessageLimit). NetworkSeen V n l w'.history (views V w'.net) w'.net.link w'.net.current (groups_in w'))
           (sym limit)
           (group_seen_more V n w0.net.message_limit w.history (views V w0.net) (views V w'.net) w0.net.link w.net.link
           w0.net.current

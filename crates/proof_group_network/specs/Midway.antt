@@ -14,6 +14,7 @@ use Rattle.proof_pure_network.specs.Frames.{Frame}
 use Rattle.proof_pure_network.specs.Links.{accept_all, handed_on}
 use Rattle.proof_pure_network.specs.Network.{hand_some, here}
 use Rattle.vocabulary.specs.declared.endpoint.Endpoint.{Endpoint}
+use Rattle.vocabulary.specs.declared.message_limit.MessageLimit.{MessageLimit}
 
 -- a word of s at e, with as many of its messages and these of its notices handed up, before it is settled
 abbrev pub unsettled : GroupNetwork → (e sender : Endpoint) (frames : ℕ) (notices : List ℕ) → GroupNetwork
@@ -93,7 +94,7 @@ pub record Stands (n : ℕ) (u : GroupNetwork) : Type 0 where
 -- is there in the middle of a word, too
 abbrev pub MidwayStands : Type 0
 MidwayStands =
-    (n limit r frames : ℕ) (notices : List ℕ) (happenings : List Happening) (s : Endpoint) → n ≤ 65536 →
+    (n : ℕ) (limit : MessageLimit) (r frames : ℕ) (notices : List ℕ) (happenings : List Happening) (s : Endpoint) → n ≤ 65536 →
     IsWord n r (run n happenings (new_group_network n limit)) s →
     Stands n (unsettled (run n happenings (new_group_network n limit))
     (here (run n happenings (new_group_network n limit)).net r) s

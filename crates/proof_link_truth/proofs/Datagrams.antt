@@ -6,10 +6,9 @@ use Rattle.std.proofs.lemmas.Bool.{cases_lt, eqb-false, eqb-true, leb-false, ltb
 use Rattle.vocabulary.specs.declared.endpoint.Endpoint.{Endpoint}
 use Rattle.datagram.specs.declared.datagram.Header.{Header}
 use Rattle.datagram.specs.declared.refusal.DatagramRefusal as lower
-use Rattle.datagram.specs.ByteMeanings.{bounded, datagram_of, datagram_within, guard}
-use Rattle.datagram.specs.declared.refusal.DatagramRefusal.TheVariants as readings
+use Rattle.datagram.specs.ByteMeanings.{datagram_of, guard}
+use Rattle.datagram.proofs.InJob.{InJob, in_job}
 use Rattle.datagram.specs.Spellings.{body_is_within}
-use Rattle.vocabulary.specs.MessageLimits.{limit_of}
 use Rattle.datagram.specs.Spellings.{AckBody, BodyText, DatagramText, FrameBody, FrameText, ResetBody}
 use Rattle.incarnation.specs.declared.judgement.Judgement.{Judgement}
 use Rattle.incarnation.specs.declared.judgement.Judgement.TheVariants.{Current, Learn}
@@ -95,25 +94,28 @@ is_coming n r number bytes sessions datagrams links current true_now there =
           (record { place = number; there = there ∙ ap (λ (x : ℕ). Some (x, bytes)) (sym told.to) });
     }
 
--- a datagram that was read, where it is within the limit
-abbrev pub within_or_not : Bool → DatagramText → Result DatagramText lower.DatagramRefusal
-within_or_not test d = guard test readings.BadFrame (Ok d)
+-- a datagram that was read, where it is within the limit, and else this refusal
+abbrev pub within_or_not : Bool → lower.DatagramRefusal → DatagramText → Result DatagramText lower.DatagramRefusal
+within_or_not test why d = guard test why (Ok d)
 
--- what is heard in bytes that are read so: it depends on whether they speak of a message above the limit
-pub heard_read : (old : SessionsState) (bytes : List ℕ) (d : DatagramText) → datagram_of bytes ≡ Ok d
-    → heard_of old bytes ≡
-    heard_in old (within_or_not (body_is_within (limit_of old.place.message_limit) d.body) d) bytes
-unfolding heard_of datagram_within
+-- what is heard in bytes that are read so: it depends on whether they are within the job's limit
+pub record IsHeardIn (old : SessionsState) (bytes : List ℕ) (d : DatagramText) : Type 0 where
+  pub why : lower.DatagramRefusal
+  pub is : heard_of old bytes ≡ heard_in old (within_or_not (body_is_within old.place.message_limit d.body) why d) bytes
+
+pub heard_read : (old : SessionsState) (bytes : List ℕ) (d : DatagramText) → datagram_of bytes ≡ Ok d →
+    IsHeardIn old bytes d
+unfolding heard_of
 heard_read old bytes d is =
-    ap (λ (r : Result DatagramText lower.DatagramRefusal).
-    heard_in old (bounded (limit_of old.place.message_limit) r) bytes) is
+    let j : InJob old.place.message_limit bytes d = in_job old.place.message_limit bytes d is in
+    record { why = j.0; is = ap (λ (r : Result DatagramText lower.DatagramRefusal). heard_in old r bytes) j.1 }
 
 -- where anything is heard, it is by what they say
-pub heard_within : (old : SessionsState) (bytes : List ℕ) (d : DatagramText) (h : HeardText) (test : Bool) →
-    heard_in old (within_or_not test d) bytes ≡ Ok h →
+pub heard_within : (old : SessionsState) (bytes : List ℕ) (d : DatagramText) (h : HeardText)
+    (why : lower.DatagramRefusal) (test : Bool) → heard_in old (within_or_not test why d) bytes ≡ Ok h →
     heard_by (judgement (knowledge old) d.header) old d bytes ≡ Ok h
-heard_within old bytes d h true is = is
-heard_within old bytes d h false is = absurd cc
+heard_within old bytes d h why true is = is
+heard_within old bytes d h why false is = absurd cc
 
 -- ---- what the link makes of it
 
@@ -321,11 +323,13 @@ is_clear n r sessions datagrams links current old h true_now stands f =
     header : Header
     header = header_to (place_of n s) c.target c.says.number
 
+    read : IsHeardIn old f.bytes (word n s c.target c.says.number c.says.body)
+    read = heard_read old f.bytes (word n s c.target c.says.number c.says.body) c.says.read
+
     i : IsSaid old s c.target c.says.number c.says.body f.bytes h
     i = judged_says n old s c.target c.says.number c.says.body f.bytes h (judgement (knowledge old) header) refl
-        (heard_within old f.bytes (word n s c.target c.says.number c.says.body) h
-        (body_is_within (limit_of old.place.message_limit) c.says.body)
-        (sym (heard_read old f.bytes (word n s c.target c.says.number c.says.body) c.says.read) ∙ f.hears))
+        (heard_within old f.bytes (word n s c.target c.says.number c.says.body) h read.why
+        (body_is_within old.place.message_limit c.says.body) (sym read.is ∙ f.hears))
 
     tells : SessionsTell n current r old links
     tells = true_now.tells r old stands.there

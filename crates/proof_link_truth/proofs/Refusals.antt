@@ -25,8 +25,8 @@ use Rattle.link_truth.specs.Truth.{AreTrue}
 use Rattle.link_truth.specs.Wire.{at}
 use Rattle.datagram.specs.Spellings.{body_is_within}
 use Rattle.sessions.specs.HeardBytes.{heard_in}
-use Rattle.vocabulary.specs.MessageLimits.{limit_of}
-use Rattle.proof_link_truth.proofs.Datagrams.{IsComing, heard_read, is_coming, within_or_not}
+use Rattle.datagram.specs.declared.refusal.DatagramRefusal as lower
+use Rattle.proof_link_truth.proofs.Datagrams.{IsComing, IsHeardIn, heard_read, is_coming, within_or_not}
 use Rattle.proof_link_truth.proofs.WordLaws.{stays}
 use Rattle.proof_link_truth.proofs.Lists.{false_sym}
 use Rattle.proof_link_truth.proofs.Senders.{AreBegun, is_told}
@@ -85,12 +85,12 @@ judged_back n old s d q b bytes u (Ok (Learn i)) is =
     said_back s true (word_of (session_met true (peer_at old.peers s.rank)) q b bytes) u is
 judged_back n old s d q b bytes u (Err e) is = unmeant_back e s b u is
 
--- bytes that speak of a message above the limit are refused with no reset
-limit_back : (s : Endpoint) (old : SessionsState) (bytes : List ℕ) (d : DatagramText) (u : Unheard) (test : Bool) →
-    heard_in old (within_or_not test d) bytes ≡ Err u →
+-- bytes that aren't within the job's limit are refused with no reset
+limit_back : (s : Endpoint) (old : SessionsState) (bytes : List ℕ) (d : DatagramText) (u : Unheard)
+    (why : lower.DatagramRefusal) (test : Bool) → heard_in old (within_or_not test why d) bytes ≡ Err u →
     (heard_by (judgement (knowledge old) d.header) old d bytes ≡ Err u → IsBack s u.reset) → IsBack s u.reset
-limit_back s old bytes d u true is rest = rest is
-limit_back s old bytes d u false is rest = subst (λ (x : Unheard). IsBack s x.reset) (same_unheard _ u is) tt
+limit_back s old bytes d u why true is rest = rest is
+limit_back s old bytes d u why false is rest = subst (λ (x : Unheard). IsBack s x.reset) (same_unheard _ u is) tt
 
 -- ---- it leaves the links true
 
@@ -152,9 +152,10 @@ refusals_are_true n r number bytes sessions datagrams links current old new unhe
     gives =
     let c : IsComing n r datagrams links current bytes = is_coming n r number bytes sessions datagrams links current true_now there in
     let text : DatagramText = word n c.source c.target c.says.number c.says.body in
+    let read : IsHeardIn old bytes text = heard_read old bytes text c.says.read in
     turned_away n r sessions datagrams links current old c.source c.target true_now stands c.begun c.to unheard.reset
     unheard.refused why new
-    (limit_back c.source old bytes text unheard (body_is_within (limit_of old.place.message_limit) c.says.body)
-    (sym (heard_read old bytes text c.says.read) ∙ hears)
+    (limit_back c.source old bytes text unheard read.why (body_is_within old.place.message_limit c.says.body)
+    (sym read.is ∙ hears)
     (judged_back n old c.source c.target c.says.number c.says.body bytes unheard
     (judgement (knowledge old) text.header))) gives

@@ -25,7 +25,6 @@ use Rattle.proof_pure_network.specs.Core.{Core, new_core}
 use Rattle.proof_pure_network.specs.Network.{here}
 use Rattle.proof_session_carrying.specs.Announcements.{announcements_in}
 use Rattle.sessions.specs.SessionsState.{SessionsState}
-use Rattle.vocabulary.specs.MessageLimits.{limit_of}
 use Rattle.vocabulary.specs.declared.endpoint.Endpoint.{Endpoint}
 use Rattle.vocabulary.specs.declared.message_limit.MessageLimit.{MessageLimit}
 use Rattle.proof_network_bridge.specs.EventLaws.{next_place}
@@ -46,16 +45,16 @@ record IsNew (sessions : Sessions) (own : Endpoint) (e : EngineState) (core : Co
   clean : IsClean e
   kept : e.payloads ≡ payloads.opening
 
-new_is : OpeningIsShown → OpeningsAreShown → (l : MessageLimit) (n limit : ℕ) (own : Endpoint) (sessions : Sessions) →
-    own.rank < n →
+new_is : OpeningIsShown → OpeningsAreShown → (l : MessageLimit) (n : ℕ) (limit : MessageLimit) (own : Endpoint)
+    (sessions : Sessions) → l ≡ limit → own.rank < n →
     ((serial : ℕ) (d : Endpoint) → (announcements_in serial sessions own).to d ≡ []) →
     IsNew sessions own (opening (in_job l (place_of n own))) (new_core limit own)
     ((new_group_network n limit).member own)
-new_is shows groups_show l n limit own sessions within none =
+new_is shows groups_show l n limit own sessions same within none =
     record {
       held = λ serial. record {
         queues =
-            shows (in_job l (place_of n own)) limit (announcements_in serial sessions own) within (none serial);
+            shows (in_job l (place_of n own)) limit (announcements_in serial sessions own) same within (none serial);
         groups =
             groups_show n limit own;
         placed = refl;
@@ -89,17 +88,17 @@ opening_halves l n a (suc k) =
 abbrev no_sessions : Sessions
 no_sessions s d = record { accepted = []; handed = 0 }
 
-opening_is : OpeningIsShown → OpeningsAreShown → (l : MessageLimit) (n limit r : ℕ) (e : EngineState) →
+opening_is : OpeningIsShown → OpeningsAreShown → (l : MessageLimit) (n r : ℕ) (e : EngineState) →
     slice_get (opening_engines l n 0 n) r ≡
     Some e →
-    IsNew no_sessions (at r 0) e (new_core limit (at r 0)) ((new_group_network n limit).member (at r 0))
-opening_is shows groups_show l n limit r e is =
+    IsNew no_sessions (at r 0) e (new_core l (at r 0)) ((new_group_network n l).member (at r 0))
+opening_is shows groups_show l n r e is =
     let start : 0 + r ≡ r = omega arith in
     let found = opening_at l n 0 n r e is in
     let here_is : e ≡ opening (in_job l (place_of n (at r 0))) = found.1 ∙ ap (λ (x : ℕ). opening (in_job l (place_of n (at x 0)))) start in
-    subst (λ (g : EngineState). IsNew no_sessions (at r 0) g (new_core limit (at r 0))
-    ((new_group_network n limit).member (at r 0))) (sym here_is)
-    (new_is shows groups_show l n limit (at r 0) no_sessions found.0 (λ serial d. refl))
+    subst (λ (g : EngineState). IsNew no_sessions (at r 0) g (new_core l (at r 0))
+    ((new_group_network n l).member (at r 0))) (sym here_is)
+    (new_is shows groups_show l n l (at r 0) no_sessions refl found.0 (λ serial d. refl))
 
 pub opening_follows : OpeningIsShown → OpeningsAreShown → NewSessionsArePart → OpeningIsTrue → OpeningFollowsNone
 opening_follows shows groups_show parts truth l n few =
@@ -108,26 +107,26 @@ opening_follows shows groups_show parts truth l n few =
       joined = record {
         texts = no_links;
         links = subst
-            (λ (ss : List SessionsState). AreTrue n ss [] no_links (new_group_network n (limit_of l)).net.current)
+            (λ (ss : List SessionsState). AreTrue n ss [] no_links (new_group_network n l).net.current)
             (sym (opening_halves l n 0 n)) (truth l n few);
         sessions = no_sessions;
         said = λ s d. [];
         between = record {
-          parts = parts n (limit_of l);
+          parts = parts n l;
           alike = λ s d. record { accepted = tt; handed = refl };
           brought =
               λ s d. tt;
         };
-        held = λ r e is. held_by (new_group_network n (limit_of l)) no_sessions r e
-            (opening_is shows groups_show l n (limit_of l) r e is).held;
-        clean = λ r e is. (opening_is shows groups_show l n (limit_of l) r e is).clean;
+        held = λ r e is. held_by (new_group_network n l) no_sessions r e
+            (opening_is shows groups_show l n r e is).held;
+        clean = λ r e is. (opening_is shows groups_show l n r e is).clean;
         payloads =
-            λ r e is. none_kept no_sessions (λ s d. []) (here (new_group_network n (limit_of l)).net r)
+            λ r e is. none_kept l no_sessions (λ s d. []) (here (new_group_network n l).net r)
             e.sessions.known e.payloads
-            (opening_is shows groups_show l n (limit_of l) r e is).kept;
+            (opening_is shows groups_show l n r e is).kept;
         limits = λ r e is.
             let at_start = opening_at l n 0 n r e is in
-            ap (λ (g : EngineState). limit_of g.sessions.place.message_limit) at_start.1;
+            ap (λ (g : EngineState). g.sessions.place.message_limit) at_start.1;
         unborn = λ d later. refl;
       };
       seen = refl;
@@ -167,7 +166,7 @@ joined_anew : (n r : ℕ) (engines : List EngineState) (datagrams : List (ℕ ×
     AreTrue n (sessions_in (slice_set engines r new)) datagrams j.texts (anew w r).net.current →
     IsNew j.sessions (next_of w r) new (new_core w.net.message_limit (next_of w r))
     ((new_group_network n w.net.message_limit).member (next_of w r)) →
-    limit_of new.sessions.place.message_limit ≡ w.net.message_limit →
+    new.sessions.place.message_limit ≡ w.net.message_limit →
     IsJoined n (slice_set engines r new) datagrams (anew w r)
 joined_anew n r engines datagrams w new j members truth is_new limited =
     record {
@@ -182,13 +181,14 @@ joined_anew n r engines datagrams w new j members truth is_new limited =
         | inr p ↦ j.clean x e p.1
       ];
       payloads = λ x e is. elim (set_cases engines r new x e is) [
-        | inl p ↦ none_kept j.sessions j.said (here (anew w r).net x) e.sessions.known e.payloads
+        | inl p ↦ none_kept w.net.message_limit j.sessions j.said (here (anew w r).net x) e.sessions.known e.payloads
             (ap (λ (g : EngineState). g.payloads) p.1 ∙ is_new.kept)
-        | inr p ↦ subst (λ (i : ℕ). ArePayloads j.sessions j.said (at x i) e.sessions.known e.payloads)
+        | inr p ↦ subst (λ (i : ℕ). ArePayloads w.net.message_limit j.sessions j.said (at x i) e.sessions.known
+            e.payloads)
             (sym (with_old w.net.current r (suc (w.net.current r)) x (ne_eqb x r p.0))) (j.payloads x e p.1)
       ];
       limits = λ x e is. elim (set_cases engines r new x e is) [
-        | inl p ↦ ap (λ (g : EngineState). limit_of g.sessions.place.message_limit) p.1 ∙ limited
+        | inl p ↦ ap (λ (g : EngineState). g.sessions.place.message_limit) p.1 ∙ limited
         | inr p ↦ j.limits x e p.1
       ];
       unborn = λ d later.
@@ -231,7 +231,7 @@ restarted_at shows groups_show truth n r engines datagrams w old members j there
     (truth n r (sessions_in engines) datagrams j.texts w.net.current old.sessions j.links
     (sessions_there engines r old there) few))
     (new_is shows groups_show old.sessions.place.message_limit n w.net.message_limit (next_of w r) j.sessions
-    (place_is n r engines datagrams w old j there).0
+    (j.limits r old there) (place_is n r engines datagrams w old j there).0
     (λ serial d. none_announced n engines datagrams w j serial (next_of w r) d
     (j.links.none_accepted (next_of w r) d (omega arith))))
     (j.limits r old there)

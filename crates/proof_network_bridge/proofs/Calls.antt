@@ -21,9 +21,11 @@ use Rattle.proof_network_bridge.specs.GoingOn.{CallsFollowOn, LeavesFollowedOn}
 use Rattle.proof_network_bridge.specs.WorldViews.{IsFollowed}
 use Rattle.observation.specs.EngineCalls.{told_call, told_completion}
 use Rattle.vocabulary.specs.declared.envelope.Status.{Status}
+use Rattle.vocabulary.specs.declared.message_limit.MessageLimit.{MessageLimit}
 
 -- what a call leaves that was answered so
-abbrev pub LeavesCalled : (n limit : ℕ) → (before : List Happening) → List EngineState → List (ℕ × List ℕ) →
+abbrev pub LeavesCalled : (n : ℕ) (limit : MessageLimit) → (before : List Happening) → List EngineState →
+    List (ℕ × List ℕ) →
     (r : ℕ) → List Entry → (old mid : EngineState) → Call → Reply → Type 0
 LeavesCalled n limit before engines datagrams r history old mid call reply =
     LeavesFollowedOn n limit before engines datagrams r mid

@@ -14,6 +14,7 @@ use Rattle.collective_messages.specs.declared.entry.Entry.{Entry}
 use Rattle.collective_messages.specs.declared.message.CollectiveMessage.{CollectiveMessage}
 use Rattle.collective_messages.specs.declared.refusal.CollectiveRefusal as notes
 use Rattle.rendezvous.specs.PayloadState as payloads
+use Rattle.rendezvous.specs.PayloadState.{after_announcing}
 use Rattle.collectives.specs.Calls.{context_of, entry_fault, inside_of, limit_at, or_limit}
 use Rattle.collectives.specs.State.{State, members_incarnation}
 use Rattle.collective_steps.specs.Steps.{ranks_at, ranks_of}
@@ -28,7 +29,7 @@ use Rattle.datagram.specs.Spellings.{FrameText}
 use Rattle.engine_calls.specs.Calls.{reply_on_entry}
 use Rattle.engine_calls.specs.EngineState.{EngineState, completion_by, completion_of, member_of}
 use Rattle.engine_calls.specs.Faults.{broken, entry_rules, fault_of, is_busy}
-use Rattle.engine_calls.specs.Frames.{all_can_go, step_sendings}
+use Rattle.engine_calls.specs.Frames.{all_can_go, step_payloads, step_sendings}
 use Rattle.engine_calls.specs.Refusals.{of_entry_rule}
 use Rattle.engine_calls.specs.declared.call.Call.TheVariants as calls
 use Rattle.engine_calls.specs.declared.reply.Reply.{Reply}
@@ -57,6 +58,7 @@ use Rattle.rendezvous.specs.declared.transfers.Numbers.{Numbers}
 use Rattle.requests.specs.declared.answer.Answer.{Answer}
 use Rattle.sessions.specs.SessionsState.{SessionsState}
 use Rattle.vocabulary.specs.declared.endpoint.Endpoint.{Endpoint}
+use Rattle.vocabulary.specs.declared.message_limit.MessageLimit.{MessageLimit}
 use Rattle.proof_network_bridge.specs.GoingOn.{LeavesFollowedOn}
 use Rattle.proof_network_bridge.specs.WorldViews.{IsClean, network_after}
 use Rattle.observation.specs.Sessions.{sessions_in}
@@ -153,11 +155,11 @@ no_entry_fault old place x allowed =
     free : b ≡ false
     free = ap (λ (t : Bool). t || is_within (membership_of s h).present) allowed.free ∙ allowed.outside
 
-    judged : fault_by (limit_of old.sessions.place.message_limit) b no_requests s.own (known_by old.sessions.known)
+    judged : fault_by old.sessions.place.message_limit b no_requests s.own (known_by old.sessions.known)
         (membership_of s h)
         (Enter (Some place) (call_of x)) ≡ None
     judged =
-        entry_judged (limit_of old.sessions.place.message_limit) b s h (known_by old.sessions.known) (Some place) x
+        entry_judged old.sessions.place.message_limit b s h (known_by old.sessions.known) (Some place) x
         ∙ no_fault b (is_none (held_at (membership_of s h) (Some place)))
         (option_map number_of_rule
         (rule_in (limit_of old.sessions.place.message_limit) s.own (held_in h (Some place)) x))
@@ -166,7 +168,7 @@ no_entry_fault old place x allowed =
 
     allows : Allows s h (Some place) x
     allows =
-        entries_allowed (limit_of old.sessions.place.message_limit) s h (is_some old.core.blocked)
+        entries_allowed old.sessions.place.message_limit s h (is_some old.core.blocked)
         (known_by old.sessions.known) (Some place) x
         (ap (λ (o : Option ℕ). or_limited o (limit_in s h (Some place) x)) judged ∙
         ap (λ (t : Bool). or_limited None t) allowed.unlimited)
@@ -278,42 +280,53 @@ entries_follow ranks carried truth n r engines datagrams history old mid comm x 
         few : (n : ℕ) → n ≤ 1024 → n ≤ 65536
         few n le = omega (arith, le)
 
+    -- the engine's limit, which is the network's
+    l : MessageLimit
+    l = old.sessions.place.message_limit
+
+    limited : l ≡ w.net.message_limit
+    limited = f.joined.limits r old there
+
     ns : List Numbers
     ns = old.core.transfers.numbers
 
     gone : List (Endpoint × FrameText)
-    gone = texts_gone old.sessions.known ns sent
+    gone = texts_gone l old.sessions.known ns sent
 
     goes_to : GoTo (IsKnown old.sessions.known) sent
     goes_to = prepared_go (IsKnown old.sessions.known) s.own s.own (inside_of s h place x) h s.kept entered.step
         (members_known old place x allowed) refl entered.enters.0
 
-    brought : Bring sent gone
-    brought = bring old.sessions.known ns sent entered.whole goes_to
+    brought : Bring w.net.message_limit sent gone
+    brought = subst (λ (limit : MessageLimit). Bring limit sent gone) limited
+        (bring l old.sessions.known ns sent entered.whole goes_to)
 
     -- what the engine holds before it sends
-    started : IsSending n e old.sessions.known (w.net.core e) f.joined.sessions f.joined.said w.notices
+    started : IsSending l n e old.sessions.known (w.net.core e) f.joined.sessions f.joined.said w.notices
         (with_numbers old.core ns) old.payloads
     started = record {
       placed = place_alike old.core.place old.sessions.place (place_of n e) (shown 0).placed stands.1;
       shown = λ serial. (shown serial).queues;
       many = λ d. as_many e d (f.joined.said e d) (w.notices e d).accepted (f.joined.between.brought e d);
-      kept = f.joined.payloads r old there;
+      kept = subst
+          (λ (limit : MessageLimit). ArePayloads limit f.joined.sessions f.joined.said e old.sessions.known
+          old.payloads)
+          (sym limited) (f.joined.payloads r old there);
     }
 
-    can : all_can_go (in_job old.core.place.message_limit (place_of n e)) ns sent ≡ true
-    can = subst (λ (p : Place). all_can_go p ns sent ≡ true) (sym (shown 0).placed ∙ started.placed)
+    can : all_can_go (in_job l (place_of n e)) ns sent ≡ true
+    can = subst (λ (p : Place). all_can_go p ns sent ≡ true) stands.1
         (meets_none old.sessions ns None sent entered.goes).can
 
-    stepped : IsStepSent n e old.sessions.known (w.net.core e) f.joined.sessions f.joined.said w.notices ns old.core
+    stepped : IsStepSent l n e old.sessions.known (w.net.core e) f.joined.sessions f.joined.said w.notices ns old.core
         old.payloads sent fo.out
     stepped =
-        step_sent n e old.sessions.known (w.net.core e) f.joined.sessions f.joined.said w.notices ns old.core
+        step_sent l n e old.sessions.known (w.net.core e) f.joined.sessions f.joined.said w.notices ns old.core
         old.payloads sent fo.out started can fo.sendable goes_to fo.said
 
     bounded : AreBounded n ns
     bounded =
-        numbers_bounded_by n e old.sessions.known (w.net.core e) f.joined.sessions f.joined.said w.notices ns old.core
+        numbers_bounded_by l n e old.sessions.known (w.net.core e) f.joined.sessions f.joined.said w.notices ns old.core
         old.payloads started
 
     leaves : LeavesTrue n (sessions_in engines) datagrams r mid.sessions (accept_all f.joined.texts e gone)
@@ -342,11 +355,15 @@ entries_follow ranks carried truth n r engines datagrams history old mid comm x 
       placed = ap (λ (c : CoreState). c.place) entered.core ∙ ((shown 0).placed ∙ sym keeps.place);
     }
 
-    kept : ArePayloads sessions (say_all f.joined.said e sent) e mid.sessions.known mid.payloads
-    kept = subst (λ (known : List ℕ). ArePayloads sessions (say_all f.joined.said e sent) e known mid.payloads)
+    kept : ArePayloads w.net.message_limit sessions (say_all f.joined.said e sent) e mid.sessions.known mid.payloads
+    kept = subst (λ (known : List ℕ). ArePayloads w.net.message_limit sessions (say_all f.joined.said e sent) e known
+        mid.payloads)
         (sym keeps.known)
-        (subst (λ (p : payloads.State). ArePayloads sessions (say_all f.joined.said e sent) e old.sessions.known p)
-        (sym entered.payloads) stepped.after.kept)
+        (subst (λ (p : payloads.State). ArePayloads w.net.message_limit sessions (say_all f.joined.said e sent) e
+        old.sessions.known p)
+        (sym entered.payloads)
+        (subst (λ (limit : MessageLimit). ArePayloads limit sessions (say_all f.joined.said e sent) e old.sessions.known
+        (after_announcing old.payloads (step_payloads l ns sent))) limited stepped.after.kept))
 
     told : told_of e (Some (Enter (Some place) (call_of x), None)) (ready_by (option_map ending_is entered.ending) None)
         ≡ told_call old.sessions.place.endpoint (calls.Enter comm x) (Some reply) ++

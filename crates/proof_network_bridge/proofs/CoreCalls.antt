@@ -1,5 +1,5 @@
 -- A world of engines follows the pure network through its calls of point to point, and those on requests.
-use Rattle.std.proofs.Common.{◌≡◌, ℕ, ◌<◌, List, [], ◌∷◌, ◌++◌, Option, Some, None, map, option_map, refl, sym, ap}
+use Rattle.std.proofs.Common.{◌≡◌, ℕ, ◌<◌, List, [], ◌∷◌, ◌++◌, Option, Some, None, option_map, refl, sym, ap}
 use Rattle.std.proofs.Common.{subst, ◌∙◌, append-nil, arith}
 use Rattle.std.specs.List.{AllByRecursion}
 use Rattle.std.proofs.lemmas.Option.{same_Some}
@@ -45,7 +45,7 @@ use Rattle.proof_group_network.proofs.LinksOfMessages.{group_meetings_stand}
 use Rattle.proof_group_network.specs.SessionContents.{Sessions, frames_carried}
 use Rattle.proof_group_network.specs.Happenings.{IsAfter, QueueCallsHappen, reply_of}
 use Rattle.proof_group_network.specs.Network.{Ask, GroupNetwork, happens}
-use Rattle.proof_link_truth.specs.Events.{EventsAreTrue, LeavesTrue, MaySendAll, all_addressed}
+use Rattle.proof_link_truth.specs.Events.{EventsAreTrue, LeavesTrue, all_addressed}
 use Rattle.endpoint_links.specs.Links.{LinksOf}
 use Rattle.endpoint_links.specs.Links as carriers
 use Rattle.link_truth.specs.Wire.{in_job, place_of}
@@ -487,12 +487,15 @@ core_calls_follow shows truth happen carried taken n r engines datagrams history
     }
 
     -- what it keeps of payloads stays
-    kept : ArePayloads sessions f.joined.said own mid.sessions.known mid.payloads
+    kept : ArePayloads w.net.message_limit sessions f.joined.said own mid.sessions.known mid.payloads
     kept =
-        payloads_grow f.joined.sessions sessions f.joined.said f.joined.said own mid.sessions.known mid.payloads
+        payloads_grow w.net.message_limit f.joined.sessions sessions f.joined.said f.joined.said own mid.sessions.known
+        mid.payloads
         (only_out f.joined.sessions own (frames_carried out)).grow (said_same f.joined.said)
-        (subst (λ (k : List ℕ). ArePayloads f.joined.sessions f.joined.said own k mid.payloads) (sym known_is)
-        (subst (λ (p : payloads.State). ArePayloads f.joined.sessions f.joined.said own known p) (sym answer.payloads)
+        (subst (λ (k : List ℕ). ArePayloads w.net.message_limit f.joined.sessions f.joined.said own k mid.payloads)
+        (sym known_is)
+        (subst (λ (p : payloads.State). ArePayloads w.net.message_limit f.joined.sessions f.joined.said own known p)
+        (sym answer.payloads)
         (f.joined.payloads r old there)))
 
     clean : IsClean old

@@ -58,8 +58,8 @@ use Rattle.sessions.specs.HeardBytes.{
 }
 use Rattle.sessions.specs.SessionsState.{SessionsState}
 use Rattle.sessions.specs.declared.heard.Unheard.{Unheard}
-use Rattle.vocabulary.specs.MessageLimits.{limit_of}
 use Rattle.vocabulary.specs.declared.endpoint.Endpoint.{Endpoint}
+use Rattle.vocabulary.specs.declared.message_limit.MessageLimit.{MessageLimit}
 use Rattle.proof_network_bridge.specs.GoingOn.{DatagramsFollowOn, Happened, LeavesFollowedOn, Stands}
 use Rattle.proof_network_bridge.specs.WorldViews.{IsClean, IsFollowed, IsHeldBy, IsJoined, network_after}
 use Rattle.observation.specs.Sessions.{sessions_in}
@@ -159,8 +159,9 @@ same_held n r engines w s T S e t known place turns d =
           groups = m.held.groups;
           placed = m.held.placed ∙ sym place;
         };
-        limited = ap (λ (p : Place). limit_of p.message_limit) place ∙ m.limited;
-        payloads = subst (λ (ks : List ℕ). ArePayloads m.sessions m.said own ks e.payloads) (sym known) m.payloads;
+        limited = ap (λ (p : Place). p.message_limit) place ∙ m.limited;
+        payloads = subst (λ (ks : List ℕ). ArePayloads u.net.message_limit m.sessions m.said own ks e.payloads)
+            (sym known) m.payloads;
       };
     }
   where
@@ -174,7 +175,8 @@ same_held n r engines w s T S e t known place turns d =
     m = d.midway
 
 -- whatever is heard in the middle of it
-hearing : (n limit r frames : ℕ) (notices : List ℕ) (engines : List EngineState) (happenings : List Happening)
+hearing : (n : ℕ) (limit : MessageLimit) (r frames : ℕ) (notices : List ℕ) (engines : List EngineState)
+    (happenings : List Happening)
     (T : SessionsState → LinksOf FrameText → Type 0) (old : EngineState) (h : HeardText) → n ≤ 1024 →
     IsWord n r (network_after n limit happenings) h.source →
     IsReady n r engines (network_after n limit happenings).net.current
@@ -336,7 +338,8 @@ record TurnLaws : Type 0 where
 
 -- it is taken in
 turn_step : NewsAreShown → TurnLaws →
-    (n limit r place : ℕ) (engines : List EngineState) (datagrams : List (ℕ × List ℕ)) (happenings : List Happening)
+    (n : ℕ) (limit : MessageLimit) (r place : ℕ) (engines : List EngineState) (datagrams : List (ℕ × List ℕ))
+    (happenings : List Happening)
     (old e first : EngineState) (s : Endpoint) (frame : FrameText) → n ≤ 1024 →
     IsWord n r (network_after n limit happenings) s → slice_get engines r ≡ Some old →
     (d : IsDelivering n r engines (network_after n limit happenings) s
@@ -404,7 +407,7 @@ turn_out laws n r place engines datagrams w e s d =
 
 -- so it goes for as many turns as there are
 turns_follow : NewsAreShown → TurnLaws →
-    (turns n limit r place : ℕ) (engines : List EngineState) (datagrams : List (ℕ × List ℕ))
+    (turns n : ℕ) (limit : MessageLimit) (r place : ℕ) (engines : List EngineState) (datagrams : List (ℕ × List ℕ))
     (happenings : List Happening)
     (old e new : EngineState) (s : Endpoint) → n ≤ 1024 →
     IsWord n r (network_after n limit happenings) s → slice_get engines r ≡ Some old →
@@ -581,17 +584,21 @@ ends wakes n r engines datagrams history old e s f there word d =
         | inr p ↦ rest.clean x g p.0 p.1
       ];
       payloads = λ x g is.
-          subst (λ (c : ℕ → ℕ). ArePayloads m.sessions m.said (at x (c x)) g.sessions.known g.payloads) (sym current)
+          subst (λ (c : ℕ → ℕ). ArePayloads after.net.message_limit m.sessions m.said (at x (c x)) g.sessions.known
+          g.payloads) (sym current)
           (elim (set_cases engines r (emptied new) x g is) [
             | inl p ↦ subst
-                (λ (y : ℕ). ArePayloads m.sessions m.said (at y (w.net.current y)) g.sessions.known g.payloads)
+                (λ (y : ℕ). ArePayloads after.net.message_limit m.sessions m.said (at y (w.net.current y))
+                g.sessions.known g.payloads)
                 (sym p.0)
-                (subst (λ (z : EngineState). ArePayloads m.sessions m.said own z.sessions.known z.payloads)
-                (sym p.1) m.payloads)
+                (subst (λ (z : EngineState). ArePayloads after.net.message_limit m.sessions m.said own z.sessions.known
+                z.payloads) (sym p.1)
+                (subst (λ (limit : MessageLimit). ArePayloads limit m.sessions m.said own e.sessions.known e.payloads)
+                (sym a.limit_is) m.payloads))
             | inr p ↦ rest.payloads x g p.0 p.1
           ]);
       limits = λ x g is. elim (set_cases engines r (emptied new) x g is) [
-        | inl p ↦ ap (λ (z : EngineState). limit_of z.sessions.place.message_limit) p.1 ∙ m.limited ∙ sym a.limit_is
+        | inl p ↦ ap (λ (z : EngineState). z.sessions.place.message_limit) p.1 ∙ m.limited ∙ sym a.limit_is
         | inr p ↦ rest.limits x g p.0 p.1
       ];
       unborn = λ c later. rest.unborn c (subst (λ (k : ℕ → ℕ). k c.rank < c.incarnation) current later);

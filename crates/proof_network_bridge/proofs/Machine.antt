@@ -39,6 +39,7 @@ use Rattle.proof_session_carrying.specs.MessageLaws.{StillTextsAreQuiet}
 use Rattle.point_to_point_calls.specs.declared.refusal.Refusal.{Refusal}
 use Rattle.sessions.specs.SessionsState.{SessionsState}
 use Rattle.vocabulary.specs.declared.endpoint.Endpoint.{Endpoint}
+use Rattle.vocabulary.specs.declared.message_limit.MessageLimit.{MessageLimit}
 use Rattle.perfect_queues.specs.Receives as receives
 use Rattle.perfect_queues.specs.Receives.{such_receive}
 use Rattle.proof_network_bridge.specs.EventLaws.{FollowingIsRun, IsSeenOfMachine}
@@ -142,7 +143,8 @@ among_held m None a h = absurd cc
 among_held m (Some i) a h = among_at m.held i a h
 
 -- communicators that two endpoints hold after a run
-one_of : OneGroupForEachContext → (n limit : ℕ) (events : List Event) (x y : Endpoint) (a b : Communicator) → n ≤ 1024 →
+one_of : OneGroupForEachContext →
+    (n : ℕ) (limit : MessageLimit) (events : List Event) (x y : Endpoint) (a b : Communicator) → n ≤ 1024 →
     IsRun n (machine_opening n limit) events → IsReal x → IsReal y →
     IsAmong a ((after_run (machine_opening n limit) events).groups.of x).held →
     IsAmong b ((after_run (machine_opening n limit) events).groups.of y).held → a.context ≡ b.context → a ≡ b

@@ -27,9 +27,9 @@ use Rattle.point_to_point.specs.Arrivals.{after_lesson}
 use Rattle.sessions.specs.Events.{after_event, after_heard, sends_limit, taught_known}
 use Rattle.sessions.specs.HeardBytes.{HeardText}
 use Rattle.sessions.specs.SessionsState.{SessionsState}
-use Rattle.vocabulary.specs.MessageLimits.{limit_of}
 use Rattle.incarnation.specs.declared.place.Place.{Place}
 use Rattle.vocabulary.specs.declared.endpoint.Endpoint.{Endpoint}
+use Rattle.vocabulary.specs.declared.message_limit.MessageLimit.{MessageLimit}
 use Rattle.proof_network_bridge.specs.WorldViews.{IsClean, IsJoined}
 use Rattle.proof_network_bridge.specs.Payloads.{ArePayloads, SaidGrows}
 use Rattle.proof_network_bridge.proofs.RankEvents.{IsHeldUnder, held_at, held_more}
@@ -56,9 +56,9 @@ pub record AreOthers (r : ℕ) (engines : List EngineState) (current : ℕ → �
       IsHeldUnder sessions (at x (current x)) e (u.net.core (at x (current x))) (u.member (at x (current x)))
   pub clean : (x : ℕ) (e : EngineState) → (x ≡ r → ⊥) → slice_get engines x ≡ Some e → IsClean e
   pub payloads : (x : ℕ) (e : EngineState) → (x ≡ r → ⊥) → slice_get engines x ≡ Some e →
-      ArePayloads sessions said (at x (current x)) e.sessions.known e.payloads
+      ArePayloads u.net.message_limit sessions said (at x (current x)) e.sessions.known e.payloads
   pub limits : (x : ℕ) (e : EngineState) → (x ≡ r → ⊥) → slice_get engines x ≡ Some e →
-      limit_of e.sessions.place.message_limit ≡ u.net.message_limit
+      e.sessions.place.message_limit ≡ u.net.message_limit
   pub unborn : (d : Endpoint) → current d.rank < d.incarnation → u.net.core d ≡ new_core u.net.message_limit d
 
 -- so it is in a world that is joined to a network
@@ -91,12 +91,14 @@ others_after r engines current u after core messages m notices entries sessions 
           (u.member (at x (current x))) only (places_apart current x r apart) (o.held x e apart is)));
       clean = o.clean;
       payloads =
-          λ x e apart is. payloads_grow sessions later said more (at x (current x)) e.sessions.known e.payloads
-          only.grow
-          grows (o.payloads x e apart is);
+          λ x e apart is. subst
+          (λ (limit : MessageLimit). ArePayloads limit later more (at x (current x)) e.sessions.known e.payloads)
+          (sym a.limit_is)
+          (payloads_grow u.net.message_limit sessions later said more (at x (current x)) e.sessions.known e.payloads
+          only.grow grows (o.payloads x e apart is));
       limits = λ x e apart is. o.limits x e apart is ∙ sym a.limit_is;
       unborn = λ d late. a.cores d (to_come_apart current d r late) ∙ o.unborn d late ∙
-          ap (λ (limit : ℕ). new_core limit d) (sym a.limit_is);
+          ap (λ (limit : MessageLimit). new_core limit d) (sym a.limit_is);
     }
 
 -- ---- the rank at which it is delivered
@@ -118,8 +120,8 @@ pub record IsMidway (n r : ℕ) (engines : List EngineState) (current : ℕ → 
   pub others : AreOthers r engines current u sessions said
   pub completion : e.core.completion ≡ None
   pub held : IsHolding sessions (at r (current r)) e (u.net.core (at r (current r))) (u.member (at r (current r)))
-  pub limited : limit_of e.sessions.place.message_limit ≡ u.net.message_limit
-  pub payloads : ArePayloads sessions said (at r (current r)) e.sessions.known e.payloads
+  pub limited : e.sessions.place.message_limit ≡ u.net.message_limit
+  pub payloads : ArePayloads u.net.message_limit sessions said (at r (current r)) e.sessions.known e.payloads
 
 -- what the links say of the sessions at r
 pub record AreTold (n r : ℕ) (current : ℕ → ℕ) (texts : LinksOf FrameText) (sessions : SessionsState) : Type 0 where
@@ -141,8 +143,8 @@ pub record IsOpen (n r : ℕ) (engines : List EngineState) (current : ℕ → �
   pub known : slice_index e.sessions.known s.rank ≡ s.incarnation
   pub completion : e.core.completion ≡ None
   pub held : IsHolding sessions (at r (current r)) e (u.net.core (at r (current r))) (u.member (at r (current r)))
-  pub limited : limit_of e.sessions.place.message_limit ≡ u.net.message_limit
-  pub payloads : ArePayloads sessions said (at r (current r)) e.sessions.known e.payloads
+  pub limited : e.sessions.place.message_limit ≡ u.net.message_limit
+  pub payloads : ArePayloads u.net.message_limit sessions said (at r (current r)) e.sessions.known e.payloads
 
 -- the engine once it learnt the lesson of what it hears, if there is one
 abbrev pub opened : EngineState → HeardText → EngineState
@@ -208,7 +210,7 @@ pub stepped : (n r frames : ℕ) (numbers : List ℕ) (engines : List EngineStat
     AreJoined (unsettled u (here u.net r) s frames numbers) said texts sessions →
     OnlyFrom (here u.net r) o.sessions sessions → SaidGrows o.said said → T mid.sessions texts →
     IsHolding sessions (here u.net r) mid core m → mid.core.completion ≡ None →
-    ArePayloads sessions said (here u.net r) mid.sessions.known mid.payloads →
+    ArePayloads u.net.message_limit sessions said (here u.net r) mid.sessions.known mid.payloads →
     mid.sessions.place ≡ e.sessions.place →
     IsStepped n r engines u s T mid
 stepped n r frames numbers engines u s T e mid core messages m notices before said texts sessions o a between only grows
@@ -228,8 +230,10 @@ stepped n r frames numbers engines u s T e mid core messages m notices before sa
         held = subst (λ (k : Core). IsHolding sessions (here u.net r) mid k (after.member (here u.net r)))
             (sym a.core_is)
             (subst (λ (y : Member). IsHolding sessions (here u.net r) mid core y) (sym a.member_is) held);
-        limited = ap (λ (p : Place). limit_of p.message_limit) place ∙ o.limited ∙ sym a.limit_is;
-        payloads = kept;
+        limited = ap (λ (p : Place). p.message_limit) place ∙ o.limited ∙ sym a.limit_is;
+        payloads = subst
+            (λ (limit : MessageLimit). ArePayloads limit sessions said (here u.net r) mid.sessions.known mid.payloads)
+            (sym a.limit_is) kept;
       };
     }
   where

@@ -68,7 +68,7 @@ use Rattle.proof_session_carrying.specs.SessionViews.{AreBrought, IsBrought, Say
 use Rattle.proof_session_carrying.specs.SessionViews.{say_all}
 use Rattle.proof_session_carrying.specs.CarryLaws as carrying
 use Rattle.proof_session_carrying.specs.CarryLaws.{ArrivesAs}
-use Rattle.proof_session_carrying.specs.EventLaws.{AreJoined, all_carried}
+use Rattle.proof_session_carrying.specs.EventLaws.{AreJoined, Bring, all_carried}
 use Rattle.point_to_point.specs.CoreState.{CoreState, with_numbers}
 use Rattle.rendezvous.specs.declared.transfers.Numbers.{Numbers}
 use Rattle.sessions.specs.Events as below_events
@@ -77,6 +77,7 @@ use Rattle.sessions.specs.HeardBytes.{HeardText}
 use Rattle.sessions.specs.SessionsState.{SessionsState}
 use Rattle.vocabulary.specs.Endpoints.{is_same}
 use Rattle.vocabulary.specs.declared.endpoint.Endpoint.{Endpoint}
+use Rattle.vocabulary.specs.declared.message_limit.MessageLimit.{MessageLimit}
 use Rattle.proof_network_bridge.specs.Payloads.{ArePayloads}
 use Rattle.proof_network_bridge.proofs.WordsAlone.{numbers_there}
 use Rattle.proof_network_bridge.proofs.Halves.{Keeps, sends_keep}
@@ -130,13 +131,17 @@ is_of_notices : (w : GroupNetwork) (said : Saying) (texts : LinksOf FrameText) (
     IsOfNotices w sessions own s (whole_in t)
 is_of_notices w said texts sessions own s t j next plane = go next_is.carried next_is.there next_is.stands
   where
-    next_is : carrying.IsNext (all_announced sessions s own) (all_announced sessions own s) (said s own)
+    limit : MessageLimit
+    limit = w.net.message_limit
+
+    next_is : carrying.IsNext limit (all_announced sessions s own) (all_announced sessions own s) (said s own)
         (sessions s own) (EagerFrame t)
-    next_is = next_stands (all_announced sessions s own) (all_announced sessions own s) (said s own) (texts s own)
+    next_is = next_stands limit (all_announced sessions s own) (all_announced sessions own s) (said s own) (texts s own)
         (sessions s own) (EagerFrame t) (j.alike s own) next
 
     go : (x : Carried) → IsNext sessions s own x →
-        StandsForCarried (all_announced sessions s own) (all_announced sessions own s) (said s own) (EagerFrame t) x →
+        StandsForCarried limit (all_announced sessions s own) (all_announced sessions own s) (said s own) (EagerFrame t)
+        x →
         IsOfNotices w sessions own s (whole_in t)
     go (OfNotices i) at stands =
         let found = brought_at s own (said s own) (w.notices s own).accepted i stands.0 (j.brought s own) stands.1 in
@@ -268,7 +273,7 @@ pub notice_taken : (n r : ℕ) (engines : List EngineState) (u : GroupNetwork) (
     Type 0) (old mid : EngineState) (h : HeardText) (before : payloads.State) (b : FrameText) (t : Whole) →
     (x : IsHearing n r engines u T old h) → frame_in h.word ≡ Some b →
     IsOfNotices u x.opens.sessions (here u.net r) h.source t →
-    ArePayloads x.opens.sessions x.opens.said (here u.net r) (opened old h).sessions.known before →
+    ArePayloads u.net.message_limit x.opens.sessions x.opens.said (here u.net r) (opened old h).sessions.known before →
     IsNoticed old before h t mid → IsStepped n r engines u h.source T mid
 notice_taken n r engines u T old mid h before b t x is notice kept_before i =
     stepped n r 0 (number ∷ []) engines u s T e mid (met_core u r s) u.net.link follows.member
@@ -278,7 +283,8 @@ notice_taken n r engines u T old mid h before b t x is notice kept_before i =
     (notices_are_carried n u (unsettled u own s 0 (number ∷ [])) o.said x.texts o.sessions s own
     (met_core u r s) mid.groups.collective mid.groups.contexts given messages [] gone number o.between notice.there
     follows
-    (bring known ns messages i.whole goes_to) sent.numbered)
+    (subst (λ (k : MessageLimit). Bring k messages gone) o.limited (bring l known ns messages i.whole goes_to))
+    sent.numbered)
     (only_handed o.sessions s own (all_carried (noticed_on u.notices s own number) own follows.out gone)) sent.grows
     leaves
     (record {
@@ -288,7 +294,7 @@ notice_taken n r engines u T old mid h before b t x is notice kept_before i =
           (subst (λ (c : CoreState). IsShown (announcements_in serial sessions own) c mid.sessions.known
           (u.net.core own)) (sym i.core)
           (subst (λ (k : List ℕ). IsShown (announcements_in serial sessions own)
-          (with_numbers e.core (step_numbers ns messages)) k (u.net.core own)) (sym known_then)
+          (with_numbers e.core (step_numbers l ns messages)) k (u.net.core own)) (sym known_then)
           (sent.after.shown serial)));
       groups = subst
           (λ (given : Option Ending). collectives.IsShown own mid.groups.collective mid.groups.contexts follows.member
@@ -297,10 +303,13 @@ notice_taken n r engines u T old mid h before b t x is notice kept_before i =
           sym (ap (λ (y : SessionsState). y.place) i.sessions ∙ keeps.place);
     })
     (ap (λ (c : CoreState). c.completion) i.core ∙ o.completion)
-    (subst (λ (p : payloads.State). ArePayloads sessions (say_all o.said own messages) own mid.sessions.known p)
+    (subst (λ (p : payloads.State). ArePayloads u.net.message_limit sessions (say_all o.said own messages) own
+    mid.sessions.known p)
     (sym i.payloads)
-    (subst (λ (k : List ℕ). ArePayloads sessions (say_all o.said own messages) own k
-    (payloads.after_announcing before (step_payloads ns messages))) (sym known_then) sent.after.kept))
+    (subst (λ (k : List ℕ). ArePayloads u.net.message_limit sessions (say_all o.said own messages) own k
+    (payloads.after_announcing before (step_payloads l ns messages))) (sym known_then)
+    (subst (λ (limit : MessageLimit). ArePayloads limit sessions (say_all o.said own messages) own known
+    (payloads.after_announcing before (step_payloads l ns messages))) o.limited sent.after.kept)))
     (ap (λ (y : SessionsState). y.place) i.sessions ∙ keeps.place)
   where
     own : Endpoint
@@ -314,6 +323,10 @@ notice_taken n r engines u T old mid h before b t x is notice kept_before i =
 
     o : IsOpen n r engines u.net.current u x.texts s e
     o = x.opens
+
+    -- the engine's limit, which is the network's
+    l : MessageLimit
+    l = old.sessions.place.message_limit
 
     ns : List Numbers
     ns = numbers_met old.core h
@@ -370,10 +383,10 @@ notice_taken n r engines u T old mid h before b t x is notice kept_before i =
         o.held.groups.present (x.knows own) i.is_ready.3 (λ y. (o.held.queues 0).known_alike y)
 
     gone : List (Endpoint × FrameText)
-    gone = texts_gone known ns messages
+    gone = texts_gone l known ns messages
 
     -- what the engine holds before it sends
-    started : IsSending n own known (u.net.core own) (lower.handed_on o.sessions s own) o.said
+    started : IsSending l n own known (u.net.core own) (lower.handed_on o.sessions s own) o.said
         (noticed_on u.notices s own number) (with_numbers e.core ns) before
     started = record {
       placed = place_alike e.core.place e.sessions.place (place_of n own) o.held.placed o.told.place;
@@ -384,23 +397,25 @@ notice_taken n r engines u T old mid h before b t x is notice kept_before i =
           (u.net.core own)) (sym (numbers_there old.core h)) (o.held.queues serial));
       many = λ d. as_many own d (o.said own d) (u.notices own d).accepted (o.between.brought own d) ∙
           ap (λ (ys : List Notice). length ys) (same_notices u.notices s own number own d);
-      kept = payloads_grow o.sessions (lower.handed_on o.sessions s own) o.said o.said own known before
-          (only_handed o.sessions s own []).grow (said_same o.said) kept_before;
+      kept = payloads_grow l o.sessions (lower.handed_on o.sessions s own) o.said o.said own known before
+          (only_handed o.sessions s own []).grow (said_same o.said)
+          (subst (λ (limit : MessageLimit). ArePayloads limit o.sessions o.said own known before) (sym o.limited)
+          kept_before);
     }
 
-    can : all_can_go (in_job e.core.place.message_limit (place_of n own)) ns messages ≡ true
-    can = subst (λ (p : Place). all_can_go p ns messages ≡ true) (sym o.held.placed ∙ started.placed)
+    can : all_can_go (in_job l (place_of n own)) ns messages ≡ true
+    can = subst (λ (p : Place). all_can_go p ns messages ≡ true) o.told.place
         (meets_none old.sessions ns (Some h) messages i.goes).can
 
-    sent : IsStepSent n own known (u.net.core own) (lower.handed_on o.sessions s own) o.said
+    sent : IsStepSent l n own known (u.net.core own) (lower.handed_on o.sessions s own) o.said
         (noticed_on u.notices s own number) ns e.core before messages follows.out
-    sent = step_sent n own known (u.net.core own) (lower.handed_on o.sessions s own) o.said
+    sent = step_sent l n own known (u.net.core own) (lower.handed_on o.sessions s own) o.said
         (noticed_on u.notices s own number) ns e.core before messages follows.out
         started can follows.sendable goes_to follows.said
 
     bounded : AreBounded n ns
     bounded =
-        numbers_bounded_by n own known (u.net.core own) (lower.handed_on o.sessions s own) o.said
+        numbers_bounded_by l n own known (u.net.core own) (lower.handed_on o.sessions s own) o.said
         (noticed_on u.notices s own number) ns e.core before started
 
     sessions : Sessions

@@ -54,6 +54,7 @@ use Rattle.rendezvous.specs.State.{is_due, offered}
 use Rattle.rendezvous.specs.declared.offer.Offer.{Offer}
 use Rattle.vocabulary.specs.Endpoints.{is_same}
 use Rattle.vocabulary.specs.declared.endpoint.Endpoint.{Endpoint}
+use Rattle.vocabulary.specs.declared.message_limit.MessageLimit.{MessageLimit}
 use Rattle.proof_network_bridge.proofs.HeardWords.{news}
 
 -- ---- lists
@@ -208,8 +209,11 @@ is_of_messages u said texts sessions own e j stand held s b known next taken =
     back : List Announced
     back = all_announced sessions own s
 
-    next_is : carrying.IsNext out back (said s own) (sessions s own) b
-    next_is = next_stands out back (said s own) (texts s own) (sessions s own) b (j.alike s own) next
+    limit : MessageLimit
+    limit = u.net.message_limit
+
+    next_is : carrying.IsNext limit out back (said s own) (sessions s own) b
+    next_is = next_stands limit out back (said s own) (texts s own) (sessions s own) b (j.alike s own) next
 
     -- what is of collectives isn't taken
     not_collective : (p : Plane) (rest : Option Refusal) → p ≡ Collective → first_of (plane_fault p) rest ≡ None → ⊥
@@ -222,7 +226,7 @@ is_of_messages u said texts sessions own e j stand held s b known next taken =
         (collection_there e.core.transfers.collections s.rank number offset bytes
         (taken_is (is_due e.core.transfers.collections s.rank number offset bytes) h))
 
-    go : (b : FrameText) (c : Carried) → IsNext sessions s own c → StandsForCarried out back (said s own) b c →
+    go : (b : FrameText) (c : Carried) → IsNext sessions s own c → StandsForCarried limit out back (said s own) b c →
         news_fault e.core (news s false (Some b)) ≡ None → IsOfMessages sessions own s b
     go b (OfMessages x) at stands taken = record { frame = x; there = at; stands = stands }
     go (EagerFrame t) (OfNotices i) at stands taken =

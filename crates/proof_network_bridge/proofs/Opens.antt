@@ -30,6 +30,7 @@ use Rattle.point_to_point.specs.Arrivals.{after_lesson}
 use Rattle.sessions.specs.Events.{taught_known}
 use Rattle.sessions.specs.HeardBytes.{HeardText}
 use Rattle.vocabulary.specs.declared.endpoint.Endpoint.{Endpoint}
+use Rattle.vocabulary.specs.declared.message_limit.MessageLimit.{MessageLimit}
 use Rattle.proof_network_bridge.specs.Payloads.{ArePayloads}
 use Rattle.proof_network_bridge.proofs.HeardWords.{known_alike, is_from_other, news}
 use Rattle.proof_network_bridge.proofs.Midway.{AreTold, IsHolding, IsMidway, IsOpen, opened, others_after}
@@ -151,9 +152,13 @@ opens_by shows n r engines current u after texts old h meetings m told heard a g
           }));
       limited = m.limited ∙ sym a.limit_is;
       payloads =
-          subst (λ (known : List ℕ). ArePayloads m.sessions m.said own known (opened old h).payloads)
+          subst (λ (limit : MessageLimit). ArePayloads limit m.sessions m.said own (opened old h).sessions.known
+          (opened old h).payloads) (sym a.limit_is)
+          (subst (λ (known : List ℕ). ArePayloads u.net.message_limit m.sessions m.said own known
+          (opened old h).payloads)
           (sym (known_alike h.lesson old.sessions.known s))
-          (payloads_taught m.sessions m.said own old.sessions.known old.payloads s h.lesson m.payloads);
+          (payloads_taught u.net.message_limit m.sessions m.said own old.sessions.known old.payloads s h.lesson
+          m.payloads));
     }
   where
     own : Endpoint

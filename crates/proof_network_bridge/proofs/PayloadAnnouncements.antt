@@ -1,7 +1,7 @@
 -- A payload of a collective that is announced to a rank is followed: the rank asks for it, and it begins to come.
-use Rattle.std.proofs.Common.{◌≡◌, ℕ, ◌*◌, ◌<◌, List, [], ◌∷◌, ◌++◌, Some, None, Ok, length, refl, sym, subst, ◌∙◌}
-use Rattle.std.proofs.Common.{arith}
-use Rattle.std.specs.Prelude.{slice_get}
+use Rattle.std.proofs.Common.{◌≡◌, ℕ, ◌*◌, ◌<◌, Bool, true, false, List, [], ◌∷◌, ◌++◌, Some, None, Ok, length, refl}
+use Rattle.std.proofs.Common.{sym, ap, subst, ◌∙◌, arith}
+use Rattle.std.specs.Prelude.{slice_get, take}
 use Rattle.std.specs.List.{AllByRecursion}
 use Rattle.collective_messages.specs.declared.message.CollectiveMessage.{CollectiveMessage}
 use Rattle.rendezvous.specs.Payloads.{Coming}
@@ -38,15 +38,18 @@ use Rattle.proof_session_carrying.specs.SessionViews.{IsRequest, Saying, StandsF
 use Rattle.proof_session_carrying.specs.CarryLaws as carrying
 use Rattle.proof_session_carrying.specs.EventLaws.{AreJoined}
 use Rattle.point_to_point_calls.specs.FrameNews.{bad_unless}
-use Rattle.point_to_point.specs.CoreState.{with_numbers}
-use Rattle.rendezvous.specs.Pieces.{piece_bytes}
+use Rattle.incarnation.specs.declared.place.Place.{Place}
+use Rattle.point_to_point.specs.Arrivals as core
+use Rattle.point_to_point.specs.CoreState.{CoreState, with_numbers}
 use Rattle.rendezvous.specs.State.{is_next, with_announced}
 use Rattle.rendezvous.specs.declared.transfers.Numbers.{Numbers}
 use Rattle.sessions.specs.Events.{event_limit}
 use Rattle.sessions.specs.HeardBytes.{HeardText}
 use Rattle.sessions.specs.SessionsState.{SessionsState, known_endpoint}
 use Rattle.vocabulary.specs.Modes.{is_standard}
+use Rattle.vocabulary.specs.MessageLimits.{frame_limit_of}
 use Rattle.vocabulary.specs.declared.endpoint.Endpoint.{Endpoint}
+use Rattle.vocabulary.specs.declared.message_limit.MessageLimit.{MessageLimit}
 use Rattle.proof_network_bridge.specs.Payloads.{ArePayloads, IsComingPayload, IsLargeNotice}
 use Rattle.proof_network_bridge.proofs.WordsAlone.{IsAlone, alone_step, numbers_there}
 use Rattle.proof_network_bridge.proofs.Halves.{neither_fault}
@@ -60,28 +63,33 @@ use Rattle.proof_network_bridge.proofs.Worlds.{only_handed}
 
 -- The notice whose announcement the session hands up next, which the text announces: its number, the message that it
 -- is, and the number of its transfer
-record IsOfAnnouncement (said : Saying) (sessions : Sessions) (own s : Endpoint) (t : RequestText) : Type 0 where
+record IsOfAnnouncement (limit : MessageLimit) (said : Saying) (sessions : Sessions) (own s : Endpoint)
+    (t : RequestText) : Type 0 where
   number : ℕ
   message : CollectiveMessage
   there : carried_laws.IsNext sessions s own (Announces number)
   stands : slice_get (said s own) number ≡ Some message
   named : slice_get (all_announced sessions s own) t.transfer ≡ Some (LargeNotice number)
-  request : IsRequest message t
+  request : IsRequest limit message t
 
 is_of_announcement : (w : GroupNetwork) (said : Saying) (texts : LinksOf FrameText) (sessions : Sessions)
     (own s : Endpoint) (t : RequestText) → AreJoined w said texts sessions →
     slice_get (texts s own).accepted (texts s own).handed ≡ Some (RequestFrame t) → t.plane ≡ planes.Collective →
-    IsOfAnnouncement said sessions own s t
+    IsOfAnnouncement w.net.message_limit said sessions own s t
 is_of_announcement w said texts sessions own s t j next plane = go next_is.carried next_is.there next_is.stands
   where
-    next_is : carrying.IsNext (all_announced sessions s own) (all_announced sessions own s) (said s own)
+    limit : MessageLimit
+    limit = w.net.message_limit
+
+    next_is : carrying.IsNext limit (all_announced sessions s own) (all_announced sessions own s) (said s own)
         (sessions s own) (RequestFrame t)
-    next_is = next_stands (all_announced sessions s own) (all_announced sessions own s) (said s own) (texts s own)
+    next_is = next_stands limit (all_announced sessions s own) (all_announced sessions own s) (said s own) (texts s own)
         (sessions s own) (RequestFrame t) (j.alike s own) next
 
     go : (x : Carried) → carried_laws.IsNext sessions s own x →
-        StandsForCarried (all_announced sessions s own) (all_announced sessions own s) (said s own) (RequestFrame t) x →
-        IsOfAnnouncement said sessions own s t
+        StandsForCarried limit (all_announced sessions s own) (all_announced sessions own s) (said s own)
+        (RequestFrame t) x →
+        IsOfAnnouncement limit said sessions own s t
     go (Announces i) at stands =
         record {
           number = i;
@@ -107,36 +115,48 @@ one_more P [] x all one = (one, tt)
 one_more P (y ∷ ys) x all one = (all.0, one_more P ys x all.1 one)
 
 -- none of its pieces has come
-begins : (sessions : Sessions) (said : Saying) (own : Endpoint) (known : List ℕ) (h : HeardText) (t : RequestText)
+begins : (limit l : MessageLimit) (sessions : Sessions) (said : Saying) (own : Endpoint) (known : List ℕ)
+    (h : HeardText) (t : RequestText)
     (i : ℕ) (m : CollectiveMessage) → slice_get (all_announced sessions h.source own) t.transfer ≡
     Some (LargeNotice i) →
-    slice_get (said h.source own) i ≡ Some m → IsRequest m t → known_endpoint known h.source.rank ≡ h.source →
-    IsComingPayload sessions said own known (coming_by h t)
-begins sessions said own known h t i m named there request source =
+    slice_get (said h.source own) i ≡ Some m → IsRequest limit m t →
+    known_endpoint known h.source.rank ≡ h.source → l ≡ limit →
+    IsComingPayload limit sessions said own known (coming_by l h t)
+begins limit l sessions said own known h t i m named there request source limited =
     record {
+      limited = limited;
       message = m;
-      notice = subst (λ (s : Endpoint). IsLargeNotice sessions said s own t.transfer m) (sym source)
+      notice = subst (λ (s : Endpoint). IsLargeNotice limit sessions said s own t.transfer m) (sym source)
           (record { number = i; named = named; there = there; large = request.large });
       context = request.context;
       number = request.number;
       total = request.count;
       parts = 0;
       some = some;
-      bytes = refl;
+      bytes = ap (λ (k : ℕ). take k (bytes_of_message m)) none;
     }
   where
-    some : 0 * piece_bytes < length (bytes_of_message m)
+    none : 0 ≡ 0 * frame_limit_of limit
+    none = omega arith
+
+    some : 0 * frame_limit_of limit < length (bytes_of_message m)
     some = omega (arith, request.large)
 
+-- a lesson leaves a core at its place
+place_taught : (lesson : Bool) (c : CoreState) (s : Endpoint) → (core.after_lesson lesson c s).place ≡ c.place
+place_taught true c s = refl
+place_taught false c s = refl
+
 -- all that come then
-begun : (sessions : Sessions) (said : Saying) (own : Endpoint) (known : List ℕ) (p : payloads.State) (c : Coming) →
-    ArePayloads sessions said own known p → IsComingPayload sessions said own known c →
-    ArePayloads sessions said own known (payloads.after_begin p c)
-begun sessions said own known p c all one =
+begun : (limit : MessageLimit) (sessions : Sessions) (said : Saying) (own : Endpoint) (known : List ℕ)
+    (p : payloads.State) (c : Coming) →
+    ArePayloads limit sessions said own known p → IsComingPayload limit sessions said own known c →
+    ArePayloads limit sessions said own known (payloads.after_begin p c)
+begun limit sessions said own known p c all one =
     record {
       announced = all.announced;
       coming =
-          one_more (IsComingPayload sessions said own known) p.coming c all.coming one;
+          one_more (IsComingPayload limit sessions said own known) p.coming c all.coming one;
     }
 
 -- ---- an announcement
@@ -184,7 +204,7 @@ taken_step n r engines u T old h t x is plane fine =
     says : IsNext x.texts s own (RequestFrame t)
     says = hands_next n x.texts s own h.word (RequestFrame t) is x.says
 
-    a : IsOfAnnouncement o.said o.sessions own s t
+    a : IsOfAnnouncement u.net.message_limit o.said o.sessions own s t
     a = is_of_announcement u o.said x.texts o.sessions own s t o.between says.next plane
 
     source : known_endpoint known s.rank ≡ s
@@ -219,12 +239,20 @@ taken_step n r engines u T old h t x is plane fine =
     before : payloads.State
     before = payloads_met old.payloads (lesson_in h)
 
-    kept : ArePayloads sessions o.said own known (payloads.after_begin before (coming_by h t))
+    l : MessageLimit
+    l = old.core.place.message_limit
+
+    limited : l ≡ u.net.message_limit
+    limited = ap (λ (p : Place). p.message_limit) (sym (place_taught h.lesson old.core s) ∙ o.held.placed) ∙ o.limited
+
+    kept : ArePayloads u.net.message_limit sessions o.said own known (payloads.after_begin before (coming_by l h t))
     kept =
-        payloads_grow o.sessions sessions o.said o.said own known (payloads.after_begin before (coming_by h t))
+        payloads_grow u.net.message_limit o.sessions sessions o.said o.said own known
+        (payloads.after_begin before (coming_by l h t))
         (only_handed o.sessions s own ((s, Answers a.number) ∷ [])).grow (said_same o.said)
-        (begun o.sessions o.said own known before (coming_by h t) o.payloads
-        (begins o.sessions o.said own known h t a.number a.message a.named a.stands a.request source))
+        (begun u.net.message_limit o.sessions o.said own known before (coming_by l h t) o.payloads
+        (begins u.net.message_limit l o.sessions o.said own known h t a.number a.message a.named a.stands a.request
+        source limited))
 
 -- a payload of a collective that is announced to the rank is followed
 pub announcement_step : (n r : ℕ) (engines : List EngineState) (u : GroupNetwork) (T : SessionsState →

@@ -1,5 +1,5 @@
 -- An answer to a payload that a rank announced is followed: all its pieces go out.
-use Rattle.std.proofs.Common.{◌≡◌, ℕ, zero, suc, ◌+◌, ◌-◌, ◌^◌, ◌<◌, ◌≤◌, Bool, true, false, ◌==◌, List, [], ◌∷◌}
+use Rattle.std.proofs.Common.{◌≡◌, ℕ, zero, suc, ◌-◌, ◌<◌, ◌≤◌, Bool, true, false, ◌==◌, List, [], ◌∷◌}
 use Rattle.std.proofs.Common.{Option, Some, None, Ok, is_some, length, map, refl, sym, ap, subst, ◌∙◌, arith}
 use Rattle.std.specs.Prelude.{option_map, slice_get}
 use Rattle.std.specs.List.{AllByRecursion}
@@ -14,12 +14,10 @@ use Rattle.engine.specs.Datagrams.{AnswerGives, after_answered, answer_fault, da
 use Rattle.engine.specs.Datagrams.{frame_in, groups_met, is_to_collective, payloads_met, unwanted}
 use Rattle.engine_calls.specs.EngineState.{EngineState, or_before}
 use Rattle.engine_calls.specs.Refusals.{fault_of_sessions}
-use Rattle.incarnation.specs.declared.place.Place.{Place}
 use Rattle.proof_engine_steps.proofs.ListsApart.{Passes, position_passes}
 use Rattle.proof_engine_steps.proofs.Wholes.{at_place, removed}
 use Rattle.proof_engine_view.specs.Frames.{endpoint_of}
 use Rattle.proof_engine_view.specs.CoreViews.{IsShown}
-use Rattle.proof_engine_view.specs.FrameViews.{CanLeave}
 use Rattle.proof_engine_view.specs.Transfers.{Transfer}
 use Rattle.proof_group_network.specs.SessionContents.{
   Announces,
@@ -54,16 +52,17 @@ use Rattle.proof_session_carrying.specs.Announcements.{
 use Rattle.proof_session_carrying.specs.SessionViews.{Saying, StandsForCarried, bytes_of_message}
 use Rattle.proof_session_carrying.specs.CarryLaws as carrying
 use Rattle.proof_session_carrying.specs.EventLaws.{AreJoined}
-use Rattle.point_to_point_calls.specs.FrameNews.{CanGo, data_frames}
-use Rattle.point_to_point.proofs.Replies.{data_go}
+use Rattle.point_to_point_calls.specs.FrameNews.{data_frames}
 use Rattle.point_to_point.specs.CoreState.{CoreState}
 use Rattle.point_to_point.specs.Arrivals as core
-use Rattle.rendezvous.specs.Pieces.{piece_bytes, piece_count, pieces_of}
+use Rattle.rendezvous.specs.Pieces.{piece_count, pieces_of}
 use Rattle.sessions.specs.Events.{after_event, event_limit}
 use Rattle.sessions.specs.HeardBytes.{HeardText}
 use Rattle.sessions.specs.SessionsState.{SessionsState, known_endpoint}
 use Rattle.vocabulary.specs.Limits.{greatest_limit}
+use Rattle.vocabulary.specs.MessageLimits.{frame_limit_of}
 use Rattle.vocabulary.specs.declared.endpoint.Endpoint.{Endpoint}
+use Rattle.vocabulary.specs.declared.message_limit.MessageLimit.{MessageLimit}
 use Rattle.proof_network_bridge.specs.Payloads.{ArePayloads, IsAnnouncedPayload, IsLargeNotice}
 use Rattle.proof_network_bridge.proofs.WordsAlone.{IsAlone, IsSilent, alone_step}
 use Rattle.proof_network_bridge.proofs.SessionOutput.{may_send}
@@ -120,30 +119,33 @@ is_asked true p rank transfer is = absurd cc
 is_asked false p rank transfer is = record { plain = refl; kept = is_kept p rank transfer is }
 
 -- the notice of the session with the endpoint that asks for it, which the payload is
-record IsAskedFor (sessions : Sessions) (said : Saying) (own s : Endpoint) (transfer : ℕ)
+record IsAskedFor (limit : MessageLimit) (sessions : Sessions) (said : Saying) (own s : Endpoint) (transfer : ℕ)
     (bytes : List ℕ) : Type 0 where
   message : CollectiveMessage
-  notice : IsLargeNotice sessions said own s transfer message
+  notice : IsLargeNotice limit sessions said own s transfer message
   bytes_are : bytes ≡ bytes_of_message message
   short : length bytes ≤ greatest_limit
 
-is_asked_for : (sessions : Sessions) (said : Saying) (own s : Endpoint) (known : List ℕ) (p : payloads.State)
-    (transfer : ℕ) → ArePayloads sessions said own known p → (k : IsKept p s.rank transfer) →
+is_asked_for : (limit : MessageLimit) (sessions : Sessions) (said : Saying) (own s : Endpoint) (known : List ℕ)
+    (p : payloads.State)
+    (transfer : ℕ) → ArePayloads limit sessions said own known p → (k : IsKept p s.rank transfer) →
     endpoint_of known s.rank ≡ s →
-    IsAskedFor sessions said own s transfer k.payload.bytes
-is_asked_for sessions said own s known p transfer all k source =
+    IsAskedFor limit sessions said own s transfer k.payload.bytes
+is_asked_for limit sessions said own s known p transfer all k source =
     record {
       message = a.message;
-      notice = subst (λ (d : Endpoint). IsLargeNotice sessions said own d transfer a.message) source
-          (subst (λ (rank : ℕ). IsLargeNotice sessions said own (endpoint_of known rank) transfer a.message) k.target
-          (subst (λ (number : ℕ). IsLargeNotice sessions said own (endpoint_of known k.payload.target) number a.message)
+      notice = subst (λ (d : Endpoint). IsLargeNotice limit sessions said own d transfer a.message) source
+          (subst (λ (rank : ℕ). IsLargeNotice limit sessions said own (endpoint_of known rank) transfer a.message)
+          k.target
+          (subst (λ (number : ℕ). IsLargeNotice limit sessions said own (endpoint_of known k.payload.target) number
+          a.message)
           k.number a.notice));
       bytes_are = a.bytes;
       short = a.short;
     }
   where
-    a : IsAnnouncedPayload sessions said own known k.payload
-    a = at_place (IsAnnouncedPayload sessions said own known) p.announced k.place k.payload all.announced k.there
+    a : IsAnnouncedPayload limit sessions said own known k.payload
+    a = at_place (IsAnnouncedPayload limit sessions said own known) p.announced k.place k.payload all.announced k.there
 
 -- ---- what is heard
 
@@ -179,13 +181,17 @@ is_of_answer : (w : GroupNetwork) (said : Saying) (texts : LinksOf FrameText) (s
     slice_get (all_announced sessions own s) t.transfer ≡ Some (LargeNotice i) → IsNext sessions s own (Answers i)
 is_of_answer w said texts sessions own s t i j next named = go next_is.carried next_is.there next_is.stands
   where
-    next_is : carrying.IsNext (all_announced sessions s own) (all_announced sessions own s) (said s own)
+    limit : MessageLimit
+    limit = w.net.message_limit
+
+    next_is : carrying.IsNext limit (all_announced sessions s own) (all_announced sessions own s) (said s own)
         (sessions s own) (ClearFrame t)
-    next_is = next_stands (all_announced sessions s own) (all_announced sessions own s) (said s own) (texts s own)
+    next_is = next_stands limit (all_announced sessions s own) (all_announced sessions own s) (said s own) (texts s own)
         (sessions s own) (ClearFrame t) (j.alike s own) next
 
     go : (x : Carried) → IsNext sessions s own x →
-        StandsForCarried (all_announced sessions s own) (all_announced sessions own s) (said s own) (ClearFrame t) x →
+        StandsForCarried limit (all_announced sessions s own) (all_announced sessions own s) (said s own) (ClearFrame t)
+        x →
         IsNext sessions s own (Answers i)
     go (Answers k) at stands =
         subst (λ (number : ℕ). IsNext sessions s own (Answers number))
@@ -221,19 +227,21 @@ parts_silent d i part (suc more) = (λ rest. refl, parts_silent d i (suc part) m
 -- ---- what is left
 
 -- the others stay what they are
-left : (sessions : Sessions) (said : Saying) (own : Endpoint) (known : List ℕ) (p : payloads.State)
-    (rank transfer : ℕ) → ArePayloads sessions said own known p →
-    ArePayloads sessions said own known (after_answer p rank transfer)
-left sessions said own known p rank transfer all =
+left : (limit : MessageLimit) (sessions : Sessions) (said : Saying) (own : Endpoint) (known : List ℕ)
+    (p : payloads.State)
+    (rank transfer : ℕ) → ArePayloads limit sessions said own known p →
+    ArePayloads limit sessions said own known (after_answer p rank transfer)
+left limit sessions said own known p rank transfer all =
     record { announced = go (place_to rank transfer p.announced); coming = all.coming }
   where
-    go : (o : Option ℕ) → AllByRecursion (IsAnnouncedPayload sessions said own known) (without p.announced o)
+    go : (o : Option ℕ) → AllByRecursion (IsAnnouncedPayload limit sessions said own known) (without p.announced o)
     go None = all.announced
-    go (Some i) = removed (IsAnnouncedPayload sessions said own known) p.announced i all.announced
+    go (Some i) = removed (IsAnnouncedPayload limit sessions said own known) p.announced i all.announced
 
 -- beside its payloads the engine is as the word alone leaves it
 stays : (old : EngineState) (h : HeardText) (t : ClearText) (sendings : List OutgoingText) → h.lesson ≡ false →
-    data_for old.payloads h t ≡ sendings → IsAlone old (after_answered old h t) h sendings
+    data_for old.sessions.place.message_limit old.payloads h t ≡ sendings →
+    IsAlone old (after_answered old h t) h sendings
 stays old h t sendings plain are = record {
   queues = λ a known core shown. subst (λ (c : CoreState). IsShown a c known core) core_is shown;
   place = ap (λ (c : CoreState). c.place) (sym core_is);
@@ -280,13 +288,18 @@ taken_step n r engines u T old h t x is ours fine =
     asked : IsAsked h.lesson old.payloads s.rank t.transfer
     asked = is_asked h.lesson old.payloads s.rank t.transfer ours
 
-    before : ArePayloads o.sessions o.said own known old.payloads
+    before : ArePayloads u.net.message_limit o.sessions o.said own known old.payloads
     before = subst
-        (λ (lesson : Bool). ArePayloads o.sessions o.said own known (payloads_met old.payloads (taught s lesson)))
+        (λ (lesson : Bool). ArePayloads u.net.message_limit o.sessions o.said own known
+        (payloads_met old.payloads (taught s lesson)))
         asked.plain o.payloads
 
-    p : IsAskedFor o.sessions o.said own s t.transfer asked.kept.payload.bytes
-    p = is_asked_for o.sessions o.said own s known old.payloads t.transfer before asked.kept source
+    -- the job's limit
+    limit : MessageLimit
+    limit = u.net.message_limit
+
+    p : IsAskedFor limit o.sessions o.said own s t.transfer asked.kept.payload.bytes
+    p = is_asked_for limit o.sessions o.said own s known old.payloads t.transfer before asked.kept source
 
     number : ℕ
     number = p.notice.number
@@ -295,28 +308,29 @@ taken_step n r engines u T old h t x is ours fine =
     bytes = bytes_of_message p.message
 
     more : ℕ
-    more = piece_count piece_bytes bytes - 1
+    more = piece_count (frame_limit_of limit) bytes - 1
 
     sendings : List OutgoingText
-    sendings = data_sent s.rank t.transfer bytes
+    sendings = data_sent limit s.rank t.transfer bytes
 
-    sendings_are : data_for old.payloads h t ≡ sendings
-    sendings_are = ap (data_of s.rank t.transfer) asked.kept.found ∙ ap (data_sent s.rank t.transfer) p.bytes_are
+    sendings_are : data_for old.sessions.place.message_limit old.payloads h t ≡ sendings
+    sendings_are = ap (λ (l : MessageLimit). data_for l old.payloads h t) o.limited ∙
+        ap (data_of limit s.rank t.transfer) asked.kept.found ∙ ap (data_sent limit s.rank t.transfer) p.bytes_are
 
     free : fault_of_sessions (event_limit old.sessions (Some h) sendings) ≡ None
     free = subst (λ (fs : List OutgoingText). fault_of_sessions (event_limit old.sessions (Some h) fs) ≡ None)
         sendings_are
         (neither_fault (unwanted t.clearance)
-        (fault_of_sessions (event_limit old.sessions (Some h) (data_for old.payloads h t))) fine).1
+        (fault_of_sessions
+        (event_limit old.sessions (Some h) (data_for old.sessions.place.message_limit old.payloads h t))) fine).1
 
-    limit : length bytes ≤ 2147483647
-    limit = subst (λ (bs : List ℕ). length bs ≤ 2147483647) p.bytes_are p.short
+    short : length bytes ≤ 2147483647
+    short = subst (λ (bs : List ℕ). length bs ≤ 2147483647) p.bytes_are p.short
 
     may : MaySendAll n r sendings
-    may = may_send n old.sessions.place.message_limit own (data_frames s.rank t.transfer (pieces_of bytes))
-        (bytes_leave (in_job old.sessions.place.message_limit (place_of n own)) s.rank t.transfer bytes o.source
-        (eqb-false s.rank r o.apart)
-        says.carried.width.transfer limit)
+    may = may_send n limit own sendings
+        (bytes_leave (in_job limit (place_of n own)) s.rank t.transfer bytes o.source (eqb-false s.rank r o.apart)
+        says.carried.width.transfer short)
 
     next : IsNext o.sessions s own (Answers number)
     next = is_of_answer u o.said x.texts o.sessions own s t number o.between says.next p.notice.named
@@ -332,18 +346,18 @@ taken_step n r engines u T old h t x is ours fine =
         subst (λ (ts : List (Endpoint × FrameText)). AreJoined after o.said
         (accept_all (handed_on x.texts s own) own ts)
         (accept_all (handed_on o.sessions s own) own (in_parts s number more)))
-        (sym (pieces_addressed known s.rank t.transfer s source (pieces_of bytes)))
+        (sym (pieces_addressed known s.rank t.transfer s source (pieces_of (frame_limit_of limit) bytes)))
         (answers_are_carried u after o.said x.texts o.sessions s own (met_core u r s) (heard_member u r s)
         [] number t.transfer p.message o.between next p.notice.named p.notice.there some happened)
 
     sessions : Sessions
     sessions = accept_all (handed_on o.sessions s own) own (in_parts s number more)
 
-    kept : ArePayloads sessions o.said own known (after_answer old.payloads s.rank t.transfer)
+    kept : ArePayloads limit sessions o.said own known (after_answer old.payloads s.rank t.transfer)
     kept =
-        payloads_grow o.sessions sessions o.said o.said own known (after_answer old.payloads s.rank t.transfer)
+        payloads_grow limit o.sessions sessions o.said o.said own known (after_answer old.payloads s.rank t.transfer)
         (only_handed o.sessions s own (in_parts s number more)).grow (said_same o.said)
-        (left o.sessions o.said own known old.payloads s.rank t.transfer before)
+        (left limit o.sessions o.said own known old.payloads s.rank t.transfer before)
 
 -- an answer to a payload of a collective that the rank announced is followed
 pub answer_step : (n r : ℕ) (engines : List EngineState) (u : GroupNetwork) (T : SessionsState → LinksOf FrameText →

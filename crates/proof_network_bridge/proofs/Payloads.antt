@@ -16,6 +16,7 @@ use Rattle.proof_session_carrying.proofs.AnnouncementLaws.{announced_grow, begin
 use Rattle.proof_session_carrying.specs.Announcements.{LargeNotice, all_announced}
 use Rattle.proof_session_carrying.specs.SessionViews.{Saying}
 use Rattle.vocabulary.specs.declared.endpoint.Endpoint.{Endpoint}
+use Rattle.vocabulary.specs.declared.message_limit.MessageLimit.{MessageLimit}
 use Rattle.proof_network_bridge.specs.Payloads.{ArePayloads, IsAnnouncedPayload, IsComingPayload, IsLargeNotice}
 use Rattle.proof_network_bridge.specs.Payloads.{SaidGrows}
 use Rattle.proof_network_bridge.proofs.HeardWords.{taught}
@@ -25,10 +26,11 @@ abbrev pub SessionsGrow : Sessions → Sessions → Type 0
 SessionsGrow old new = (s d : Endpoint) → Begins (old s d).accepted (new s d).accepted
 
 -- a notice that was announced stays so
-pub large_grows : (old new : Sessions) (said after : Saying) (s d : Endpoint) (transfer : ℕ) (m : CollectiveMessage) →
-    SessionsGrow old new → SaidGrows said after → IsLargeNotice old said s d transfer m →
-    IsLargeNotice new after s d transfer m
-large_grows old new said after s d transfer m grow more n = record {
+pub large_grows : (limit : MessageLimit) (old new : Sessions) (said after : Saying) (s d : Endpoint) (transfer : ℕ)
+    (m : CollectiveMessage) →
+    SessionsGrow old new → SaidGrows said after → IsLargeNotice limit old said s d transfer m →
+    IsLargeNotice limit new after s d transfer m
+large_grows limit old new said after s d transfer m grow more n = record {
   number = n.number;
   named = begins_at (all_announced old s d) (all_announced new s d) transfer (LargeNotice n.number)
       (announced_grow (old s d).accepted (new s d).accepted (grow s d)) n.named;
@@ -36,30 +38,34 @@ large_grows old new said after s d transfer m grow more n = record {
   large = n.large;
 }
 
-announced_grows : (old new : Sessions) (said after : Saying) (own : Endpoint) (known : List ℕ) (ps : List Announced) →
+announced_grows : (limit : MessageLimit) (old new : Sessions) (said after : Saying) (own : Endpoint) (known : List ℕ)
+    (ps : List Announced) →
     SessionsGrow old new → SaidGrows said after →
-    AllByRecursion (IsAnnouncedPayload old said own known) ps →
-    AllByRecursion (IsAnnouncedPayload new after own known) ps
-announced_grows old new said after own known [] grow more all = tt
-announced_grows old new said after own known (a ∷ ps) grow more all = (
+    AllByRecursion (IsAnnouncedPayload limit old said own known) ps →
+    AllByRecursion (IsAnnouncedPayload limit new after own known) ps
+announced_grows limit old new said after own known [] grow more all = tt
+announced_grows limit old new said after own known (a ∷ ps) grow more all = (
   record {
     message = all.0.message;
-    notice = large_grows old new said after own (endpoint_of known a.target) a.transfer all.0.message grow more
+    notice = large_grows limit old new said after own (endpoint_of known a.target) a.transfer all.0.message grow more
         all.0.notice;
     bytes = all.0.bytes;
     short = all.0.short;
   },
-  announced_grows old new said after own known ps grow more all.1,
+  announced_grows limit old new said after own known ps grow more all.1,
 )
 
-coming_grows : (old new : Sessions) (said after : Saying) (own : Endpoint) (known : List ℕ) (cs : List Coming) →
+coming_grows : (limit : MessageLimit) (old new : Sessions) (said after : Saying) (own : Endpoint) (known : List ℕ)
+    (cs : List Coming) →
     SessionsGrow old new → SaidGrows said after →
-    AllByRecursion (IsComingPayload old said own known) cs → AllByRecursion (IsComingPayload new after own known) cs
-coming_grows old new said after own known [] grow more all = tt
-coming_grows old new said after own known (c ∷ cs) grow more all = (
+    AllByRecursion (IsComingPayload limit old said own known) cs →
+    AllByRecursion (IsComingPayload limit new after own known) cs
+coming_grows limit old new said after own known [] grow more all = tt
+coming_grows limit old new said after own known (c ∷ cs) grow more all = (
   record {
+    limited = all.0.limited;
     message = all.0.message;
-    notice = large_grows old new said after (endpoint_of known c.source) own c.transfer all.0.message grow more
+    notice = large_grows limit old new said after (endpoint_of known c.source) own c.transfer all.0.message grow more
         all.0.notice;
     context = all.0.context;
     number = all.0.number;
@@ -68,15 +74,17 @@ coming_grows old new said after own known (c ∷ cs) grow more all = (
     some = all.0.some;
     bytes = all.0.bytes;
   },
-  coming_grows old new said after own known cs grow more all.1,
+  coming_grows limit old new said after own known cs grow more all.1,
 )
 
 -- all payloads stay what they are
-pub payloads_grow : (old new : Sessions) (said after : Saying) (own : Endpoint) (known : List ℕ) (p : payloads.State) →
-    SessionsGrow old new → SaidGrows said after → ArePayloads old said own known p → ArePayloads new after own known p
-payloads_grow old new said after own known p grow more h = record {
-  announced = announced_grows old new said after own known p.announced grow more h.announced;
-  coming = coming_grows old new said after own known p.coming grow more h.coming;
+pub payloads_grow : (limit : MessageLimit) (old new : Sessions) (said after : Saying) (own : Endpoint) (known : List ℕ)
+    (p : payloads.State) →
+    SessionsGrow old new → SaidGrows said after → ArePayloads limit old said own known p →
+    ArePayloads limit new after own known p
+payloads_grow limit old new said after own known p grow more h = record {
+  announced = announced_grows limit old new said after own known p.announced grow more h.announced;
+  coming = coming_grows limit old new said after own known p.coming grow more h.coming;
 }
 
 -- nothing more was said
@@ -84,10 +92,11 @@ pub said_same : (said : Saying) → SaidGrows said said
 said_same said s d = ([], append-nil (said s d))
 
 -- where an engine keeps none
-pub none_kept : (sessions : Sessions) (said : Saying) (own : Endpoint) (known : List ℕ) (p : payloads.State) →
-    p ≡ payloads.opening → ArePayloads sessions said own known p
-none_kept sessions said own known p is =
-    subst (ArePayloads sessions said own known) (sym is) (record { announced = tt; coming = tt })
+pub none_kept : (limit : MessageLimit) (sessions : Sessions) (said : Saying) (own : Endpoint) (known : List ℕ)
+    (p : payloads.State) →
+    p ≡ payloads.opening → ArePayloads limit sessions said own known p
+none_kept limit sessions said own known p is =
+    subst (ArePayloads limit sessions said own known) (sym is) (record { announced = tt; coming = tt })
 
 -- ---- a lesson
 
@@ -112,23 +121,26 @@ other_known known r v x apart = go (x == r) refl apart
     go false h other =
         ap (λ (i : ℕ). record { rank = x; incarnation = i }) (sym (get_or-set_other known r x v 0 (eqb-false x r h)))
 
-announced_learnt : (sessions : Sessions) (said : Saying) (own : Endpoint) (known : List ℕ) (r v : ℕ) (a : Announced) →
-    not (a.target == r) ≡ true → IsAnnouncedPayload sessions said own known a →
-    IsAnnouncedPayload sessions said own (slice_set known r v) a
-announced_learnt sessions said own known r v a apart h = record {
+announced_learnt : (limit : MessageLimit) (sessions : Sessions) (said : Saying) (own : Endpoint) (known : List ℕ)
+    (r v : ℕ) (a : Announced) →
+    not (a.target == r) ≡ true → IsAnnouncedPayload limit sessions said own known a →
+    IsAnnouncedPayload limit sessions said own (slice_set known r v) a
+announced_learnt limit sessions said own known r v a apart h = record {
   message = h.message;
-  notice = subst (λ (d : Endpoint). IsLargeNotice sessions said own d a.transfer h.message)
+  notice = subst (λ (d : Endpoint). IsLargeNotice limit sessions said own d a.transfer h.message)
       (other_known known r v a.target apart) h.notice;
   bytes = h.bytes;
   short = h.short;
 }
 
-coming_learnt : (sessions : Sessions) (said : Saying) (own : Endpoint) (known : List ℕ) (r v : ℕ) (c : Coming) →
-    not (c.source == r) ≡ true → IsComingPayload sessions said own known c →
-    IsComingPayload sessions said own (slice_set known r v) c
-coming_learnt sessions said own known r v c apart h = record {
+coming_learnt : (limit : MessageLimit) (sessions : Sessions) (said : Saying) (own : Endpoint) (known : List ℕ) (r v : ℕ)
+    (c : Coming) →
+    not (c.source == r) ≡ true → IsComingPayload limit sessions said own known c →
+    IsComingPayload limit sessions said own (slice_set known r v) c
+coming_learnt limit sessions said own known r v c apart h = record {
+  limited = h.limited;
   message = h.message;
-  notice = subst (λ (s : Endpoint). IsLargeNotice sessions said s own c.transfer h.message)
+  notice = subst (λ (s : Endpoint). IsLargeNotice limit sessions said s own c.transfer h.message)
       (other_known known r v c.source apart) h.notice;
   context = h.context;
   number = h.number;
@@ -139,19 +151,24 @@ coming_learnt sessions said own known r v c apart h = record {
 }
 
 -- those that are left once a lesson, if there is one, is learnt are payloads still
-pub payloads_taught : (sessions : Sessions) (said : Saying) (own : Endpoint) (known : List ℕ) (p : payloads.State)
-    (s : Endpoint) (lesson : Bool) → ArePayloads sessions said own known p →
-    ArePayloads sessions said own (known_after lesson known s) (payloads_met p (taught s lesson))
-payloads_taught sessions said own known p s false h = h
-payloads_taught sessions said own known p s true h = record {
+pub payloads_taught : (limit : MessageLimit) (sessions : Sessions) (said : Saying) (own : Endpoint) (known : List ℕ)
+    (p : payloads.State)
+    (s : Endpoint) (lesson : Bool) → ArePayloads limit sessions said own known p →
+    ArePayloads limit sessions said own (known_after lesson known s) (payloads_met p (taught s lesson))
+payloads_taught limit sessions said own known p s false h = h
+payloads_taught limit sessions said own known p s true h = record {
   announced =
-      all_left (IsAnnouncedPayload sessions said own known)
-      (IsAnnouncedPayload sessions said own (known_after true known s)) (λ (a : Announced). not (a.target == s.rank))
+      all_left (IsAnnouncedPayload limit sessions said own known)
+      (IsAnnouncedPayload limit sessions said own (known_after true known s))
+      (λ (a : Announced). not (a.target == s.rank))
       p.announced
-      (λ a apart is. announced_learnt sessions said own known s.rank (max (slice_index known s.rank) s.incarnation) a
+      (λ a apart is. announced_learnt limit sessions said own known s.rank
+      (max (slice_index known s.rank) s.incarnation) a
       apart is) h.announced;
-  coming = all_left (IsComingPayload sessions said own known)
-      (IsComingPayload sessions said own (known_after true known s)) (λ (c : Coming). not (c.source == s.rank)) p.coming
-      (λ c apart is. coming_learnt sessions said own known s.rank (max (slice_index known s.rank) s.incarnation) c apart
+  coming = all_left (IsComingPayload limit sessions said own known)
+      (IsComingPayload limit sessions said own (known_after true known s)) (λ (c : Coming). not (c.source == s.rank))
+      p.coming
+      (λ c apart is. coming_learnt limit sessions said own known s.rank (max (slice_index known s.rank) s.incarnation) c
+      apart
       is) h.coming;
 }

@@ -57,11 +57,13 @@ use Rattle.proof_session_carrying.specs.CarryLaws as carrying
 use Rattle.proof_session_carrying.specs.EventLaws.{AreJoined}
 use Rattle.point_to_point.specs.CoreState.{CoreState}
 use Rattle.point_to_point.specs.Arrivals as core
-use Rattle.rendezvous.specs.Pieces.{piece_bytes, piece_count}
+use Rattle.rendezvous.specs.Pieces.{piece_count}
 use Rattle.sessions.specs.Events.{after_event}
 use Rattle.sessions.specs.HeardBytes.{HeardText}
 use Rattle.sessions.specs.SessionsState.{SessionsState}
+use Rattle.vocabulary.specs.MessageLimits.{frame_limit_of}
 use Rattle.vocabulary.specs.declared.endpoint.Endpoint.{Endpoint}
+use Rattle.vocabulary.specs.declared.message_limit.MessageLimit.{MessageLimit}
 use Rattle.proof_network_bridge.specs.Payloads.{ArePayloads, IsComingPayload, IsLargeNotice}
 use Rattle.proof_network_bridge.proofs.HeardWords.{taught}
 use Rattle.proof_network_bridge.proofs.Midway.{IsHearing, IsOpen, IsStepped, opened, stepped}
@@ -71,19 +73,20 @@ use Rattle.proof_network_bridge.proofs.Opens.{taught_nothing}
 use Rattle.proof_network_bridge.proofs.Payloads.{payloads_grow, said_same}
 use Rattle.proof_network_bridge.proofs.Pieces.{IsComing, all_there, coming_then, due_place, grows_by, is_coming}
 use Rattle.proof_network_bridge.proofs.Pieces.{length_of_pieces, more_behind, one_of_all, out_more, out_whole, put_more}
-use Rattle.proof_network_bridge.proofs.Pieces.{put_whole, whole_is}
+use Rattle.proof_network_bridge.proofs.Pieces.{put_whole, some_bytes, whole_is}
 use Rattle.proof_network_bridge.proofs.Words.{hands_next, hands_on}
 use Rattle.proof_network_bridge.proofs.Worlds.{only_handed}
 
 -- ---- what the session hands up next
 
 -- a piece that isn't the last one: the payload goes on with it
-record IsPart (sessions : Sessions) (said : Saying) (own s : Endpoint) (known : List ℕ) (c : Coming) : Type 0 where
+record IsPart (limit : MessageLimit) (sessions : Sessions) (said : Saying) (own s : Endpoint) (known : List ℕ)
+    (c : Coming) : Type 0 where
   number : ℕ
   part : ℕ
   there : IsNext sessions s own (BringsPart number part)
   more : is_whole c ≡ false
-  goes_on : IsComingPayload sessions said own known c
+  goes_on : IsComingPayload limit sessions said own known c
 
 -- or the last one: with it the payload is a notice's message
 record IsLast (w : GroupNetwork) (sessions : Sessions) (own s : Endpoint) (c : Coming) : Type 0 where
@@ -124,12 +127,19 @@ no_message out back t f i named stands =
 next_piece : (w : GroupNetwork) (said : Saying) (texts : LinksOf FrameText) (sessions : Sessions) (own s : Endpoint)
     (known : List ℕ) (c : Coming) (t : DataText) → AreJoined w said texts sessions →
     slice_get (texts s own).accepted (texts s own).handed ≡ Some (DataFrame t) →
-    IsComingPayload sessions said own known c → endpoint_of known c.source ≡ s → c.transfer ≡ t.transfer →
-    t.offset ≡ length c.bytes →
-    IsPart sessions said own s known (with_piece c t.bytes) ⊎ IsLast w sessions own s (with_piece c t.bytes)
+    IsComingPayload w.net.message_limit sessions said own known c → endpoint_of known c.source ≡ s →
+    c.transfer ≡ t.transfer → t.offset ≡ length c.bytes →
+    IsPart w.net.message_limit sessions said own s known (with_piece c t.bytes) ⊎ IsLast w sessions own s
+    (with_piece c t.bytes)
 next_piece w said texts sessions own s known c t j next p source_is transfer_is behind =
     go next_is.carried next_is.there next_is.stands
   where
+    limit : MessageLimit
+    limit = w.net.message_limit
+
+    size : ℕ
+    size = frame_limit_of limit
+
     out : List Announced
     out = all_announced sessions s own
 
@@ -139,30 +149,32 @@ next_piece w said texts sessions own s known c t j next p source_is transfer_is 
     bytes : List ℕ
     bytes = bytes_of_message p.message
 
-    next_is : carrying.IsNext out back (said s own) (sessions s own) (DataFrame t)
-    next_is = next_stands out back (said s own) (texts s own) (sessions s own) (DataFrame t) (j.alike s own) next
+    next_is : carrying.IsNext limit out back (said s own) (sessions s own) (DataFrame t)
+    next_is = next_stands limit out back (said s own) (texts s own) (sessions s own) (DataFrame t) (j.alike s own) next
 
-    large : IsLargeNotice sessions said s own t.transfer p.message
-    large = subst (λ (k : ℕ). IsLargeNotice sessions said s own k p.message) transfer_is
-        (subst (λ (e : Endpoint). IsLargeNotice sessions said e own c.transfer p.message) source_is p.notice)
+    large : IsLargeNotice limit sessions said s own t.transfer p.message
+    large = subst (λ (k : ℕ). IsLargeNotice limit sessions said s own k p.message) transfer_is
+        (subst (λ (e : Endpoint). IsLargeNotice limit sessions said e own c.transfer p.message) source_is p.notice)
 
     -- a piece with this number is one of the payload's message
-    same_message : (i part : ℕ) (m : CollectiveMessage) → slice_get (said s own) i ≡ Some m → IsPiece out i part m t →
+    same_message : (i part : ℕ) (m : CollectiveMessage) → slice_get (said s own) i ≡ Some m →
+        IsPiece limit out i part m t →
         m ≡ p.message
     same_message i part m there piece =
         let number_is : i ≡ large.number = ap number_of (same_Some (LargeNotice i) (LargeNotice large.number) (sym piece.announced ∙ large.named)) in
         same_Some m p.message (sym there ∙ ap (λ (k : ℕ). slice_get (said s own) k) number_is ∙ large.there)
 
     -- and the next one of it
-    grown : (i part : ℕ) → IsPiece out i part p.message t → c.bytes ++ t.bytes ≡ take (suc part * piece_bytes) bytes
+    grown : (i part : ℕ) → IsPiece limit out i part p.message t → c.bytes ++ t.bytes ≡ take (suc part * size) bytes
     grown i part piece =
-        grows_by bytes c.bytes t.bytes p.parts part t.offset p.bytes p.some behind piece.place piece.bytes
+        grows_by size bytes c.bytes t.bytes p.parts part t.offset (some_bytes limit) p.bytes p.some behind piece.place
+        piece.bytes
 
-    as_part : (i part : ℕ) → IsNext sessions s own (BringsPart i part) → suc part < piece_count piece_bytes bytes →
-        IsPiece out i part p.message t → IsPart sessions said own s known (with_piece c t.bytes)
+    as_part : (i part : ℕ) → IsNext sessions s own (BringsPart i part) → suc part < piece_count size bytes →
+        IsPiece limit out i part p.message t → IsPart limit sessions said own s known (with_piece c t.bytes)
     as_part i part at less piece =
-        let some : suc part * piece_bytes < length bytes = more_behind part bytes less in
-        let long : length (c.bytes ++ t.bytes) ≡ suc part * piece_bytes = ap length (grown i part piece) ∙ length_of_pieces piece_bytes (suc part) bytes (omega (arith, some)) in
+        let some : suc part * size < length bytes = more_behind size part bytes (some_bytes limit) less in
+        let long : length (c.bytes ++ t.bytes) ≡ suc part * size = ap length (grown i part piece) ∙ length_of_pieces size (suc part) bytes (omega (arith, some)) in
         record {
           number = i;
           part = part;
@@ -170,6 +182,7 @@ next_piece w said texts sessions own s known c t j next p source_is transfer_is 
           more = ne_eqb (length (c.bytes ++ t.bytes)) c.total
               (λ same. absurd (omega (arith, same, long, some, p.total)));
           goes_on = record {
+            limited = p.limited;
             message = p.message;
             notice = p.notice;
             context = p.context;
@@ -182,10 +195,10 @@ next_piece w said texts sessions own s known c t j next p source_is transfer_is 
         }
 
     as_last : (i part : ℕ) → IsNext sessions s own (OfNotices i) → slice_get (said s own) i ≡ Some p.message →
-        suc part ≡ piece_count piece_bytes bytes → IsPiece out i part p.message t →
+        suc part ≡ piece_count size bytes → IsPiece limit out i part p.message t →
         IsLast w sessions own s (with_piece c t.bytes)
     as_last i part at there last piece =
-        let all : c.bytes ++ t.bytes ≡ bytes = grown i part piece ∙ all_there part bytes last in
+        let all : c.bytes ++ t.bytes ≡ bytes = grown i part piece ∙ all_there size part bytes (some_bytes limit) last in
         let found = brought_at s own (said s own) (w.notices s own).accepted i p.message (j.brought s own) there in
         record {
           whole = eq-eqb (length (c.bytes ++ t.bytes)) c.total (ap length all ∙ sym p.total);
@@ -202,21 +215,21 @@ next_piece w said texts sessions own s known c t j next p source_is transfer_is 
           };
         }
 
-    go : (x : Carried) → IsNext sessions s own x → StandsForCarried out back (said s own) (DataFrame t) x →
-        IsPart sessions said own s known (with_piece c t.bytes) ⊎ IsLast w sessions own s (with_piece c t.bytes)
+    go : (x : Carried) → IsNext sessions s own x → StandsForCarried limit out back (said s own) (DataFrame t) x →
+        IsPart limit sessions said own s known (with_piece c t.bytes) ⊎ IsLast w sessions own s (with_piece c t.bytes)
     go (OfMessages f) at stands = absurd (no_message out back t f large.number large.named stands)
     go (OfNotices i) at stands =
         let same : stands.0 ≡ p.message = same_message i stands.2.0 stands.0 stands.1 stands.2.2 in
         inr (as_last i stands.2.0 at (stands.1 ∙ ap (λ (m : CollectiveMessage). Some m) same)
-        (stands.2.1 ∙ ap (λ (m : CollectiveMessage). piece_count piece_bytes (bytes_of_message m)) same)
-        (subst (λ (m : CollectiveMessage). IsPiece out i stands.2.0 m t) same stands.2.2))
+        (stands.2.1 ∙ ap (λ (m : CollectiveMessage). piece_count size (bytes_of_message m)) same)
+        (subst (λ (m : CollectiveMessage). IsPiece limit out i stands.2.0 m t) same stands.2.2))
     go (Announces i) at stands = absurd stands.2
     go (Answers i) at stands = absurd stands
     go (BringsPart i part) at stands =
         let same : stands.0 ≡ p.message = same_message i part stands.0 stands.1 stands.2.1 in
         inl (as_part i part at
-        (subst (λ (m : CollectiveMessage). suc part < piece_count piece_bytes (bytes_of_message m)) same stands.2.0)
-        (subst (λ (m : CollectiveMessage). IsPiece out i part m t) same stands.2.1))
+        (subst (λ (m : CollectiveMessage). suc part < piece_count size (bytes_of_message m)) same stands.2.0)
+        (subst (λ (m : CollectiveMessage). IsPiece limit out i part m t) same stands.2.1))
 
 -- ---- a piece that isn't the last one
 
@@ -248,7 +261,7 @@ part_step : (n r : ℕ) (engines : List EngineState) (u : GroupNetwork) (T : Ses
     (old : EngineState) (h : HeardText) (b : FrameText) (p : payloads.State) → (x : IsHearing n r engines u T old h) →
     frame_in h.word ≡ Some b → h.lesson ≡ false →
     (number part : ℕ) → IsNext x.opens.sessions h.source (here u.net r) (BringsPart number part) →
-    ArePayloads x.opens.sessions x.opens.said (here u.net r) (opened old h).sessions.known p →
+    ArePayloads u.net.message_limit x.opens.sessions x.opens.said (here u.net r) (opened old h).sessions.known p →
     IsStepped n r engines u h.source T (kept_by old h p)
 part_step n r engines u T old h b p x is plain number part next kept =
     stepped n r 0 [] engines u s T e mid (met_core u r s) u.net.link (heard_member u r s) u.notices x.texts o.said
@@ -267,7 +280,7 @@ part_step n r engines u T old h b p x is plain number part next kept =
       placed = ap (λ (c : CoreState). c.place) (sym core_is) ∙ o.held.placed;
     }))
     (ap (λ (c : CoreState). c.completion) (sym core_is) ∙ o.completion)
-    (payloads_grow o.sessions (handed_on o.sessions s own) o.said o.said own mid.sessions.known p
+    (payloads_grow u.net.message_limit o.sessions (handed_on o.sessions s own) o.said o.said own mid.sessions.known p
     (only_handed o.sessions s own []).grow (said_same o.said) kept)
     refl
   where
@@ -351,14 +364,16 @@ piece_step n r engines u T old mid h t x is ours gives =
     c : Coming
     c = p.payload.payload
 
-    kept : ArePayloads o.sessions o.said own known old.payloads
+    kept : ArePayloads u.net.message_limit o.sessions o.said own known old.payloads
     kept = subst
-        (λ (lesson : Bool). ArePayloads o.sessions o.said own known (payloads_met old.payloads (taught s lesson)))
+        (λ (lesson : Bool). ArePayloads u.net.message_limit o.sessions o.said own known
+        (payloads_met old.payloads (taught s lesson)))
         p.plain o.payloads
 
-    payload : IsComingPayload o.sessions o.said own known c
+    payload : IsComingPayload u.net.message_limit o.sessions o.said own known c
     payload =
-        one_of_all (IsComingPayload o.sessions o.said own known) old.payloads.coming p.payload.place c kept.coming
+        one_of_all (IsComingPayload u.net.message_limit o.sessions o.said own known) old.payloads.coming p.payload.place
+        c kept.coming
         p.payload.there
 
     says : below.IsNext x.texts s own (DataFrame t)
@@ -384,28 +399,32 @@ piece_step n r engines u T old mid h t x is ours gives =
     handed = whole_is old.payloads s.rank t.transfer t.bytes p.payload
 
     -- what is kept then
-    kept_then : AllByRecursion (IsComingPayload o.sessions o.said own known)
+    kept_then : AllByRecursion (IsComingPayload u.net.message_limit o.sessions o.said own known)
         (put_back old.payloads.coming p.payload.place (with_piece c t.bytes)) →
-        ArePayloads o.sessions o.said own known (payloads_grown old h t)
+        ArePayloads u.net.message_limit o.sessions o.said own known (payloads_grown old h t)
     kept_then all = record {
       announced = kept.announced;
-      coming = subst (λ (cs : List Coming). AllByRecursion (IsComingPayload o.sessions o.said own known) cs)
+      coming = subst (λ (cs : List Coming). AllByRecursion
+          (IsComingPayload u.net.message_limit o.sessions o.said own known) cs)
           (sym (coming_then old.payloads s.rank t.transfer t.bytes p.payload)) all;
     }
 
-    by_part : IsPart o.sessions o.said own s known (with_piece c t.bytes) → IsStepped n r engines u s T mid
+    by_part : IsPart u.net.message_limit o.sessions o.said own s known (with_piece c t.bytes) →
+        IsStepped n r engines u s T mid
     by_part part =
         subst (λ (e : EngineState). IsStepped n r engines u s T e)
         (sym (taken_as None (handed ∙ out_more (with_piece c t.bytes) part.more)).1)
         (part_step n r engines u T old h (DataFrame t) (payloads_grown old h t) x is p.plain part.number part.part
         part.there
-        (kept_then (put_more (IsComingPayload o.sessions o.said own known) old.payloads.coming p.payload.place
+        (kept_then (put_more (IsComingPayload u.net.message_limit o.sessions o.said own known) old.payloads.coming
+        p.payload.place
         (with_piece c t.bytes) part.more part.goes_on kept.coming)))
 
     by_last : IsLast u o.sessions own s (with_piece c t.bytes) → IsStepped n r engines u s T mid
     by_last last =
         notice_taken n r engines u T old mid h (payloads_grown old h t) (DataFrame t) (whole_of (with_piece c t.bytes))
         x is last.notice
-        (kept_then (put_whole (IsComingPayload o.sessions o.said own known) old.payloads.coming p.payload.place
+        (kept_then (put_whole (IsComingPayload u.net.message_limit o.sessions o.said own known) old.payloads.coming
+        p.payload.place
         (with_piece c t.bytes) last.whole kept.coming))
         (taken_as (Some (whole_of (with_piece c t.bytes))) (handed ∙ out_whole (with_piece c t.bytes) last.whole))

@@ -1,9 +1,10 @@
 -- The first pieces of a message and the next one; and the payloads that come, of which one goes on.
-use Rattle.std.proofs.Common.{◌≡◌, ℕ, zero, suc, ◌*◌, ◌+◌, ◌<◌, ◌≤◌, min, ◌==◌, ◌&&◌, Bool, true, false, List, [], ◌∷◌}
-use Rattle.std.proofs.Common.{◌++◌, length, drop, Option, Some, None, is_some, if◌then◌else◌, refl, sym, ap, subst, ◌∙◌}
+use Rattle.std.proofs.Common.{◌≡◌, ℕ, zero, suc, ◌*◌, ◌+◌, ◌/◌, ◌%◌, ◌<◌, ◌≤◌, min, ◌==◌, ◌&&◌, Bool, true, false, List}
+use Rattle.std.proofs.Common.{[], ◌∷◌, ◌++◌, length, drop, Option, Some, None, is_some, if◌then◌else◌, refl, sym, ap, subst, ◌∙◌}
 use Rattle.std.proofs.Common.{arith}
 use Rattle.std.specs.Prelude.{nat_lt, remove, slice_get, slice_set, take}
 use Rattle.std.specs.List.{AllByRecursion}
+use Rattle.std.proofs.Math.Nat.{mul-div_cancel, mul-le-mul_right}
 use Rattle.std.proofs.Math.Seq.{take-add}
 use Rattle.std.proofs.lemmas.Bool.{and_parts, eqb-true}
 use Rattle.std.proofs.lemmas.List.{length-take, take_all, take_min}
@@ -13,7 +14,10 @@ use Rattle.rendezvous.specs.PayloadState as payloads
 use Rattle.rendezvous.specs.PayloadState.{blank, coming_at, coming_from, handed_out, is_due, is_taken, place_from}
 use Rattle.rendezvous.specs.PayloadState.{put_back, whole_by, whole_with, with_data_at}
 use Rattle.proof_engine_steps.proofs.ListsApart.{Passes, position_passes}
-use Rattle.rendezvous.specs.Pieces.{due_of, first_piece, piece_bytes, piece_count}
+use Rattle.rendezvous.specs.Pieces.{due_of, first_piece, piece_count}
+use Rattle.vocabulary.proofs.MessageLimits.{frame_least}
+use Rattle.vocabulary.specs.MessageLimits.{frame_limit_of}
+use Rattle.vocabulary.specs.declared.message_limit.MessageLimit.{MessageLimit}
 
 -- ---- bytes
 
@@ -35,32 +39,60 @@ pub length_of_pieces : (size count : ℕ) (bytes : List ℕ) → count * size �
 length_of_pieces size count bytes within = omega (arith, length-take (count * size) bytes, within)
 
 -- pieces that begin at one place have one number
-pub same_number : (part parts : ℕ) → part * piece_bytes ≡ parts * piece_bytes → part ≡ parts
-same_number part parts same = omega (arith, same)
+pub same_number : (size part parts : ℕ) → 0 < size → part * size ≡ parts * size → part ≡ parts
+same_number size part parts some same =
+    sym (mul-div_cancel part some) ∙ ap (λ (k : ℕ). k / size) same ∙ mul-div_cancel parts some
+
+-- so many pieces have so many bytes, and no piece is empty
+record IsCount (size count len : ℕ) : Type 0 where
+  high : len ≤ count * size
+  low : count * size < len + size
+
+count_of : (size q r len : ℕ) → 0 < size → r < size → q * size + r ≡ len → IsCount size (q + min 1 r) len
+count_of size q zero len p lt e =
+    let n : q + min 1 0 ≡ q = omega arith in
+    subst (λ (k : ℕ). IsCount size k len) (sym n) (record { high = omega (arith, e); low = omega (arith, e, p) })
+count_of size q (suc r) len p lt e =
+    let n : q + min 1 (suc r) ≡ q + 1 = omega arith in
+    subst (λ (k : ℕ). IsCount size k len) (sym n) (record { high = omega (arith, e, lt); low = omega (arith, e) })
+
+counted : (size len : ℕ) → 0 < size → IsCount size (len / size + min 1 (len % size)) len
+counted size len p =
+    let split : (len / size) * size + len % size ≡ len = omega arith in
+    let lt : len % size < size = omega (arith, p) in
+    count_of size (len / size) (len % size) len p lt split
 
 -- behind a piece that isn't the last one there is more
-pub more_behind : (part : ℕ) (bytes : List ℕ) → suc part < piece_count piece_bytes bytes →
-    suc part * piece_bytes < length bytes
-more_behind part bytes less = omega (arith, less)
+pub more_behind : (size part : ℕ) (bytes : List ℕ) → 0 < size → suc part < piece_count size bytes →
+    suc part * size < length bytes
+more_behind size part bytes some less =
+    let all : IsCount size (piece_count size bytes) (length bytes) = counted size (length bytes) some in
+    let next : suc (suc part) * size ≤ piece_count size bytes * size = mul-le-mul_right size (omega (arith, less)) in
+    let more : suc (suc part) * size ≡ suc part * size + size = omega arith in
+    omega (arith, all.low, next, more)
 
 -- with the last one all are there
-pub all_there : (part : ℕ) (bytes : List ℕ) → suc part ≡ piece_count piece_bytes bytes →
-    take (suc part * piece_bytes) bytes ≡ bytes
-all_there part bytes last =
-    let within : length bytes ≤ suc part * piece_bytes = omega (arith, last) in
-    take_all (suc part * piece_bytes) bytes within
+pub all_there : (size part : ℕ) (bytes : List ℕ) → 0 < size → suc part ≡ piece_count size bytes →
+    take (suc part * size) bytes ≡ bytes
+all_there size part bytes some last =
+    take_all (suc part * size) bytes
+    (subst (λ (count : ℕ). length bytes ≤ count * size) (sym last) (counted size (length bytes) some).high)
 
 -- a piece that stands behind the first ones is the next one
-pub grows_by : (message bytes piece : List ℕ) (parts part offset : ℕ) → bytes ≡ take (parts * piece_bytes) message →
-    parts * piece_bytes < length message → offset ≡ length bytes → offset ≡ part * piece_bytes →
-    piece ≡ first_piece piece_bytes (drop (part * piece_bytes) message) →
-    bytes ++ piece ≡ take (suc part * piece_bytes) message
-grows_by message bytes piece parts part offset came some behind place piece_is =
-    let within : parts * piece_bytes ≤ length message = omega (arith, some) in
-    let same : part ≡ parts = same_number part parts (sym place ∙ behind ∙ ap length came ∙ length_of_pieces piece_bytes parts message within) in
-    ap (λ (xs : List ℕ). xs ++ piece) (came ∙ ap (λ (k : ℕ). take (k * piece_bytes) message) (sym same))
-    ∙ ap (λ (xs : List ℕ). take (part * piece_bytes) message ++ xs) piece_is
-    ∙ one_piece_more piece_bytes part message
+pub grows_by : (size : ℕ) (message bytes piece : List ℕ) (parts part offset : ℕ) → 0 < size →
+    bytes ≡ take (parts * size) message → parts * size < length message → offset ≡ length bytes →
+    offset ≡ part * size → piece ≡ first_piece size (drop (part * size) message) →
+    bytes ++ piece ≡ take (suc part * size) message
+grows_by size message bytes piece parts part offset one came some behind place piece_is =
+    let within : parts * size ≤ length message = omega (arith, some) in
+    let same : part ≡ parts = same_number size part parts one (sym place ∙ behind ∙ ap length came ∙ length_of_pieces size parts message within) in
+    ap (λ (xs : List ℕ). xs ++ piece) (came ∙ ap (λ (k : ℕ). take (k * size) message) (sym same))
+    ∙ ap (λ (xs : List ℕ). take (part * size) message ++ xs) piece_is
+    ∙ one_piece_more size part message
+
+-- a frame has one byte at least
+pub some_bytes : (limit : MessageLimit) → 0 < frame_limit_of limit
+some_bytes limit = omega (arith, frame_least limit)
 
 -- ---- lists
 
@@ -132,7 +164,7 @@ due_place p source transfer offset piece c due =
     let taken : is_taken (Some c.payload) offset piece ≡ true = ap (λ (o : Option Coming). is_taken o offset piece) (sym (coming_is p source transfer c)) ∙ due in
     let some : Bool = nat_lt 0 (length piece) in
     let behind : Bool = offset == length c.payload.bytes in
-    let full : Bool = length piece == due_of c.payload.total (length c.payload.bytes) in
+    let full : Bool = length piece == due_of (frame_limit_of c.payload.limit) c.payload.total (length c.payload.bytes) in
     eqb-true offset (length c.payload.bytes) (and_parts some behind (and_parts (some && behind) full taken).0).1
 
 -- what is handed out with the piece

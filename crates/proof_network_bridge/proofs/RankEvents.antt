@@ -25,10 +25,10 @@ use Rattle.proof_session_carrying.specs.Announcements.{announcements_in}
 use Rattle.proof_session_carrying.specs.SessionViews.{Saying}
 use Rattle.proof_session_carrying.specs.EventLaws.{AreJoined}
 use Rattle.point_to_point.specs.CoreState.{CoreState}
-use Rattle.vocabulary.specs.MessageLimits.{limit_of}
 use Rattle.incarnation.specs.declared.place.Place.{Place}
 use Rattle.vocabulary.specs.Endpoints.{is_same}
 use Rattle.vocabulary.specs.declared.endpoint.Endpoint.{Endpoint}
+use Rattle.vocabulary.specs.declared.message_limit.MessageLimit.{MessageLimit}
 use Rattle.proof_network_bridge.specs.GoingOn.{Happened, IsFollowedBy, IsFollowedOn, LeavesFollowedOn, Stands}
 use Rattle.proof_network_bridge.specs.WorldViews.{IsClean, IsFollowed, IsHeldBy, IsJoined, network_after}
 use Rattle.observation.specs.Sessions.{sessions_in}
@@ -84,6 +84,7 @@ held_emptied a own e core m h =
         under_way = h.queues.under_way;
         taken = h.queues.taken;
         blocked = h.queues.blocked;
+        limited = h.queues.limited;
         width = h.queues.width;
         known_alike = h.queues.known_alike;
         itself = h.queues.itself;
@@ -117,8 +118,9 @@ pub joined_after : (n r : ℕ) (engines : List EngineState) (datagrams datagrams
     AreJoined after said texts sessions → OnlyFrom (here w.net r) j.sessions sessions →
     AreTrue n (sessions_in (slice_set engines r new)) datagrams' texts w.net.current →
     IsHeldUnder sessions (here w.net r) new core m →
-    SaidGrows j.said said → ArePayloads sessions said (here w.net r) new.sessions.known new.payloads → IsClean new →
-    limit_of new.sessions.place.message_limit ≡ w.net.message_limit →
+    SaidGrows j.said said →
+    ArePayloads w.net.message_limit sessions said (here w.net r) new.sessions.known new.payloads → IsClean new →
+    new.sessions.place.message_limit ≡ w.net.message_limit →
     IsJoined n (slice_set engines r new) datagrams' after
 joined_after n r engines datagrams datagrams' w after new core messages m notices entries said texts sessions j a
     between only truth held grows kept clean limited =
@@ -135,23 +137,28 @@ joined_after n r engines datagrams datagrams' w after new core messages m notice
         | inr p ↦ j.clean x e p.1
       ];
       payloads = λ x e is.
-          subst (λ (current : ℕ → ℕ). ArePayloads sessions said (record { rank = x; incarnation = current x })
-          e.sessions.known e.payloads) (sym a.current_is)
+          subst (λ (limit : MessageLimit). ArePayloads limit sessions said (here after.net x) e.sessions.known
+          e.payloads)
+          (sym a.limit_is)
+          (subst (λ (current : ℕ → ℕ). ArePayloads w.net.message_limit sessions said
+          (record { rank = x; incarnation = current x }) e.sessions.known e.payloads) (sym a.current_is)
           (elim (set_cases engines r new x e is) [
-            | inl p ↦ subst (λ (y : ℕ). ArePayloads sessions said (here w.net y) e.sessions.known e.payloads) (sym p.0)
-                (subst (λ (g : EngineState). ArePayloads sessions said (here w.net r) g.sessions.known g.payloads)
+            | inl p ↦ subst (λ (y : ℕ). ArePayloads w.net.message_limit sessions said (here w.net y) e.sessions.known
+                e.payloads) (sym p.0)
+                (subst (λ (g : EngineState). ArePayloads w.net.message_limit sessions said (here w.net r)
+                g.sessions.known g.payloads)
                 (sym p.1) kept)
-            | inr p ↦ payloads_grow j.sessions sessions j.said said (here w.net x) e.sessions.known e.payloads only.grow
-                grows (j.payloads x e p.1)
-          ]);
+            | inr p ↦ payloads_grow w.net.message_limit j.sessions sessions j.said said (here w.net x) e.sessions.known
+                e.payloads only.grow grows (j.payloads x e p.1)
+          ]));
       limits = λ x e is. elim (set_cases engines r new x e is) [
-        | inl p ↦ ap (λ (g : EngineState). limit_of g.sessions.place.message_limit) p.1 ∙ limited ∙ sym a.limit_is
+        | inl p ↦ ap (λ (g : EngineState). g.sessions.place.message_limit) p.1 ∙ limited ∙ sym a.limit_is
         | inr p ↦ j.limits x e p.1 ∙ sym a.limit_is
       ];
       unborn = λ d later.
           let before : w.net.current d.rank < d.incarnation = subst (λ (current : ℕ → ℕ). current d.rank < d.incarnation) a.current_is later in
           a.cores d (later_apart w.net d r before) ∙ j.unborn d before ∙
-          ap (λ (limit : ℕ). new_core limit d) (sym a.limit_is);
+          ap (λ (limit : MessageLimit). new_core limit d) (sym a.limit_is);
     }
   where
     -- at the endpoint where it was
@@ -192,8 +199,8 @@ joined_still : (n r : ℕ) (engines : List EngineState) (datagrams datagrams' : 
     (j : IsJoined n engines datagrams w) →
     AreTrue n (sessions_in (slice_set engines r new)) datagrams' j.texts w.net.current →
     IsHeldUnder j.sessions (here w.net r) new (w.net.core (here w.net r)) (w.member (here w.net r)) →
-    ArePayloads j.sessions j.said (here w.net r) new.sessions.known new.payloads → IsClean new →
-    limit_of new.sessions.place.message_limit ≡ w.net.message_limit →
+    ArePayloads w.net.message_limit j.sessions j.said (here w.net r) new.sessions.known new.payloads → IsClean new →
+    new.sessions.place.message_limit ≡ w.net.message_limit →
     IsJoined n (slice_set engines r new) datagrams' w
 joined_still n r engines datagrams datagrams' w new j truth held kept clean limited =
     record {
@@ -212,13 +219,15 @@ joined_still n r engines datagrams datagrams' w new j truth held kept clean limi
         | inr p ↦ j.clean x e p.1
       ];
       payloads = λ x e is. elim (set_cases engines r new x e is) [
-        | inl p ↦ subst (λ (y : ℕ). ArePayloads j.sessions j.said (here w.net y) e.sessions.known e.payloads) (sym p.0)
-            (subst (λ (g : EngineState). ArePayloads j.sessions j.said (here w.net r) g.sessions.known g.payloads)
+        | inl p ↦ subst (λ (y : ℕ). ArePayloads w.net.message_limit j.sessions j.said (here w.net y) e.sessions.known
+            e.payloads) (sym p.0)
+            (subst (λ (g : EngineState). ArePayloads w.net.message_limit j.sessions j.said (here w.net r)
+            g.sessions.known g.payloads)
             (sym p.1) kept)
         | inr p ↦ j.payloads x e p.1
       ];
       limits = λ x e is. elim (set_cases engines r new x e is) [
-        | inl p ↦ ap (λ (g : EngineState). limit_of g.sessions.place.message_limit) p.1 ∙ limited
+        | inl p ↦ ap (λ (g : EngineState). g.sessions.place.message_limit) p.1 ∙ limited
         | inr p ↦ j.limits x e p.1
       ];
       unborn = j.unborn;
@@ -227,7 +236,7 @@ joined_still n r engines datagrams datagrams' w new j truth held kept clean limi
 -- ---- what follows
 
 -- these happenings are some
-abbrev pub followed : (n limit : ℕ) (happenings : List Happening) (engines : List EngineState)
+abbrev pub followed : (n : ℕ) (limit : MessageLimit) (happenings : List Happening) (engines : List EngineState)
     (datagrams : List (ℕ × List ℕ)) (history : List Entry) →
     IsFollowedBy n limit happenings engines datagrams history → IsFollowed n engines datagrams history
 followed n limit happenings engines datagrams history f =
@@ -239,7 +248,7 @@ pub by_happenings : (n : ℕ) (engines : List EngineState) (datagrams : List (�
 by_happenings n engines datagrams history f = record { few = f.few; joined = f.joined; seen = f.seen }
 
 -- so it is with one more, or with none
-pub followed_on : (n limit r : ℕ) (before : List Happening) (engines : List EngineState)
+pub followed_on : (n : ℕ) (limit : MessageLimit) (r : ℕ) (before : List Happening) (engines : List EngineState)
     (datagrams : List (ℕ × List ℕ)) (history : List Entry) → IsFollowedOn n limit r before engines datagrams history →
     IsFollowed n engines datagrams history
 followed_on n limit r before engines datagrams history (Stands f) = followed n limit before engines datagrams history f
@@ -259,7 +268,8 @@ pub followed_after : (n r : ℕ) (engines : List EngineState) (datagrams : List 
     (network_after n f.limit f.happenings).net.current →
     IsHeldUnder sessions (here (network_after n f.limit f.happenings).net r) mid core m →
     SaidGrows f.joined.said said →
-    ArePayloads sessions said (here (network_after n f.limit f.happenings).net r) mid.sessions.known mid.payloads →
+    ArePayloads (network_after n f.limit f.happenings).net.message_limit sessions said
+    (here (network_after n f.limit f.happenings).net r) mid.sessions.known mid.payloads →
     rank_of h ≡ r →
     (old : EngineState) → slice_get engines r ≡ Some old → mid.sessions.place ≡ old.sessions.place →
     LeavesFollowedOn n f.limit f.happenings engines datagrams r mid (history ++ entries)
@@ -278,7 +288,7 @@ followed_after n r engines datagrams history entries mid h core messages m notic
           (leaves_engines n r engines datagrams mid texts w.net.current truth)
           (λ serial. held_emptied (announcements_in serial sessions own) own mid core m (held serial)) grows kept
           (clean_emptied mid)
-          (ap (λ (p : Place). limit_of p.message_limit) place ∙ f.joined.limits r old there));
+          (ap (λ (p : Place). p.message_limit) place ∙ f.joined.limits r old there));
       seen = ap (λ (after : GroupNetwork). after.history) pushed ∙ a.seen ∙
           ap (λ (es : List Entry). es ++ entries) f.seen;
     })
@@ -304,12 +314,12 @@ held_beside a own old new core m b h = record {
 }
 
 -- and the payloads that it keeps
-payloads_beside : (sessions : Sessions) (said : Saying) (own : Endpoint) (old new : EngineState) → IsBeside old new →
-    ArePayloads sessions said own old.sessions.known old.payloads →
-    ArePayloads sessions said own new.sessions.known new.payloads
-payloads_beside sessions said own old new b h =
-    subst (λ (known : List ℕ). ArePayloads sessions said own known new.payloads) (sym b.known)
-    (subst (λ (p : payloads.State). ArePayloads sessions said own old.sessions.known p) (sym b.payloads) h)
+payloads_beside : (limit : MessageLimit) (sessions : Sessions) (said : Saying) (own : Endpoint)
+    (old new : EngineState) → IsBeside old new → ArePayloads limit sessions said own old.sessions.known old.payloads →
+    ArePayloads limit sessions said own new.sessions.known new.payloads
+payloads_beside limit sessions said own old new b h =
+    subst (λ (known : List ℕ). ArePayloads limit sessions said own known new.payloads) (sym b.known)
+    (subst (λ (p : payloads.State). ArePayloads limit sessions said own old.sessions.known p) (sym b.payloads) h)
 
 -- nothing happens to the network
 pub followed_still : (n r : ℕ) (engines : List EngineState) (datagrams : List (ℕ × List ℕ)) (history : List Entry)
@@ -329,9 +339,10 @@ followed_still n r engines datagrams history old mid f there beside truth =
           (w.member own)
           (held_beside (announcements_in serial f.joined.sessions own) own old mid (w.net.core own)
           (w.member own) beside (held_at n r engines datagrams w old f.joined there serial)))
-          (payloads_beside f.joined.sessions f.joined.said own old mid beside (f.joined.payloads r old there))
+          (payloads_beside w.net.message_limit f.joined.sessions f.joined.said own old mid beside
+          (f.joined.payloads r old there))
           (clean_emptied mid)
-          (ap (λ (p : Place). limit_of p.message_limit) beside.place ∙ f.joined.limits r old there);
+          (ap (λ (p : Place). p.message_limit) beside.place ∙ f.joined.limits r old there);
       seen = f.seen;
     }
 

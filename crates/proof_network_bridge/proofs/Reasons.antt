@@ -35,7 +35,6 @@ use Rattle.proof_network_bridge.proofs.Members.{are_in_world, busy_same, held_sa
 use Rattle.proof_network_bridge.proofs.Refusals.{by_rule, free_faultless, free_reason}
 use Rattle.proof_network_bridge.proofs.RoutedFaults.{IsFree}
 use Rattle.proof_network_bridge.proofs.Worlds.{place_is}
-use Rattle.vocabulary.specs.MessageLimits.{limit_of}
 use Rattle.proof_network_bridge.specs.Alone.{EnginesAreRanks, EnginesJudgeAsTheMachine, EnginesRefuseAsTheMachine}
 use Rattle.proof_network_bridge.specs.Alone.{EnginesTakeNoFault, IsRank}
 use Rattle.observation.specs.Faults.{IsFaultless}
@@ -167,7 +166,7 @@ none_there (Some x) h = absurd cc
 -- what it holds, while no earlier call of it is blocked
 free_at : (a : Announcements) (own : Endpoint) (e : EngineState) (core : Core) (m : Member) → IsHeldAs a own e core m →
     is_busy e ≡ false → AreInWorld e.core.place.size m.membership →
-    core.message_limit ≡ limit_of e.core.place.message_limit → IsFree a e core m.membership
+    core.message_limit ≡ e.core.place.message_limit → IsFree a e core m.membership
 free_at a own e core m h idle inside limit =
     let two = neither (is_some e.core.blocked) (is_within (member_of e.groups).present) idle in
     record {
@@ -199,13 +198,13 @@ limit_world : (n r : ℕ) (engines : List EngineState) (datagrams : List (ℕ ×
     (e : EngineState) (f : IsFollowed n engines datagrams history) → slice_get engines r ≡ Some e →
     ((network_after n f.limit f.happenings).net.core
     (here (network_after n f.limit f.happenings).net r)).message_limit ≡
-    limit_of e.core.place.message_limit
+    e.core.place.message_limit
 limit_world n r engines datagrams history e f there =
     let w : GroupNetwork = network_after n f.limit f.happenings in
     (is_run_of_groups n f.limit f.happenings (omega (arith, f.few))).limits (here w.net r)
     ∙ sym (run_limit_with_groups n f.happenings (new_group_network n f.limit))
     ∙ sym (f.joined.limits r e there)
-    ∙ ap (λ (p : Place). limit_of p.message_limit) (sym (f.joined.held r e there).placed)
+    ∙ ap (λ (p : Place). p.message_limit) (sym (f.joined.held r e there).placed)
 
 -- while an earlier call is blocked, the machine's first fault is 6
 busy_fault : (a : Announcements) (own : Endpoint) (e : EngineState) (core : Core) (m : Member) (c : machine.Call) →
@@ -222,7 +221,7 @@ busy_fault a own e core m c h busy =
 -- or 14
 refused_alone : (a : Announcements) (own : Endpoint) (e mid : EngineState) (core : Core) (m : Member) (call back : Call)
     (why : Refusal) → IsHeldAs a own e core m → AreInWorld e.core.place.size m.membership →
-    core.message_limit ≡ limit_of e.core.place.message_limit → CallGives e call (replies.Refused why back) mid →
+    core.message_limit ≡ e.core.place.message_limit → CallGives e call (replies.Refused why back) mid →
     IsReason (fault own (view blank core) m.membership (call_meant e.core call)) why
 refused_alone a own e mid core m call back why h inside limit gives =
     go (is_busy e) refl (refused e mid call why back gives).reason
@@ -239,7 +238,7 @@ refused_alone a own e mid core m call back why h inside limit gives =
 -- a call that meets no rule and no limit has no fault there, and names no request of another engine
 allowed_alone : (a : Announcements) (own : Endpoint) (e : EngineState) (core : Core) (m : Member) (call : Call) →
     IsHeldAs a own e core m → AreInWorld e.core.place.size m.membership →
-    core.message_limit ≡ limit_of e.core.place.message_limit → fault_of e call ≡ None →
+    core.message_limit ≡ e.core.place.message_limit → fault_of e call ≡ None →
     IsFaultless (fault own (view blank core) m.membership (call_seen call)) e.core call
 allowed_alone a own e core m call h inside limit fine = go (is_busy e) refl fine
   where

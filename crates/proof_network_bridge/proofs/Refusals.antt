@@ -73,6 +73,7 @@ use Rattle.incarnation.specs.declared.place.Place.{Place}
 use Rattle.vocabulary.specs.declared.envelope.Source.{Source}
 use Rattle.vocabulary.specs.declared.endpoint.Endpoint.{Endpoint}
 use Rattle.vocabulary.specs.MessageLimits.{limit_of}
+use Rattle.vocabulary.specs.declared.message_limit.MessageLimit.{MessageLimit}
 
 -- what the machine finds is the refusal's number
 pub by_rule : (found : Option ℕ) (x why : Refusal) → why ≡ x → found ≡ Some (number_of_refusal x) → IsReason found why
@@ -496,7 +497,8 @@ message_faultless a own e core m q into free allowed =
 
 -- the machine's faults of an entry of the rank at e, by the communicator that the call names, while no earlier call is
 -- blocked
-abbrev entering_fault : (limit : ℕ) → (e : Endpoint) → (known : ℕ → ℕ) → Option Communicator → CollectiveCall → Option ℕ
+abbrev entering_fault : (limit : MessageLimit) → (e : Endpoint) → (known : ℕ → ℕ) → Option Communicator →
+    CollectiveCall → Option ℕ
 entering_fault limit e known o p =
     if is_none o then Some 4 else
     (if wrong_data o e p then Some 2 else
@@ -522,10 +524,10 @@ entry_seen a own e core m comm x free stands =
     (call_of x)) free.known
     ∙ ap (λ (d : Endpoint). entering_fault core.message_limit d (known_by e.sessions.known)
     (held_at (member_of e.groups) comm) (call_of x)) (sym stands)
-    ∙ ap (λ (limit : ℕ). entering_fault limit e.groups.collective.own (known_by e.sessions.known)
+    ∙ ap (λ (limit : MessageLimit). entering_fault limit e.groups.collective.own (known_by e.sessions.known)
     (held_at (member_of e.groups) comm) (call_of x))
-    (free.limit ∙ ap (λ (p : Place). limit_of p.message_limit) free.placed)
-    ∙ entry_judged (limit_of e.sessions.place.message_limit) false e.groups.collective e.groups.contexts
+    (free.limit ∙ ap (λ (p : Place). p.message_limit) free.placed)
+    ∙ entry_judged e.sessions.place.message_limit false e.groups.collective e.groups.contexts
     (known_by e.sessions.known) comm x
   where
     f : ℕ → Standing

@@ -19,6 +19,7 @@ use Rattle.perfect_queues.specs.Refusals.{standing}
 use Rattle.vocabulary.specs.MessageLimits.{limit_of}
 use Rattle.vocabulary.specs.declared.envelope.Source.{Source}
 use Rattle.vocabulary.specs.declared.envelope.Source.TheVariants as sources
+use Rattle.vocabulary.specs.declared.message_limit.MessageLimit.{MessageLimit}
 use Rattle.perfect_queues.specs.State.{Local}
 use Rattle.incarnation.specs.declared.place.Place.{Place}
 use Rattle.proof_engine_steps.proofs.RefusedCalls.{allowed_calls_are_faultless, faults_have_reasons}
@@ -75,7 +76,7 @@ pub record IsFree (a : Announcements) (e : EngineState) (core : Core) (m : Membe
   pub known : core.known ≡ known_by e.sessions.known
   pub inside : AreInWorld e.core.place.size m
   pub placed : e.core.place ≡ e.sessions.place
-  pub limit : core.message_limit ≡ limit_of e.core.place.message_limit
+  pub limit : core.message_limit ≡ e.core.place.message_limit
 
 -- ---- THE MACHINE'S RULES
 
@@ -108,7 +109,7 @@ pub fault_cut : (a : Announcements) (own : Endpoint) (e : EngineState) (core : C
     (rules.first_fault ((wrong_rank m c, 5) ∷ (wrong_incarnation core.known m c, 11) ∷ []))
 fault_cut a own e core m c q free routed =
     of_both_halves n own l m c q free.inside routed
-    ∙ ap (λ (most : ℕ). rules.first_fault (((is_held l.blocked || is_within m.present) || wrong, 6) ∷
+    ∙ ap (λ (most : MessageLimit). rules.first_fault (((is_held l.blocked || is_within m.present) || wrong, 6) ∷
     (is_type_wrong q, 2) ∷ (is_count_wrong most q, 1) ∷ (is_tag_wrong q, 3) ∷ (is_rank_wrong n q, 5) ∷
     (wrong_rank m c, 5) ∷ (wrong_incarnation l.known m c, 11) ∷ [])) free.limit
     ∙ ap (λ (six : Bool). rules.first_fault ((six, 6) ∷ (is_type_wrong q, 2) ∷ (is_count_wrong most q, 1) ∷
@@ -120,9 +121,9 @@ fault_cut a own e core m c q free routed =
     n : ℕ
     n = e.core.place.size
 
-    -- the most bytes of a message
-    most : ℕ
-    most = limit_of e.core.place.message_limit
+    -- the job's limit of messages
+    most : MessageLimit
+    most = e.core.place.message_limit
 
     l : Local
     l = view blank core
@@ -383,7 +384,7 @@ rule_kept a e core m q free requests same is = by_limit (limit_fault e.core q) r
     full x limit (MachinesFault is_found) = absurd (thirteen
         (is_held l.blocked || is_request_wrong (λ k. standing (slice_get l.requests k)) (call_meant e.core q))
         (is_type_wrong (call_meant e.core q))
-        (is_count_wrong (limit_of e.core.place.message_limit) (call_meant e.core q))
+        (is_count_wrong e.core.place.message_limit (call_meant e.core q))
         (is_tag_wrong (call_meant e.core q))
         (is_rank_wrong e.core.place.size (call_meant e.core q))
         (is_found ∙ ap (λ (y : Refusal). Some (number_of_refusal y)) limit))

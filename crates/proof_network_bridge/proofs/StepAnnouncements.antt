@@ -49,8 +49,9 @@ use Rattle.point_to_point.specs.CoreState.{CoreState, with_numbers}
 use Rattle.rendezvous.specs.State.{next_to, with_begun}
 use Rattle.rendezvous.specs.declared.transfers.Numbers.{Numbers}
 use Rattle.vocabulary.specs.Endpoints.{is_same}
-use Rattle.vocabulary.specs.Limits.{eager_limit}
+use Rattle.vocabulary.specs.MessageLimits.{frame_limit_of}
 use Rattle.vocabulary.specs.declared.endpoint.Endpoint.{Endpoint}
+use Rattle.vocabulary.specs.declared.message_limit.MessageLimit.{MessageLimit}
 use Rattle.proof_network_bridge.specs.Payloads.{ArePayloads, IsAnnouncedPayload, IsLargeNotice, SaidGrows}
 use Rattle.proof_network_bridge.proofs.Payloads.{SessionsGrow, payloads_grow, said_same}
 use Rattle.proof_network_bridge.proofs.StepFrames.{
@@ -213,18 +214,20 @@ many_more said links e m x d many = go (is_same e e && is_same d m.target)
 
 -- What an engine holds that sent some messages of a step: its core counts what its sessions announced, it keeps what of
 -- that wasn't asked for, and as many messages were said as notices went out
-pub record IsSending (n : ℕ) (own : Endpoint) (known : List ℕ) (core : Core) (sessions : Sessions) (said : Saying)
+pub record IsSending (limit : MessageLimit) (n : ℕ) (own : Endpoint) (known : List ℕ) (core : Core)
+    (sessions : Sessions) (said : Saying)
     (links : Endpoint → Endpoint → NoticeLink) (c : CoreState) (p : payloads.State) : Type 0 where
   pub placed : c.place ≡ in_job c.place.message_limit (place_of n own)
   pub shown : (serial : ℕ) → IsShown (announcements_in serial sessions own) c known core
   pub many : (d : Endpoint) → length (said own d) ≡ length (links own d).accepted
-  pub kept : ArePayloads sessions said own known p
+  pub kept : ArePayloads limit sessions said own known p
 
 -- the numbers of its transfers are those that its core counts
-pub numbers_bounded_by : (n : ℕ) (own : Endpoint) (known : List ℕ) (core : Core) (sessions : Sessions) (said : Saying)
+pub numbers_bounded_by : (limit : MessageLimit) (n : ℕ) (own : Endpoint) (known : List ℕ) (core : Core)
+    (sessions : Sessions) (said : Saying)
     (links : Endpoint → Endpoint → NoticeLink) (ns : List Numbers) (c : CoreState) (p : payloads.State) →
-    IsSending n own known core sessions said links (with_numbers c ns) p → AreBounded n ns
-numbers_bounded_by n own known core sessions said links ns c p h =
+    IsSending limit n own known core sessions said links (with_numbers c ns) p → AreBounded n ns
+numbers_bounded_by limit n own known core sessions said links ns c p h =
     record {
       width = (h.shown 0).under_way.numbered.width ∙ ap (λ (q : Place). q.size) h.placed;
       most =
@@ -242,23 +245,25 @@ abbrev carried_as : (large : Bool) → List Numbers → CollectiveMessage → (l
 carried_as large ns m links own = (m.target, carried_by (frame_by large ns m) (length (links own m.target).accepted))
 
 -- one message went out
-record IsSent (large : Bool) (n : ℕ) (own : Endpoint) (known : List ℕ) (core : Core) (sessions : Sessions)
+record IsSent (limit : MessageLimit) (large : Bool) (n : ℕ) (own : Endpoint) (known : List ℕ) (core : Core)
+    (sessions : Sessions)
     (said : Saying) (links : Endpoint → Endpoint → NoticeLink) (ns : List Numbers) (c : CoreState) (p : payloads.State)
     (m : CollectiveMessage) (x : Notice) : Type 0 where
   number : HasNumber (length (announced_in (sessions own m.target).accepted)) (frame_by large ns m)
-  after : IsSending n own known core (accept sessions own (carried_as large ns m links own)) (say said own m)
+  after : IsSending limit n own known core (accept sessions own (carried_as large ns m links own)) (say said own m)
       (notify links own (m.target, x))
       (with_numbers c (if large then with_begun ns m.target.rank else ns))
       (after_announcing p
       (payload_kept (if large then Some (next_to ns m.target.rank) else None) m.target.rank (bytes_of_message m)))
 
 -- a message that goes whole
-whole_sent : (n : ℕ) (own : Endpoint) (known : List ℕ) (core : Core) (sessions : Sessions) (said : Saying)
+whole_sent : (limit : MessageLimit) (n : ℕ) (own : Endpoint) (known : List ℕ) (core : Core) (sessions : Sessions)
+    (said : Saying)
     (links : Endpoint → Endpoint → NoticeLink) (ns : List Numbers) (c : CoreState) (p : payloads.State)
     (m : CollectiveMessage) (x : Notice) →
-    IsSending n own known core sessions said links (with_numbers c ns) p →
-    IsSent false n own known core sessions said links ns c p m x
-whole_sent n own known core sessions said links ns c p m x h =
+    IsSending limit n own known core sessions said links (with_numbers c ns) p →
+    IsSent limit false n own known core sessions said links ns c p m x
+whole_sent limit n own known core sessions said links ns c p m x h =
     record {
       number = tt;
       after = record {
@@ -267,9 +272,9 @@ whole_sent n own known core sessions said links ns c p m x h =
             (λ a b. one_whole sessions own m.target i a b) (h.shown serial);
         many = λ d. many_more said links own m x d h.many;
         kept = subst
-            (λ (ps : List Announced). ArePayloads after (say said own m) own known
+            (λ (ps : List Announced). ArePayloads limit after (say said own m) own known
             (record { announced = ps; coming = p.coming })) (sym (append-nil p.announced))
-            (payloads_grow sessions after said (say said own m) own known p
+            (payloads_grow limit sessions after said (say said own m) own known p
             (accepts_more sessions own m.target (OfNotices i)) (said_more said own m) h.kept);
       };
     }
@@ -281,14 +286,15 @@ whole_sent n own known core sessions said links ns c p m x h =
     after = accept sessions own (m.target, OfNotices i)
 
 -- a message that is announced
-large_sent : (n : ℕ) (own : Endpoint) (known : List ℕ) (core : Core) (sessions : Sessions) (said : Saying)
+large_sent : (limit : MessageLimit) (n : ℕ) (own : Endpoint) (known : List ℕ) (core : Core) (sessions : Sessions)
+    (said : Saying)
     (links : Endpoint → Endpoint → NoticeLink) (ns : List Numbers) (c : CoreState) (p : payloads.State)
     (m : CollectiveMessage) (x : Notice) →
-    IsSending n own known core sessions said links (with_numbers c ns) p →
-    IsGoing (in_job c.place.message_limit (place_of n own)) ns m →
-    IsSendable n own m → IsKnown known m.target → eager_limit < length (bytes_of_message m) →
-    IsSent true n own known core sessions said links ns c p m x
-large_sent n own known core sessions said links ns c p m x h goes can known_is large =
+    IsSending limit n own known core sessions said links (with_numbers c ns) p →
+    IsGoing (in_job limit (place_of n own)) ns m →
+    IsSendable n own m → IsKnown known m.target → frame_limit_of limit < length (bytes_of_message m) →
+    IsSent limit true n own known core sessions said links ns c p m x
+large_sent limit n own known core sessions said links ns c p m x h goes can known_is large =
     record {
       number = number_is;
       after = record {
@@ -303,7 +309,8 @@ large_sent n own known core sessions said links ns c p m x h goes can known_is l
         many = λ d. many_more said links own m x d h.many;
         kept = record {
           announced =
-              All_append (IsAnnouncedPayload after (say said own m) own known) p.announced (new ∷ []) grown.announced
+              All_append (IsAnnouncedPayload limit after (say said own m) own known) p.announced (new ∷ [])
+              grown.announced
               (new_is, tt);
           coming = grown.coming;
         };
@@ -335,7 +342,7 @@ large_sent n own known core sessions said links ns c p m x h goes can known_is l
         (is ∙ ap (λ (q : Place). q.endpoint.rank) h.placed)
 
     begins : CanBegin ns rank (length (bytes_of_message m))
-    begins = can_begin ns rank (length (bytes_of_message m)) large goes.sendable
+    begins = can_begin limit ns rank (length (bytes_of_message m)) large goes.sendable
 
     number_is : next_to ns rank ≡ length (all_announced sessions own m.target)
     number_is =
@@ -344,11 +351,11 @@ large_sent n own known core sessions said links ns c p m x h goes can known_is l
         ∙ ap (λ (d : Endpoint). length (transfers_as 0 (all_announced sessions own d))) target_is
         ∙ length-map (all_announced sessions own m.target) (transfer_as 0)
 
-    grown : ArePayloads after (say said own m) own known p
-    grown = payloads_grow sessions after said (say said own m) own known p
+    grown : ArePayloads limit after (say said own m) own known p
+    grown = payloads_grow limit sessions after said (say said own m) own known p
         (accepts_more sessions own m.target (Announces i)) (said_more said own m) h.kept
 
-    notice : IsLargeNotice after (say said own m) own m.target (next_to ns rank) m
+    notice : IsLargeNotice limit after (say said own m) own m.target (next_to ns rank) m
     notice = record {
       number = i;
       named = ap (λ (xs : List sessions_announced.Announced). slice_get xs (next_to ns rank))
@@ -359,100 +366,111 @@ large_sent n own known core sessions said links ns c p m x h goes can known_is l
       large = large;
     }
 
-    new_is : IsAnnouncedPayload after (say said own m) own known new
+    new_is : IsAnnouncedPayload limit after (say said own m) own known new
     new_is = record {
       message = m;
       notice =
-          subst (λ (d : Endpoint). IsLargeNotice after (say said own m) own d (next_to ns rank) m)
+          subst (λ (d : Endpoint). IsLargeNotice limit after (say said own m) own d (next_to ns rank) m)
           (sym target_is) notice;
       bytes = refl;
       short = begins.limit;
     }
 
-one_sent : (n : ℕ) (own : Endpoint) (known : List ℕ) (core : Core) (sessions : Sessions) (said : Saying)
+one_sent : (limit : MessageLimit) (n : ℕ) (own : Endpoint) (known : List ℕ) (core : Core) (sessions : Sessions)
+    (said : Saying)
     (links : Endpoint → Endpoint → NoticeLink) (ns : List Numbers) (c : CoreState) (p : payloads.State)
     (m : CollectiveMessage) (x : Notice) →
-    IsSending n own known core sessions said links (with_numbers c ns) p →
-    IsGoing (in_job c.place.message_limit (place_of n own)) ns m →
-    IsSendable n own m → IsKnown known m.target → (large : Bool) → is_large m ≡ large →
-    IsSent large n own known core sessions said links ns c p m x
-one_sent n own known core sessions said links ns c p m x h goes can known_is false is =
-    whole_sent n own known core sessions said links ns c p m x h
-one_sent n own known core sessions said links ns c p m x h goes can known_is true is =
-    large_sent n own known core sessions said links ns c p m x h goes can known_is
-    (ltb-true eager_limit (length (bytes_of_message m)) is)
+    IsSending limit n own known core sessions said links (with_numbers c ns) p →
+    IsGoing (in_job limit (place_of n own)) ns m →
+    IsSendable n own m → IsKnown known m.target → (large : Bool) → is_large limit m ≡ large →
+    IsSent limit large n own known core sessions said links ns c p m x
+one_sent limit n own known core sessions said links ns c p m x h goes can known_is false is =
+    whole_sent limit n own known core sessions said links ns c p m x h
+one_sent limit n own known core sessions said links ns c p m x h goes can known_is true is =
+    large_sent limit n own known core sessions said links ns c p m x h goes can known_is
+    (ltb-true (frame_limit_of limit) (length (bytes_of_message m)) is)
 
 -- ---- all that a step sends
 
 -- the texts of a step, each with the endpoint to which it goes
-abbrev pub texts_gone : (known : List ℕ) → List Numbers → List CollectiveMessage → List (Endpoint × FrameText)
-texts_gone known ns ms = all_addressed known (messages_sent ns ms)
+abbrev pub texts_gone : MessageLimit → (known : List ℕ) → List Numbers → List CollectiveMessage →
+    List (Endpoint × FrameText)
+texts_gone limit known ns ms = all_addressed known (messages_sent limit ns ms)
 
 -- What goes out of these notices bears the next numbers, and the engine holds then what one holds that sent them
-pub record IsStepSent (n : ℕ) (own : Endpoint) (known : List ℕ) (core : Core) (sessions : Sessions) (said : Saying)
+pub record IsStepSent (limit : MessageLimit) (n : ℕ) (own : Endpoint) (known : List ℕ) (core : Core)
+    (sessions : Sessions) (said : Saying)
     (links : Endpoint → Endpoint → NoticeLink) (ns : List Numbers) (c : CoreState) (p : payloads.State)
     (ms : List CollectiveMessage) (xs : List (Endpoint × Notice)) : Type 0 where
-  pub numbered : AreNumbered sessions own (texts_gone known ns ms) (all_carried links own xs (texts_gone known ns ms))
-  pub after : IsSending n own known core (accept_all sessions own (all_carried links own xs (texts_gone known ns ms)))
+  pub numbered : AreNumbered sessions own (texts_gone limit known ns ms)
+      (all_carried links own xs (texts_gone limit known ns ms))
+  pub after : IsSending limit n own known core
+      (accept_all sessions own (all_carried links own xs (texts_gone limit known ns ms)))
       (say_all said own ms) (notify_all links own xs)
-      (with_numbers c (step_numbers ns ms)) (after_announcing p (step_payloads ns ms))
+      (with_numbers c (step_numbers limit ns ms)) (after_announcing p (step_payloads limit ns ms))
   pub grows : SaidGrows said (say_all said own ms)
 
 -- what is kept may be said otherwise
-kept_as : (n : ℕ) (own : Endpoint) (known : List ℕ) (core : Core) (sessions : Sessions) (said : Saying)
+kept_as : (limit : MessageLimit) (n : ℕ) (own : Endpoint) (known : List ℕ) (core : Core) (sessions : Sessions)
+    (said : Saying)
     (links : Endpoint → Endpoint → NoticeLink) (c : CoreState) (p : payloads.State) (a b : List Announced) → a ≡ b →
-    IsSending n own known core sessions said links c (record { announced = a; coming = p.coming }) →
-    IsSending n own known core sessions said links c (record { announced = b; coming = p.coming })
-kept_as n own known core sessions said links c p a b same h =
-    subst (λ (ps : List Announced). IsSending n own known core sessions said links c
+    IsSending limit n own known core sessions said links c (record { announced = a; coming = p.coming }) →
+    IsSending limit n own known core sessions said links c (record { announced = b; coming = p.coming })
+kept_as limit n own known core sessions said links c p a b same h =
+    subst (λ (ps : List Announced). IsSending limit n own known core sessions said links c
     (record { announced = ps; coming = p.coming })) same h
 
 -- one message, and then the rest
-then_sent : (n : ℕ) (own : Endpoint) (known : List ℕ) (core : Core) (sessions : Sessions) (said : Saying)
+then_sent : (limit : MessageLimit) (n : ℕ) (own : Endpoint) (known : List ℕ) (core : Core) (sessions : Sessions)
+    (said : Saying)
     (links : Endpoint → Endpoint → NoticeLink) (ns : List Numbers) (c : CoreState) (p : payloads.State)
     (m : CollectiveMessage) (x : Notice) (ms : List CollectiveMessage) (xs : List (Endpoint × Notice)) →
-    IsSent (is_large m) n own known core sessions said links ns c p m x →
-    IsStepSent n own known core (accept sessions own (carried_as (is_large m) ns m links own)) (say said own m)
-    (notify links own (m.target, x)) (numbers_after ns m) c
-    (after_announcing p (payload_kept (transfer_of ns m) m.target.rank (bytes_of_message m))) ms xs →
-    IsStepSent n own known core sessions said links ns c p (m ∷ ms) ((m.target, x) ∷ xs)
-then_sent n own known core sessions said links ns c p m x ms xs one rest = record {
+    IsSent limit (is_large limit m) n own known core sessions said links ns c p m x →
+    IsStepSent limit n own known core (accept sessions own (carried_as (is_large limit m) ns m links own))
+    (say said own m)
+    (notify links own (m.target, x)) (numbers_after limit ns m) c
+    (after_announcing p (payload_kept (transfer_of limit ns m) m.target.rank (bytes_of_message m))) ms xs →
+    IsStepSent limit n own known core sessions said links ns c p (m ∷ ms) ((m.target, x) ∷ xs)
+then_sent limit n own known core sessions said links ns c p m x ms xs one rest = record {
   numbered = (one.number, rest.numbered);
-  after = kept_as n own known core
-      (accept_all sessions own (all_carried links own ((m.target, x) ∷ xs) (texts_gone known ns (m ∷ ms))))
+  after = kept_as limit n own known core
+      (accept_all sessions own (all_carried links own ((m.target, x) ∷ xs) (texts_gone limit known ns (m ∷ ms))))
       (say_all said own (m ∷ ms)) (notify_all links own ((m.target, x) ∷ xs))
-      (with_numbers c (step_numbers ns (m ∷ ms))) p
-      ((p.announced ++ payload_kept (transfer_of ns m) m.target.rank (bytes_of_message m)) ++
-      step_payloads (numbers_after ns m) ms)
-      (p.announced ++ step_payloads ns (m ∷ ms))
-      (append_assoc p.announced (payload_kept (transfer_of ns m) m.target.rank (bytes_of_message m))
-      (step_payloads (numbers_after ns m) ms)) rest.after;
+      (with_numbers c (step_numbers limit ns (m ∷ ms))) p
+      ((p.announced ++ payload_kept (transfer_of limit ns m) m.target.rank (bytes_of_message m)) ++
+      step_payloads limit (numbers_after limit ns m) ms)
+      (p.announced ++ step_payloads limit ns (m ∷ ms))
+      (append_assoc p.announced (payload_kept (transfer_of limit ns m) m.target.rank (bytes_of_message m))
+      (step_payloads limit (numbers_after limit ns m) ms)) rest.after;
   grows = said_then said (say said own m) (say_all (say said own m) own ms) (said_more said own m) rest.grows;
 }
 
 -- A step's messages that can go, to other ranks at the incarnations at which they are known, are sent
-pub step_sent : (n : ℕ) (own : Endpoint) (known : List ℕ) (core : Core) (sessions : Sessions) (said : Saying)
+pub step_sent : (limit : MessageLimit) (n : ℕ) (own : Endpoint) (known : List ℕ) (core : Core) (sessions : Sessions)
+    (said : Saying)
     (links : Endpoint → Endpoint → NoticeLink) (ns : List Numbers) (c : CoreState) (p : payloads.State)
     (ms : List CollectiveMessage) (xs : List (Endpoint × Notice)) →
-    IsSending n own known core sessions said links (with_numbers c ns) p →
-    all_can_go (in_job c.place.message_limit (place_of n own)) ns ms ≡ true →
+    IsSending limit n own known core sessions said links (with_numbers c ns) p →
+    all_can_go (in_job limit (place_of n own)) ns ms ≡ true →
     AllByRecursion (IsSendable n own) ms → GoTo (IsKnown known) ms → AreSaid own ms xs →
-    IsStepSent n own known core sessions said links ns c p ms xs
-step_sent n own known core sessions said links ns c p [] [] h goes can known_all are = record {
+    IsStepSent limit n own known core sessions said links ns c p ms xs
+step_sent limit n own known core sessions said links ns c p [] [] h goes can known_all are = record {
   numbered = tt;
-  after = kept_as n own known core sessions said links (with_numbers c ns) p p.announced (p.announced ++ [])
+  after = kept_as limit n own known core sessions said links (with_numbers c ns) p p.announced (p.announced ++ [])
       (sym (append-nil p.announced)) h;
   grows = said_same said;
 }
-step_sent n own known core sessions said links ns c p [] (x ∷ xs) h goes can known_all are = absurd are
-step_sent n own known core sessions said links ns c p (m ∷ ms) [] h goes can known_all are = absurd are
-step_sent n own known core sessions said links ns c p (m ∷ ms) ((d, x) ∷ xs) h goes can known_all are =
-    let g = and_parts (can_go (in_job c.place.message_limit (place_of n own)) ns m) (all_can_go (in_job c.place.message_limit (place_of n own)) (numbers_after ns m) ms) goes in
-    let one : IsSent (is_large m) n own known core sessions said links ns c p m x = one_sent n own known core sessions said links ns c p m x h (is_going (in_job c.place.message_limit (place_of n own)) ns m g.0) can.0 known_all.0 (is_large m) refl in
-    subst (λ (z : Endpoint). IsStepSent n own known core sessions said links ns c p (m ∷ ms) ((z, x) ∷ xs))
+step_sent limit n own known core sessions said links ns c p [] (x ∷ xs) h goes can known_all are = absurd are
+step_sent limit n own known core sessions said links ns c p (m ∷ ms) [] h goes can known_all are = absurd are
+step_sent limit n own known core sessions said links ns c p (m ∷ ms) ((d, x) ∷ xs) h goes can known_all are =
+    let g = and_parts (can_go (in_job limit (place_of n own)) ns m) (all_can_go (in_job limit (place_of n own)) (numbers_after limit ns m) ms) goes in
+    let one : IsSent limit (is_large limit m) n own known core sessions said links ns c p m x = one_sent limit n own known core sessions said links ns c p m x h (is_going (in_job limit (place_of n own)) ns m g.0) can.0 known_all.0 (is_large limit m) refl in
+    subst (λ (z : Endpoint). IsStepSent limit n own known core sessions said links ns c p (m ∷ ms) ((z, x) ∷ xs))
     (sym are.0.target)
-    (then_sent n own known core sessions said links ns c p m x ms xs one
-    (step_sent n own known core (accept sessions own (carried_as (is_large m) ns m links own)) (say said own m)
-    (notify links own (m.target, x)) (numbers_after ns m) c
-    (after_announcing p (payload_kept (transfer_of ns m) m.target.rank (bytes_of_message m))) ms xs one.after g.1 can.1
+    (then_sent limit n own known core sessions said links ns c p m x ms xs one
+    (step_sent limit n own known core (accept sessions own (carried_as (is_large limit m) ns m links own))
+    (say said own m)
+    (notify links own (m.target, x)) (numbers_after limit ns m) c
+    (after_announcing p (payload_kept (transfer_of limit ns m) m.target.rank (bytes_of_message m))) ms xs one.after g.1
+    can.1
     known_all.1 are.1))

@@ -1,5 +1,5 @@
 -- A word with a frame of messages, or with none, is followed.
-use Rattle.std.proofs.Common.{◌≡◌, ℕ, Bool, true, false, List, [], map, Option, Some, None, refl, sym, ap, subst, ◌∙◌}
+use Rattle.std.proofs.Common.{◌≡◌, ℕ, Bool, true, false, List, [], Option, Some, None, refl, sym, ap, subst, ◌∙◌}
 use Rattle.std.specs.List.{AllByRecursion}
 use Rattle.std.proofs.lemmas.Option.{same_Some}
 use Rattle.datagram.specs.Spellings.{FrameText, OutgoingText}
@@ -175,9 +175,11 @@ with_frame shows n r engines u T old h b x is free =
       placed = ap (λ (c : CoreState). c.place) core_is ∙ (heard 0).place ∙ o.held.placed ∙ sym keeps.place;
     })
     (ap (λ (c : CoreState). c.completion) core_is ∙ (heard 0).completion ∙ o.completion)
-    (payloads_grow o.sessions sessions o.said o.said own (after_heard old h).sessions.known e.payloads
+    (payloads_grow u.net.message_limit o.sessions sessions o.said o.said own (after_heard old h).sessions.known
+    e.payloads
     (only_handed o.sessions s own (frames_carried effect.out)).grow (said_same o.said)
-    (subst (λ (known : List ℕ). ArePayloads o.sessions o.said own known e.payloads) (sym keeps.known) o.payloads))
+    (subst (λ (known : List ℕ). ArePayloads u.net.message_limit o.sessions o.said own known e.payloads)
+    (sym keeps.known) o.payloads))
     keeps.place
   where
     own : Endpoint
@@ -298,7 +300,8 @@ plainly n r engines u T old h x is free =
       placed = ap (λ (c : CoreState). c.place) core_is ∙ o.held.placed ∙ sym keeps.place;
     }))
     (ap (λ (c : CoreState). c.completion) core_is ∙ o.completion)
-    (subst (λ (known : List ℕ). ArePayloads o.sessions o.said own known e.payloads) (sym keeps.known) o.payloads)
+    (subst (λ (known : List ℕ). ArePayloads u.net.message_limit o.sessions o.said own known e.payloads)
+    (sym keeps.known) o.payloads)
     keeps.place
   where
     own : Endpoint

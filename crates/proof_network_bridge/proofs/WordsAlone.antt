@@ -125,7 +125,8 @@ pub alone_step : (n r : ℕ) (engines : List EngineState) (u : GroupNetwork) (T 
     (accept_all (handed_on x.texts h.source (here u.net r)) (here u.net r)
     (all_addressed (opened old h).sessions.known sendings))
     (accept_all (handed_on x.opens.sessions h.source (here u.net r)) (here u.net r) out)) →
-    ArePayloads (accept_all (handed_on x.opens.sessions h.source (here u.net r)) (here u.net r) out) x.opens.said
+    ArePayloads u.net.message_limit (accept_all (handed_on x.opens.sessions h.source (here u.net r)) (here u.net r) out)
+    x.opens.said
     (here u.net r) (opened old h).sessions.known mid.payloads →
     IsStepped n r engines u h.source T mid
 alone_step n r engines u T old mid h b sendings out x is alone may fine silent carried kept =
@@ -145,7 +146,7 @@ alone_step n r engines u T old mid h b sendings out x is alone may fine silent c
       placed = alone.place ∙ o.held.placed ∙ sym (ap (λ (t : SessionsState). t.place) alone.sessions ∙ keeps.place);
     }))
     (alone.completion ∙ o.completion)
-    (subst (λ (k : List ℕ). ArePayloads sessions o.said own k mid.payloads) (sym known_is) kept)
+    (subst (λ (k : List ℕ). ArePayloads u.net.message_limit sessions o.said own k mid.payloads) (sym known_is) kept)
     (ap (λ (t : SessionsState). t.place) alone.sessions ∙ keeps.place)
   where
     own : Endpoint

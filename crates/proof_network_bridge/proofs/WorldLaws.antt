@@ -1,6 +1,5 @@
 -- A world of engines follows the pure network with communicators: the laws of the parts, put together.
 use Rattle.std.proofs.Common.{[]}
-use Rattle.vocabulary.specs.MessageLimits.{limit_of}
 use Rattle.perfect_groups.proofs.GroupRuns.{one_group_for_each_context}
 use Rattle.proof_collective_steps.proofs.RankSteps.{entries_of_ranks_follow, openings_are_shown}
 use Rattle.proof_engine_matching.proofs.AnnouncedLemmas.{announcements_agree}
@@ -57,7 +56,7 @@ opening_follows_none = opening.opening_follows opening_is_shown openings_are_sho
 
 pub opening_follows : OpeningFollows
 opening_follows l n few =
-    followed n (limit_of l) [] (opening_engines l n 0 n) [] [] (opening_follows_none l n few)
+    followed n l [] (opening_engines l n 0 n) [] [] (opening_follows_none l n few)
 
 -- each kind of calls
 core_calls_follow : CoreCallsFollow

@@ -8,6 +8,7 @@ use Rattle.std.proofs.lemmas.Option.{same_Some, slice_get_within}
 use Rattle.vocabulary.specs.Endpoints.{is_same}
 use Rattle.perfect_queues.specs.State.{with_number}
 use Rattle.vocabulary.specs.declared.endpoint.Endpoint.{Endpoint}
+use Rattle.vocabulary.specs.declared.message_limit.MessageLimit.{MessageLimit}
 use Rattle.perfect_queues.proofs.EndpointLemmas.{same_eq}
 use Rattle.point_to_point.specs.CoreState.{CoreState}
 use Rattle.engine_calls.specs.EngineState.{EngineState}
@@ -113,11 +114,11 @@ is_at n r engines datagrams w old j there =
 -- ---- what was accepted nowhere
 
 -- where no text was accepted, nothing was
-nothing_stands : (out back : List Announced) (said : List CollectiveMessage) (texts : List FrameText)
-    (xs : List Carried) → StandFor out back said texts xs → texts ≡ [] → xs ≡ []
-nothing_stands out back said [] [] stand none = refl
-nothing_stands out back said [] (x ∷ xs) stand none = absurd stand
-nothing_stands out back said (t ∷ ts) xs stand none = absurd cc
+nothing_stands : (limit : MessageLimit) (out back : List Announced) (said : List CollectiveMessage)
+    (texts : List FrameText) (xs : List Carried) → StandFor limit out back said texts xs → texts ≡ [] → xs ≡ []
+nothing_stands limit out back said [] [] stand none = refl
+nothing_stands limit out back said [] (x ∷ xs) stand none = absurd stand
+nothing_stands limit out back said (t ∷ ts) xs stand none = absurd cc
 
 -- so nothing was announced
 pub announced_none : (w : GroupNetwork) (said : Saying) (texts : LinksOf FrameText) (sessions : Sessions) →
@@ -125,7 +126,8 @@ pub announced_none : (w : GroupNetwork) (said : Saying) (texts : LinksOf FrameTe
     (announcements_in serial sessions own).to d ≡ []
 announced_none w said texts sessions j serial own d none =
     ap (λ (xs : List Carried). transfers_as serial (announced_in xs))
-    (nothing_stands (all_announced sessions own d) (all_announced sessions d own) (said own d) (texts own d).accepted
+    (nothing_stands w.net.message_limit (all_announced sessions own d) (all_announced sessions d own) (said own d)
+    (texts own d).accepted
     (sessions own d).accepted (j.alike own d).accepted none)
 
 pub none_announced : (n : ℕ) (engines : List EngineState) (datagrams : List (ℕ × List ℕ)) (w : GroupNetwork) →

@@ -22,7 +22,6 @@ use Rattle.point_to_point_calls.specs.declared.refusal.Refusal.{Refusal}
 use Rattle.observation.specs.Faults.{IsFaultless}
 use Rattle.proof_network_bridge.specs.WorldViews.{IsFollowed}
 use Rattle.observation.specs.EngineCalls.{call_meant, call_seen}
-use Rattle.vocabulary.specs.MessageLimits.{limit_of}
 
 -- An engine is a rank: it holds the requests and messages that this core holds, and knows the ranks as the core does;
 -- it holds the communicators that this member holds, and is in the same collective; and these are of ranks of its job.
@@ -34,7 +33,7 @@ pub record IsRank (e : EngineState) (core : Core) (m : Member) : Type 0 where
   pub placed : e.core.place ≡ e.sessions.place
   pub inside : AreInWorld e.core.place.size m.membership
   -- the core has the limit of messages of the job
-  pub limit : core.message_limit ≡ limit_of e.core.place.message_limit
+  pub limit : core.message_limit ≡ e.core.place.message_limit
 
 -- the fault of a call at its endpoint, by its own part of the machine
 abbrev pub fault_alone : EngineState → Core → Member → machine.Call → Option ℕ

@@ -1,32 +1,24 @@
 -- A world of engines follows the pure network with communicators, event by event.
-use Rattle.std.specs.Prelude.{◌≡◌, ℕ, suc, ◌<◌, ◌≤◌, List, [], ◌∷◌, ◌++◌, Option, Some, None, Ok, Err, slice_get}
+use Rattle.std.specs.Prelude.{◌≡◌, ℕ, suc, ◌<◌, ◌≤◌, List, [], ◌∷◌, ◌++◌, Option, Some, Ok, Err, slice_get}
 use Rattle.std.specs.Prelude.{slice_set, slice_index}
 use Rattle.incarnation.specs.declared.place.Place.{Place}
 use Rattle.point_to_point_calls.specs.declared.refusal.Refusal.{Refusal}
-use Rattle.point_to_point.specs.CoreState.{CoreState}
 use Rattle.engine_calls.specs.Calls.{CallGives, IsTaken}
 use Rattle.engine.specs.Datagrams.{DatagramGives}
 use Rattle.engine_calls.specs.EngineState.{EngineState, completion_of, emptied, member_of, opening}
 use Rattle.engine.specs.Ticks.{TickGives}
 use Rattle.engine_calls.specs.declared.call.Call.{Call}
-use Rattle.engine_calls.specs.declared.call.Call.TheVariants as calls
-use Rattle.point_to_point_calls.specs.declared.call.Probe.{Probe}
 use Rattle.engine_calls.specs.declared.reply.Reply.{Reply}
 use Rattle.engine_calls.specs.declared.reply.Reply.TheVariants as replies
-use Rattle.perfect_groups.specs.Calls as machine_calls
-use Rattle.perfect_groups.specs.Calls.{held_at, queue_call}
+use Rattle.perfect_groups.specs.Calls.{held_at}
 use Rattle.perfect_groups.specs.Communicators.{Communicator}
 use Rattle.perfect_groups.specs.Events as machine
-use Rattle.perfect_groups.specs.Faults.{fault}
-use Rattle.perfect_groups.specs.Machine.{Machine, machine_opening}
+use Rattle.perfect_groups.specs.Machine.{machine_opening}
 use Rattle.perfect_groups.specs.Quiet.{CollectivesAreLeft}
 use Rattle.perfect_groups.specs.Runs.{IsRun, after_run, seen}
 use Rattle.vocabulary.specs.Endpoints.{last_incarnation}
 use Rattle.vocabulary.specs.declared.message_limit.MessageLimit.{MessageLimit}
-use Rattle.vocabulary.specs.declared.endpoint.Endpoint.{Endpoint}
-use Rattle.perfect_queues.specs.Calls as queues
 use Rattle.perfect_queues.specs.Quiet.{IsAtRest, ProbesFindAll}
-use Rattle.perfect_queues.specs.Receives as receives
 use Rattle.observation.specs.Reasons.{IsReason}
 use Rattle.link_truth.specs.Quiet.{AreQuiet}
 use Rattle.proof_network_bridge.specs.WorldViews.{IsFollowed, opening_engines}
@@ -123,12 +115,12 @@ RestartsFollow =
     IsFollowed n (slice_set engines r (opening (next_place old.sessions.place))) datagrams
     (history ++ machine.Restarted r ∷ [])
 
--- A history is seen of a run of the machine of queues and groups among n ranks, where a message has at most this many
--- bytes. The run ends with each rank at the
--- incarnation of its engine, which knows there what its engine knows; a call that its engine refuses has a reason
--- there, and one that it takes has no fault; and where their sessions are quiet, the run has come to a state that meets
--- the machine's quiet clauses
-pub record IsSeenOfMachine (n limit : ℕ) (engines : List EngineState) (history : List machine.Entry) : Type 0 where
+-- A history is seen of a run of the machine of queues and groups among n ranks, in a job with this limit of messages.
+-- The run ends with each rank at the incarnation of its engine, which knows there what its engine knows; a call that its
+-- engine refuses has a reason there, and one that it takes has no fault; and where their sessions are quiet, the run has
+-- come to a state that meets the machine's quiet clauses
+pub record IsSeenOfMachine (n : ℕ) (limit : MessageLimit) (engines : List EngineState) (history : List machine.Entry) :
+    Type 0 where
   pub events : List machine.Event
   pub run : IsRun n (machine_opening n limit) events
   pub tells : seen (machine_opening n limit) events ≡ history

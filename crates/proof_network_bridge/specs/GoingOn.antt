@@ -12,21 +12,20 @@ use Rattle.proof_group_network.specs.Network.{Happening}
 use Rattle.proof_network_runs.specs.Runs.{GoesWith, rank_of}
 use Rattle.point_to_point_calls.specs.declared.refusal.Refusal.{Refusal}
 use Rattle.vocabulary.specs.Endpoints.{last_incarnation}
-use Rattle.vocabulary.specs.MessageLimits.{limit_of}
 use Rattle.vocabulary.specs.declared.message_limit.MessageLimit.{MessageLimit}
 use Rattle.proof_network_bridge.specs.EventLaws.{IsSeenOfMachine, RefusesDatagram, TakesDatagram, TakesTick, next_place}
 use Rattle.proof_network_bridge.specs.WorldViews.{IsJoined, network_after, opening_engines}
 use Rattle.observation.specs.EngineCalls.{told_call, told_completion}
 
 -- these happenings lead to a network of at most 1,024 ranks that is joined to the world, and of which the same is seen
-pub record IsFollowedBy (n limit : ℕ) (happenings : List Happening) (engines : List EngineState)
+pub record IsFollowedBy (n : ℕ) (limit : MessageLimit) (happenings : List Happening) (engines : List EngineState)
     (datagrams : List (ℕ × List ℕ)) (history : List machine.Entry) : Type 0 where
   pub few : n ≤ 1024
   pub joined : IsJoined n engines datagrams (network_after n limit happenings)
   pub seen : (network_after n limit happenings).history ≡ history
 
 -- A world is followed on from the happenings before
-pub data IsFollowedOn (n limit r : ℕ) (before : List Happening) (engines : List EngineState)
+pub data IsFollowedOn (n : ℕ) (limit : MessageLimit) (r : ℕ) (before : List Happening) (engines : List EngineState)
     (datagrams : List (ℕ × List ℕ)) (history : List machine.Entry) : Type 0 where
   -- by none
   Stands :
@@ -38,7 +37,7 @@ pub data IsFollowedOn (n limit r : ℕ) (before : List Happening) (engines : Lis
 
 -- so it is of a world in which the engine at r is the new one, out of which what it gave was taken
 abbrev pub LeavesFollowedOn :
-    (n limit : ℕ) → (before : List Happening) → List EngineState → List (ℕ × List ℕ) →
+    (n : ℕ) (limit : MessageLimit) → (before : List Happening) → List EngineState → List (ℕ × List ℕ) →
     (r : ℕ) → EngineState → List machine.Entry → Type 0
 LeavesFollowedOn n limit before engines datagrams r mid history =
     IsFollowedOn n limit r before (slice_set engines r (emptied mid)) (datagrams ++ mid.sessions.out) history
@@ -46,12 +45,13 @@ LeavesFollowedOn n limit before engines datagrams r mid history =
 -- engines at their start follow the network with nothing that happened
 abbrev pub OpeningFollowsNone : Type 0
 OpeningFollowsNone =
-    (l : MessageLimit) (n : ℕ) → n ≤ 1024 → IsFollowedBy n (limit_of l) [] (opening_engines l n 0 n) [] []
+    (l : MessageLimit) (n : ℕ) → n ≤ 1024 → IsFollowedBy n l [] (opening_engines l n 0 n) [] []
 
 -- a call that a rank takes is followed on, and what is seen of it is the call, its reply and what it completes
 abbrev pub CallsFollowOn : Type 0
 CallsFollowOn =
-    (n limit r : ℕ) (before : List Happening) (engines : List EngineState) (datagrams : List (ℕ × List ℕ))
+    (n : ℕ) (limit : MessageLimit) (r : ℕ) (before : List Happening) (engines : List EngineState)
+    (datagrams : List (ℕ × List ℕ))
     (history : List machine.Entry)
     (old mid : EngineState) (call : Call) (reply : Reply) →
     IsFollowedBy n limit before engines datagrams history → slice_get engines r ≡ Some old → IsTaken reply →
@@ -64,7 +64,8 @@ CallsFollowOn =
 -- so is a datagram that it takes in
 abbrev pub DatagramsFollowOn : Type 0
 DatagramsFollowOn =
-    (n limit r number : ℕ) (bytes : List ℕ) (before : List Happening) (engines : List EngineState)
+    (n : ℕ) (limit : MessageLimit) (r number : ℕ) (bytes : List ℕ) (before : List Happening)
+    (engines : List EngineState)
     (datagrams : List (ℕ × List ℕ))
     (history : List machine.Entry) (old mid : EngineState) →
     IsFollowedBy n limit before engines datagrams history → slice_get engines r ≡ Some old →
@@ -76,7 +77,8 @@ DatagramsFollowOn =
 -- nothing happens where one is refused
 abbrev pub RefusalsStand : Type 0
 RefusalsStand =
-    (n limit r number : ℕ) (bytes : List ℕ) (before : List Happening) (engines : List EngineState)
+    (n : ℕ) (limit : MessageLimit) (r number : ℕ) (bytes : List ℕ) (before : List Happening)
+    (engines : List EngineState)
     (datagrams : List (ℕ × List ℕ))
     (history : List machine.Entry) (old mid : EngineState) (why : Refusal) →
     IsFollowedBy n limit before engines datagrams history → slice_get engines r ≡ Some old →
@@ -87,7 +89,8 @@ RefusalsStand =
 -- nor at a tick
 abbrev pub TicksStand : Type 0
 TicksStand =
-    (n limit r now : ℕ) (before : List Happening) (engines : List EngineState) (datagrams : List (ℕ × List ℕ))
+    (n : ℕ) (limit : MessageLimit) (r now : ℕ) (before : List Happening) (engines : List EngineState)
+    (datagrams : List (ℕ × List ℕ))
     (history : List machine.Entry)
     (old mid : EngineState) →
     IsFollowedBy n limit before engines datagrams history → slice_get engines r ≡ Some old → TakesTick old now mid →
@@ -97,7 +100,8 @@ TicksStand =
 -- a rank is started anew
 abbrev pub RestartsFollowOn : Type 0
 RestartsFollowOn =
-    (n limit r : ℕ) (before : List Happening) (engines : List EngineState) (datagrams : List (ℕ × List ℕ))
+    (n : ℕ) (limit : MessageLimit) (r : ℕ) (before : List Happening) (engines : List EngineState)
+    (datagrams : List (ℕ × List ℕ))
     (history : List machine.Entry)
     (old : EngineState) →
     IsFollowedBy n limit before engines datagrams history → slice_get engines r ≡ Some old →
@@ -106,7 +110,7 @@ RestartsFollowOn =
     (history ++ machine.Restarted r ∷ [])
 
 -- what is seen of engines is seen of this run
-pub record IsSeenBy (n limit : ℕ) (engines : List EngineState) (history : List machine.Entry)
+pub record IsSeenBy (n : ℕ) (limit : MessageLimit) (engines : List EngineState) (history : List machine.Entry)
     (events : List machine.Event) : Type 0 where
   pub seen : IsSeenOfMachine n limit engines history
   pub by : seen.events ≡ events
@@ -114,7 +118,8 @@ pub record IsSeenBy (n limit : ℕ) (engines : List EngineState) (history : List
 -- each run that goes with what engines follow tells all of them that some run does
 abbrev pub FollowingIsEachRun : Type 0
 FollowingIsEachRun =
-    (n limit : ℕ) (happenings : List Happening) (events : List machine.Event) (engines : List EngineState)
+    (n : ℕ) (limit : MessageLimit) (happenings : List Happening) (events : List machine.Event)
+    (engines : List EngineState)
     (datagrams : List (ℕ × List ℕ))
     (history : List machine.Entry) →
     IsFollowedBy n limit happenings engines datagrams history → GoesWith n limit happenings events →
@@ -124,7 +129,7 @@ FollowingIsEachRun =
 -- of one that was started anew since
 abbrev pub EnginesShareGroups : Type 0
 EnginesShareGroups =
-    (n limit : ℕ) (earlier later : List Happening) (events more : List machine.Event)
+    (n : ℕ) (limit : MessageLimit) (earlier later : List Happening) (events more : List machine.Event)
     (engines engines' : List EngineState)
     (datagrams datagrams' : List (ℕ × List ℕ)) (history history' : List machine.Entry) (r x : ℕ) (e d : EngineState)
     (a b : Communicator) →

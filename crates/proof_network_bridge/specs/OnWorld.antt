@@ -11,6 +11,7 @@ use Rattle.perfect_queues.specs.Events as queue_events
 use Rattle.perfect_queues.specs.Refusals.{world}
 use Rattle.perfect_queues.specs.Runs as queue_runs
 use Rattle.perfect_queues.specs.State.{State, opening}
+use Rattle.vocabulary.specs.declared.message_limit.MessageLimit.{MessageLimit}
 
 -- a call of queues and requests, on world
 abbrev pub call_on_world : queues.Call → Call
@@ -51,7 +52,7 @@ IsEntryOnWorld (queue_events.Completed e a) = Unit {0}
 IsEntryOnWorld (queue_events.Restarted r) = Unit {0}
 
 -- a run of the machine of perfect queues among n ranks has this history, and ends in this state
-pub record IsRunOfQueues (n limit : ℕ) (history : List queue_events.Entry) (now : State) : Type 0 where
+pub record IsRunOfQueues (n : ℕ) (limit : MessageLimit) (history : List queue_events.Entry) (now : State) : Type 0 where
   pub events : List queue_events.Event
   pub run : queue_runs.IsRun n (opening limit) events
   pub tells : queue_runs.seen (opening limit) events ≡ history
@@ -61,6 +62,7 @@ pub record IsRunOfQueues (n limit : ℕ) (history : List queue_events.Entry) (no
 -- doesn't allow: its run is one of that machine, which ends in the same queues
 abbrev pub RunsOnWorldAreOfQueues : Type 0
 RunsOnWorldAreOfQueues =
-    (n limit : ℕ) (events : List Event) (history : List queue_events.Entry) → IsRun n (machine_opening n limit) events →
+    (n : ℕ) (limit : MessageLimit) (events : List Event) (history : List queue_events.Entry) →
+    IsRun n (machine_opening n limit) events →
     seen (machine_opening n limit) events ≡ entries_on_world history → AllByRecursion IsEntryOnWorld history →
     IsRunOfQueues n limit history (after_run (machine_opening n limit) events).queues

@@ -1,5 +1,5 @@
 -- What joins a world of engines to the pure network with communicators.
-use Rattle.std.specs.Prelude.{◌≡◌, ℕ, zero, suc, ◌<◌, ◌≤◌, List, [], ◌∷◌, map, Some, None, slice_get}
+use Rattle.std.specs.Prelude.{◌≡◌, ℕ, zero, suc, ◌<◌, ◌≤◌, List, [], ◌∷◌, Some, None, slice_get}
 use Rattle.datagram.specs.Spellings.{FrameText}
 use Rattle.engine_calls.specs.EngineState.{EngineState, opening}
 use Rattle.perfect_groups.specs.Events.{Entry}
@@ -16,8 +16,7 @@ use Rattle.proof_session_carrying.specs.Announcements.{announcements_in}
 use Rattle.proof_session_carrying.specs.SessionViews.{Saying}
 use Rattle.proof_session_carrying.specs.EventLaws.{AreJoined}
 use Rattle.proof_network_bridge.specs.Payloads.{ArePayloads}
-use Rattle.sessions.specs.SessionsState.{SessionsState}
-use Rattle.vocabulary.specs.MessageLimits.{least, limit_of}
+use Rattle.vocabulary.specs.MessageLimits.{least}
 use Rattle.vocabulary.specs.declared.endpoint.Endpoint.{Endpoint}
 use Rattle.vocabulary.specs.declared.message_limit.MessageLimit.{MessageLimit}
 pub use Rattle.observation.specs.Sessions.{sessions_in}
@@ -28,13 +27,9 @@ opening_engines l n rank zero = []
 opening_engines l n rank (suc k) = opening (in_job l (place_of n (at rank 0))) ∷ opening_engines l n (suc rank) k
 
 -- the limit of messages of these engines, which all have one: that of scripts where there is no engine
-abbrev pub limit_among : List EngineState → MessageLimit
-limit_among [] = least
-limit_among (e ∷ es) = e.sessions.place.message_limit
-
--- how many bytes a message among them may have
-abbrev pub limit_in : List EngineState → ℕ
-limit_in engines = limit_of (limit_among engines)
+abbrev pub limit_in : List EngineState → MessageLimit
+limit_in [] = least
+limit_in (e ∷ es) = e.sessions.place.message_limit
 
 -- an engine out of which everything was taken
 pub record IsClean (e : EngineState) : Type 0 where
@@ -64,22 +59,22 @@ pub record IsJoined (n : ℕ) (engines : List EngineState) (datagrams : List (�
   pub clean : (r : ℕ) (e : EngineState) → slice_get engines r ≡ Some e → IsClean e
   -- the payloads of collectives that an engine keeps are notices of its sessions
   pub payloads : (r : ℕ) (e : EngineState) → slice_get engines r ≡ Some e →
-      ArePayloads sessions said (here w.net r) e.sessions.known e.payloads
+      ArePayloads w.net.message_limit sessions said (here w.net r) e.sessions.known e.payloads
   -- each has the network's limit of messages
   pub limits : (r : ℕ) (e : EngineState) → slice_get engines r ≡ Some e →
-      limit_of e.sessions.place.message_limit ≡ w.net.message_limit
+      e.sessions.place.message_limit ≡ w.net.message_limit
   -- endpoints that are to come have done nothing
   pub unborn : (d : Endpoint) → w.net.current d.rank < d.incarnation → w.net.core d ≡ new_core w.net.message_limit d
 
--- the network of n ranks, where a message has at most this many bytes, after these happenings
-abbrev pub network_after : (n limit : ℕ) → List Happening → GroupNetwork
+-- the network of n ranks, in a job with this limit of messages, after these happenings
+abbrev pub network_after : (n : ℕ) (limit : MessageLimit) → List Happening → GroupNetwork
 network_after n limit happenings = run n happenings (new_group_network n limit)
 
 -- A list of happenings leads to a network of at most 1,024 ranks that is joined to the world, and of which the same is
 -- seen
 pub record IsFollowed (n : ℕ) (engines : List EngineState) (datagrams : List (ℕ × List ℕ)) (history : List Entry) : Type
     0 where
-  pub limit : ℕ
+  pub limit : MessageLimit
   pub happenings : List Happening
   pub few : n ≤ 1024
   pub joined : IsJoined n engines datagrams (network_after n limit happenings)

@@ -14,6 +14,7 @@ use Rattle.proof_pure_network.proofs.Simulation.{Sim}
 use Rattle.proof_pure_network.specs.Frames.{Values}
 use Rattle.vocabulary.specs.declared.endpoint.Endpoint.{Endpoint}
 use Rattle.proof_network_runs.specs.Runs.{local_by, machine_by}
+use Rattle.vocabulary.specs.declared.message_limit.MessageLimit.{MessageLimit}
 
 -- an endpoint's part is what arrived, and behind it what is to come
 local_is : (V : Values) (w : GroupNetwork) (q : State) (x : Endpoint) →
@@ -38,7 +39,7 @@ joined_is V w m j groups =
     λ t. record { queues = record { at = at t; current = j.now t }; groups = groups t }
 
 -- so a run that is seen of a network ends there
-pub seen_ends : (V : Values) (n limit : ℕ) (history : List Entry) (w : GroupNetwork) →
+pub seen_ends : (V : Values) (n : ℕ) (limit : MessageLimit) (history : List Entry) (w : GroupNetwork) →
     (s : NetworkSeen V n limit history (views V w.net) w.net.link w.net.current (groups_in w)) →
     after_run (machine_opening n limit) s.events ≡ machine_by V w
 seen_ends V n limit history w s = joined_is V w (after_run (machine_opening n limit) s.events) s.joined s.groups_are

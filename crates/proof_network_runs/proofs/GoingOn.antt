@@ -48,6 +48,7 @@ use Rattle.proof_network_runs.proofs.Values.{IsSaneByAll, same_machine}
 use Rattle.proof_network_runs.specs.Runs.{EachHasARun, GoesOnWith, GoesWith, HappeningsGoOn, HasARun, IsAt, NoneIsARun}
 use Rattle.proof_network_runs.specs.Runs.{OneGroupAlongRuns, RunsShowAll, after, machine_by, machine_in, rank_of}
 use Rattle.proof_network_runs.specs.Runs.{values_in}
+use Rattle.vocabulary.specs.declared.message_limit.MessageLimit.{MessageLimit}
 
 -- ---- ONE EVENT
 
@@ -262,7 +263,7 @@ happened_last n [] h w = refl
 happened_last n (g ∷ gs) h w = happened_last n gs h (happens n w g)
 
 -- a network is sane by all values that say what was sent
-sane_by_all : (n limit : ℕ) (hs : List Happening) → n ≤ 65536 → IsSaneByAll (after n limit hs).net
+sane_by_all : (n : ℕ) (limit : MessageLimit) (hs : List Happening) → n ≤ 65536 → IsSaneByAll (after n limit hs).net
 sane_by_all n limit hs le U x =
     (run_kept_with_groups n U hs (new_group_network n limit) le x (new_kept_with_groups n limit U)).sane
 
@@ -351,7 +352,7 @@ none_is_a_run n limit = record {
 
 -- ---- some run for all
 
-goes_on_by : (n limit : ℕ) (first more : List Happening) (vs : List Event) → n ≤ 65536 → GoesWith n limit first vs →
+goes_on_by : (n : ℕ) (limit : MessageLimit) (first more : List Happening) (vs : List Event) → n ≤ 65536 → GoesWith n limit first vs →
     HasARun n limit (first ++ more)
 goes_on_by n limit first [] vs le g =
     record { events = vs; goes = subst (λ (hs : List Happening). GoesWith n limit hs vs) (sym (append-nil first)) g }

@@ -15,9 +15,10 @@ use Rattle.proof_pure_network.specs.Frames.{Values, message}
 use Rattle.proof_pure_network.specs.Links.{in_flight}
 use Rattle.proof_pure_network.specs.Network.{Network, here}
 use Rattle.vocabulary.specs.declared.endpoint.Endpoint.{Endpoint}
+use Rattle.vocabulary.specs.declared.message_limit.MessageLimit.{MessageLimit}
 
--- the network of n ranks, where a message has at most this many bytes, after these happenings
-abbrev pub after : (n limit : ℕ) → List Happening → GroupNetwork
+-- the network of n ranks, in a job with this limit of messages and frames, after these happenings
+abbrev pub after : (n : ℕ) (limit : MessageLimit) → List Happening → GroupNetwork
 after n limit happenings = run n happenings (new_group_network n limit)
 
 -- WHAT A NETWORK IS TO THE MACHINE
@@ -55,14 +56,14 @@ machine_in w = machine_by (values_in w.net) w
 
 -- a run of the machine of n ranks goes with these happenings: as much is seen of both, and it leads to what their
 -- network stands for
-pub record GoesWith (n limit : ℕ) (happenings : List Happening) (events : List Event) : Type 0 where
+pub record GoesWith (n : ℕ) (limit : MessageLimit) (happenings : List Happening) (events : List Event) : Type 0 where
   pub allowed : IsRun n (machine_opening n limit) events
   pub tells : seen (machine_opening n limit) events ≡ (after n limit happenings).history
   pub ends : after_run (machine_opening n limit) events ≡ machine_in (after n limit happenings)
 
 -- with nothing that happened goes the run of no event
 abbrev pub NoneIsARun : Type 0
-NoneIsARun = (n limit : ℕ) → GoesWith n limit [] []
+NoneIsARun = (n : ℕ) (limit : MessageLimit) → GoesWith n limit [] []
 
 -- the rank at which something happens
 abbrev pub rank_of : Happening → ℕ
@@ -82,7 +83,7 @@ IsOneAtMost (v ∷ []) = Unit {0}
 IsOneAtMost (v ∷ (u ∷ vs)) = ⊥
 
 -- A run goes on, by one event at most, at this endpoint
-pub record GoesOnWith (n limit : ℕ) (happenings : List Happening) (events : List Event) (e : Endpoint) : Type 0 where
+pub record GoesOnWith (n : ℕ) (limit : MessageLimit) (happenings : List Happening) (events : List Event) (e : Endpoint) : Type 0 where
   pub more : List Event
   pub own : AllByRecursion (IsAt e) more
   pub one : IsOneAtMost more
@@ -92,28 +93,28 @@ pub record GoesOnWith (n limit : ℕ) (happenings : List Happening) (events : Li
 -- its rank
 abbrev pub HappeningsGoOn : Type 0
 HappeningsGoOn =
-    (n limit : ℕ) (happenings : List Happening) (h : Happening) (events : List Event) → n ≤ 65536 →
+    (n : ℕ) (limit : MessageLimit) (happenings : List Happening) (h : Happening) (events : List Event) → n ≤ 65536 →
     GoesWith n limit happenings events →
     GoesOnWith n limit (happenings ++ h ∷ []) events (here (after n limit happenings).net (rank_of h))
 
 -- some run goes with these happenings
-pub record HasARun (n limit : ℕ) (happenings : List Happening) : Type 0 where
+pub record HasARun (n : ℕ) (limit : MessageLimit) (happenings : List Happening) : Type 0 where
   pub events : List Event
   pub goes : GoesWith n limit happenings events
 
 -- so it is of all
 abbrev pub EachHasARun : Type 0
-EachHasARun = (n limit : ℕ) (happenings : List Happening) → n ≤ 65536 → HasARun n limit happenings
+EachHasARun = (n : ℕ) (limit : MessageLimit) (happenings : List Happening) → n ≤ 65536 → HasARun n limit happenings
 
 -- what is shown of a network by this run
-pub record IsShownBy (n limit : ℕ) (w : GroupNetwork) (events : List Event) : Type 0 where
+pub record IsShownBy (n : ℕ) (limit : MessageLimit) (w : GroupNetwork) (events : List Event) : Type 0 where
   pub shown : IsRunOfGroups n limit w
   pub by : shown.events ≡ events
 
 -- each run that goes with happenings shows of their network what some run does
 abbrev pub RunsShowAll : Type 0
 RunsShowAll =
-    (n limit : ℕ) (happenings : List Happening) (events : List Event) → n ≤ 65536 → GoesWith n limit happenings events →
+    (n : ℕ) (limit : MessageLimit) (happenings : List Happening) (events : List Event) → n ≤ 65536 → GoesWith n limit happenings events →
     IsShownBy n limit (after n limit happenings) events
 
 -- one group for each context: of two runs that go with happenings, of which one goes on from the other, whoever holds a
@@ -121,7 +122,7 @@ RunsShowAll =
 -- are one
 abbrev pub OneGroupAlongRuns : Type 0
 OneGroupAlongRuns =
-    (n limit : ℕ) (happenings later : List Happening) (events more : List Event) (x y : Endpoint) (a b : Communicator) →
+    (n : ℕ) (limit : MessageLimit) (happenings later : List Happening) (events more : List Event) (x y : Endpoint) (a b : Communicator) →
     n ≤ 65536 →
     GoesWith n limit happenings events → GoesWith n limit later (events ++ more) → IsReal x → IsReal y →
     IsAmong a ((after n limit happenings).member x).membership.held →

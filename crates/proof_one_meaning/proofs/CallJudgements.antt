@@ -3,6 +3,7 @@ use Rattle.std.proofs.Common.{◌≡◌, ℕ, zero, suc, Bool, true, false, ◌|
 use Rattle.std.proofs.Common.{None, if◌then◌else◌, ◌==◌, slice_get, option_map, refl, sym, ap, ap₂, ◌∙◌, subst}
 use Rattle.std.proofs.Common.{append-nil, arith}
 use Rattle.std.proofs.lemmas.Bool.{eqb-true, eq-eqb}
+use Rattle.vocabulary.specs.declared.message_limit.MessageLimit.{MessageLimit}
 use Rattle.perfect_groups.specs.Calls.{Call, Cancel, Enter, Improbe, Inquire, Iprobe, Irecv, Isend, Mrecv, OfFact}
 use Rattle.perfect_groups.specs.Calls.{Reply, Test, Wait, fact_of, held_at, queue_call, queue_reply, reply_at_once}
 use Rattle.perfect_groups.specs.Communicators.{Communicator, first_endpoint}
@@ -111,7 +112,7 @@ judged_so r l m a q h e call =
     (is_held (awaited_of a.waiting) || is_within (membership_of a).present) f
     (first_endpoint r) (local_of r a).known (membership_of a) call)
     (λ i k. stand_alike r l a q h k i)
-    ∙ ap (λ (limit : ℕ). fault_by limit (is_held (awaited_of a.waiting) || is_within (membership_of a).present)
+    ∙ ap (λ (limit : MessageLimit). fault_by limit (is_held (awaited_of a.waiting) || is_within (membership_of a).present)
     (λ k. standing (slice_get (local_of r a).requests k)) (first_endpoint r) (local_of r a).known (membership_of a)
     call) h.limit))
 

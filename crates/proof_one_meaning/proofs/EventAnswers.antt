@@ -27,7 +27,7 @@ use Rattle.perfect_queues.specs.Completions.{Unanswered, outcome_at}
 use Rattle.perfect_queues.specs.Refusals.{first_fault, is_held, standing}
 use Rattle.perfect_queues.specs.Requests.{Request, all_changed}
 use Rattle.perfect_queues.specs.State.{Local, State, put}
-use Rattle.vocabulary.specs.Limits.{send_limit}
+use Rattle.vocabulary.specs.MessageLimits.{least}
 use Rattle.vocabulary.specs.declared.endpoint.Endpoint.{Endpoint}
 use Rattle.one_meaning.specs.Accounts.{Account, Accounts, Answered, Entered, ForRequests, InCollective, Waiting}
 use Rattle.one_meaning.specs.Accounts.{after_call, after_queue_part, answer_to, answered_wait, at_once, awaited_of}
@@ -272,7 +272,7 @@ idle_call r a call h =
     rest : List (Bool × ℕ)
     rest =
         (wrong_communicator m call, 4) ∷ (wrong_type (first_endpoint r) m call, 2) ∷
-        (wrong_count send_limit (first_endpoint r) m call, 1) ∷ (wrong_tag call, 3) ∷ (wrong_rank m call, 5) ∷
+        (wrong_count least (first_endpoint r) m call, 1) ∷ (wrong_tag call, 3) ∷ (wrong_rank m call, 5) ∷
         (wrong_root m call, 7) ∷
         (wrong_operation call, 9) ∷ (wrong_incarnation (local_of r a).known m call, 11) ∷ []
 
@@ -546,7 +546,7 @@ run_follows n (At e o xs ∷ events) all s le stands h agrees run c a =
 
 -- THE START
 
-pub opening_linked : (n : ℕ) (r : ℕ) → 0 < n → Linked n (opened n) (machine_opening n send_limit) r None
+pub opening_linked : (n : ℕ) (r : ℕ) → 0 < n → Linked n (opened n) (machine_opening n least) r None
 opening_linked n r some =
     record {
       queues = record {
@@ -597,5 +597,5 @@ opening_linked n r some =
 
 pub runs_are_justified : RunsAreJustified
 runs_are_justified n events le some run covered agrees along =
-    let f = run_follows n events (opened n) (machine_opening n send_limit) le (start_stands n send_limit) (λ r. opening_linked n r some) agrees run covered along in
+    let f = run_follows n events (opened n) (machine_opening n least) le (start_stands n least) (λ r. opening_linked n r some) agrees run covered along in
     (f.justified, λ r call. judged_so r _ _ _ _ ((f.linked r).queues.each r) ((f.linked r).groups.member r) call)

@@ -3,7 +3,7 @@ use Rattle.std.proofs.Common.{◌≡◌, ℕ, Bool, true, false, ◌||◌, List,
 use Rattle.std.proofs.Common.{Some, None, if◌then◌else◌, ◌==◌, slice_get, option_map, refl, sym, ap, ◌∙◌, subst}
 use Rattle.std.proofs.Common.{arith}
 use Rattle.std.proofs.lemmas.Option.{same_Some}
-use Rattle.vocabulary.specs.Limits.{send_limit}
+use Rattle.vocabulary.specs.MessageLimits.{least}
 use Rattle.perfect_groups.specs.Calls.{Answer, ByCollective, ByRequests, Call, Cancel, Enter, Fact, Improbe, Inquire}
 use Rattle.perfect_groups.specs.Calls.{Iprobe, Irecv, Isend, Mrecv, OfFact, OfRequests, Reply, Test, Wait, fact_of}
 use Rattle.perfect_groups.specs.Calls.{held_at, in_world, queue_reply, receive_on}
@@ -228,7 +228,7 @@ names_one r a call h = or_second (blocked || wrong) (wrong_communicator m call) 
 
     rest : List (Bool × ℕ)
     rest =
-        (wrong_type (first_endpoint r) m call, 2) ∷ (wrong_count send_limit (first_endpoint r) m call, 1) ∷
+        (wrong_type (first_endpoint r) m call, 2) ∷ (wrong_count least (first_endpoint r) m call, 1) ∷
         (wrong_tag call, 3) ∷
         (wrong_rank m call, 5) ∷ (wrong_root m call, 7) ∷
         (wrong_operation call, 9) ∷ (wrong_incarnation (local_of r a).known m call, 11) ∷ []

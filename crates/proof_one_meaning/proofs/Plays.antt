@@ -3,7 +3,7 @@ use Rattle.std.proofs.Common.{◌≡◌, ℕ, zero, suc, ◌<◌, ◌≤◌, Boo
 use Rattle.std.proofs.Common.{Some, None, if◌then◌else◌, ◌==◌, option_map, refl, sym, ap, ap₂, ◌∙◌, subst}
 use Rattle.std.proofs.Common.{append-nil, arith}
 use Rattle.std.proofs.lemmas.Bool.{eq-eqb}
-use Rattle.vocabulary.specs.Limits.{send_limit}
+use Rattle.vocabulary.specs.MessageLimits.{least}
 use Rattle.perfect_groups.specs.Calls.{Answer, ByCollective, ByRequests, Call}
 use Rattle.perfect_groups.specs.Calls.{Reply}
 use Rattle.perfect_groups.specs.Communicators.{first_endpoint}
@@ -277,7 +277,7 @@ ahead_agrees next n processes end ranks e ways l =
 justified_so : {P : Type 0} (next : Process P) (Good : P → Type 0) (n : ℕ) (processes : ℕ → P) (all : Players P)
     (h : List Entry) (ranks end : Courses P) → n ≤ 65536 → 0 < n → IsTheEnd next n processes end →
     Matches next Good n processes all h ranks →
-    (v : Entry) → Rattle.proof_one_meaning.specs.Histories.IsCoveredEntry v → IsHistory n send_limit (h ++ v ∷ []) →
+    (v : Entry) → Rattle.proof_one_meaning.specs.Histories.IsCoveredEntry v → IsHistory n least (h ++ v ∷ []) →
     (IsFit (accounts ranks) v → RecordsAgree (once_called (accounts ranks) v)) →
     (Justifies (accounts ranks) v → RecordsAgree (after_seen (accounts ranks) v)) → Justifies (accounts ranks) v
 justified_so next Good n processes all h ranks end le some e m v c history f g =
@@ -479,7 +479,7 @@ plays_on {P = P} next Good stays n processes end le some e all h ranks m all' h'
         j : Justifies (accounts ranks) entry
         j =
             justified_so next Good n processes all h ranks end le some e m entry cover
-            (subst (IsHistory n send_limit) v history)
+            (subst (IsHistory n least) v history)
             fit
             (λ k. let t = to k in subst RecordsAgree t.accounts_are
             (ahead_agrees next n processes end t.ranks' e (m.ways ++ t.ways)
@@ -510,7 +510,7 @@ plays_on {P = P} next Good stays n processes end le some e all h ranks m all' h'
         j : Justifies (accounts ranks) entry
         j =
             justified_so next Good n processes all h ranks end le some e m entry tt
-            (subst (IsHistory n send_limit) v history)
+            (subst (IsHistory n least) v history)
             (λ k. now)
             (λ k. let t = to k in subst RecordsAgree t.accounts_are
             (ahead_agrees next n processes end t.ranks' e (m.ways ++ t.ways)
@@ -520,7 +520,7 @@ plays_on {P = P} next Good stays n processes end le some e all h ranks m all' h'
 pub answered_blocked : {P : Type 0} (next : Process P) (Good : P → Type 0) →
     (n : ℕ) (processes : ℕ → P) (end : Courses P) → n ≤ 65536 → 0 < n → IsTheEnd next n processes end →
     (all : Players P) (h : List Entry) (ranks : Courses P) → Matches next Good n processes all h ranks →
-    (r : ℕ) (a : Answer) → IsHistory n send_limit (h ++ Completed (first_endpoint r) a ∷ []) →
+    (r : ℕ) (a : Answer) → IsHistory n least (h ++ Completed (first_endpoint r) a ∷ []) →
     ((all r).blocked ≡ true) × ((all r).ended ≡ false)
 answered_blocked {P = P} next Good n processes end le some e all h ranks m r a history =
     go (ranks r).account.waiting refl (ranks r).ended refl j.answer
@@ -594,7 +594,7 @@ pub blocked_in_play : {P : Type 0} (next : Process P) (Good : P → Type 0) → 
     (n : ℕ) (processes : ℕ → P) (end : Courses P) → n ≤ 65536 → 0 < n → ((r : ℕ) → Good (processes r)) →
     AreMeant next n processes end → RecordsAgree (accounts end) →
     (moves : ℕ) (now : Players P) (h : List Entry) → PlaysThrough next n moves (players_at_start n processes) [] now h →
-    (r : ℕ) (a : Answer) → IsHistory n send_limit (h ++ Completed (first_endpoint r) a ∷ []) →
+    (r : ℕ) (a : Answer) → IsHistory n least (h ++ Completed (first_endpoint r) a ∷ []) →
     ((now r).blocked ≡ true) × ((now r).ended ≡ false)
 blocked_in_play next Good stays n processes end le some good meant agrees moves now h p r a history =
     let e : IsTheEnd next n processes end = record { meant = meant; agrees = agrees } in

@@ -2,6 +2,8 @@
 use Rattle.std.proofs.Common.{◌≡◌, ℕ, zero, suc, Bool, true, false, List, [], ◌∷◌, ◌++◌, length, Some, None}
 use Rattle.std.proofs.Common.{if◌then◌else◌, ◌==◌, slice_get, refl, sym, ap, ap₂, ◌∙◌, subst, append_assoc, arith}
 use Rattle.std.proofs.lemmas.Bool.{eq-eqb}
+use Rattle.vocabulary.specs.MessageLimits.{least}
+use Rattle.vocabulary.specs.declared.message_limit.MessageLimit.{MessageLimit}
 use Rattle.perfect_groups.specs.Communicators.{first_endpoint}
 use Rattle.perfect_queues.specs.Buffers.{data_of}
 use Rattle.perfect_queues.specs.Calls as queues
@@ -158,7 +160,7 @@ start_has all s r (queues.Isend mode c (Rank t) (Some g) b) cover h =
     l = s.at e
 
     eager : Bool
-    eager = is_eager mode e (receiver l.known t) b.buffer.basic (data_of b)
+    eager = is_eager l.message_limit mode e (receiver l.known t) b.buffer.basic (data_of b)
 
     started : Account
     started = record (all r) { started = (all r).started ++ Finished Sent ∷ [] }
@@ -170,7 +172,7 @@ start_has all s r (queues.Isend mode c (Rank t) (Some g) b) cover h =
     mid = put s e (with_request l (if eager then Finished Sent else Sending (receiver l.known t)))
 
     m : Message
-    m = (message_to mode e (receiver l.known t) c g b.buffer.basic (data_of b) (length l.requests)).1
+    m = (message_to l.message_limit mode e (receiver l.known t) c g b.buffer.basic (data_of b) (length l.requests)).1
 
     target : receiver l.known t ≡ first_endpoint t
     target = ap (λ (i : ℕ). record { rank = t; incarnation = i }) (ap (λ (f : ℕ → ℕ). f t) (h.each r).known ∙
@@ -181,8 +183,12 @@ start_has all s r (queues.Isend mode c (Rank t) (Some g) b) cover h =
 
     same_message : sent.sent ≡ started.sent ++ (first_endpoint t, m) ∷ []
     same_message =
-        ap₂ (λ (f : ℕ → ℕ) (k : ℕ). (all r).sent ++ message_to mode e (receiver f t) c g b.buffer.basic (data_of b) k ∷
-        []) (sym (h.each r).known) (sym (own_count r l (all r) (sent_to all r) (h.each r)))
+        ap₂ (λ (f : ℕ → ℕ) (k : ℕ). (all r).sent ++
+        message_to least mode e (receiver f t) c g b.buffer.basic (data_of b) k ∷ [])
+        (sym (h.each r).known) (sym (own_count r l (all r) (sent_to all r) (h.each r)))
+        ∙ ap (λ (limit : MessageLimit). (all r).sent ++
+        message_to limit mode e (receiver l.known t) c g b.buffer.basic (data_of b) (length l.requests) ∷ [])
+        (sym (h.each r).limit)
         ∙ ap (λ (d : Endpoint). (all r).sent ++ (d, m) ∷ []) target
 start_has all s r (queues.Irecv p) cover h =
     start_plain all s r h (receive_request p.source p) (receive_request p.source p) (λ q rs. refl)

@@ -11,7 +11,7 @@ use Rattle.perfect_groups.specs.Soundness.{IsThere}
 use Rattle.perfect_queues.specs.Completions.{AllOf, AnyOf, Awaited, One}
 use Rattle.perfect_queues.specs.Requests.{Request, all_changed}
 use Rattle.perfect_queues.specs.State.{Local, State, knows_at_first}
-use Rattle.vocabulary.specs.Limits.{send_limit}
+use Rattle.vocabulary.specs.MessageLimits.{least}
 use Rattle.vocabulary.specs.Endpoints.{is_same}
 use Rattle.vocabulary.specs.declared.endpoint.Endpoint.{Endpoint}
 use Rattle.vocabulary.specs.declared.envelope.Source.{Source}
@@ -61,8 +61,8 @@ IsCovered (Inquire comm q) = Unit {0}
 -- and posted, requests will become what they are to become by the account
 pub record HasQueues (r : ℕ) (l : Local) (a : Account) (q : Queues) : Type 0 where
   pub known : l.known ≡ knows_at_first (first_endpoint r)
-  -- scripts have one limit of messages
-  pub limit : l.message_limit ≡ send_limit
+  -- scripts have one limit of messages and one of frames
+  pub limit : l.message_limit ≡ least
   pub blocked : l.blocked ≡ awaited_of a.waiting
   pub waits : WaitsOfAll a.waiting
   pub count : length l.requests ≡ length a.started

@@ -7,7 +7,7 @@ use Rattle.perfect_groups.specs.Faults.{fault}
 use Rattle.perfect_groups.specs.Machine.{machine_opening}
 use Rattle.perfect_groups.specs.Runs.{IsRun, after_run, seen}
 use Rattle.perfect_queues.specs.Calls.{Accepted, Blocked, Done, Pending, Started}
-use Rattle.vocabulary.specs.Limits.{send_limit}
+use Rattle.vocabulary.specs.MessageLimits.{least}
 use Rattle.vocabulary.specs.declared.endpoint.Endpoint.{Endpoint}
 use Rattle.one_meaning.specs.Accounts.{Accounts, Answered, Waiting, after_call, answer_to, at_once, judged, opened}
 use Rattle.one_meaning.specs.Courses.{RecordsAgree}
@@ -121,11 +121,11 @@ AgreeAlong all (v ∷ vs) =
 -- fault that it has by accounts
 abbrev pub RunsAreJustified : Type 0
 RunsAreJustified =
-    (n : ℕ) (events : List Event) → n ≤ 65536 → 0 < n → IsRun n (machine_opening n send_limit) events →
-    AreCovered (seen (machine_opening n send_limit) events) → RecordsAgree (opened n) →
-    AgreeAlong (opened n) (seen (machine_opening n send_limit) events) →
-    AreJustified (opened n) (seen (machine_opening n send_limit) events)
+    (n : ℕ) (events : List Event) → n ≤ 65536 → 0 < n → IsRun n (machine_opening n least) events →
+    AreCovered (seen (machine_opening n least) events) → RecordsAgree (opened n) →
+    AgreeAlong (opened n) (seen (machine_opening n least) events) →
+    AreJustified (opened n) (seen (machine_opening n least) events)
     × ((r : ℕ) (call : Call) →
-    fault (first_endpoint r) ((after_run (machine_opening n send_limit) events).queues.at (first_endpoint r))
-    ((after_run (machine_opening n send_limit) events).groups.of (first_endpoint r)) call
-    ≡ judged r (after_all (opened n) (seen (machine_opening n send_limit) events) r) call)
+    fault (first_endpoint r) ((after_run (machine_opening n least) events).queues.at (first_endpoint r))
+    ((after_run (machine_opening n least) events).groups.of (first_endpoint r)) call
+    ≡ judged r (after_all (opened n) (seen (machine_opening n least) events) r) call)

@@ -2,7 +2,7 @@
 use Rattle.std.specs.Prelude.{◌≡◌, ℕ, ◌<◌, ◌≤◌, Bool, true, false, List, [], ◌∷◌, ◌++◌, Option, Some, None}
 use Rattle.std.specs.Prelude.{if◌then◌else◌, ◌==◌, nat_le}
 use Rattle.std.specs.List.{AllByRecursion}
-use Rattle.vocabulary.specs.Limits.{send_limit}
+use Rattle.vocabulary.specs.MessageLimits.{least}
 use Rattle.perfect_groups.specs.Calls.{Answer, Call, OfCollective, OfFact, OfRequests, Reply}
 use Rattle.perfect_groups.specs.Communicators.{first_endpoint}
 use Rattle.perfect_groups.specs.Events.{Called, Completed, Entry, Event, Restarted, as_reply}
@@ -58,11 +58,11 @@ is_blocking _ = false
 -- a call of rank r has this fault in the state of some run with this history
 pub record HasFault (n : ℕ) (history : List Entry) (r : ℕ) (call : Call) (number : ℕ) : Type 0 where
   pub events : List Event
-  pub run : IsRun n (machine_opening n send_limit) events
-  pub tells : seen (machine_opening n send_limit) events ≡ history
+  pub run : IsRun n (machine_opening n least) events
+  pub tells : seen (machine_opening n least) events ≡ history
   pub fault_is :
-      fault (first_endpoint r) ((after_run (machine_opening n send_limit) events).queues.at (first_endpoint r))
-      ((after_run (machine_opening n send_limit) events).groups.of (first_endpoint r)) call ≡ Some number
+      fault (first_endpoint r) ((after_run (machine_opening n least) events).queues.at (first_endpoint r))
+      ((after_run (machine_opening n least) events).groups.of (first_endpoint r)) call ≡ Some number
 
 -- what a rank does of itself: it may, for it has neither ended nor is its call blocked, and its process does this
 pub record IsAt {P : Type 0} (next : Process P) (c : Player P) (step : Step) : Type 0 where
@@ -96,10 +96,10 @@ pub data PlaysOn {P : Type 0} (next : Process P) (n : ℕ) (all : Players P) (hi
   WasRefused : (r : ℕ) (call : Call) (number : ℕ) → IsAt next (all r) (Calls call) → HasFault n history r call number →
       all' ≡ with_player all r (gone_on next (all r) (Some (Refused number)) false [] false) → history' ≡ history →
       PlaysOn next n all history all' history'
-  WasTaken : (r : ℕ) (call : Call) (reply : Reply) → IsAt next (all r) (Calls call) → IsHistory n send_limit history' →
+  WasTaken : (r : ℕ) (call : Call) (reply : Reply) → IsAt next (all r) (Calls call) → IsHistory n least history' →
       all' ≡ with_player all r (gone_on next (all r) (told_by reply) (is_blocking reply) [] false) →
       history' ≡ history ++ Called (first_endpoint r) call reply ∷ [] → PlaysOn next n all history all' history'
-  WasAnswered : (r : ℕ) (a : Answer) → IsHistory n send_limit history' →
+  WasAnswered : (r : ℕ) (a : Answer) → IsHistory n least history' →
       all' ≡ with_player all r
       (record {
         process = (all r).process;
@@ -136,8 +136,8 @@ EveryPlayIsTheMeaning =
 
 -- a beginning of a history is a history: so an event of a world that is told by two entries is two moves
 abbrev pub BeginningsAreHistories : Type 0
-BeginningsAreHistories = (n : ℕ) (history : List Entry) (v : Entry) → IsHistory n send_limit (history ++ v ∷ []) →
-    IsHistory n send_limit history
+BeginningsAreHistories = (n : ℕ) (history : List Entry) (v : Entry) → IsHistory n least (history ++ v ∷ []) →
+    IsHistory n least history
 
 -- no rank is started anew
 abbrev pub HasNoRestart : List Entry → Type 0
@@ -154,5 +154,5 @@ IsOfFirst (Restarted r) = ⊥
 
 -- where no rank is started anew, all that is told is told of first endpoints
 abbrev pub EndpointsAreFirst : Type 0
-EndpointsAreFirst = (n : ℕ) (history : List Entry) → HasNoRestart history → IsHistory n send_limit history →
+EndpointsAreFirst = (n : ℕ) (history : List Entry) → HasNoRestart history → IsHistory n least history →
     AllByRecursion IsOfFirst history

@@ -2,10 +2,11 @@
 use Rattle.std.proofs.Common.{◌≡◌, ◌⊎◌, inl, inr, ◌<◌, ℕ, zero, suc, Bool, true, false, ◌&&◌, ◌||◌, List, [], ◌∷◌}
 use Rattle.std.proofs.Common.{◌++◌, Option, Some, None, if◌then◌else◌, ◌==◌, slice_get, slice_set, refl, sym, ap, ap₂}
 use Rattle.std.proofs.Common.{◌∙◌, subst, arith, append-nil}
-use Rattle.std.proofs.lemmas.Bool.{eqb-true, eqb-false, eq-eqb, and_parts}
+use Rattle.std.proofs.lemmas.Bool.{eqb-true, eq-eqb, and_parts}
 use Rattle.std.specs.List.{AllByRecursion}
-use Rattle.perfect_queues.specs.Calls.{Call, Cancel, Improbe, Iprobe, Irecv, Isend, Mrecv, Test, Wait, after_answer}
-use Rattle.perfect_queues.specs.Calls.{after_call, after_settling, after_test, after_use, is_eager, ready_answer}
+use Rattle.vocabulary.specs.declared.message_limit.MessageLimit.{MessageLimit}
+use Rattle.perfect_queues.specs.Calls.{Cancel, Improbe, Iprobe, Irecv, Isend, Mrecv, Test, Wait, after_answer}
+use Rattle.perfect_queues.specs.Calls.{after_test, is_eager, ready_answer}
 use Rattle.perfect_queues.specs.Calls.{receive_request, receiver, send_request}
 use Rattle.perfect_queues.specs.Completions.{Answer, One, completion, outcome_at}
 use Rattle.perfect_queues.specs.Messages.{Message}
@@ -13,16 +14,16 @@ use Rattle.perfect_queues.specs.Outcomes.{Sent, outcome}
 use Rattle.perfect_queues.specs.Receives.{Receive, accepts, has_tag, is_from}
 use Rattle.perfect_queues.specs.Requests.{Finished, Gone, Matched, Posted, Request, Sending, TakenOut, all_changed}
 use Rattle.perfect_queues.specs.Requests.{changed, used_up}
-use Rattle.perfect_queues.specs.State.{Local, with_message, with_queue}
-use Rattle.perfect_queues.specs.Steps.{Allowed, Finish, FinishSend, Learn, Match, See, Step, TakeOut, after_step}
+use Rattle.perfect_queues.specs.State.{Local, with_queue}
+use Rattle.perfect_queues.specs.Steps.{Allowed, Finish, FinishSend, Learn, Match, See, TakeOut, after_step}
 use Rattle.vocabulary.specs.Endpoints.{is_same}
 use Rattle.vocabulary.specs.declared.basic_type.BasicType.{BasicType}
 use Rattle.vocabulary.specs.declared.endpoint.Endpoint.{Endpoint}
 use Rattle.vocabulary.specs.declared.envelope.Source.{Source}
 use Rattle.vocabulary.specs.declared.envelope.Source.TheVariants.{Any, Null, Rank}
 use Rattle.vocabulary.specs.declared.mode.Mode.{Mode}
-use Rattle.proof_plan_queues.specs.Lines.{Arrives, Block, CallsKeepLines, IsForPlans, IsOrdinary, IsPlain}
-use Rattle.proof_plan_queues.specs.Lines.{IsSameLine, Line}
+use Rattle.proof_plan_queues.specs.Lines.{Arrives, Block, CallsKeepLines, IsForPlans}
+use Rattle.proof_plan_queues.specs.Lines.{IsSameLine}
 use Rattle.proof_plan_queues.specs.Lines.{MessagesJoinLines, Names, ReceivesAreBegun, SettlingKeepsLines}
 use Rattle.proof_plan_queues.specs.Lines.{StepsAreArrivals, awaited, awaits, blocks, is_among, is_tag, line_of, member}
 use Rattle.proof_plan_queues.specs.Lines.{on_line, rank_of}
@@ -110,18 +111,20 @@ same_line c k l = record { waits = refl; left = λ r. refl }
 
 -- CALLS
 
-send_off : (c k : ℕ) (mode : Mode) (e : Endpoint) (known : ℕ → ℕ) (to : Source) (tag : Option ℕ) (basic : BasicType)
-    (values : List ℕ) → is_awaited c k (send_request mode e known to tag basic values) ≡ false
-send_off c k mode e known (Rank to) (Some tag) basic values = go (is_eager mode e (receiver known to) basic values)
+send_off : (c k : ℕ) (limit : MessageLimit) (mode : Mode) (e : Endpoint) (known : ℕ → ℕ) (to : Source) (tag : Option ℕ)
+    (basic : BasicType) (values : List ℕ) →
+    is_awaited c k (send_request limit mode e known to tag basic values) ≡ false
+send_off c k limit mode e known (Rank to) (Some tag) basic values =
+    go (is_eager limit mode e (receiver known to) basic values)
   where
     go : (t : Bool) → is_awaited c k (if t then Finished Sent else Sending (receiver known to)) ≡ false
     go true = refl
     go false = refl
-send_off c k mode e known (Rank to) None basic values = refl
-send_off c k mode e known Any (Some tag) basic values = refl
-send_off c k mode e known Any None basic values = refl
-send_off c k mode e known Null (Some tag) basic values = refl
-send_off c k mode e known Null None basic values = refl
+send_off c k limit mode e known (Rank to) None basic values = refl
+send_off c k limit mode e known Any (Some tag) basic values = refl
+send_off c k limit mode e known Any None basic values = refl
+send_off c k limit mode e known Null (Some tag) basic values = refl
+send_off c k limit mode e known Null None basic values = refl
 
 tested : (c k : ℕ) (l : Local) (o : Option (Answer × List ℕ)) →
     IsSameLine (line_of c k l) (line_of c k (after_test l o))
@@ -135,7 +138,7 @@ answered c k l (Some (a, ks)) = record { waits = used_all c k ks l.requests; lef
 
 pub calls_keep_lines : CallsKeepLines
 calls_keep_lines c k e l (Isend mode context to tag from) h =
-    record { waits = added_off c k l.requests _ (send_off c k mode e l.known to tag _ _); left = λ r. refl }
+    record { waits = added_off c k l.requests _ (send_off c k l.message_limit mode e l.known to tag _ _); left = λ r. refl }
 calls_keep_lines c k e l (Wait a) h = record { waits = refl; left = λ r. refl }
 calls_keep_lines c k e l (Test r) h = tested c k l (completion (outcome_at l.requests) (One r))
 calls_keep_lines c k e l (Iprobe q) h = record { waits = refl; left = λ r. refl }

@@ -34,6 +34,7 @@ use Rattle.proof_pure_network.proofs.Stable.{IsStable}
 use Rattle.proof_pure_network.proofs.Tokens.{Fits, brings, called_envelopes, called_length, called_parts}
 use Rattle.proof_pure_network.proofs.Tokens.{came_envelopes, came_length, came_parts, count, count_append, frames_to}
 use Rattle.proof_pure_network.proofs.Tokens.{is_rts, met_length, met_parts, one, parts, settled_length, settled_parts}
+use Rattle.vocabulary.specs.declared.message_limit.MessageLimit.{MessageLimit}
 
 -- WHAT ONE CORE DOES
 
@@ -113,7 +114,7 @@ came_carries d k core a (Cts j w) = go (is_same a d && (k == j)) refl
             at : (t : Bool) → is_same y a ≡ t →
                 (flow k (frames_to d
                 (if t then
-                effect (with_jobs core (slice_set core.jobs j (Over Sent))) (wanted_data y j basic values w) else
+                effect (with_jobs core (slice_set core.jobs j (Over Sent))) (wanted_data core.message_limit y j basic values w) else
                 effect core []).out) ≡ []) ⊎ ((kind : BasicType) × (vs : List ℕ) × Offers core k d kind vs)
             at false q = inl refl
             at true q =
@@ -220,7 +221,7 @@ standing_is_stable =
       restarted = λ w r history old. old;
     }
 
-pub new_stands : (limit : ℕ) → Standing (new_network limit)
+pub new_stands : (limit : MessageLimit) → Standing (new_network limit)
 new_stands limit =
     record {
       fits = λ x y. omega arith;

@@ -75,7 +75,7 @@ call_spelled V e core (Isend mode c Any tag from) x = tt
 call_spelled V e core (Isend mode c Null tag from) x = tt
 call_spelled V e core (Isend mode c (Rank to) None from) x = tt
 call_spelled V e core (Isend mode c (Rank to) (Some tag) from) x =
-    go (is_eager mode e (receiver core.known to) from.buffer.basic (data_of from))
+    go (is_eager core.message_limit mode e (receiver core.known to) from.buffer.basic (data_of from))
   where
     k : ℕ
     k = length (map (request_of V) core.jobs)

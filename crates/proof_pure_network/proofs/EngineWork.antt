@@ -48,6 +48,8 @@ use Rattle.proof_pure_network.proofs.HonestValues.{HonestCore, HonestJobs, IsHon
 use Rattle.proof_pure_network.proofs.JobLemmas.{all_changed_map, changed_map, closed_gone, dropped_cancelled}
 use Rattle.proof_pure_network.proofs.JobLemmas.{finished_same, ready_core, request_at}
 use Rattle.proof_pure_network.proofs.NoneFits.{over_isnt, push_quiet}
+use Rattle.vocabulary.specs.MessageLimits.{frame_limit_of}
+use Rattle.vocabulary.specs.declared.message_limit.MessageLimit.{MessageLimit}
 
 pub push_view : (V : Values) (core : Core) (j : Job) → view V (with_jobs core (core.jobs ++ j ∷ [])) ≡
     with_request (view V core) (request_of V j)
@@ -85,7 +87,7 @@ isend_steps V e core mode c Null tag from jobs mine quiet =
 isend_steps V e core mode c (Rank to) None from jobs mine quiet =
     none_steps e (with_request (view V core) (Finished Sent)) (view V (pushed_over core)) (push_view V core (Over Sent))
 isend_steps V e core Standard c (Rank to) (Some tag) from jobs mine quiet =
-    go (is_same d e) refl (nat_le (length (data_of from) * size_of from.buffer.basic) 1024) refl
+    go (is_same d e) refl (nat_le (length (data_of from) * size_of from.buffer.basic) (frame_limit_of core.message_limit)) refl
   where
     d : Endpoint
     d = receiver core.known to
@@ -104,7 +106,7 @@ isend_steps V e core Standard c (Rank to) (Some tag) from jobs mine quiet =
         (push_quiet core (Over Sent) (over_isnt Sent) quiet))
 
     go : (o : Bool) → is_same d e ≡ o →
-        (small : Bool) → nat_le (length (data_of from) * size_of from.buffer.basic) 1024 ≡ small →
+        (small : Bool) → nat_le (length (data_of from) * size_of from.buffer.basic) (frame_limit_of core.message_limit) ≡ small →
         Steps e (taken_in V e (view V core) (Asked (Isend Standard c (Rank to) (Some tag) from)))
         (view V (called e core (Isend Standard c (Rank to) (Some tag) from)).core)
     go true a true b = rw (a, b) own
@@ -256,10 +258,10 @@ pub data_none : (d : Endpoint) (k : ℕ) (ps : List (ℕ × List ℕ)) → AllBy
 data_none d k [] = tt
 data_none d k (p ∷ ps) = (tt, data_none d k ps)
 
-pub wanted_none : (d : Endpoint) (k : ℕ) (basic : BasicType) (values : List ℕ) (w : Bool) →
-    AllByRecursion IsNoMessage (wanted_data d k basic values w)
-wanted_none d k basic values true = data_none d k (cut basic values)
-wanted_none d k basic values false = tt
+pub wanted_none : (limit : MessageLimit) (d : Endpoint) (k : ℕ) (basic : BasicType) (values : List ℕ) (w : Bool) →
+    AllByRecursion IsNoMessage (wanted_data limit d k basic values w)
+wanted_none limit d k basic values true = data_none d k (cut limit basic values)
+wanted_none limit d k basic values false = tt
 
 pub answered_out : (core : Core) (s : Endpoint) (k : ℕ) (w : Bool) (o : Option Job) →
     AllByRecursion IsNoMessage (answered core s k w o).out
@@ -274,9 +276,9 @@ answered_out core s k w (Some (Offering d basic values)) = go (is_same d s)
   where
     go : (t : Bool) →
         AllByRecursion IsNoMessage
-        (if t then effect (with_jobs core (slice_set core.jobs k (Over Sent))) (wanted_data d k basic values w) else
+        (if t then effect (with_jobs core (slice_set core.jobs k (Over Sent))) (wanted_data core.message_limit d k basic values w) else
         effect core []).out
-    go true = wanted_none d k basic values w
+    go true = wanted_none core.message_limit d k basic values w
     go false = tt
 
 taken_out : (core : Core) (k : ℕ) (into : Handed) (o : Option Job) →
@@ -298,7 +300,7 @@ isend_out V e core mode c Any tag from = refl
 isend_out V e core mode c Null tag from = refl
 isend_out V e core mode c (Rank to) None from = refl
 isend_out V e core mode c (Rank to) (Some tag) from =
-    go (is_same d e) (is_eager mode e d from.buffer.basic (data_of from))
+    go (is_same d e) (is_eager core.message_limit mode e d from.buffer.basic (data_of from))
   where
     d : Endpoint
     d = receiver core.known to
@@ -395,15 +397,15 @@ answer_work V e core s k w = go (slice_get core.jobs k) refl
     go (Some (Offering d basic values)) x = at (is_same d s) refl
       where
         res : Bool → Effect
-        res t = if t then effect (with_jobs core (slice_set core.jobs k (Over Sent))) (wanted_data d k basic values w)
+        res t = if t then effect (with_jobs core (slice_set core.jobs k (Over Sent))) (wanted_data core.message_limit d k basic values w)
             else effect core []
 
         at : (t : Bool) → is_same d s ≡ t →
             Work V e (view V core) (Came s (Cts k w))
             (view V (if t then
-            effect (with_jobs core (slice_set core.jobs k (Over Sent))) (wanted_data d k basic values w) else
+            effect (with_jobs core (slice_set core.jobs k (Over Sent))) (wanted_data core.message_limit d k basic values w) else
             effect core []).core)
-            (if t then effect (with_jobs core (slice_set core.jobs k (Over Sent))) (wanted_data d k basic values w) else
+            (if t then effect (with_jobs core (slice_set core.jobs k (Over Sent))) (wanted_data core.message_limit d k basic values w) else
             effect core []).out
         at false y = still
         at true y =
@@ -418,7 +420,7 @@ answer_work V e core s k w = go (slice_get core.jobs k) refl
               leaves = same_local (view V (with_jobs core (slice_set core.jobs k (Over Sent))))
                   (after_steps (view V core) (FinishSend k s ∷ [])) (map-set (request_of V) core.jobs k (Over Sent))
                   refl (refl, refl) (λ a b. refl);
-              gives = wanted_none d k basic values w;
+              gives = wanted_none core.message_limit d k basic values w;
             }
 
 pub came_work : (V : Values) (e : Endpoint) (core : Core) (s : Endpoint) (f : Frame) → IsHonest V s f →

@@ -389,7 +389,7 @@ from_answered V s d k w from to fs gs F honest at_most z known len env =
         is : o.1 ≡ V s k
         is = honest k (Offering d o.0 o.1) o.2
 
-        same : (t : Bool) → flow k (frames_to d out) ≡ (if t then lengths (cut o.0 o.1) else []) →
+        same : (t : Bool) → flow k (frames_to d out) ≡ (if t then lengths (cut from.message_limit o.0 o.1) else []) →
             GoOn (length got) (count_of u.body)
             (flow k fs ++ promise (one ((k == k) && t) + count (is_yes k) gs) (V s k)) →
             GoOn (length got) (count_of u.body) (flow k (fs ++ frames_to d out) ++
@@ -398,13 +398,13 @@ from_answered V s d k w from to fs gs F honest at_most z known len env =
             let n : one ((k == k) && true) ≡ 1 = ap (λ (b : Bool). one (b && true)) (eq-eqb k k refl) in
             let pr : promise (one ((k == k) && true) + count (is_yes k) gs) (V s k) ≡ (0, length (V s k)) ∷ [] = promise_some (one ((k == k) && true) + count (is_yes k) gs) (V s k) (omega (arith, n)) in
             let em : promise (count (is_yes k) gs) (V s k) ≡ [] = ap (λ (m : ℕ). promise m (V s k)) no_yes in
-            let fl : flow k (frames_to d out) ≡ lengths (cut o.0 (V s k)) = e ∙ ap (λ (vs : List ℕ). lengths (cut o.0 vs)) is in
-            let now : flow k (fs ++ frames_to d out) ++ promise (count (is_yes k) gs) (V s k) ≡ flow k fs ++ lengths (cut o.0 (V s k)) =
+            let fl : flow k (frames_to d out) ≡ lengths (cut from.message_limit o.0 (V s k)) = e ∙ ap (λ (vs : List ℕ). lengths (cut from.message_limit o.0 vs)) is in
+            let now : flow k (fs ++ frames_to d out) ++ promise (count (is_yes k) gs) (V s k) ≡ flow k fs ++ lengths (cut from.message_limit o.0 (V s k)) =
             ap (λ (ps : List (ℕ × ℕ)). flow k (fs ++ frames_to d out) ++ ps) em
             ∙ (append-nil (flow k (fs ++ frames_to d out)) ∙
             (flow_append k fs (frames_to d out) ∙ ap (λ (ps : List (ℕ × ℕ)). flow k fs ++ ps) fl)) in
             subst (λ (ps : List (ℕ × ℕ)). GoOn (length got) (count_of u.body) ps) (sym now)
-            (in_pieces (length (V s k)) (piece_values o.0) (V s k) (length got) (count_of u.body) (flow k fs)
+            (in_pieces (length (V s k)) (piece_values from.message_limit o.0) (V s k) (length got) (count_of u.body) (flow k fs)
             (subst (λ (ps : List (ℕ × ℕ)). GoOn (length got) (count_of u.body) (flow k fs ++ ps)) pr old))
         same false e old =
             let m : one ((k == k) && false) ≡ 0 = ap (λ (b : Bool). one (b && false)) (eq-eqb k k refl) in

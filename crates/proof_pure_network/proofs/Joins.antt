@@ -29,6 +29,7 @@ use Rattle.proof_pure_network.proofs.Links.{handed_fit, put_more, send_more, sil
 use Rattle.proof_pure_network.proofs.Simulation.{Sim, after_more, allowed_more, at_once_same, came_more, fault_same}
 use Rattle.proof_pure_network.proofs.Simulation.{is_stale, ready_same, sent_same, settled_more, sim_rest, started_more}
 use Rattle.proof_pure_network.proofs.Simulation.{widened, yet}
+use Rattle.vocabulary.specs.declared.message_limit.MessageLimit.{MessageLimit}
 
 -- one relation joins the engines and the links to a state of the machine
 pub record Joined (V : Values) (s : State) (locals : Endpoint → Local) (links : Endpoint → Endpoint → Link) (cur : ℕ →
@@ -296,7 +297,7 @@ mid_isend V s locals links cur e mode c to tag from heard is j x =
     call = Isend mode c (Rank to) (Some tag) from
 
     dm : Endpoint × Message
-    dm = message_to mode e (receiver (locals e).known to) c tag from.buffer.basic (data_of from)
+    dm = message_to (locals e).message_limit mode e (receiver (locals e).known to) c tag from.buffer.basic (data_of from)
         (length (locals e).requests)
 
 linked_fit : (V : Values) (links : Endpoint → Endpoint → Link) (e : Endpoint) (sm : Option (Endpoint × Message)) →
@@ -605,14 +606,14 @@ seen_push s [] v = append-nil (entries s v)
 seen_push s (u ∷ vs) v = rw (seen_push (after_event s u) vs v, append_assoc)
 
 -- a history that is seen, with the state that it leads to
-pub record Seen (V : Values) (n limit : ℕ) (history : List Entry) (locals : Endpoint → Local)
+pub record Seen (V : Values) (n : ℕ) (limit : MessageLimit) (history : List Entry) (locals : Endpoint → Local)
     (links : Endpoint → Endpoint → Link) (cur : ℕ → ℕ) : Type 0 where
   pub events : List Event
   pub run : IsRun n (opening limit) events
   pub tells : seen (opening limit) events ≡ history
   pub joined : Joined V (after_run (opening limit) events) locals links cur
 
-pub seen_more : (V : Values) (n limit : ℕ) (history : List Entry) (locals locals' : Endpoint → Local)
+pub seen_more : (V : Values) (n : ℕ) (limit : MessageLimit) (history : List Entry) (locals locals' : Endpoint → Local)
     (links links' : Endpoint → Endpoint → Link) (cur cur' : ℕ → ℕ) (told : List Entry) →
     (h : Seen V n limit history locals links cur) →
     Follows V n (after_run (opening limit) h.events) locals' links' cur' told →

@@ -50,6 +50,7 @@ use Rattle.proof_pure_network.proofs.Pairs.{token}
 use Rattle.proof_pure_network.proofs.RunInvariant.{new_kept, run_kept}
 use Rattle.proof_pure_network.proofs.Simulation.{Sim, fault_same, is_stale}
 use Rattle.proof_pure_network.proofs.Tokens.{count, is_cts, is_part_from, is_rts, one, parts, same_sym}
+use Rattle.vocabulary.specs.declared.message_limit.MessageLimit.{MessageLimit}
 
 -- a request that the machine has as sending is a job that offers, or a send to the endpoint itself that waits
 pub job_sending : (V : Values) (o : Option Job) (d : Endpoint) → option_map (request_of V) o ≡ Some (Sending d) →
@@ -414,7 +415,7 @@ quiet_kept n V w k =
     quiet_rest V w (after_run (opening w.message_limit) k.seen.events)
     (record { sane = k.sane; spoken = k.spoken; due = k.due; flows = k.flows; joined = k.seen.joined })
 
-pub is_run : (n limit : ℕ) (hs : List Happening) → IsRunOfMachine n (run n hs (new_network limit))
+pub is_run : (n : ℕ) (limit : MessageLimit) (hs : List Happening) → IsRunOfMachine n (run n hs (new_network limit))
 is_run n limit hs =
     let V : Values = λ s i. get_or ((run n hs (new_network limit)).log s) i [] in
     let k : Kept n V (run n hs (new_network limit)) = run_kept n V hs (new_network limit) (λ s i lt. refl) (new_kept n limit V) in

@@ -18,6 +18,7 @@ use Rattle.proof_pure_network.proofs.CallInvariant.{extends_before}
 use Rattle.proof_pure_network.proofs.EventInvariant.{ask_kept, none_of, restart_kept, word_kept}
 use Rattle.proof_pure_network.proofs.Invariants.{Extends, Kept}
 use Rattle.proof_pure_network.proofs.Simulation.{is_stale}
+use Rattle.vocabulary.specs.declared.message_limit.MessageLimit.{MessageLimit}
 
 pub apart_of : (a : Endpoint) (r i : ℕ) → not (a.rank == r) ≡ true → is_same a (record { rank = r; incarnation = i }) ≡
     false
@@ -115,7 +116,7 @@ run_kept n V [] w x k = k
 run_kept n V (h ∷ hs) w x k =
     run_kept n V hs (happens n w h) x (happens_kept n V w h (run_extends n V hs (happens n w h) x) k)
 
-pub new_kept : (n limit : ℕ) (V : Values) → Kept n V (new_network limit)
+pub new_kept : (n : ℕ) (limit : MessageLimit) (V : Values) → Kept n V (new_network limit)
 new_kept n limit V =
     record {
       sane = record {

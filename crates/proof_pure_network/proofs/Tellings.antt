@@ -31,6 +31,7 @@ use Rattle.proof_pure_network.proofs.JobLemmas.{fewer_ended, fewer_own, fewer_se
 use Rattle.proof_pure_network.proofs.HonestJobs.{push_split, set_split}
 use Rattle.proof_pure_network.proofs.Own.{push_probed, set_probed}
 use Rattle.proof_pure_network.proofs.Oldest.{First, some_found}
+use Rattle.vocabulary.specs.declared.message_limit.MessageLimit.{MessageLimit}
 
 -- EACH ENGINE KNOWS WHOM IT SPEAKS TO
 
@@ -223,7 +224,7 @@ called_speaks e core (Isend mode c Null tag from) own old =
 called_speaks e core (Isend mode c (Rank to) None from) own old =
     record { held = push_known core.known core (Over Sent) (λ f h y. absurd (grind arith)) old; told = tt }
 called_speaks e core (Isend mode c (Rank to) (Some tag) from) own old =
-    go (is_same (receiver core.known to) e) (is_eager mode e (receiver core.known to) from.buffer.basic (data_of from))
+    go (is_same (receiver core.known to) e) (is_eager core.message_limit mode e (receiver core.known to) from.buffer.basic (data_of from))
   where
     go : (o small : Bool) →
         Speaks core.known (sends e core (receiver core.known to) o c tag from.buffer.basic (data_of from) small)
@@ -281,10 +282,10 @@ data_told : (g : ℕ → ℕ) (d : Endpoint) (k : ℕ) (ps : List (ℕ × List �
 data_told g d k [] h = tt
 data_told g d k (p ∷ ps) h = (h, data_told g d k ps h)
 
-of_told : (g : ℕ → ℕ) (d : Endpoint) (k : ℕ) (basic : BasicType) (values : List ℕ) (w : Bool) → IsKnown g d →
-    Told g (wanted_data d k basic values w)
-of_told g d k basic values true h = data_told g d k (cut basic values) h
-of_told g d k basic values false h = tt
+of_told : (limit : MessageLimit) (g : ℕ → ℕ) (d : Endpoint) (k : ℕ) (basic : BasicType) (values : List ℕ) (w : Bool) →
+    IsKnown g d → Told g (wanted_data limit d k basic values w)
+of_told limit g d k basic values true h = data_told g d k (cut limit basic values) h
+of_told limit g d k basic values false h = tt
 
 more_probed : (p : Receive) (u : Held) (got : List ℕ) (f : Option (List ℕ)) (h : Held) →
     with_more p u got ≡ Probed f (Some h) → ⊥
@@ -318,7 +319,7 @@ came_speaks core a (Cts k w) h old = go (slice_get core.jobs k)
       where
         at : (t : Bool) → is_same d a ≡ t →
             Speaks core.known
-            (if t then effect (with_jobs core (slice_set core.jobs k (Over Sent))) (wanted_data d k basic values w) else
+            (if t then effect (with_jobs core (slice_set core.jobs k (Over Sent))) (wanted_data core.message_limit d k basic values w) else
             effect core [])
         at false x = still
         at true x =
@@ -327,7 +328,7 @@ came_speaks core a (Cts k w) h old = go (slice_get core.jobs k)
                   same_known core.known core (with_jobs core (slice_set core.jobs k (Over Sent))) refl
                   (fewer_set core.jobs k Sent) old;
               told =
-                  of_told core.known d k basic values w
+                  of_told core.message_limit core.known d k basic values w
                   (subst (λ (z : Endpoint). IsKnown core.known z) (sym (same_eq d a x)) h);
             }
 came_speaks core a (Data k o values) h old = go (collecting a k core.jobs)

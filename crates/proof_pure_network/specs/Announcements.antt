@@ -76,7 +76,7 @@ pub record TransfersStand (w : Network) : Type 0 where
   pub carried_as : (s d : Endpoint) (k offset : ℕ) (values : List ℕ) →
       IsIn (Data k offset values) (w.link s d).accepted →
       (basic : BasicType) × (all : List ℕ) × IsAnnounced (w.link s d).accepted k basic (length all) ×
-      IsIn (offset, values) (cut basic all)
+      IsIn (offset, values) (cut w.message_limit basic all)
 
 -- From the old links to the new ones, each took in more and handed up more, and lost nothing
 pub record LinksGrow (old new : Endpoint → Endpoint → Link) : Type 0 where

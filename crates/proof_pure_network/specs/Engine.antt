@@ -53,7 +53,7 @@ sends e core d false c tag basic values false =
 abbrev pub sends_to : Mode → Endpoint → Core → (context : ℕ) → Source → (tag : Option ℕ) → BasicType → List ℕ → Effect
 sends_to mode e core c (Rank to) (Some tag) basic values =
     sends e core (receiver core.known to) (is_same (receiver core.known to) e) c tag basic values
-    (is_eager mode e (receiver core.known to) basic values)
+    (is_eager core.message_limit mode e (receiver core.known to) basic values)
 sends_to mode e core c _ _ basic values = effect (pushed_over core) []
 
 -- the requests with these serials are closed, since their outcomes were answered

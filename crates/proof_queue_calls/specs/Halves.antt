@@ -2,6 +2,7 @@
 -- 6.2).
 use Rattle.std.specs.Prelude.{◌≡◌, ℕ, ◌<◌, true, false, ◌||◌, [], ◌∷◌, Option, Some, slice_get}
 use Rattle.vocabulary.specs.declared.endpoint.Endpoint.{Endpoint}
+use Rattle.vocabulary.specs.declared.message_limit.MessageLimit.{MessageLimit}
 use Rattle.perfect_queues.specs.Calls as queues
 use Rattle.perfect_queues.specs.Refusals.{Standing, first_fault, is_count_wrong, is_rank_wrong, is_request_wrong}
 use Rattle.perfect_queues.specs.Refusals.{is_tag_wrong, is_type_wrong, standing}
@@ -23,7 +24,7 @@ pub record IsJudgedAlike (e : Endpoint) (m : Membership) (c : Call) (q : queues.
   pub requests : (f : ℕ → Standing) → wrong_request f c ≡ is_request_wrong f q
   pub communicator : wrong_communicator m c ≡ false
   pub types : wrong_type e m c ≡ is_type_wrong q
-  pub counts : (limit : ℕ) → wrong_count limit e m c ≡ is_count_wrong limit q
+  pub counts : (limit : MessageLimit) → wrong_count limit e m c ≡ is_count_wrong limit q
   pub tags : wrong_tag c ≡ is_tag_wrong q
   -- whom the queues lack, the communicator lacks too
   pub ranks : (n : ℕ) → AreInWorld n m → is_rank_wrong n q ≡ true → wrong_rank m c ≡ true

@@ -1,7 +1,7 @@
 -- A script's steps are bounded.
 use Rattle.std.proofs.Common.{◌≡◌, ℕ, suc, ◌+◌, ◌*◌, ◌<◌, ◌≤◌, true, false, List, [], ◌∷◌, ◌++◌, length, Option, Some}
 use Rattle.std.proofs.Common.{None, refl, ap, arith}
-use Rattle.vocabulary.specs.Limits.{send_limit}
+use Rattle.vocabulary.specs.MessageLimits.{least}
 use Rattle.engine_calls.specs.declared.call.Call.{Call}
 use Rattle.engine_calls.specs.declared.reply.Reply.{Reply}
 use Rattle.interpreter.specs.Answers.{hears}
@@ -191,7 +191,7 @@ pub scripts_blocked :
     0 < n → AreCoveredScripts scripts →
     RecordsAgree (accounts (meaning_of n scripts)) →
     PlaysThrough next_in_script n moves (players_at_start n (running_at_start scripts)) [] now history →
-    (r : ℕ) (a : machine.Answer) → IsHistory n send_limit (history ++ Completed (first_endpoint r) a ∷ []) →
+    (r : ℕ) (a : machine.Answer) → IsHistory n least (history ++ Completed (first_endpoint r) a ∷ []) →
     ((now r).blocked ≡ true) × ((now r).ended ≡ false)
 scripts_blocked scripts n moves now history le some covered agrees p r a is =
     blocked_in_play next_in_script IsCoveredRunning scripts_stay_good n (running_at_start scripts)

@@ -37,10 +37,12 @@ use Rattle.proof_session_carrying.specs.EventLaws.{AnnouncementsAreCarried, Answ
 use Rattle.proof_session_carrying.specs.EventLaws.{Bring, Brings, EntriesAreCarried, HasNumber, NoticesAreCarried}
 use Rattle.proof_session_carrying.specs.EventLaws.{PartsAreCarried, Tells, all_carried, all_pieces, carried_by}
 use Rattle.rendezvous.proofs.PieceLaws.{pieces}
-use Rattle.rendezvous.specs.Pieces.{piece_at, piece_bytes, piece_count}
+use Rattle.rendezvous.specs.Pieces.{piece_at, piece_count}
 use Rattle.rendezvous.specs.WholePieces.{joined}
 use Rattle.vocabulary.specs.Endpoints.{is_same}
 use Rattle.vocabulary.specs.declared.endpoint.Endpoint.{Endpoint}
+use Rattle.vocabulary.specs.MessageLimits.{frame_limit_of}
+use Rattle.vocabulary.specs.declared.message_limit.MessageLimit.{MessageLimit}
 
 -- ---- the messages of notices
 
@@ -106,10 +108,11 @@ said_there said ns e m all =
 -- ---- what a rank sends
 
 -- the links are the parts of the sessions, whose texts stand for what they carry, and whose notices are these messages
-record Holds (ls : Endpoint → Endpoint → Link) (ns : Endpoint → Endpoint → NoticeLink) (said : Saying)
+record Holds (limit : MessageLimit) (ls : Endpoint → Endpoint → Link) (ns : Endpoint → Endpoint → NoticeLink)
+    (said : Saying)
     (texts : LinksOf FrameText) (sessions : Sessions) : Type 0 where
   parts : AreAllParts sessions ls ns
-  alike : AreCarried said texts sessions
+  alike : AreCarried limit said texts sessions
   brought : AreAllBrought said ns
 
 -- a notice goes out whole, or is announced
@@ -120,12 +123,14 @@ goes_out (ClearFrame t) i = refl
 goes_out (DataFrame t) i = refl
 
 -- a text that brings a message, or announces it under the next number, stands for what goes out
-stands_next : (sessions : Sessions) (e d : Endpoint) (said back : List Announced) (ms : List CollectiveMessage) (i : ℕ)
-    (m : CollectiveMessage) (text : FrameText) → Tells m text →
+stands_next : (limit : MessageLimit) (sessions : Sessions) (e d : Endpoint) (said back : List Announced)
+    (ms : List CollectiveMessage) (i : ℕ)
+    (m : CollectiveMessage) (text : FrameText) → Tells limit m text →
     HasNumber (length (announced_in (sessions e d).accepted)) text → slice_get ms i ≡ Some m →
-    StandsForCarried (announced_in ((sessions e d).accepted ++ carried_by text i ∷ [])) back ms text (carried_by text i)
-stands_next sessions e d said back ms i m (EagerFrame t) tells number there = (m, there, tells)
-stands_next sessions e d said back ms i m (RequestFrame t) tells number there = (m, there, (named, tells))
+    StandsForCarried limit (announced_in ((sessions e d).accepted ++ carried_by text i ∷ [])) back ms text
+    (carried_by text i)
+stands_next limit sessions e d said back ms i m (EagerFrame t) tells number there = (m, there, tells)
+stands_next limit sessions e d said back ms i m (RequestFrame t) tells number there = (m, there, (named, tells))
   where
     named : slice_get (announced_in ((sessions e d).accepted ++ Announces i ∷ [])) t.transfer ≡ Some (LargeNotice i)
     named =
@@ -133,22 +138,23 @@ stands_next sessions e d said back ms i m (RequestFrame t) tells number there = 
         ∙ ap (λ (xs : List Announced). slice_get xs (length (announced_in (sessions e d).accepted)))
         (announced_append (sessions e d).accepted (Announces i ∷ []))
         ∙ last_at (announced_in (sessions e d).accepted) (LargeNotice i)
-stands_next sessions e d said back ms i m (ClearFrame t) tells number there = absurd tells
-stands_next sessions e d said back ms i m (DataFrame t) tells number there = absurd tells
+stands_next limit sessions e d said back ms i m (ClearFrame t) tells number there = absurd tells
+stands_next limit sessions e d said back ms i m (DataFrame t) tells number there = absurd tells
 
 -- one message goes out to its target
-one_told : (n : ℕ) (ls : Endpoint → Endpoint → Link) (ns : Endpoint → Endpoint → NoticeLink) (said : Saying)
+one_told : (limit : MessageLimit) (n : ℕ) (ls : Endpoint → Endpoint → Link) (ns : Endpoint → Endpoint → NoticeLink)
+    (said : Saying)
     (texts : LinksOf FrameText) (sessions : Sessions) (e : Endpoint) (m : CollectiveMessage) (x : Notice)
     (text : Endpoint × FrameText) →
-    Holds ls ns said texts sessions → IsSaid e m (m.target, x) → IsSendable n e m → Brings m text →
+    Holds limit ls ns said texts sessions → IsSaid e m (m.target, x) → IsSendable n e m → Brings limit m text →
     HasNumber (length (announced_in (sessions e m.target).accepted)) text.1 →
-    Holds ls (notify ns e (m.target, x)) (say said e m) (accept texts e text)
+    Holds limit ls (notify ns e (m.target, x)) (say said e m) (accept texts e text)
     (accept sessions e (m.target, carried_by text.1 (length (ns e m.target).accepted)))
-one_told n ls ns said texts sessions e m x text h said_is can b number =
+one_told limit n ls ns said texts sessions e m x text h said_is can b number =
     record {
       parts = notices_accepted sessions ls ns e ((m.target, x) ∷ []) ((m.target, c) ∷ []) h.parts
           (refl, goes_out text.1 i, tt);
-      alike = out_is_carried said (say said e m) texts sessions e (text ∷ []) ((m.target, c) ∷ []) h.alike
+      alike = out_is_carried limit said (say said e m) texts sessions e (text ∷ []) ((m.target, c) ∷ []) h.alike
           (say_goes_on said e m) (b.target, stands, tt);
       brought =
           brought_said said ns e m x h.brought
@@ -164,72 +170,79 @@ one_told n ls ns said texts sessions e m x text h said_is can b number =
     after : Sessions
     after = accept sessions e (m.target, c)
 
-    stands : StandsForCarried (all_announced after e m.target) (all_announced after m.target e)
+    stands : StandsForCarried limit (all_announced after e m.target) (all_announced after m.target e)
         (say said e m e m.target) text.1 c
     stands =
-        subst (λ (xs : List Announced). StandsForCarried xs (all_announced after m.target e) (say said e m e m.target)
+        subst (λ (xs : List Announced). StandsForCarried limit xs (all_announced after m.target e)
+        (say said e m e m.target)
         text.1 c)
         (ap (λ (l : List Carried). announced_in l)
         (sym (ap (λ (l : LinkOf Carried). l.accepted)
         (at_here e m.target (record (sessions e m.target) { accepted = (sessions e m.target).accepted ++ c ∷ [] })
         (sessions e m.target)))))
-        (stands_next sessions e m.target (all_announced after m.target e) (all_announced after m.target e)
+        (stands_next limit sessions e m.target (all_announced after m.target e) (all_announced after m.target e)
         (say said e m e m.target) i m text.1 b.tells number (said_there said ns e m h.brought))
 
 -- all that a rank sends
-all_told : (n : ℕ) (ls : Endpoint → Endpoint → Link) (ns : Endpoint → Endpoint → NoticeLink) (said : Saying)
+all_told : (limit : MessageLimit) (n : ℕ) (ls : Endpoint → Endpoint → Link) (ns : Endpoint → Endpoint → NoticeLink)
+    (said : Saying)
     (texts : LinksOf FrameText) (sessions : Sessions) (e : Endpoint) (ms : List CollectiveMessage)
     (xs : List (Endpoint × Notice)) (ts : List (Endpoint × FrameText)) →
-    Holds ls ns said texts sessions → AreSaid e ms xs → AllByRecursion (IsSendable n e) ms → Bring ms ts →
+    Holds limit ls ns said texts sessions → AreSaid e ms xs → AllByRecursion (IsSendable n e) ms → Bring limit ms ts →
     AreNumbered sessions e ts (all_carried ns e xs ts) →
-    Holds ls (notify_all ns e xs) (say_all said e ms) (accept_all texts e ts)
+    Holds limit ls (notify_all ns e xs) (say_all said e ms) (accept_all texts e ts)
     (accept_all sessions e (all_carried ns e xs ts))
-all_told n ls ns said texts sessions e [] [] [] h s can b number = h
-all_told n ls ns said texts sessions e [] [] (t ∷ ts) h s can b number = absurd b
-all_told n ls ns said texts sessions e [] (x ∷ xs) ts h s can b number = absurd s
-all_told n ls ns said texts sessions e (m ∷ ms) [] ts h s can b number = absurd s
-all_told n ls ns said texts sessions e (m ∷ ms) (x ∷ xs) [] h s can b number = absurd b
-all_told n ls ns said texts sessions e (m ∷ ms) ((d, x) ∷ xs) (t ∷ ts) h s can b number =
-    all_told n ls (notify ns e (d, x)) (say said e m) (accept texts e t)
+all_told limit n ls ns said texts sessions e [] [] [] h s can b number = h
+all_told limit n ls ns said texts sessions e [] [] (t ∷ ts) h s can b number = absurd b
+all_told limit n ls ns said texts sessions e [] (x ∷ xs) ts h s can b number = absurd s
+all_told limit n ls ns said texts sessions e (m ∷ ms) [] ts h s can b number = absurd s
+all_told limit n ls ns said texts sessions e (m ∷ ms) (x ∷ xs) [] h s can b number = absurd b
+all_told limit n ls ns said texts sessions e (m ∷ ms) ((d, x) ∷ xs) (t ∷ ts) h s can b number =
+    all_told limit n ls (notify ns e (d, x)) (say said e m) (accept texts e t)
     (accept sessions e (d, carried_by t.1 (length (ns e d).accepted))) e ms xs ts (one d s.0 number.0) s.1 can.1 b.1
     number.1
   where
     one : (z : Endpoint) → IsSaid e m (z, x) → HasNumber (length (announced_in (sessions e z).accepted)) t.1 →
-        Holds ls (notify ns e (z, x)) (say said e m) (accept texts e t)
+        Holds limit ls (notify ns e (z, x)) (say said e m) (accept texts e t)
         (accept sessions e (z, carried_by t.1 (length (ns e z).accepted)))
     one z said_is = at z said_is.target said_is
       where
         at : (y : Endpoint) → y ≡ m.target → IsSaid e m (y, x) →
             HasNumber (length (announced_in (sessions e y).accepted)) t.1 →
-            Holds ls (notify ns e (y, x)) (say said e m) (accept texts e t)
+            Holds limit ls (notify ns e (y, x)) (say said e m) (accept texts e t)
             (accept sessions e (y, carried_by t.1 (length (ns e y).accepted)))
         at y is =
             subst (λ (q : Endpoint). IsSaid e m (q, x) → HasNumber (length (announced_in (sessions e q).accepted)) t.1 →
-            Holds ls (notify ns e (q, x)) (say said e m) (accept texts e t)
+            Holds limit ls (notify ns e (q, x)) (say said e m) (accept texts e t)
             (accept sessions e (q, carried_by t.1 (length (ns e q).accepted)))) (sym is)
-            (λ a k. one_told n ls ns said texts sessions e m x t h a can.0 b.0 k)
+            (λ a k. one_told limit n ls ns said texts sessions e m x t h a can.0 b.0 k)
 
 -- the links of the network that comes of it are these
-joined_as : (after : GroupNetwork) (ls : Endpoint → Endpoint → Link) (ns : Endpoint → Endpoint → NoticeLink)
+joined_as : (limit : MessageLimit) (after : GroupNetwork) (ls : Endpoint → Endpoint → Link)
+    (ns : Endpoint → Endpoint → NoticeLink)
     (said : Saying) (texts : LinksOf FrameText) (sessions : Sessions) → after.net.link ≡ ls → after.notices ≡ ns →
-    Holds ls ns said texts sessions → AreJoined after said texts sessions
-joined_as after ls ns said texts sessions a b h =
+    after.net.message_limit ≡ limit →
+    Holds limit ls ns said texts sessions → AreJoined after said texts sessions
+joined_as limit after ls ns said texts sessions a b c h =
     record {
       parts = subst (λ (l : Endpoint → Endpoint → Link). AreAllParts sessions l after.notices) (sym a)
           (subst (λ (k : Endpoint → Endpoint → NoticeLink). AreAllParts sessions ls k) (sym b) h.parts);
-      alike = h.alike;
+      alike = subst (λ (l : MessageLimit). AreCarried l said texts sessions) (sym c) h.alike;
       brought = subst (λ (k : Endpoint → Endpoint → NoticeLink). AreAllBrought said k) (sym b) h.brought;
     }
 
 as_held : (w : GroupNetwork) (said : Saying) (texts : LinksOf FrameText) (sessions : Sessions) →
-    AreJoined w said texts sessions → Holds w.net.link w.notices said texts sessions
+    AreJoined w said texts sessions → Holds w.net.message_limit w.net.link w.notices said texts sessions
 as_held w said texts sessions j = record { parts = j.parts; alike = j.alike; brought = j.brought }
 
 pub entries_are_carried : EntriesAreCarried
 entries_are_carried n w after said texts sessions e core t k given sent entries gone j f b number =
-    joined_as after w.net.link (notify_all w.notices e f.out) (say_all said e sent) (accept_all texts e gone)
+    joined_as w.net.message_limit after w.net.link (notify_all w.notices e f.out) (say_all said e sent)
+    (accept_all texts e gone)
     (accept_all sessions e (all_carried w.notices e f.out gone)) f.happened.messages_are f.happened.notices_are
-    (all_told n w.net.link w.notices said texts sessions e sent f.out gone (as_held w said texts sessions j) f.said
+    f.happened.limit_is
+    (all_told w.net.message_limit n w.net.link w.notices said texts sessions e sent f.out gone
+    (as_held w said texts sessions j) f.said
     f.sendable b number)
 
 -- what is handed up was accepted before
@@ -248,17 +261,20 @@ same_notices ns s d i a b = go (is_same a s && is_same b d) refl
 
 pub notices_are_carried : NoticesAreCarried
 notices_are_carried n w after said texts sessions s e core t k given sent entries gone i j next f b number =
-    joined_as after w.net.link (notify_all (noticed_on w.notices s e i) e f.out) (say_all said e sent)
+    joined_as w.net.message_limit after w.net.link (notify_all (noticed_on w.notices s e i) e f.out)
+    (say_all said e sent)
     (accept_all (handed_on texts s e) e gone)
     (accept_all (handed_on sessions s e) e (all_carried (noticed_on w.notices s e i) e f.out gone))
-    f.happened.messages_are f.happened.notices_are
-    (all_told n w.net.link (noticed_on w.notices s e i) said (handed_on texts s e) (handed_on sessions s e) e sent f.out
+    f.happened.messages_are f.happened.notices_are f.happened.limit_is
+    (all_told w.net.message_limit n w.net.link (noticed_on w.notices s e i) said (handed_on texts s e)
+    (handed_on sessions s e) e sent f.out
     gone handed f.said f.sendable b number)
   where
-    handed : Holds w.net.link (noticed_on w.notices s e i) said (handed_on texts s e) (handed_on sessions s e)
+    handed : Holds w.net.message_limit w.net.link (noticed_on w.notices s e i) said (handed_on texts s e)
+        (handed_on sessions s e)
     handed = record {
       parts = (notice_handed sessions w.net.link w.notices s e i j.parts next).1;
-      alike = handed_is_carried said texts sessions s e j.alike;
+      alike = handed_is_carried w.net.message_limit said texts sessions s e j.alike;
       brought = λ a d. subst (λ (xs : List Notice). AreBrought a d (said a d) xs) (same_notices w.notices s e i a d)
           (j.brought a d);
     }
@@ -267,12 +283,13 @@ notices_are_carried n w after said texts sessions s e core t k given sent entrie
 
 pub announcements_are_carried : AnnouncementsAreCarried
 announcements_are_carried w after said texts sessions s e core m entries i transfer j next named h =
-    joined_as after w.net.link w.notices said (accept (handed_on texts s e) e (s, text))
-    (accept (handed_on sessions s e) e (s, Answers i)) h.messages_are h.notices_are
+    joined_as w.net.message_limit after w.net.link w.notices said (accept (handed_on texts s e) e (s, text))
+    (accept (handed_on sessions s e) e (s, Answers i)) h.messages_are h.notices_are h.limit_is
     (record {
       parts = announcement_answered sessions w.net.link w.notices s e i j.parts next;
-      alike = out_is_carried said said (handed_on texts s e) (handed_on sessions s e) e ((s, text) ∷ [])
-          ((s, Answers i) ∷ []) (handed_is_carried said texts sessions s e j.alike) (as_it_is said) (
+      alike = out_is_carried w.net.message_limit said said (handed_on texts s e) (handed_on sessions s e) e
+          ((s, text) ∷ [])
+          ((s, Answers i) ∷ []) (handed_is_carried w.net.message_limit said texts sessions s e j.alike) (as_it_is said) (
             refl,
             (asked, refl),
             tt,
@@ -293,48 +310,50 @@ announcements_are_carried w after said texts sessions s e core m entries i trans
         (announced_handed sessions s e s e) named)
 
 -- the pieces of a message stand for the parts of its notice
-pieces_stand : (told : Endpoint → Endpoint → List Announced) (said : Saying) (e d : Endpoint) (i transfer : ℕ)
+pieces_stand : (limit : MessageLimit) (told : Endpoint → Endpoint → List Announced) (said : Saying) (e d : Endpoint)
+    (i transfer : ℕ)
     (message : CollectiveMessage) (part more : ℕ) → slice_get (told e d) transfer ≡ Some (LargeNotice i) →
     slice_get (said e d) i ≡ Some message →
-    part + suc more ≡ piece_count piece_bytes (bytes_of_message message) →
-    AreSent told said e
+    part + suc more ≡ piece_count (frame_limit_of limit) (bytes_of_message message) →
+    AreSent limit told said e
     (map (λ (p : ℕ × List ℕ). (d, DataFrame (record { transfer = transfer; offset = p.0; bytes = p.1 })))
-    (map (piece_at piece_bytes (bytes_of_message message)) (range_with_len part (suc more))))
+    (map (piece_at (frame_limit_of limit) (bytes_of_message message)) (range_with_len part (suc more))))
     (map (λ (c : Carried). (d, c)) (parts_from i part more))
-pieces_stand told said e d i transfer message part zero named there count =
+pieces_stand limit told said e d i transfer message part zero named there count =
     (refl, (message, there, (part, omega (arith, count), record { announced = named; place = refl; bytes = refl })), tt)
-pieces_stand told said e d i transfer message part (suc more) named there count = (
+pieces_stand limit told said e d i transfer message part (suc more) named there count = (
   refl,
   (message, there, (omega (arith, count), record { announced = named; place = refl; bytes = refl })),
-  rest (pieces_stand told said e d i transfer message (suc part) more named there (omega (arith, count))),
+  rest (pieces_stand limit told said e d i transfer message (suc part) more named there (omega (arith, count))),
 )
   where
     next : suc part ≡ part + 1
     next = omega arith
 
-    rest : AreSent told said e
+    rest : AreSent limit told said e
         (map (λ (p : ℕ × List ℕ). (d, DataFrame (record { transfer = transfer; offset = p.0; bytes = p.1 })))
-        (map (piece_at piece_bytes (bytes_of_message message)) (range_with_len (suc part) (suc more))))
+        (map (piece_at (frame_limit_of limit) (bytes_of_message message)) (range_with_len (suc part) (suc more))))
         (map (λ (c : Carried). (d, c)) (parts_from i (suc part) more)) →
-        AreSent told said e
+        AreSent limit told said e
         (map (λ (p : ℕ × List ℕ). (d, DataFrame (record { transfer = transfer; offset = p.0; bytes = p.1 })))
-        (map (piece_at piece_bytes (bytes_of_message message)) (range_with_len (part + 1) (suc more))))
+        (map (piece_at (frame_limit_of limit) (bytes_of_message message)) (range_with_len (part + 1) (suc more))))
         (map (λ (c : Carried). (d, c)) (parts_from i (suc part) more))
     rest others =
-        subst (λ (k : ℕ). AreSent told said e
+        subst (λ (k : ℕ). AreSent limit told said e
         (map (λ (p : ℕ × List ℕ). (d, DataFrame (record { transfer = transfer; offset = p.0; bytes = p.1 })))
-        (map (piece_at piece_bytes (bytes_of_message message)) (range_with_len k (suc more))))
+        (map (piece_at (frame_limit_of limit) (bytes_of_message message)) (range_with_len k (suc more))))
         (map (λ (c : Carried). (d, c)) (parts_from i (suc part) more))) next others
 
 -- data that have bytes go in a piece at least
-some_pieces : (bytes : List ℕ) → 0 < length bytes → suc (piece_count piece_bytes bytes - 1) ≡
-    piece_count piece_bytes bytes
-some_pieces bytes some = go (piece_count piece_bytes bytes) refl
+some_pieces : (limit : MessageLimit) (bytes : List ℕ) → 0 < length bytes → suc
+    (piece_count (frame_limit_of limit) bytes - 1) ≡
+    piece_count (frame_limit_of limit) bytes
+some_pieces limit bytes some = go (piece_count (frame_limit_of limit) bytes) refl
   where
-    go : (n : ℕ) → piece_count piece_bytes bytes ≡ n → suc (n - 1) ≡ n
+    go : (n : ℕ) → piece_count (frame_limit_of limit) bytes ≡ n → suc (n - 1) ≡ n
     go (suc n) is = omega arith
     go zero is =
-        let none : bytes ≡ [] = sym (pieces bytes).all ∙ ap (λ (k : ℕ). joined (map (piece_at piece_bytes bytes) (range_with_len 0 k))) is in
+        let none : bytes ≡ [] = sym (pieces limit bytes).all ∙ ap (λ (k : ℕ). joined (map (piece_at (frame_limit_of limit) bytes) (range_with_len 0 k))) is in
         absurd (let len : length bytes ≡ 0 = ap length none in omega (arith, some, len))
 
 from_zero : (n m : ℕ) → n ≡ m → 0 + n ≡ m
@@ -342,17 +361,20 @@ from_zero n m h = omega arith
 
 pub answers_are_carried : AnswersAreCarried
 answers_are_carried w after said texts sessions d e core m entries i transfer message j next named there some h =
-    joined_as after w.net.link w.notices said (accept_all (handed_on texts d e) e (all_pieces transfer d message))
-    sessions' h.messages_are h.notices_are
+    joined_as w.net.message_limit after w.net.link w.notices said (accept_all (handed_on texts d e) e
+    (all_pieces w.net.message_limit transfer d message))
+    sessions' h.messages_are h.notices_are h.limit_is
     (record {
       parts = answer_followed sessions w.net.link w.notices e d i (count - 1) j.parts next;
-      alike = out_is_carried said said (handed_on texts d e) (handed_on sessions d e) e (all_pieces transfer d message)
-          (in_parts d i (count - 1)) (handed_is_carried said texts sessions d e j.alike) (as_it_is said) stand;
+      alike = out_is_carried w.net.message_limit said said (handed_on texts d e) (handed_on sessions d e) e
+          (all_pieces w.net.message_limit transfer d message)
+          (in_parts d i (count - 1)) (handed_is_carried w.net.message_limit said texts sessions d e j.alike)
+          (as_it_is said) stand;
       brought = j.brought;
     })
   where
     count : ℕ
-    count = piece_count piece_bytes (bytes_of_message message)
+    count = piece_count (frame_limit_of w.net.message_limit) (bytes_of_message message)
 
     sessions' : Sessions
     sessions' = accept_all (handed_on sessions d e) e (in_parts d i (count - 1))
@@ -364,22 +386,26 @@ answers_are_carried w after said texts sessions d e core m entries i transfer me
         (begins_at (all_announced sessions e d) (all_announced (handed_on sessions d e) e d) transfer (LargeNotice i)
         (announced_handed sessions d e e d) named)
 
-    stand : AreSent (all_announced sessions') said e (all_pieces transfer d message) (in_parts d i (count - 1))
+    stand : AreSent w.net.message_limit (all_announced sessions') said e
+        (all_pieces w.net.message_limit transfer d message) (in_parts d i (count - 1))
     stand =
-        subst (λ (k : ℕ). AreSent (all_announced sessions') said e
+        subst (λ (k : ℕ). AreSent w.net.message_limit (all_announced sessions') said e
         (map (λ (p : ℕ × List ℕ). (d, DataFrame (record { transfer = transfer; offset = p.0; bytes = p.1 })))
-        (map (piece_at piece_bytes (bytes_of_message message)) (range_with_len 0 k))) (in_parts d i (count - 1)))
-        (some_pieces (bytes_of_message message) some)
-        (pieces_stand (all_announced sessions') said e d i transfer message 0 (count - 1) asked there
-        (from_zero (suc (count - 1)) count (some_pieces (bytes_of_message message) some)))
+        (map (piece_at (frame_limit_of w.net.message_limit) (bytes_of_message message)) (range_with_len 0 k)))
+        (in_parts d i (count - 1)))
+        (some_pieces w.net.message_limit (bytes_of_message message) some)
+        (pieces_stand w.net.message_limit (all_announced sessions') said e d i transfer message 0 (count - 1)
+        asked there
+        (from_zero (suc (count - 1)) count (some_pieces w.net.message_limit (bytes_of_message message) some)))
 
 pub parts_are_carried : PartsAreCarried
 parts_are_carried w after said texts sessions s e core m entries i part j next h =
-    joined_as after w.net.link w.notices said (handed_on texts s e) (handed_on sessions s e) h.messages_are
-    h.notices_are
+    joined_as w.net.message_limit after w.net.link w.notices said (handed_on texts s e)
+    (handed_on sessions s e) h.messages_are
+    h.notices_are h.limit_is
     (record {
       parts = part_handed sessions w.net.link w.notices s e i part j.parts next;
       alike =
-          handed_is_carried said texts sessions s e j.alike;
+          handed_is_carried w.net.message_limit said texts sessions s e j.alike;
       brought = j.brought;
     })

@@ -34,85 +34,97 @@ use Rattle.proof_session_carrying.specs.SessionViews.{MakesPart, MakesWhole, Say
 use Rattle.proof_session_carrying.specs.CarryLaws.{GoesOn, HandedIsCarried, NextStands, OutIsCarried, StillIsStill}
 use Rattle.vocabulary.specs.Endpoints.{is_same}
 use Rattle.vocabulary.specs.declared.endpoint.Endpoint.{Endpoint}
+use Rattle.vocabulary.specs.declared.message_limit.MessageLimit.{MessageLimit}
 
 -- ---- lists of texts
 
 -- at a place of the list stands something for which the text there stands
-record IsMeant (out back : List Announced) (said : List CollectiveMessage) (xs : List Carried) (k : ℕ)
+record IsMeant (limit : MessageLimit) (out back : List Announced) (said : List CollectiveMessage) (xs : List Carried)
+    (k : ℕ)
     (text : FrameText) : Type 0 where
   carried : Carried
   there : slice_get xs k ≡ Some carried
-  stands : StandsForCarried out back said text carried
+  stands : StandsForCarried limit out back said text carried
 
-stand_at : (out back : List Announced) (said : List CollectiveMessage) (texts : List FrameText) (xs : List Carried)
-    (k : ℕ) (text : FrameText) → StandFor out back said texts xs → slice_get texts k ≡ Some text →
-    IsMeant out back said xs k text
-stand_at out back said [] xs k text stand there = absurd (grind arith)
-stand_at out back said (t ∷ ts) [] k text stand there = absurd stand
-stand_at out back said (t ∷ ts) (x ∷ xs) zero text stand there =
+stand_at : (limit : MessageLimit) (out back : List Announced) (said : List CollectiveMessage) (texts : List FrameText)
+    (xs : List Carried)
+    (k : ℕ) (text : FrameText) → StandFor limit out back said texts xs → slice_get texts k ≡ Some text →
+    IsMeant limit out back said xs k text
+stand_at limit out back said [] xs k text stand there = absurd (grind arith)
+stand_at limit out back said (t ∷ ts) [] k text stand there = absurd stand
+stand_at limit out back said (t ∷ ts) (x ∷ xs) zero text stand there =
     record {
       carried = x;
       there = refl;
       stands =
-          subst (λ (y : FrameText). StandsForCarried out back said y x) (same_Some t text there) stand.0;
+          subst (λ (y : FrameText). StandsForCarried limit out back said y x) (same_Some t text there) stand.0;
     }
-stand_at out back said (t ∷ ts) (x ∷ xs) (suc k) text stand there =
-    let m : IsMeant out back said xs k text = stand_at out back said ts xs k text stand.1 there in
+stand_at limit out back said (t ∷ ts) (x ∷ xs) (suc k) text stand there =
+    let m : IsMeant limit out back said xs k text = stand_at limit out back said ts xs k text stand.1 there in
     record { carried = m.carried; there = m.there; stands = m.stands }
 
 -- one text more
-stand_push : (out back : List Announced) (said : List CollectiveMessage) (texts : List FrameText) (xs : List Carried)
-    (text : FrameText) (x : Carried) → StandFor out back said texts xs → StandsForCarried out back said text x
-    → StandFor out back said (texts ++ text ∷ []) (xs ++ x ∷ [])
-stand_push out back said [] [] text x stand one = (one, tt)
-stand_push out back said [] (y ∷ ys) text x stand one = absurd stand
-stand_push out back said (t ∷ ts) [] text x stand one = absurd stand
-stand_push out back said (t ∷ ts) (y ∷ ys) text x stand one =
-    (stand.0, stand_push out back said ts ys text x stand.1 one)
+stand_push : (limit : MessageLimit) (out back : List Announced) (said : List CollectiveMessage) (texts : List FrameText)
+    (xs : List Carried)
+    (text : FrameText) (x : Carried) → StandFor limit out back said texts xs →
+    StandsForCarried limit out back said text x
+    → StandFor limit out back said (texts ++ text ∷ []) (xs ++ x ∷ [])
+stand_push limit out back said [] [] text x stand one = (one, tt)
+stand_push limit out back said [] (y ∷ ys) text x stand one = absurd stand
+stand_push limit out back said (t ∷ ts) [] text x stand one = absurd stand
+stand_push limit out back said (t ∷ ts) (y ∷ ys) text x stand one =
+    (stand.0, stand_push limit out back said ts ys text x stand.1 one)
 
 -- what is left behind the first k
-stand_drop : (out back : List Announced) (said : List CollectiveMessage) (k : ℕ) (texts : List FrameText)
-    (xs : List Carried) → StandFor out back said texts xs → StandFor out back said (drop k texts) (drop k xs)
-stand_drop out back said zero texts xs stand = stand
-stand_drop out back said (suc k) [] [] stand = tt
-stand_drop out back said (suc k) [] (x ∷ xs) stand = absurd stand
-stand_drop out back said (suc k) (t ∷ ts) [] stand = absurd stand
-stand_drop out back said (suc k) (t ∷ ts) (x ∷ xs) stand = stand_drop out back said k ts xs stand.1
+stand_drop : (limit : MessageLimit) (out back : List Announced) (said : List CollectiveMessage) (k : ℕ)
+    (texts : List FrameText)
+    (xs : List Carried) → StandFor limit out back said texts xs → StandFor limit out back said (drop k texts)
+    (drop k xs)
+stand_drop limit out back said zero texts xs stand = stand
+stand_drop limit out back said (suc k) [] [] stand = tt
+stand_drop limit out back said (suc k) [] (x ∷ xs) stand = absurd stand
+stand_drop limit out back said (suc k) (t ∷ ts) [] stand = absurd stand
+stand_drop limit out back said (suc k) (t ∷ ts) (x ∷ xs) stand = stand_drop limit out back said k ts xs stand.1
 
-none_stand : (out back : List Announced) (said : List CollectiveMessage) (texts : List FrameText) (xs : List Carried) →
-    StandFor out back said texts xs → texts ≡ [] → xs ≡ []
-none_stand out back said [] [] stand none = refl
-none_stand out back said [] (x ∷ xs) stand none = absurd stand
-none_stand out back said (t ∷ ts) xs stand none = absurd cc
+none_stand : (limit : MessageLimit) (out back : List Announced) (said : List CollectiveMessage) (texts : List FrameText)
+    (xs : List Carried) →
+    StandFor limit out back said texts xs → texts ≡ [] → xs ≡ []
+none_stand limit out back said [] [] stand none = refl
+none_stand limit out back said [] (x ∷ xs) stand none = absurd stand
+none_stand limit out back said (t ∷ ts) xs stand none = absurd cc
 
 -- ---- more was announced, and more said
 
 -- a piece of a message goes on to be one
-piece_more : (out out' : List Announced) (i part : ℕ) (m : CollectiveMessage) (t : DataText) → Begins out out' →
-    IsPiece out i part m t → IsPiece out' i part m t
-piece_more out out' i part m t b p =
+piece_more : (limit : MessageLimit) (out out' : List Announced) (i part : ℕ) (m : CollectiveMessage) (t : DataText) →
+    Begins out out' →
+    IsPiece limit out i part m t → IsPiece limit out' i part m t
+piece_more limit out out' i part m t b p =
     record { announced = begins_at out out' t.transfer (LargeNotice i) b p.announced; place = p.place; bytes = p.bytes }
 
-whole_more : (out out' : List Announced) (i : ℕ) (m : CollectiveMessage) (text : FrameText) → Begins out out' →
-    MakesWhole out i m text → MakesWhole out' i m text
-whole_more out out' i m (EagerFrame t) b h = h
-whole_more out out' i m (RequestFrame t) b h = h
-whole_more out out' i m (ClearFrame t) b h = h
-whole_more out out' i m (DataFrame t) b h = (h.0, h.1, piece_more out out' i h.0 m t b h.2)
+whole_more : (limit : MessageLimit) (out out' : List Announced) (i : ℕ) (m : CollectiveMessage) (text : FrameText) →
+    Begins out out' →
+    MakesWhole limit out i m text → MakesWhole limit out' i m text
+whole_more limit out out' i m (EagerFrame t) b h = h
+whole_more limit out out' i m (RequestFrame t) b h = h
+whole_more limit out out' i m (ClearFrame t) b h = h
+whole_more limit out out' i m (DataFrame t) b h = (h.0, h.1, piece_more limit out out' i h.0 m t b h.2)
 
-known_more : (out out' : List Announced) (i : ℕ) (m : CollectiveMessage) (text : FrameText) → Begins out out' →
-    MakesKnown out i m text → MakesKnown out' i m text
-known_more out out' i m (EagerFrame t) b h = h
-known_more out out' i m (RequestFrame t) b h = (begins_at out out' t.transfer (LargeNotice i) b h.0, h.1)
-known_more out out' i m (ClearFrame t) b h = h
-known_more out out' i m (DataFrame t) b h = h
+known_more : (limit : MessageLimit) (out out' : List Announced) (i : ℕ) (m : CollectiveMessage) (text : FrameText) →
+    Begins out out' →
+    MakesKnown limit out i m text → MakesKnown limit out' i m text
+known_more limit out out' i m (EagerFrame t) b h = h
+known_more limit out out' i m (RequestFrame t) b h = (begins_at out out' t.transfer (LargeNotice i) b h.0, h.1)
+known_more limit out out' i m (ClearFrame t) b h = h
+known_more limit out out' i m (DataFrame t) b h = h
 
-part_more : (out out' : List Announced) (i part : ℕ) (m : CollectiveMessage) (text : FrameText) → Begins out out' →
-    MakesPart out i part m text → MakesPart out' i part m text
-part_more out out' i part m (EagerFrame t) b h = h
-part_more out out' i part m (RequestFrame t) b h = h
-part_more out out' i part m (ClearFrame t) b h = h
-part_more out out' i part m (DataFrame t) b h = (h.0, piece_more out out' i part m t b h.1)
+part_more : (limit : MessageLimit) (out out' : List Announced) (i part : ℕ) (m : CollectiveMessage) (text : FrameText) →
+    Begins out out' →
+    MakesPart limit out i part m text → MakesPart limit out' i part m text
+part_more limit out out' i part m (EagerFrame t) b h = h
+part_more limit out out' i part m (RequestFrame t) b h = h
+part_more limit out out' i part m (ClearFrame t) b h = h
+part_more limit out out' i part m (DataFrame t) b h = (h.0, piece_more limit out out' i part m t b h.1)
 
 asks_more : (back back' : List Announced) (i : ℕ) (text : FrameText) → Begins back back' → AsksFor back i text →
     AsksFor back' i text
@@ -121,98 +133,110 @@ asks_more back back' i (RequestFrame t) b h = h
 asks_more back back' i (ClearFrame t) b h = (begins_at back back' t.transfer (LargeNotice i) b h.0, h.1)
 asks_more back back' i (DataFrame t) b h = h
 
-one_more : (out out' back back' : List Announced) (said said' : List CollectiveMessage) (text : FrameText)
-    (x : Carried) → Begins out out' → Begins back back' → Begins said said' → StandsForCarried out back said text x →
-    StandsForCarried out' back' said' text x
-one_more out out' back back' said said' text (OfMessages f) b c s h =
+one_more : (limit : MessageLimit) (out out' back back' : List Announced) (said said' : List CollectiveMessage)
+    (text : FrameText)
+    (x : Carried) → Begins out out' → Begins back back' → Begins said said' →
+    StandsForCarried limit out back said text x →
+    StandsForCarried limit out' back' said' text x
+one_more limit out out' back back' said said' text (OfMessages f) b c s h =
     λ serial. stands_more (transfers_as serial out) (transfers_as serial out') (transfers_as serial back)
     (transfers_as serial back') text f (transfers_grow serial out out' b) (transfers_grow serial back back' c)
     (h serial)
-one_more out out' back back' said said' text (OfNotices i) b c s h =
-    (h.0, begins_at said said' i h.0 s h.1, whole_more out out' i h.0 text b h.2)
-one_more out out' back back' said said' text (Announces i) b c s h =
-    (h.0, begins_at said said' i h.0 s h.1, known_more out out' i h.0 text b h.2)
-one_more out out' back back' said said' text (Answers i) b c s h = asks_more back back' i text c h
-one_more out out' back back' said said' text (BringsPart i part) b c s h =
-    (h.0, begins_at said said' i h.0 s h.1, part_more out out' i part h.0 text b h.2)
+one_more limit out out' back back' said said' text (OfNotices i) b c s h =
+    (h.0, begins_at said said' i h.0 s h.1, whole_more limit out out' i h.0 text b h.2)
+one_more limit out out' back back' said said' text (Announces i) b c s h =
+    (h.0, begins_at said said' i h.0 s h.1, known_more limit out out' i h.0 text b h.2)
+one_more limit out out' back back' said said' text (Answers i) b c s h = asks_more back back' i text c h
+one_more limit out out' back back' said said' text (BringsPart i part) b c s h =
+    (h.0, begins_at said said' i h.0 s h.1, part_more limit out out' i part h.0 text b h.2)
 
-stand_more : (out out' back back' : List Announced) (said said' : List CollectiveMessage) (texts : List FrameText)
-    (xs : List Carried) → Begins out out' → Begins back back' → Begins said said' → StandFor out back said texts xs →
-    StandFor out' back' said' texts xs
-stand_more out out' back back' said said' [] [] b c s stand = tt
-stand_more out out' back back' said said' [] (x ∷ xs) b c s stand = absurd stand
-stand_more out out' back back' said said' (t ∷ ts) [] b c s stand = absurd stand
-stand_more out out' back back' said said' (t ∷ ts) (x ∷ xs) b c s stand = (
-  one_more out out' back back' said said' t x b c s stand.0,
-  stand_more out out' back back' said said' ts xs b c s stand.1,
+stand_more : (limit : MessageLimit) (out out' back back' : List Announced) (said said' : List CollectiveMessage)
+    (texts : List FrameText)
+    (xs : List Carried) → Begins out out' → Begins back back' → Begins said said' →
+    StandFor limit out back said texts xs →
+    StandFor limit out' back' said' texts xs
+stand_more limit out out' back back' said said' [] [] b c s stand = tt
+stand_more limit out out' back back' said said' [] (x ∷ xs) b c s stand = absurd stand
+stand_more limit out out' back back' said said' (t ∷ ts) [] b c s stand = absurd stand
+stand_more limit out out' back back' said said' (t ∷ ts) (x ∷ xs) b c s stand = (
+  one_more limit out out' back back' said said' t x b c s stand.0,
+  stand_more limit out out' back back' said said' ts xs b c s stand.1,
 )
 
 -- ---- links
 
 pub still_is_still : StillIsStill
-still_is_still out back said texts session alike none =
-    none_stand out back said (drop session.handed texts.accepted) (in_flight session)
-    (stand_drop out back said session.handed texts.accepted session.accepted alike.accepted)
+still_is_still limit out back said texts session alike none =
+    none_stand limit out back said (drop session.handed texts.accepted) (in_flight session)
+    (stand_drop limit out back said session.handed texts.accepted session.accepted alike.accepted)
     (ap (λ (k : ℕ). drop k texts.accepted) (sym alike.handed) ∙ none)
 
 -- what each announced goes on
 abbrev AllGoOn : (told told' : Endpoint → Endpoint → List Announced) → Type 0
 AllGoOn told told' = (s d : Endpoint) → Begins (told s d) (told' s d)
 
-carried_more : (told told' : Endpoint → Endpoint → List Announced) (said said' : Saying) (texts : LinksOf FrameText)
+carried_more : (limit : MessageLimit) (told told' : Endpoint → Endpoint → List Announced) (said said' : Saying)
+    (texts : LinksOf FrameText)
     (sessions : Sessions) → AllGoOn told told' → GoesOn said said'
-    → AreCarriedUnder told said texts sessions → AreCarriedUnder told' said' texts sessions
-carried_more told told' said said' texts sessions more sent alike s d =
+    → AreCarriedUnder limit told said texts sessions → AreCarriedUnder limit told' said' texts sessions
+carried_more limit told told' said said' texts sessions more sent alike s d =
     record {
-      accepted = stand_more (told s d) (told' s d) (told d s) (told' d s) (said s d) (said' s d) (texts s d).accepted
+      accepted = stand_more limit (told s d) (told' s d) (told d s) (told' d s) (said s d) (said' s d)
+          (texts s d).accepted
           (sessions s d).accepted (more s d) (more d s) (sent s d) (alike s d).accepted;
       handed = (alike s d).handed;
     }
 
 -- the links from s to d are changed, and the new ones carry the same
-with_alike : (told : Endpoint → Endpoint → List Announced) (said : Saying) (texts : LinksOf FrameText)
+with_alike : (limit : MessageLimit) (told : Endpoint → Endpoint → List Announced) (said : Saying)
+    (texts : LinksOf FrameText)
     (sessions : Sessions) (s d : Endpoint) (text : LinkOf FrameText) (session : Session) →
-    AreCarriedUnder told said texts sessions
-    → IsCarried (told s d) (told d s) (said s d) text session
+    AreCarriedUnder limit told said texts sessions
+    → IsCarried limit (told s d) (told d s) (said s d) text session
     → (s' d' : Endpoint) →
-    IsCarried (told s' d') (told d' s') (said s' d') (if is_same s' s && is_same d' d then text else texts s' d')
+    IsCarried limit (told s' d') (told d' s') (said s' d') (if is_same s' s && is_same d' d then text else texts s' d')
     (if is_same s' s && is_same d' d then session else sessions s' d')
-with_alike told said texts sessions s d text session alike one s' d' = go (is_same s' s && is_same d' d) refl
+with_alike limit told said texts sessions s d text session alike one s' d' = go (is_same s' s && is_same d' d) refl
   where
     go : (t : Bool) → (is_same s' s && is_same d' d) ≡ t →
-        IsCarried (told s' d') (told d' s') (said s' d') (if t then text else texts s' d') (if t then session else
+        IsCarried limit (told s' d') (told d' s') (said s' d') (if t then text else texts s' d') (if t then session else
         sessions s' d')
     go true is =
         let p = and_parts (is_same s' s) (is_same d' d) is in
-        subst (λ (x : Endpoint). IsCarried (told x d') (told d' x) (said x d') text session) (sym (same_eq s' s p.0))
-        (subst (λ (x : Endpoint). IsCarried (told s x) (told x s) (said s x) text session) (sym (same_eq d' d p.1)) one)
+        subst (λ (x : Endpoint). IsCarried limit (told x d') (told d' x) (said x d') text session)
+        (sym (same_eq s' s p.0))
+        (subst (λ (x : Endpoint). IsCarried limit (told s x) (told x s) (said s x) text session)
+        (sym (same_eq d' d p.1)) one)
     go false is = alike s' d'
 
 -- one more is accepted
-accept_alike : (told : Endpoint → Endpoint → List Announced) (said : Saying) (texts : LinksOf FrameText)
+accept_alike : (limit : MessageLimit) (told : Endpoint → Endpoint → List Announced) (said : Saying)
+    (texts : LinksOf FrameText)
     (sessions : Sessions) (e d : Endpoint) (text : FrameText) (x : Carried)
-    → AreCarriedUnder told said texts sessions → StandsForCarried (told e d) (told d e) (said e d) text x →
-    AreCarriedUnder told said (accept texts e (d, text)) (accept sessions e (d, x))
-accept_alike told said texts sessions e d text x alike one =
-    with_alike told said texts sessions e d (record (texts e d) { accepted = (texts e d).accepted ++ text ∷ [] })
+    → AreCarriedUnder limit told said texts sessions → StandsForCarried limit (told e d) (told d e) (said e d) text x →
+    AreCarriedUnder limit told said (accept texts e (d, text)) (accept sessions e (d, x))
+accept_alike limit told said texts sessions e d text x alike one =
+    with_alike limit told said texts sessions e d (record (texts e d) { accepted = (texts e d).accepted ++ text ∷ [] })
     (record (sessions e d) { accepted = (sessions e d).accepted ++ x ∷ [] }) alike
     (record {
-      accepted = stand_push (told e d) (told d e) (said e d) (texts e d).accepted (sessions e d).accepted text x
+      accepted = stand_push limit (told e d) (told d e) (said e d) (texts e d).accepted (sessions e d).accepted text x
           (alike e d).accepted one;
       handed = (alike e d).handed;
     })
 
-all_alike : (told : Endpoint → Endpoint → List Announced) (said : Saying) (texts : LinksOf FrameText)
+all_alike : (limit : MessageLimit) (told : Endpoint → Endpoint → List Announced) (said : Saying)
+    (texts : LinksOf FrameText)
     (sessions : Sessions) (e : Endpoint) (sent : List (Endpoint × FrameText)) (out : List (Endpoint × Carried))
-    → AreCarriedUnder told said texts sessions → AreSent told said e sent out →
-    AreCarriedUnder told said (accept_all texts e sent) (accept_all sessions e out)
-all_alike told said texts sessions e [] [] alike s = alike
-all_alike told said texts sessions e [] (x ∷ xs) alike s = absurd s
-all_alike told said texts sessions e (t ∷ ts) [] alike s = absurd s
-all_alike told said texts sessions e ((y, text) ∷ ts) ((d, x) ∷ xs) alike s =
-    all_alike told said (accept texts e (y, text)) (accept sessions e (d, x)) e ts xs
-    (subst (λ (z : Endpoint). AreCarriedUnder told said (accept texts e (z, text)) (accept sessions e (d, x))) (sym s.0)
-    (accept_alike told said texts sessions e d text x alike s.1)) s.2
+    → AreCarriedUnder limit told said texts sessions → AreSent limit told said e sent out →
+    AreCarriedUnder limit told said (accept_all texts e sent) (accept_all sessions e out)
+all_alike limit told said texts sessions e [] [] alike s = alike
+all_alike limit told said texts sessions e [] (x ∷ xs) alike s = absurd s
+all_alike limit told said texts sessions e (t ∷ ts) [] alike s = absurd s
+all_alike limit told said texts sessions e ((y, text) ∷ ts) ((d, x) ∷ xs) alike s =
+    all_alike limit told said (accept texts e (y, text)) (accept sessions e (d, x)) e ts xs
+    (subst (λ (z : Endpoint). AreCarriedUnder limit told said (accept texts e (z, text)) (accept sessions e (d, x)))
+    (sym s.0)
+    (accept_alike limit told said texts sessions e d text x alike s.1)) s.2
 
 -- what sessions accepted goes on as they accept more
 pub accepted_begins : (sessions : Sessions) (e : Endpoint) (out : List (Endpoint × Carried)) (s d : Endpoint) →
@@ -243,9 +267,9 @@ announced_begins sessions e out s d =
     announced_grow (sessions s d).accepted (accept_all sessions e out s d).accepted (accepted_begins sessions e out s d)
 
 pub out_is_carried : OutIsCarried
-out_is_carried said after texts sessions e sent out alike more s =
-    all_alike (all_announced (accept_all sessions e out)) after texts sessions e sent out
-    (carried_more (all_announced sessions) (all_announced (accept_all sessions e out)) said after texts sessions
+out_is_carried limit said after texts sessions e sent out alike more s =
+    all_alike limit (all_announced (accept_all sessions e out)) after texts sessions e sent out
+    (carried_more limit (all_announced sessions) (all_announced (accept_all sessions e out)) said after texts sessions
     (announced_begins sessions e out) more alike) s
 
 -- what goes on as it is
@@ -261,15 +285,15 @@ announced_handed sessions s d a b =
 
 -- the next is handed up
 pub handed_is_carried : HandedIsCarried
-handed_is_carried said texts sessions s d alike =
-    carried_more (all_announced sessions) (all_announced (handed_on sessions s d)) said said (handed_on texts s d)
+handed_is_carried limit said texts sessions s d alike =
+    carried_more limit (all_announced sessions) (all_announced (handed_on sessions s d)) said said (handed_on texts s d)
     (handed_on sessions s d) (announced_handed sessions s d) (as_it_is said)
-    (with_alike (all_announced sessions) said texts sessions s d
+    (with_alike limit (all_announced sessions) said texts sessions s d
     (record (texts s d) { handed = suc (texts s d).handed })
     (record (sessions s d) { handed = suc (sessions s d).handed }) alike
     (record { accepted = (alike s d).accepted; handed = ap suc (alike s d).handed }))
 
 pub next_stands : NextStands
-next_stands out back said texts session text alike there =
-    let m : IsMeant out back said session.accepted session.handed text = stand_at out back said texts.accepted session.accepted session.handed text alike.accepted (ap (λ (k : ℕ). slice_get texts.accepted k) (sym alike.handed) ∙ there) in
+next_stands limit out back said texts session text alike there =
+    let m : IsMeant limit out back said session.accepted session.handed text = stand_at limit out back said texts.accepted session.accepted session.handed text alike.accepted (ap (λ (k : ℕ). slice_get texts.accepted k) (sym alike.handed) ∙ there) in
     record { carried = m.carried; there = m.there; stands = m.stands }

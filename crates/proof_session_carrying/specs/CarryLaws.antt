@@ -19,6 +19,7 @@ use Rattle.proof_session_carrying.specs.Announcements.{Announced, all_announced}
 use Rattle.proof_session_carrying.specs.SessionViews.{AreCarried, AreSent, IsBrought, IsCarried, IsEager, Saying}
 use Rattle.proof_session_carrying.specs.SessionViews.{StandsForCarried, bytes_of_message}
 use Rattle.vocabulary.specs.declared.endpoint.Endpoint.{Endpoint}
+use Rattle.vocabulary.specs.declared.message_limit.MessageLimit.{MessageLimit}
 
 -- the messages of collectives go on: what was sent stays so, under its number
 abbrev pub GoesOn : (old new : Saying) → Type 0
@@ -27,39 +28,41 @@ GoesOn old new = (s d : Endpoint) → Begins (old s d) (new s d)
 -- What goes out at e is carried: its texts stand for it once all that is large is announced
 abbrev pub OutIsCarried : Type 0
 OutIsCarried =
-    (said after : Saying) (texts : LinksOf FrameText) (sessions : Sessions) (e : Endpoint)
+    (limit : MessageLimit) (said after : Saying) (texts : LinksOf FrameText) (sessions : Sessions) (e : Endpoint)
     (sent : List (Endpoint × FrameText)) (out : List (Endpoint × Carried)) →
-    AreCarried said texts sessions → GoesOn said after →
-    AreSent (all_announced (accept_all sessions e out)) after e sent out →
-    AreCarried after (accept_all texts e sent) (accept_all sessions e out)
+    AreCarried limit said texts sessions → GoesOn said after →
+    AreSent limit (all_announced (accept_all sessions e out)) after e sent out →
+    AreCarried limit after (accept_all texts e sent) (accept_all sessions e out)
 
 -- the next of what a session carries, for which a text stands
-pub record IsNext (out back : List Announced) (said : List CollectiveMessage) (session : Session)
+pub record IsNext (limit : MessageLimit) (out back : List Announced) (said : List CollectiveMessage) (session : Session)
     (text : FrameText) : Type 0 where
   pub carried : Carried
   pub there : slice_get session.accepted session.handed ≡ Some carried
-  pub stands : StandsForCarried out back said text carried
+  pub stands : StandsForCarried limit out back said text carried
 
 -- the text that is handed up next stands for it
 abbrev pub NextStands : Type 0
 NextStands =
-    (out back : List Announced) (said : List CollectiveMessage) (texts : LinkOf FrameText) (session : Session)
+    (limit : MessageLimit) (out back : List Announced) (said : List CollectiveMessage) (texts : LinkOf FrameText)
+    (session : Session)
     (text : FrameText) →
-    IsCarried out back said texts session → slice_get texts.accepted texts.handed ≡ Some text →
-    IsNext out back said session text
+    IsCarried limit out back said texts session → slice_get texts.accepted texts.handed ≡ Some text →
+    IsNext limit out back said session text
 
 -- once it was handed up all is carried on
 abbrev pub HandedIsCarried : Type 0
 HandedIsCarried =
-    (said : Saying) (texts : LinksOf FrameText) (sessions : Sessions) (s d : Endpoint) →
-    AreCarried said texts sessions →
-    AreCarried said (handed_on texts s d) (handed_on sessions s d)
+    (limit : MessageLimit) (said : Saying) (texts : LinksOf FrameText) (sessions : Sessions) (s d : Endpoint) →
+    AreCarried limit said texts sessions →
+    AreCarried limit said (handed_on texts s d) (handed_on sessions s d)
 
 -- where no text is under way, nothing is
 abbrev pub StillIsStill : Type 0
 StillIsStill =
-    (out back : List Announced) (said : List CollectiveMessage) (texts : LinkOf FrameText) (session : Session) →
-    IsCarried out back said texts session → in_flight texts ≡ [] → in_flight session ≡ []
+    (limit : MessageLimit) (out back : List Announced) (said : List CollectiveMessage) (texts : LinkOf FrameText)
+    (session : Session) →
+    IsCarried limit out back said texts session → in_flight texts ≡ [] → in_flight session ≡ []
 
 -- what comes of the message of a notice: a note of it, or memory is lacking
 abbrev pub ArrivesAs : (s d : Endpoint) → Notice → Result (Option Note) CollectiveRefusal → Type 0

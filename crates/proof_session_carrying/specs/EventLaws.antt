@@ -30,8 +30,10 @@ use Rattle.proof_pure_network.specs.Core.{Core}
 use Rattle.proof_session_carrying.specs.Announcements.{LargeNotice, all_announced, announced_in}
 use Rattle.proof_session_carrying.specs.SessionViews.{AreAllBrought, AreCarried, IsEager, IsRequest, Saying}
 use Rattle.proof_session_carrying.specs.SessionViews.{bytes_of_message, say_all}
-use Rattle.rendezvous.specs.Pieces.{piece_bytes, piece_count, pieces_of}
+use Rattle.rendezvous.specs.Pieces.{piece_count, pieces_of}
+use Rattle.vocabulary.specs.MessageLimits.{frame_limit_of}
 use Rattle.vocabulary.specs.declared.endpoint.Endpoint.{Endpoint}
+use Rattle.vocabulary.specs.declared.message_limit.MessageLimit.{MessageLimit}
 
 -- ---- between events
 
@@ -39,30 +41,30 @@ use Rattle.vocabulary.specs.declared.endpoint.Endpoint.{Endpoint}
 -- notices
 pub record AreJoined (w : GroupNetwork) (said : Saying) (texts : LinksOf FrameText) (sessions : Sessions) : Type 0 where
   pub parts : AreAllParts sessions w.net.link w.notices
-  pub alike : AreCarried said texts sessions
+  pub alike : AreCarried w.net.message_limit said texts sessions
   pub brought : AreAllBrought said w.notices
 
 -- ---- what a rank sends
 
 -- a frame brings a message, or announces it
-abbrev pub Tells : CollectiveMessage → FrameText → Type 0
-Tells m (EagerFrame t) = IsEager m t
-Tells m (RequestFrame t) = IsRequest m t
-Tells m _ = ⊥
+abbrev pub Tells : MessageLimit → CollectiveMessage → FrameText → Type 0
+Tells limit m (EagerFrame t) = IsEager m t
+Tells limit m (RequestFrame t) = IsRequest limit m t
+Tells limit m _ = ⊥
 
 -- a text to an endpoint brings a message or announces it, and goes to its target; the bytes of the message say what it
 -- says
-pub record Brings (m : CollectiveMessage) (sent : Endpoint × FrameText) : Type 0 where
+pub record Brings (limit : MessageLimit) (m : CollectiveMessage) (sent : Endpoint × FrameText) : Type 0 where
   pub target : sent.0 ≡ m.target
-  pub tells : Tells m sent.1
+  pub tells : Tells limit m sent.1
   pub spelled : payload_of (bytes_of_message m) ≡ Some (says m)
 
 -- one text for each message, in their order
-abbrev pub Bring : List CollectiveMessage → List (Endpoint × FrameText) → Type 0
-Bring [] [] = Unit {0}
-Bring [] (t ∷ ts) = ⊥
-Bring (m ∷ ms) [] = ⊥
-Bring (m ∷ ms) (t ∷ ts) = Brings m t × Bring ms ts
+abbrev pub Bring : MessageLimit → List CollectiveMessage → List (Endpoint × FrameText) → Type 0
+Bring limit [] [] = Unit {0}
+Bring limit [] (t ∷ ts) = ⊥
+Bring limit (m ∷ ms) [] = ⊥
+Bring limit (m ∷ ms) (t ∷ ts) = Brings limit m t × Bring limit ms ts
 
 -- what a session carries of a notice: it is announced by an RTS, and goes whole otherwise
 abbrev pub carried_by : FrameText → (number : ℕ) → Carried
@@ -96,7 +98,7 @@ EntriesAreCarried =
     (core : Core) (t : State) (k : ContextsState) (given : Option Ending) (sent : List CollectiveMessage)
     (entries : List Entry) (gone : List (Endpoint × FrameText)) →
     AreJoined w said texts sessions → (f : Follows n w after e core w.net.link w.notices t k given sent entries) →
-    Bring sent gone → AreNumbered sessions e gone (all_carried w.notices e f.out gone) →
+    Bring w.net.message_limit sent gone → AreNumbered sessions e gone (all_carried w.notices e f.out gone) →
     AreJoined after (say_all said e sent) (accept_all texts e gone)
     (accept_all sessions e (all_carried w.notices e f.out gone))
 
@@ -107,7 +109,8 @@ NoticesAreCarried =
     (core : Core) (t : State) (k : ContextsState) (given : Option Ending) (sent : List CollectiveMessage)
     (entries : List Entry) (gone : List (Endpoint × FrameText)) (i : ℕ) →
     AreJoined w said texts sessions → IsNext sessions s e (OfNotices i) →
-    (f : Follows n w after e core w.net.link (noticed_on w.notices s e i) t k given sent entries) → Bring sent gone →
+    (f : Follows n w after e core w.net.link (noticed_on w.notices s e i) t k given sent entries) →
+    Bring w.net.message_limit sent gone →
     AreNumbered (handed_on sessions s e) e gone (all_carried (noticed_on w.notices s e i) e f.out gone) →
     AreJoined after (say_all said e sent) (accept_all (handed_on texts s e) e gone)
     (accept_all (handed_on sessions s e) e (all_carried (noticed_on w.notices s e i) e f.out gone))
@@ -127,10 +130,10 @@ AnnouncementsAreCarried =
     (accept (handed_on sessions s e) e (s, Answers i))
 
 -- the pieces of a message to an endpoint, under the number of its transfer
-abbrev pub all_pieces : (transfer : ℕ) → Endpoint → CollectiveMessage → List (Endpoint × FrameText)
-all_pieces transfer d m =
+abbrev pub all_pieces : MessageLimit → (transfer : ℕ) → Endpoint → CollectiveMessage → List (Endpoint × FrameText)
+all_pieces limit transfer d m =
     map (λ p. (d, DataFrame (record { transfer = transfer; offset = p.0; bytes = p.1 })))
-    (pieces_of (bytes_of_message m))
+    (pieces_of (frame_limit_of limit) (bytes_of_message m))
 
 -- where a CTS asked for it, all its pieces go out
 abbrev pub AnswersAreCarried : Type 0
@@ -141,8 +144,9 @@ AnswersAreCarried =
     slice_get (all_announced sessions e d) transfer ≡ Some (LargeNotice i) → slice_get (said e d) i ≡ Some message →
     0 < length (bytes_of_message message) →
     IsAfter w after e core w.net.link m w.notices entries →
-    AreJoined after said (accept_all (handed_on texts d e) e (all_pieces transfer d message))
-    (accept_all (handed_on sessions d e) e (in_parts d i (piece_count piece_bytes (bytes_of_message message) - 1)))
+    AreJoined after said (accept_all (handed_on texts d e) e (all_pieces w.net.message_limit transfer d message))
+    (accept_all (handed_on sessions d e) e
+    (in_parts d i (piece_count (frame_limit_of w.net.message_limit) (bytes_of_message message) - 1)))
 
 -- a piece that isn't the last one changes nothing else
 abbrev pub PartsAreCarried : Type 0

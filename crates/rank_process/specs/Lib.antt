@@ -5,3 +5,7 @@ pub mod Times
 pub mod PortViews
 pub mod PortSteps
 pub mod Waits
+pub mod Faults
+pub mod Notes
+pub mod Stays
+pub mod Stops

@@ -5,6 +5,7 @@ ghost use Rattle.std.specs.Prelude.{◌≡◌};
 use crate::clock::HostClock;
 use crate::environment::FoundTexts;
 use crate::exit_status::ExitStatus;
+use crate::failing::Failing;
 use crate::farewell::take_leave;
 use crate::judging::{forewarn, judged};
 use crate::places::{addresses_of, first_port, new_engine, trips_of};
@@ -86,9 +87,11 @@ fn tell_end<R: Print + Eprint + AllocGlobal + Clock>(
         Ok(Ended::Runner(FAULTY_LINE, line)) => told.tell_stopped(rt, runner, line),
         Ok(Ended::Runner(_, _)) => {}
         Ok(Ended::Patience) => told.tell_patience(rt, runner),
-        Err(_) if udp.wire().is_stopped() => told.tell_stop(rt, runner),
-        Err(_) if udp.has_lost_line() => tell_of(rt, told.settings.rank, "its output failed"),
-        Err(_) => tell_of(rt, told.settings.rank, "its socket failed"),
+        Err(_) => match Failing::of_rank(udp.wire().is_stopped(), udp.has_lost_line()) {
+            Failing::Stop => told.tell_stop(rt, runner),
+            Failing::Output => tell_of(rt, told.settings.rank, "its output failed"),
+            Failing::Socket => tell_of(rt, told.settings.rank, "its socket failed"),
+        },
     }
 }
 

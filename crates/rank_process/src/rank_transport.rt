@@ -1,16 +1,20 @@
 //! The rank's wire as the transport of its loop.
 
-ghost use Rattle.std.specs.Prelude.{◌≡◌, ◌+◌, ◌<◌, ◌≤◌, ◌^◌, [], None, length, IfOk, IfSome, OnOk};
+ghost use Rattle.std.specs.Prelude.{◌≡◌, ◌+◌, ◌<◌, ◌≤◌, ◌^◌, [], None, length, ◌∷◌, IfErr, IfOk, IfSome, OnOk};
 ghost use Rattle.port_transport.specs.Ports.{Passes};
 ghost use Rattle.datagram.specs.ByteMeanings.{datagram_of};
 ghost use Rattle.round_trips.specs.Trips.{may_go};
 ghost use Rattle.rank_process.specs.PortViews.{SentBy};
+ghost use Rattle.rank_process.specs.Faults.{is_of_output};
+ghost use Rattle.rank_process.specs.Notes.{came_at, sent_at, sent_where};
+ghost use Rattle.rank_process.specs.Stays.{longest_stay};
 ghost use Rattle.rank_process.specs.Waits.{waits_in};
 
 use crate::clock::micros_of;
+use crate::stay::stay_in;
 use event_loop::{Transport, TransportFault};
 use port_transport::{PortTransport, PrintFault, Wire, WireFault};
-use round_trips::{LEAST_WAIT, RoundTrips, stay_for, stay_near};
+use round_trips::RoundTrips;
 use std::alloc::Global;
 use std::time::Instant;
 
@@ -32,14 +36,18 @@ pub struct RankTransport<W: Wire> {
 }
 
 /// A datagram goes out at this time, where that is known: the round trip of a frame begins.
-fn note_sent(trips: &mut RoundTrips, bytes: &[u8], now: Option<u64>) {
+fn note_sent(trips: &mut RoundTrips, bytes: &[u8], now: Option<u64>)
+    ensures { trips.new ≡ sent_at trips.old (datagram_of bytes.now) now }
+{
     if let Some(now) = now {
         trips.on_sent(bytes, now);
     }
 }
 
 /// A datagram came at this time, where that is known: an acknowledgement ends round trips.
-fn note_came(trips: &mut RoundTrips, bytes: &[u8], now: Option<u64>) {
+fn note_came(trips: &mut RoundTrips, bytes: &[u8], now: Option<u64>)
+    ensures { trips.new ≡ came_at trips.old (datagram_of bytes.now) now }
+{
     if let Some(now) = now {
         trips.on_came(bytes, now);
     }
@@ -98,51 +106,47 @@ impl<W: Wire> RankTransport<W> {
 
     /// How many milliseconds a rank of a job of so many ranks stays on behind its end: by the longest of the times to send
     /// again that were measured; 0 where all ranks are on one machine and all went well.
-    pub fn stay(&self, size: u16) -> u64 {
-        let mut stay = if self.is_near {
-            0
-        } else {
-            stay_for(LEAST_WAIT)
-        };
-        for rank in 0..size {
-            stay = stay.max(self.stay_of(rank));
-        }
-        stay
+    pub fn stay(&self, size: u16) -> u64
+        ensures { result ≡ longest_stay self.now.is_near self.now.trips size }
+    {
+        stay_in(&self.trips, self.is_near, size)
     }
 
-    /// The same for one rank.
-    fn stay_of(&self, rank: u16) -> u64 {
-        if self.is_near {
-            match self.trips.troubled_wait(rank) {
-                Some(wait) => stay_near(wait),
-                None => 0,
-            }
-        } else {
-            match self.trips.measured_wait(rank) {
-                Some(wait) => stay_for(wait),
-                None => 0,
-            }
-        }
-    }
-
-    /// Sends a datagram, unless it is a frame that is not to go again now.
-    #[tactic(auto, using(crate::specs::PortSteps::sent_on, crate::specs::PortSteps::was_held))]
-    fn hand_on(&mut self, target: u16, bytes: &[u8]) -> Result<(), WireFault>
+    /// Sends a datagram, unless it is a frame that is not to go again now. The round trip of a frame that goes begins
+    /// now, where the time is known.
+    #[tactic(auto, using(crate::specs::PortSteps::sent_on, crate::specs::PortSteps::was_held, crate::specs::Notes::sent_now, crate::specs::Notes::not_sent))]
+    fn hand_on(&mut self, target: u16, bytes: &[u8], now: Option<u64>) -> Result<(), WireFault>
         ensures sent { OnOk result (SentBy (may_go self.old.trips (datagram_of bytes.now)) W.did self.old.ports target
             bytes.now self.new.ports) }
+        ensures trips { self.new.trips ≡ sent_where (may_go self.old.trips (datagram_of bytes.now)) self.old.trips
+            (datagram_of bytes.now) now }
         ensures failures { self.new.failures ≡ self.old.failures }
     {
         if !self.trips.may_go(bytes) {
             nothing_passes(&self.ports);
             return Ok(());
         }
-        let now = self.micros();
         note_sent(&mut self.trips, bytes, now);
         self.ports.send(target, bytes)
     }
 
+    /// Prints a line. Where that fails, it is kept whether its output did.
+    fn put_line(&mut self, line: &[u8]) -> Result<(), PrintFault>
+        ensures passes { OnOk result (Passes W.did self.old.ports [] [] (line.now ∷ []) self.new.ports) }
+        ensures lost { IfErr result (λ fault. self.new.has_lost_line ≡ is_of_output fault) }
+        ensures failures { self.new.failures ≡ self.old.failures }
+    {
+        let put = self.ports.print(line);
+        if let Err(fault) = put {
+            self.has_lost_line = fault == PrintFault::Output;
+        }
+        put
+    }
+
     /// Whether its output failed.
-    pub fn has_lost_line(&self) -> bool {
+    pub fn has_lost_line(&self) -> bool
+        ensures { result ≡ self.now.has_lost_line }
+    {
         self.has_lost_line
     }
 
@@ -202,7 +206,8 @@ impl<W: Wire> Transport for RankTransport<W> {
 
     #[tactic(auto, using(crate::specs::PortSteps::went, crate::specs::PortSteps::call_failed))]
     fn send(&mut self, target: u16, bytes: &[u8]) -> Result<(), TransportFault> {
-        match self.hand_on(target, bytes) {
+        let now = self.micros();
+        match self.hand_on(target, bytes, now) {
             Ok(()) => Ok(()),
             Err(_) => Err(self.fault()),
         }
@@ -210,12 +215,9 @@ impl<W: Wire> Transport for RankTransport<W> {
 
     #[tactic(auto, using(crate::specs::PortSteps::was_printed, crate::specs::PortSteps::call_failed))]
     fn print(&mut self, line: &[u8]) -> Result<(), TransportFault> {
-        match self.ports.print(line) {
+        match self.put_line(line) {
             Ok(()) => Ok(()),
-            Err(fault) => {
-                self.has_lost_line = fault == PrintFault::Output;
-                Err(self.fault())
-            }
+            Err(_) => Err(self.fault()),
         }
     }
 

@@ -1,5 +1,9 @@
 //! Datagrams over UDP, and bytes to the standard output.
 
+ghost use Rattle.std.specs.Prelude.{◌≡◌, ◌≤◌, false, length, take, IfOk, IfSome, OnOk};
+ghost use Rattle.rank_addresses.specs.Addresses.{IsFromNamed};
+ghost use Rattle.rank_process.specs.Stops.{GoesOnUnless};
+
 use crate::error_kinds::{is_loss, is_of_network, is_transient};
 use crate::stop::StopInput;
 use delayed_acknowledgements::Delay;
@@ -34,6 +38,12 @@ pub struct UdpWire<'a, R: Print + Clock> {
     /// What tells the rank to stop.
     stop: StopInput,
     is_stopped: bool,
+}
+
+/// A datagram that stands in a buffer, and comes from the rank that it names.
+struct Arrival {
+    length: usize,
+    from: SocketAddr,
 }
 
 /// Nothing where the error says no more than that nothing can be done now.
@@ -82,7 +92,9 @@ impl<'a, R: Print + Clock> UdpWire<'a, R> {
     }
 
     /// Whether it was told to stop.
-    pub fn is_stopped(&self) -> bool {
+    pub fn is_stopped(&self) -> bool
+        ensures { result ≡ self.now.is_stopped }
+    {
         self.is_stopped
     }
 
@@ -100,8 +112,33 @@ impl<'a, R: Print + Clock> UdpWire<'a, R> {
         }
     }
 
+    /// The datagram that came next, if one is there now: none that doesn't come from the rank that it names.
+    fn next_arrival(&self, buffer: &mut [u8]) -> Result<Option<Arrival>, WireFault>
+        ensures within { IfOk result (λ found. IfSome found (λ came. came.length ≤ length buffer.new)) }
+        ensures own { IfOk result (λ found. IfSome found (λ came. IsFromNamed self.now.addresses.hosts.items
+            self.now.addresses.first_port (take came.length buffer.new) came.from)) }
+    {
+        for _ in 0..MOST_STRANGERS {
+            match self.socket.recv_from(buffer) {
+                Ok((length, from)) => {
+                    if self.addresses.is_own(&buffer[..length], from) {
+                        return Ok(Some(Arrival { length, from }));
+                    }
+                }
+                Err(error) if is_of_network(error.kind()) => return Ok(None),
+                Err(error) => {
+                    unless_transient(&error)?;
+                    return Ok(None);
+                }
+            }
+        }
+        Ok(None)
+    }
+
     /// A fault where the rank is told to stop.
-    fn heed_stop(&mut self) -> Result<(), WireFault> {
+    fn heed_stop(&mut self) -> Result<(), WireFault>
+        ensures { GoesOnUnless self.new.is_stopped result }
+    {
         self.is_stopped = self.stop.is_closed();
         if self.is_stopped {
             return Err(WireFault);
@@ -125,24 +162,10 @@ impl<'a, R: Print + Clock> Wire for UdpWire<'a, R> {
     }
 
     fn receive(&mut self, buffer: &mut [u8]) -> Result<Option<usize>, WireFault> {
-        for _ in 0..MOST_STRANGERS {
-            match self.socket.recv_from(buffer) {
-                Ok((length, from)) => {
-                    if self
-                        .addresses
-                        .is_own(&buffer[..length.min(buffer.len())], from)
-                    {
-                        return Ok(Some(length));
-                    }
-                }
-                Err(error) if is_of_network(error.kind()) => return Ok(None),
-                Err(error) => {
-                    unless_transient(&error)?;
-                    return Ok(None);
-                }
-            }
+        match self.next_arrival(buffer)? {
+            Some(Arrival { length, from: _ }) => Ok(Some(length)),
+            None => Ok(None),
         }
-        Ok(None)
     }
 
     fn write(&mut self, text: &[u8]) -> Result<(), WireFault> {
@@ -153,7 +176,10 @@ impl<'a, R: Print + Clock> Wire for UdpWire<'a, R> {
         }
     }
 
-    fn wait(&mut self, most: u64) -> Result<(), WireFault> {
+    fn wait(&mut self, most: u64) -> Result<(), WireFault>
+        ensures did { OnOk result (Unit {0}) }
+        ensures heeded { OnOk result (self.new.is_stopped ≡ false) }
+    {
         self.heed_stop()?;
         let time = Some(Duration::from_millis(most));
         match self.poll.poll(&mut self.events, time) {

@@ -14,6 +14,7 @@ use crate::out_frame::OutFrame;
 use crate::out_frames::{OutFrames, drop_front};
 use crate::refusal::{LinkRefusal, NotKept};
 use crate::window::WINDOW;
+use alike::Alike;
 use datagram::Bytes;
 use std::alloc::Global;
 use std::marker::Model;
@@ -315,5 +316,14 @@ impl OpenSender {
         self.clock = clock;
         self.wait = wait;
         self.settled = wait > 0;
+    }
+}
+
+impl Alike for OpenSender {
+    fn stands_as(&self, other: &Self) -> bool {
+        self.lowest == other.lowest
+            && self.clock == other.clock
+            && self.wait == other.wait
+            && self.frames.stands_as(&other.frames)
     }
 }

@@ -118,6 +118,7 @@ data_told source transfer piece cs =
 -- what is collected for a course
 abbrev seen : Course → Collecting
 seen c = record {
+  limit = c.limit;
   source = c.source;
   transfer = c.transfer;
   request = c.request;
@@ -342,7 +343,7 @@ stays : (t : Told) (e : Event) (c : Course) (i : ℕ) → slice_get t.courses i 
 stays t (Begins rank request elements) c i h n = h
 stays t (BeginsPayload rank) c i h n = h
 stays t (Announces rank) c i h n = h
-stays t (Collects source transfer request basic count) c i h n = stays_appended t.courses _ c i h
+stays t (Collects limit source transfer request basic count) c i h n = stays_appended t.courses _ c i h
 stays t (Answers rank transfer) c i h n = h
 stays t (Brings source transfer offset piece) c i h n =
     stays_by (is_due t.state.collections source transfer offset piece) t.courses
@@ -435,9 +436,9 @@ mirrors t (Begins rank request elements) m =
 mirrors t (BeginsPayload rank) m =
     m ∙ either (is_full_to t.state.numbers rank) t.state (after_payload t.state rank) refl
 mirrors t (Announces rank) m = m ∙ either (is_full_from t.state.numbers rank) t.state (after_rts t.state rank) refl
-mirrors t (Collects source transfer request basic count) m =
+mirrors t (Collects limit source transfer request basic count) m =
     waiting_appended t.courses _ refl ∙
-    ap (λ (xs : List Collecting). xs ++ beginning source transfer request basic count ∷ []) m
+    ap (λ (xs : List Collecting). xs ++ beginning limit source transfer request basic count ∷ []) m
 mirrors t (Answers rank transfer) m = m
 mirrors t (Brings source transfer offset piece) m =
     brought (is_due t.state.collections source transfer offset piece) t.state source transfer piece t.courses m
@@ -469,7 +470,7 @@ all_handed : (t : Told) (e : Event) → waiting_among t.courses ≡ t.state.coll
 all_handed t (Begins rank request elements) m = tt
 all_handed t (BeginsPayload rank) m = tt
 all_handed t (Announces rank) m = tt
-all_handed t (Collects source transfer request basic count) m = tt
+all_handed t (Collects limit source transfer request basic count) m = tt
 all_handed t (Answers rank transfer) m = tt
 all_handed t (Brings source transfer offset piece) m =
     by_test (is_due t.state.collections source transfer offset piece) t.state source transfer piece t.courses m

@@ -173,7 +173,7 @@ stays s (Begins r request elements) rank transfer o goes h =
     begins (is_full_to s.numbers r) s rank transfer r request elements o h
 stays s (BeginsPayload r) rank transfer o goes h = payload_begins (is_full_to s.numbers r) s rank transfer r ∙ h
 stays s (Announces r) rank transfer o goes h = announces (is_full_from s.numbers r) s rank transfer r ∙ h
-stays s (Collects source number request basic count) rank transfer o goes h = h
+stays s (Collects limit source number request basic count) rank transfer o goes h = h
 stays s (Answers r number) rank transfer o goes h = answers s rank transfer r number goes ∙ h
 stays s (Brings source number offset piece) rank transfer o goes h =
     brings (is_due s.collections source number offset piece) s rank transfer source number piece ∙ h

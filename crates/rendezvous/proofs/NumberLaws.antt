@@ -137,7 +137,7 @@ counts s (BeginsPayload r) rank lt =
     let none : Contents = record { basic = Byte; values = [] } in
     payload_begins (is_full_to s.numbers r) s rank r 0 none ∙ begins (r == rank) s r rank 0 none lt refl
 counts s (Announces r) rank lt = announces (r == rank) s r rank lt refl
-counts s (Collects source transfer request basic count) rank lt = refl
+counts s (Collects limit source transfer request basic count) rank lt = refl
 counts s (Answers r transfer) rank lt = refl
 counts s (Brings source transfer offset piece) rank lt =
     brings (is_due s.collections source transfer offset piece) s source transfer rank piece
@@ -160,7 +160,7 @@ sizes s (BeginsPayload r) =
 sizes s (Announces r) =
     either (is_full_from s.numbers r) (length s.numbers) s (after_rts s r) refl
     (length-set s.numbers r (record (session s r) { announced = (session s r).announced + 1 }))
-sizes s (Collects source transfer request basic count) = refl
+sizes s (Collects limit source transfer request basic count) = refl
 sizes s (Answers r transfer) = refl
 sizes s (Brings source transfer offset piece) =
     either (is_due s.collections source transfer offset piece) (length s.numbers) (after_data s source transfer piece) s

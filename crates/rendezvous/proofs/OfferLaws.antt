@@ -245,7 +245,7 @@ holds_after : (s : State) (e : Event) → Holds s → Holds (after s e)
 holds_after s (Begins rank request elements) h = begins (is_full_to s.numbers rank) s rank request elements refl h
 holds_after s (BeginsPayload rank) h = payload_begins (is_full_to s.numbers rank) s rank refl h
 holds_after s (Announces rank) h = announces (is_full_from s.numbers rank) s rank refl h
-holds_after s (Collects source transfer request basic count) h = record { distinct = h.distinct; begun = h.begun }
+holds_after s (Collects limit source transfer request basic count) h = record { distinct = h.distinct; begun = h.begun }
 holds_after s (Answers rank transfer) h = answers s rank transfer h
 holds_after s (Brings source transfer offset piece) h =
     brings (is_due s.collections source transfer offset piece) s source transfer piece h
@@ -379,7 +379,7 @@ gone_after s (Begins r request elements) rank transfer goes h =
 gone_after s (BeginsPayload r) rank transfer goes h =
     gone_payload_begins (is_full_to s.numbers r) s rank transfer r refl h
 gone_after s (Announces r) rank transfer goes h = gone_announces (is_full_from s.numbers r) s rank transfer r refl h
-gone_after s (Collects source number request basic count) rank transfer goes h =
+gone_after s (Collects limit source number request basic count) rank transfer goes h =
     record { number = h.number; none = h.none }
 gone_after s (Answers r number) rank transfer goes h = gone_answers s rank transfer r number h
 gone_after s (Brings source number offset piece) rank transfer goes h =

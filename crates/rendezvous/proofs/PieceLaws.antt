@@ -11,7 +11,10 @@ use Rattle.vocabulary.specs.declared.basic_type.BasicType.{BasicType}
 use Rattle.vocabulary.specs.BasicTypes.{size_of}
 use Rattle.datatypes.specs.Contents.{bytes_of, AreWithin}
 use Rattle.datatypes.specs.ContentLaws.{sizes, length-bytes_of, values_of-bytes_of}
-use Rattle.rendezvous.specs.Pieces.{first_piece, piece_at, piece_count, pieces_of, piece_bytes}
+use Rattle.vocabulary.specs.MessageLimits.{frame_limit_of}
+use Rattle.vocabulary.specs.declared.message_limit.MessageLimit.{MessageLimit}
+use Rattle.vocabulary.proofs.MessageLimits.{frame_least}
+use Rattle.rendezvous.specs.Pieces.{first_piece, piece_at, piece_count, pieces_of}
 use Rattle.rendezvous.specs.Collections.{Collecting, beginning, is_next_data, with_piece, due_bytes}
 use Rattle.rendezvous.specs.WholePieces.{joined, IsFullBefore, AreCut, ArePieces, AreTaken, ArriveWhole}
 
@@ -105,13 +108,24 @@ cut_from size k (suc n) xs h =
       subst (λ (j : ℕ). AreCut size (suc k) (map (piece_at size xs) (range_with_len j n))) next rest,
     )
 
-pub pieces : (bytes : List ℕ) → ArePieces bytes (pieces_of bytes)
-pieces bytes =
-    let h : IsCount piece_bytes (piece_count piece_bytes bytes) (length bytes) = counted piece_bytes (length bytes) (omega arith) in
+-- the first piece stands in front of all
+from_start : (size : ℕ) (xs : List ℕ) → drop (0 * size) xs ≡ xs
+from_start size xs = let none : 0 * size ≡ 0 = omega arith in ap (λ (k : ℕ). drop k xs) none
+
+pieces_by : (size : ℕ) (bytes : List ℕ) → 0 < size → ArePieces size bytes (pieces_of size bytes)
+pieces_by size bytes p =
+    let start = from_start size bytes in
+    let h : IsCount size (piece_count size bytes) (length (drop (0 * size) bytes)) = subst (λ (xs : List ℕ). IsCount size (piece_count size bytes) (length xs)) (sym start) (counted size (length bytes) p) in
     record {
-      all = joined_from piece_bytes 0 (piece_count piece_bytes bytes) bytes h;
-      cut = cut_from piece_bytes 0 (piece_count piece_bytes bytes) bytes h;
+      all = joined_from size 0 (piece_count size bytes) bytes h ∙ start;
+      cut = cut_from size 0 (piece_count size bytes) bytes h;
     }
+
+some_bytes : (limit : MessageLimit) → 0 < frame_limit_of limit
+some_bytes limit = let low = frame_least limit in omega (arith, low)
+
+pub pieces : (limit : MessageLimit) (bytes : List ℕ) → ArePieces (frame_limit_of limit) bytes (pieces_of (frame_limit_of limit) bytes)
+pieces limit bytes = pieces_by (frame_limit_of limit) bytes (some_bytes limit)
 
 -- A COLLECTION THAT TAKES THEM
 
@@ -131,7 +145,7 @@ lengths : (size k : ℕ) (xs : List ℕ) (c : Collecting) → IsAt size k xs c �
     c.total ≡ k * size + length (drop (k * size) xs)
 lengths size k xs c h = omega (arith, h.total, h.len, ap length h.whole, length-append c.bytes (drop (k * size) xs))
 
-piece_due : (size k n : ℕ) (xs : List ℕ) (c : Collecting) → size ≡ piece_bytes →
+piece_due : (size k n : ℕ) (xs : List ℕ) (c : Collecting) → size ≡ frame_limit_of c.limit →
     IsCount size (suc n) (length (drop (k * size) xs)) → IsAt size k xs c →
     is_next_data c (k * size) (first_piece size (drop (k * size) xs)) ≡ true
 piece_due size k n xs c e h at =
@@ -139,10 +153,10 @@ piece_due size k n xs c e h at =
     let first = length_first size here in
     let some : 1 ≤ length (first_piece size here) = some_piece size n (length here) (length (first_piece size here)) h first in
     let total = lengths size k xs c at in
-    let len : length (first_piece size here) ≡ min (c.total - length c.bytes) piece_bytes = omega (arith, first, total, at.len, e) in
+    let len : length (first_piece size here) ≡ min (c.total - length c.bytes) (frame_limit_of c.limit) = omega (arith, first, total, at.len, e) in
     due c (k * size) (first_piece size here) some (sym at.len) len
 
-taken_from : (size k n : ℕ) (xs : List ℕ) (c : Collecting) → size ≡ piece_bytes →
+taken_from : (size k n : ℕ) (xs : List ℕ) (c : Collecting) → size ≡ frame_limit_of c.limit →
     IsCount size (suc n) (length (drop (k * size) xs)) → IsAt size k xs c →
     AreTaken c (piece_at size xs k ∷ map (piece_at size xs) (range_with_len (k + 1) n)) (record c { bytes = xs })
 taken_from size k zero xs c e h at =
@@ -184,21 +198,26 @@ one_or_more size zero len h p = absurd (omega (arith, h.high))
 one_or_more size (suc m) len h p = (m, refl)
 
 all_taken : (xs : List ℕ) (c : Collecting) → 0 < length xs → c.bytes ≡ [] → c.total ≡ length xs →
-    AreTaken c (pieces_of xs) (record c { bytes = xs })
+    AreTaken c (pieces_of (frame_limit_of c.limit) xs) (record c { bytes = xs })
 all_taken xs c p none total =
-    let h : IsCount piece_bytes (piece_count piece_bytes xs) (length xs) = counted piece_bytes (length xs) (omega arith) in
-    let some = one_or_more piece_bytes (piece_count piece_bytes xs) (length xs) h p in
-    let at : IsAt piece_bytes 0 xs c = record { len = ap length none; total = total; whole = ap (λ (t : List ℕ). t ++ xs) none } in
-    subst (λ (n : ℕ). AreTaken c (map (piece_at piece_bytes xs) (range_with_len 0 n)) (record c { bytes = xs }))
+    let size : ℕ = frame_limit_of c.limit in
+    let h : IsCount size (piece_count size xs) (length xs) = counted size (length xs) (some_bytes c.limit) in
+    let some = one_or_more size (piece_count size xs) (length xs) h p in
+    let zero_is : 0 * size ≡ 0 = omega arith in
+    let start = from_start size xs in
+    let whole : c.bytes ++ drop (0 * size) xs ≡ xs = ap (λ (t : List ℕ). c.bytes ++ t) start ∙ ap (λ (t : List ℕ). t ++ xs) none in
+    let at : IsAt size 0 xs c = record { len = ap length none ∙ sym zero_is; total = total; whole = whole } in
+    let many : IsCount size (suc some.0) (length (drop (0 * size) xs)) = subst (λ (t : List ℕ). IsCount size (suc some.0) (length t)) (sym start) (subst (λ (n : ℕ). IsCount size n (length xs)) some.1 h) in
+    subst (λ (n : ℕ). AreTaken c (map (piece_at size xs) (range_with_len 0 n)) (record c { bytes = xs }))
     (sym some.1)
-    (taken_from piece_bytes 0 some.0 xs c refl (subst (λ (n : ℕ). IsCount piece_bytes n (length xs)) some.1 h) at)
+    (taken_from size 0 some.0 xs c refl many at)
 
-pub elements : (source transfer request : ℕ) (basic : BasicType) (values : List ℕ) → 0 < length values →
-    AreWithin (size_of basic) values → ArriveWhole source transfer request basic values
-elements source transfer request basic values p within =
+pub elements : (limit : MessageLimit) (source transfer request : ℕ) (basic : BasicType) (values : List ℕ) → 0 < length values →
+    AreWithin (size_of basic) values → ArriveWhole limit source transfer request basic values
+elements limit source transfer request basic values p within =
     let size = size_of basic in
     let bytes = bytes_of size values in
-    let c = beginning source transfer request basic (length values) in
+    let c = beginning limit source transfer request basic (length values) in
     let low : 0 < size = (sizes basic).positive in
     let len : length bytes ≡ length values * size = length-bytes_of size values in
     let wide : 1 * size ≤ length values * size = mul-le-mul_right size p in
@@ -211,7 +230,7 @@ elements source transfer request basic values p within =
     }
 
 -- so many pieces are there
-pub count_is : (bytes : List ℕ) → length (pieces_of bytes) ≡ piece_count piece_bytes bytes
-count_is bytes =
-    length-map (range_with_len 0 (piece_count piece_bytes bytes)) (piece_at piece_bytes bytes)
-    ∙ length-range_with_len 0 (piece_count piece_bytes bytes)
+pub count_is : (size : ℕ) (bytes : List ℕ) → length (pieces_of size bytes) ≡ piece_count size bytes
+count_is size bytes =
+    length-map (range_with_len 0 (piece_count size bytes)) (piece_at size bytes)
+    ∙ length-range_with_len 0 (piece_count size bytes)

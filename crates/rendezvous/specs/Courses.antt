@@ -3,6 +3,7 @@ use Rattle.std.specs.Prelude.{◌≡◌, ◌≢◌, ℕ, ◌*◌, ◌==◌, ◌&
 use Rattle.std.specs.Prelude.{slice_get, IfSome, if◌then◌else◌}
 use Rattle.std.specs.List.{flat_map}
 use Rattle.vocabulary.specs.declared.basic_type.BasicType.{BasicType}
+use Rattle.vocabulary.specs.declared.message_limit.MessageLimit.{MessageLimit}
 use Rattle.vocabulary.specs.BasicTypes.{size_of}
 use Rattle.datatypes.specs.Contents.{values_of}
 use Rattle.rendezvous.specs.declared.collection.Collected.{Collected}
@@ -17,8 +18,9 @@ pub data Stage : Type 0 where
   Given : Stage
   Dropped : Stage
 
--- what was announced of a message, the pieces that were taken for it, in order, and how far it is
+-- the job's limit, what was announced of a message, the pieces that were taken for it, in order, and how far it is
 pub record Course : Type 0 where
+  pub limit : MessageLimit
   pub source : ℕ
   pub transfer : ℕ
   pub request : ℕ
@@ -68,7 +70,8 @@ abbrev pub courses_after : Told → Event → List Course
 courses_after t (Begins rank request elements) = t.courses
 courses_after t (BeginsPayload rank) = t.courses
 courses_after t (Announces rank) = t.courses
-courses_after t (Collects source transfer request basic count) = t.courses ++ (record {
+courses_after t (Collects limit source transfer request basic count) = t.courses ++ (record {
+  limit = limit;
   source = source;
   transfer = transfer;
   request = request;
@@ -104,6 +107,7 @@ waiting_among [] = []
 waiting_among (c ∷ cs) =
     if is_waiting c.stage
     then (record {
+      limit = c.limit;
       source = c.source;
       transfer = c.transfer;
       request = c.request;

@@ -2,6 +2,7 @@
 -- those that come to it, and to the numbers that these share with the payloads of collectives.
 use Rattle.std.specs.Prelude.{ℕ, List, [], Option, None, replicate, if◌then◌else◌}
 use Rattle.vocabulary.specs.declared.basic_type.BasicType.{BasicType}
+use Rattle.vocabulary.specs.declared.message_limit.MessageLimit.{MessageLimit}
 use Rattle.datatypes.specs.Contents.{Contents}
 use Rattle.rendezvous.specs.declared.collection.Collected.{Collected}
 use Rattle.rendezvous.specs.Collections.{beginning}
@@ -15,7 +16,7 @@ pub data Event : Type 0 where
   Begins : (rank request : ℕ) → Contents → Event
   BeginsPayload : (rank : ℕ) → Event
   Announces : (rank : ℕ) → Event
-  Collects : (source transfer request : ℕ) → BasicType → (count : ℕ) → Event
+  Collects : MessageLimit → (source transfer request : ℕ) → BasicType → (count : ℕ) → Event
   Answers : (rank transfer : ℕ) → Event
   Brings : (source transfer offset : ℕ) → List ℕ → Event
   Drops : (rank : ℕ) → Event
@@ -29,7 +30,7 @@ abbrev pub after : State → Event → State
 after s (Begins rank request elements) = if is_full_to s.numbers rank then s else after_begin s rank request elements
 after s (BeginsPayload rank) = if is_full_to s.numbers rank then s else after_payload s rank
 after s (Announces rank) = if is_full_from s.numbers rank then s else after_rts s rank
-after s (Collects source transfer request basic count) = after_collect s (beginning source transfer request basic count)
+after s (Collects limit source transfer request basic count) = after_collect s (beginning limit source transfer request basic count)
 after s (Answers rank transfer) = after_cts s rank transfer
 after s (Brings source transfer offset piece) =
     if is_due s.collections source transfer offset piece then after_data s source transfer piece else s
@@ -40,7 +41,7 @@ abbrev pub handed_out_by : State → Event → Option Collected
 handed_out_by s (Begins rank request elements) = None
 handed_out_by s (BeginsPayload rank) = None
 handed_out_by s (Announces rank) = None
-handed_out_by s (Collects source transfer request basic count) = None
+handed_out_by s (Collects limit source transfer request basic count) = None
 handed_out_by s (Answers rank transfer) = None
 handed_out_by s (Brings source transfer offset piece) =
     if is_due s.collections source transfer offset piece then given s source transfer piece else None

@@ -14,7 +14,7 @@ abbrev pub is_drop_of : (rank : ℕ) → Event → Bool
 is_drop_of rank (Begins r request elements) = false
 is_drop_of rank (BeginsPayload r) = false
 is_drop_of rank (Announces r) = false
-is_drop_of rank (Collects source transfer request basic count) = false
+is_drop_of rank (Collects limit source transfer request basic count) = false
 is_drop_of rank (Answers r transfer) = false
 is_drop_of rank (Brings source transfer offset piece) = false
 is_drop_of rank (Drops r) = r == rank

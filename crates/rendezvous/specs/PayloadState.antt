@@ -1,6 +1,7 @@
 -- The payloads that a rank announced and those that come to it, and what each step does to them.
 use Rattle.std.specs.Prelude.{ℕ, ◌==◌, not, Bool, false, List, [], ◌∷◌, ◌++◌, Option, Some, None, position, insert}
 use Rattle.std.specs.Prelude.{remove, filter, slice_get, slice_set, slice_index_or, if◌then◌else◌}
+use Rattle.vocabulary.specs.MessageLimits.{least}
 use Rattle.rendezvous.specs.Payloads.{Announced, Coming, Taken, Whole, is_from, is_to, is_whole}
 use Rattle.rendezvous.specs.Payloads.{is_next_data, whole_of, with_piece}
 
@@ -78,7 +79,7 @@ whole_with s rank transfer piece = whole_by (coming_from s rank transfer) piece
 
 -- stands for a payload where there is none
 abbrev pub blank : Coming
-blank = record { source = 0; transfer = 0; context = 0; number = 0; total = 0; bytes = [] }
+blank = record { limit = least; source = 0; transfer = 0; context = 0; number = 0; total = 0; bytes = [] }
 
 -- the payload at a place, with one more piece
 abbrev pub grown_at : List Coming → (place : ℕ) → List ℕ → Coming

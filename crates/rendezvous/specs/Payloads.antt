@@ -1,5 +1,7 @@
 -- A payload that was announced, and one that comes in pieces.
 use Rattle.std.specs.Prelude.{ℕ, ◌==◌, ◌&&◌, ◌≤◌, Bool, List, ◌++◌, length, take}
+use Rattle.vocabulary.specs.MessageLimits.{frame_limit_of}
+use Rattle.vocabulary.specs.declared.message_limit.MessageLimit.{MessageLimit}
 use Rattle.rendezvous.specs.Pieces.{is_next_piece}
 
 -- a payload that this rank announced: the rank to which it goes, the number of its transfer in the session with that,
@@ -9,9 +11,10 @@ pub record Announced : Type 0 where
   pub transfer : ℕ
   pub bytes : List ℕ
 
--- a payload that comes: from which rank, and under which number of a transfer; the context and the number of its
+-- a payload that comes: the job's limit, by which it is cut; from which rank, and under which number of a transfer; the context and the number of its
 -- collective; how many bytes were announced, and those that have come
 pub record Coming : Type 0 where
+  pub limit : MessageLimit
   pub source : ℕ
   pub transfer : ℕ
   pub context : ℕ
@@ -47,7 +50,7 @@ is_from source transfer c = (c.source == source) && (c.transfer == transfer)
 
 -- whether these bytes from this place on are its next piece
 abbrev pub is_next_data : Coming → (offset : ℕ) → List ℕ → Bool
-is_next_data c offset piece = is_next_piece c.total (length c.bytes) offset piece
+is_next_data c offset piece = is_next_piece (frame_limit_of c.limit) c.total (length c.bytes) offset piece
 
 -- with one more piece
 abbrev pub with_piece : Coming → List ℕ → Coming

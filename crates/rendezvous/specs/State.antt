@@ -1,6 +1,7 @@
 -- What a rank knows of its transfers, and what each step does to it.
 use Rattle.std.specs.Prelude.{ℕ, ◌+◌, ◌==◌, ◌&&◌, not, Bool, true, false, List, [], ◌∷◌, ◌++◌, map, Option, Some, None}
 use Rattle.std.specs.Prelude.{position, remove, filter, slice_get, slice_set, slice_index_or, if◌then◌else◌}
+use Rattle.vocabulary.specs.MessageLimits.{least}
 use Rattle.vocabulary.specs.declared.basic_type.BasicType.TheVariants.{Byte}
 use Rattle.datatypes.specs.Contents.{Contents}
 use Rattle.rendezvous.specs.declared.transfers.Numbers.{Numbers}
@@ -97,7 +98,7 @@ is_due cs source transfer offset piece = is_taken (collection_at cs (collection_
 
 -- stands for a collection where there is none
 abbrev pub blank : Collecting
-blank = record { source = 0; transfer = 0; request = 0; basic = Byte; total = 0; bytes = [] }
+blank = record { limit = least; source = 0; transfer = 0; request = 0; basic = Byte; total = 0; bytes = [] }
 
 -- the collection at a place, with one more piece
 abbrev pub grown_at : List Collecting → (place : ℕ) → List ℕ → Collecting

@@ -12,7 +12,7 @@ abbrev pub is_begin_to : (rank : ℕ) → Event → Bool
 is_begin_to rank (Begins r request elements) = r == rank
 is_begin_to rank (BeginsPayload r) = r == rank
 is_begin_to rank (Announces r) = false
-is_begin_to rank (Collects source transfer request basic count) = false
+is_begin_to rank (Collects limit source transfer request basic count) = false
 is_begin_to rank (Answers r transfer) = false
 is_begin_to rank (Brings source transfer offset piece) = false
 is_begin_to rank (Drops r) = false
@@ -22,7 +22,7 @@ abbrev pub is_announcement_by : (rank : ℕ) → Event → Bool
 is_announcement_by rank (Begins r request elements) = false
 is_announcement_by rank (BeginsPayload r) = false
 is_announcement_by rank (Announces r) = r == rank
-is_announcement_by rank (Collects source transfer request basic count) = false
+is_announcement_by rank (Collects limit source transfer request basic count) = false
 is_announcement_by rank (Answers r transfer) = false
 is_announcement_by rank (Brings source transfer offset piece) = false
 is_announcement_by rank (Drops r) = false
@@ -74,7 +74,7 @@ abbrev pub is_end_of : (rank transfer : ℕ) → Event → Bool
 is_end_of rank transfer (Begins r request elements) = false
 is_end_of rank transfer (BeginsPayload r) = false
 is_end_of rank transfer (Announces r) = false
-is_end_of rank transfer (Collects source number request basic count) = false
+is_end_of rank transfer (Collects limit source number request basic count) = false
 is_end_of rank transfer (Answers r number) = (r == rank) && (number == transfer)
 is_end_of rank transfer (Brings source number offset piece) = false
 is_end_of rank transfer (Drops r) = r == rank

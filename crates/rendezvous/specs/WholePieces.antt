@@ -4,7 +4,9 @@ use Rattle.std.specs.List.{flat_map}
 use Rattle.vocabulary.specs.declared.basic_type.BasicType.{BasicType}
 use Rattle.vocabulary.specs.BasicTypes.{size_of}
 use Rattle.datatypes.specs.Contents.{bytes_of}
-use Rattle.rendezvous.specs.Pieces.{piece_bytes, pieces_of}
+use Rattle.vocabulary.specs.MessageLimits.{frame_limit_of}
+use Rattle.vocabulary.specs.declared.message_limit.MessageLimit.{MessageLimit}
+use Rattle.rendezvous.specs.Pieces.{pieces_of}
 use Rattle.rendezvous.specs.Collections.{Collecting, beginning, is_next_data, with_piece, is_whole}
 use Rattle.rendezvous.specs.WholeMessages.{collected_of}
 
@@ -29,10 +31,10 @@ abbrev pub AreCut : (size number : ℕ) → List (ℕ × List ℕ) → Type 0
 AreCut size number [] = Unit {0}
 AreCut size number (p ∷ ps) = IsCut size number p ps × AreCut size (suc number) ps
 
--- the pieces of data: put together they are the data
-pub record ArePieces (bytes : List ℕ) (pieces : List (ℕ × List ℕ)) : Type 0 where
+-- the pieces of data, of so many bytes each: put together they are the data
+pub record ArePieces (size : ℕ) (bytes : List ℕ) (pieces : List (ℕ × List ℕ)) : Type 0 where
   pub all : joined pieces ≡ bytes
-  pub cut : AreCut piece_bytes 0 pieces
+  pub cut : AreCut size 0 pieces
 
 -- a collection takes pieces in order, each of which is due, and is whole with the last one and not before
 abbrev pub AreTaken : Collecting → List (ℕ × List ℕ) → Collecting → Type 0
@@ -43,8 +45,8 @@ AreTaken c (p ∷ q ∷ ps) last =
     (is_next_data c p.0 p.1 ≡ true) × (is_whole (with_piece c p.1) ≡ false) × AreTaken (with_piece c p.1) (q ∷ ps) last
 
 -- the elements of a message that comes in pieces: a new collection of that size takes all pieces, and gives just them
-pub record ArriveWhole (source transfer request : ℕ) (basic : BasicType) (values : List ℕ) : Type 0 where
+pub record ArriveWhole (limit : MessageLimit) (source transfer request : ℕ) (basic : BasicType) (values : List ℕ) : Type 0 where
   pub last : Collecting
-  pub taken : AreTaken (beginning source transfer request basic (length values))
-      (pieces_of (bytes_of (size_of basic) values)) last
+  pub taken : AreTaken (beginning limit source transfer request basic (length values))
+      (pieces_of (frame_limit_of limit) (bytes_of (size_of basic) values)) last
   pub whole : collected_of last ≡ record { request = request; elements = record { basic = basic; values = values } }

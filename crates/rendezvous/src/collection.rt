@@ -6,14 +6,16 @@ ghost use Rattle.rendezvous.specs.Collections.{Collecting, beginning, is_from, i
 ghost use Rattle.rendezvous.specs.WholeMessages.{collected_of};
 
 use crate::piece::is_next_piece;
+use alike::{Alike, are_alike};
 use datatypes::Buffer;
 use std::alloc::Global;
 use std::marker::Model;
-use vocabulary::{BasicType, OutOfMemory};
+use vocabulary::{BasicType, MessageLimit, OutOfMemory};
 
 /// A message for which this rank asked, and of whose data so much has come.
 #[derive(Drop)]
 pub struct Collection {
+    limit: MessageLimit,
     source: u16,
     transfer: u32,
     request: usize,
@@ -30,6 +32,7 @@ impl Model for Collection {
     ghost Value = { Collecting };
 
     ghost view = { λ c. record {
+      limit = c.limit;
       source = c.source;
       transfer = c.transfer;
       request = c.request;
@@ -51,18 +54,19 @@ pub struct Collected {
 }
 
 impl Collection {
-    /// A message of so many elements that a rank announced, of which nothing has come. The memory for all its data is
+    /// A message of so many elements that a rank announced in a job with this limit, of which nothing has come. The memory for all its data is
     /// taken now; it fails for want of memory alone. Data of more bytes than an address counts, which no memory holds,
     /// count as that. A message of no elements is over at its match: here no piece of it is ever due.
     pub fn new(
         alloc: Global,
+        limit: MessageLimit,
         source: u16,
         transfer: u32,
         request: usize,
         basic: BasicType,
         count: usize,
     ) -> Result<Collection, OutOfMemory>
-        ensures { IfOk result (λ collection. collection ≡ beginning source transfer request basic count) }
+        ensures { IfOk result (λ collection. collection ≡ beginning limit source transfer request basic count) }
     {
         let Some(total) = count.checked_mul(usize::from(basic.size())) else {
             return Err(OutOfMemory {});
@@ -71,6 +75,7 @@ impl Collection {
             return Err(OutOfMemory {});
         };
         Ok(Collection {
+            limit,
             source,
             transfer,
             request,
@@ -105,7 +110,7 @@ impl Collection {
     pub fn is_next_data(&self, offset: u32, bytes: &[u8]) -> bool
         ensures { result ≡ is_next_data self.now offset bytes.now }
     {
-        is_next_piece(self.total, self.bytes.len(), offset, bytes)
+        is_next_piece(self.limit, self.total, self.bytes.len(), offset, bytes)
     }
 
     /// Whether all data have come.
@@ -129,6 +134,7 @@ impl Collection {
         ensures { result ≡ collected_of self }
     {
         let Collection {
+            limit: _,
             source: _,
             transfer: _,
             request,
@@ -140,5 +146,17 @@ impl Collection {
             request,
             elements: Buffer::from_bytes(basic, bytes),
         }
+    }
+}
+
+impl Alike for Collection {
+    fn stands_as(&self, other: &Self) -> bool {
+        self.limit == other.limit
+            && self.source == other.source
+            && self.transfer == other.transfer
+            && self.request == other.request
+            && self.basic == other.basic
+            && self.total == other.total
+            && are_alike(&self.bytes, &other.bytes)
     }
 }

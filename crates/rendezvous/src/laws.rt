@@ -4,6 +4,8 @@ ghost use Rattle.std.specs.Prelude.{◌≡◌, ℕ, ◌<◌, List, length};
 ghost use Rattle.vocabulary.specs.declared.basic_type.BasicType.{BasicType};
 ghost use Rattle.vocabulary.specs.BasicTypes.{size_of};
 ghost use Rattle.datatypes.specs.Contents.{AreWithin};
+ghost use Rattle.vocabulary.specs.MessageLimits.{frame_limit_of};
+ghost use Rattle.vocabulary.specs.declared.message_limit.MessageLimit.{MessageLimit};
 ghost use Rattle.rendezvous.specs.Pieces.{pieces_of};
 ghost use Rattle.rendezvous.specs.WholePieces.{ArePieces, ArriveWhole};
 ghost use Rattle.rendezvous.specs.Events.{Event, opening};
@@ -14,9 +16,10 @@ ghost use Rattle.rendezvous.specs.TransferCounts.{transfers_to, announcements_by
 /// A law of `pieces`, `is_next_data` and `on_data`: pieces put together in order are the data, and a new collection of
 /// that size takes them in order and gives just the elements, with the last one and not before.
 pub fn pieces_are_whole()
-    ensures pieces { (bytes : List ℕ) → ArePieces bytes (pieces_of bytes) }
-    ensures elements { (source transfer request : ℕ) (basic : BasicType) (values : List ℕ) →
-        0 < length values → AreWithin (size_of basic) values → ArriveWhole source transfer request basic values }
+    ensures pieces { (limit : MessageLimit) (bytes : List ℕ) →
+        ArePieces (frame_limit_of limit) bytes (pieces_of (frame_limit_of limit) bytes) }
+    ensures elements { (limit : MessageLimit) (source transfer request : ℕ) (basic : BasicType) (values : List ℕ) →
+        0 < length values → AreWithin (size_of basic) values → ArriveWhole limit source transfer request basic values }
 {}
 
 /// A law of `Transfers`: a message that is collected is handed out at most once and whole, as just the pieces that were

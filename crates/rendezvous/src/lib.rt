@@ -1,9 +1,9 @@
 //! What a rank knows of its transfers: the large messages and the large payloads of collectives, which go in pieces.
 //!
-//! MPI 3.1, 3.4 leaves open how a standard send goes; this protocol is the project's own. A message of more than 1,024
-//! bytes is announced first ('request to send'), under a number that its sender counts to each rank. The receiver
-//! answers ('clear to send') once it wants the data, and then they come in order, in pieces of 1,024 bytes of which the
-//! last one may be shorter.
+//! MPI 3.1, 3.4 leaves open how a standard send goes; this protocol is the project's own. A message of more bytes
+//! than a frame of the job has (1,024 in a script's) is announced first ('request to send'), under a number that its sender counts to each rank. The receiver
+//! answers ('clear to send') once it wants the data, and then they come in order, in pieces of as many bytes as a frame has, of which
+//! the last one may be shorter.
 //!
 //! MPI 3.1, chapter 5 leaves open how the data of a collective go; they go in the same way, under numbers of the same
 //! count. A payload is asked for at once, whether or not its receiver has entered the collective. With its last piece it

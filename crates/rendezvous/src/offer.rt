@@ -3,7 +3,8 @@
 ghost use Rattle.std.specs.Prelude.{◌≡◌};
 ghost use Rattle.rendezvous.specs.Offers.{is_to};
 
-use datatypes::Buffer;
+use alike::Alike;
+use datatypes::WholeBuffer;
 
 /// A message that this rank announced, and whose data it keeps until they are asked for.
 #[derive(Drop)]
@@ -15,7 +16,7 @@ pub struct Offer {
     /// The key of its request in the rank's table of requests.
     pub request: usize,
     /// Its elements.
-    pub elements: Buffer,
+    pub elements: WholeBuffer,
 }
 
 impl Offer {
@@ -24,5 +25,14 @@ impl Offer {
         ensures { result ≡ is_to target transfer self.now }
     {
         self.target == target && self.transfer == transfer
+    }
+}
+
+impl Alike for Offer {
+    fn stands_as(&self, other: &Self) -> bool {
+        self.target == other.target
+            && self.transfer == other.transfer
+            && self.request == other.request
+            && self.elements.stands_as(&other.elements)
     }
 }

@@ -6,9 +6,10 @@ ghost use Rattle.rendezvous.specs.Payloads.{cut_to, is_from, is_to, is_whole, is
 ghost use Rattle.rendezvous.specs.Payloads.{with_piece};
 
 use crate::piece::is_next_piece;
+use alike::{Alike, are_alike};
 use std::alloc::Global;
 use std::marker::Model;
-use vocabulary::OutOfMemory;
+use vocabulary::{MessageLimit, OutOfMemory};
 
 /// A payload that this rank announced, kept until its receiver asks for it.
 #[derive(Drop)]
@@ -69,6 +70,7 @@ impl AnnouncedPayload {
 /// A payload for which this rank asked, and of which so much has come.
 #[derive(Drop)]
 pub struct ComingPayload {
+    limit: MessageLimit,
     source: u16,
     transfer: u32,
     context: u64,
@@ -84,6 +86,7 @@ impl Model for ComingPayload {
     ghost Value = { Coming };
 
     ghost view = { λ p. record {
+      limit = p.limit;
       source = p.source;
       transfer = p.transfer;
       context = p.context;
@@ -117,11 +120,12 @@ impl Model for WholePayload {
 }
 
 impl ComingPayload {
-    /// A payload of so many bytes that a rank announced, of which nothing has come: it is of the collective of this
+    /// A payload of so many bytes that a rank announced in a job with this limit, of which nothing has come: it is of the collective of this
     /// number on the communicator of this context. The memory for all its bytes is taken now; it fails for want of
     /// memory alone.
     pub fn new(
         alloc: Global,
+        limit: MessageLimit,
         source: u16,
         transfer: u32,
         context: u64,
@@ -130,6 +134,7 @@ impl ComingPayload {
     ) -> Result<Self, OutOfMemory>
         ensures { IfOk result
             (λ payload. payload ≡ record {
+              limit = limit;
               source = source;
               transfer = transfer;
               context = context;
@@ -143,6 +148,7 @@ impl ComingPayload {
             return Err(OutOfMemory {});
         };
         Ok(ComingPayload {
+            limit,
             source,
             transfer,
             context,
@@ -177,7 +183,7 @@ impl ComingPayload {
     pub fn is_next_data(&self, offset: u32, bytes: &[u8]) -> bool
         ensures { result ≡ is_next_data self.now offset bytes.now }
     {
-        is_next_piece(self.total, self.bytes.len(), offset, bytes)
+        is_next_piece(self.limit, self.total, self.bytes.len(), offset, bytes)
     }
 
     /// Whether all its bytes have come once these have.
@@ -260,5 +266,25 @@ impl WholePayload {
         let mut payload = self.payload;
         payload.truncate(self.came);
         payload
+    }
+}
+
+impl Alike for AnnouncedPayload {
+    fn stands_as(&self, other: &Self) -> bool {
+        self.target == other.target
+            && self.transfer == other.transfer
+            && are_alike(&self.bytes, &other.bytes)
+    }
+}
+
+impl Alike for ComingPayload {
+    fn stands_as(&self, other: &Self) -> bool {
+        self.limit == other.limit
+            && self.source == other.source
+            && self.transfer == other.transfer
+            && self.context == other.context
+            && self.number == other.number
+            && self.total == other.total
+            && are_alike(&self.bytes, &other.bytes)
     }
 }

@@ -1,6 +1,6 @@
 //! What a rank knows of its transfers.
 
-ghost use Rattle.std.specs.Prelude.{◌≡◌, ◌+◌, ◌≤◌, ◌<◌, ◌++◌, not, ◌==◌, false, true, filter, map, length, [], IfOk};
+ghost use Rattle.std.specs.Prelude.{◌≡◌, ◌+◌, ◌≤◌, ◌<◌, ◌++◌, not, ◌==◌, false, true, filter, map, length, [], IfOk, IsTrue};
 ghost use Rattle.std.specs.Prelude.{OnOk, OnErr, position, replicate, slice_set, vec_len};
 ghost use Rattle.std.specs.Prelude.{vec_capacity};
 ghost use Rattle.std.specs.Option.{option_copied};
@@ -17,6 +17,7 @@ use crate::collection::{Collected, Collection};
 use crate::offer::Offer;
 use crate::payload_lists::{drop_announced, drop_coming};
 use crate::payloads::{AnnouncedPayload, ComingPayload};
+use alike::{Alike, are_alike};
 use datatypes::Buffer;
 use std::alloc::Global;
 use std::marker::Model;
@@ -29,6 +30,12 @@ pub struct Numbers {
     pub begun: u32,
     /// How many it announced: the number of its next one.
     pub announced: u32,
+}
+
+impl Alike for Numbers {
+    fn stands_as(&self, other: &Self) -> bool {
+        self == other
+    }
 }
 
 /// What a rank knows of its transfers: their numbers, the messages that it announced and those that come to it, and the
@@ -271,6 +278,20 @@ impl Transfers {
         })
     }
 
+    /// Whether both stand alike: as many transfers were begun and announced in each session, the same messages and
+    /// payloads wait for an answer, and as much has come of the same ones. For how many more there is memory makes no
+    /// difference.
+    pub fn stands_as(&self, other: &Transfers) -> bool
+        ensures messages { IsTrue result → self.now.state ≡ other.now.state }
+        ensures payloads { IsTrue result → self.now.payloads.state ≡ other.now.payloads.state }
+    {
+        are_alike(&self.numbers, &other.numbers)
+            && are_alike(&self.offers, &other.offers)
+            && are_alike(&self.collections, &other.collections)
+            && are_alike(&self.announced, &other.announced)
+            && are_alike(&self.coming, &other.coming)
+    }
+
     /// Whether no further transfer to the rank can begin: refusal number 13. It is so once 4,294,967,295 have begun in
     /// the session, and of a rank that isn't there.
     pub fn is_full_to(&self, rank: u16) -> bool
@@ -313,7 +334,7 @@ impl Transfers {
             target: rank,
             transfer,
             request,
-            elements,
+            elements: elements.into_whole(),
         });
         transfer
     }

@@ -10,6 +10,7 @@ mod list;
 mod outcome;
 mod refusal;
 mod region;
+mod standing;
 mod table;
 
 pub use answer::{Answer, OutcomeRoom, Outcomes};
@@ -18,6 +19,7 @@ pub use list::RequestList;
 pub use outcome::{Failure, Outcome, receive_outcome};
 pub use refusal::RequestRefusal;
 pub use region::{Places, ReceiveRegion, Region};
+pub use standing::trimmed_tables_have_the_same_entries;
 pub use table::{
     Matched, Posted, Request, RequestProgress, Requests, TableEntry, TakenOut, Tested,
     match_announced, match_body, status_of,

@@ -1,5 +1,5 @@
 -- Where things stand in a row of characters.
-use Rattle.std.specs.Prelude.{ℕ, ◌+◌, ◌-◌, ◌/◌, min, max, nat_lt, Bool, true, false, if◌then◌else◌}
+use Rattle.std.specs.Prelude.{ℕ, ◌+◌, ◌-◌, ◌/◌, ◌==◌, min, max, nat_lt, Bool, true, false, if◌then◌else◌}
 use Rattle.run_drawings.specs.Layout.{plus, times}
 use Rattle.run_drawings.specs.declared.columns.Columns.{Columns}
 use Rattle.run_drawings.specs.declared.columns.Span.{Span}
@@ -42,3 +42,9 @@ arrival c from to = without (between c from to) (half (between c from to)) (nat_
 -- an arrow that comes and has words: without three places at its source
 abbrev pub approach : Columns → (from to : ℕ) → Span
 approach c from to = without (between c from to) 3 (nat_lt to from)
+
+-- that of a wait: up to the line of life of the one for which a rank waits, or beside its own
+abbrev pub wait_span : Columns → (rank other : ℕ) → Span
+wait_span c rank other =
+    if rank == other then record { first = plus (place_of c rank) 1; end = plus (place_of c rank) 4 }
+    else between c rank other

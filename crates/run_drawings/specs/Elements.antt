@@ -33,6 +33,8 @@ ink_class inks.End = codes "end"
 ink_class inks.Taken = codes "taken"
 ink_class inks.Refused = codes "refused"
 ink_class inks.Lost = codes "lost"
+ink_class inks.Awaits = codes "awaits"
+ink_class inks.Turn = codes "turn"
 
 -- a straight line
 abbrev pub stroke_text : Stroke → List ℕ

@@ -6,3 +6,4 @@ pub mod Layout
 pub mod Notes
 pub mod Pictures
 pub mod Strokes
+pub mod Waits

@@ -1,7 +1,7 @@
 //! Where things stand in a row of characters.
 
 ghost use Rattle.std.specs.Prelude.{◌≡◌, ◌-◌};
-ghost use Rattle.run_drawings.specs.Columns.{approach, between, departure, lost, arrival, place_of, tip, without};
+ghost use Rattle.run_drawings.specs.Columns.{approach, between, departure, lost, arrival, place_of, tip, wait_span, without};
 
 /// How many characters lie between two lines of life at least and at most, with one of the lines.
 const LEAST_COLUMN: usize = 10;
@@ -124,6 +124,22 @@ impl Columns {
         ensures { result ≡ approach self.now from to }
     {
         self.between(from, to).without(GAP, to < from)
+    }
+
+    /// The places of the arrow from a rank to one for which it waits: up to the other line of life, or where that is its
+    /// own some places beside it.
+    pub fn wait(&self, rank: u16, other: u16) -> Span
+        ensures { result ≡ wait_span self.now rank other }
+    {
+        if rank == other {
+            let place = self.place_of(rank);
+            Span {
+                first: place.saturating_add(1),
+                end: place.saturating_add(4),
+            }
+        } else {
+            self.between(rank, other)
+        }
     }
 
     /// The places to the right of a line of life, but for the one that is next to it.

@@ -46,6 +46,10 @@ pub(crate) enum Ink {
     Refused,
     /// A datagram never comes.
     Lost,
+    /// A rank waits for another one.
+    Awaits,
+    /// The way of a rank's wait for itself, but for its end.
+    Turn,
 }
 
 impl Ink {
@@ -65,6 +69,8 @@ impl Ink {
             Ink::Taken => "taken",
             Ink::Refused => "refused",
             Ink::Lost => "lost",
+            Ink::Awaits => "awaits",
+            Ink::Turn => "turn",
         }
     }
 }

@@ -13,6 +13,8 @@ const TOP: usize = 64;
 const ROW: usize = 22;
 /// How many pixels two characters take.
 const TWO_CHARACTERS: usize = 15;
+/// How many pixels the words on a cycle take, with the arrow in front of them.
+const LEGEND_WIDTH: usize = 580;
 /// How many bytes of a text are shown at most.
 pub(crate) const MOST_SHOWN: usize = 64;
 
@@ -87,15 +89,31 @@ fn shown_of(note: &Note) -> usize {
         .saturating_add(4)
 }
 
-/// How many pixels the longest note of a picture takes.
+/// How many bytes beside a line of life a row shows.
+fn shown_in(row: &Row) -> usize {
+    match row {
+        Row::Told(note) => shown_of(note),
+        Row::Waits(wait) => wait.words.len().min(MOST_SHOWN).saturating_add(4),
+        _ => 0,
+    }
+}
+
+/// How many pixels the longest text beside a line of life of a picture takes.
 fn longest_of(picture: &Picture) -> usize {
     let mut longest = 8;
     for row in &picture.rows {
-        if let Row::Told(note) = row {
-            longest = shown_of(note).max(longest);
-        }
+        longest = shown_in(row).max(longest);
     }
     longest.saturating_mul(TWO_CHARACTERS) / 2
+}
+
+/// How far what a picture says of all its ranks goes behind the first line of life.
+fn whole_of(picture: &Picture) -> usize {
+    if picture.rows.iter().any(|row| matches!(row, Row::Cycle)) {
+        LEGEND_WIDTH
+    } else {
+        0
+    }
 }
 
 impl Layout {
@@ -104,9 +122,13 @@ impl Layout {
         let size = usize::from(picture.size);
         let most = if size <= 3 { 420 } else { 1_260 / size };
         let longest = longest_of(picture).saturating_add(20);
+        let column = longest.min(most.max(150)).max(150);
+        let columns = column.saturating_mul(size.saturating_sub(1));
         Layout {
-            column: longest.min(most.max(150)).max(150),
-            margin: longest.max(120),
+            column,
+            margin: longest
+                .max(120)
+                .max(whole_of(picture).saturating_sub(columns)),
             size,
             rows: picture.rows.len(),
         }

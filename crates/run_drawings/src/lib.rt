@@ -15,7 +15,10 @@ mod notes;
 mod picture;
 mod svg;
 mod terminal;
+mod waits;
 
-pub use picture::{Arrival, Arrow, Change, Delivery, Emission, Note, Picture, Row, Tone};
+pub use picture::{
+    Arrival, Arrow, Change, CycleWait, Delivery, Emission, Note, Picture, Row, Tone,
+};
 pub use svg::svg_of;
 pub use terminal::text_of;

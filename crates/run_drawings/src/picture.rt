@@ -73,6 +73,17 @@ pub struct Delivery {
     pub answer: Vec<u8>,
 }
 
+/// A rank of a cycle, each of which waits for others of it.
+#[derive(Drop)]
+pub struct CycleWait {
+    /// The rank, below the size of the picture.
+    pub rank: u16,
+    /// The ranks of the cycle for which it waits, below the size of the picture.
+    pub whom: Vec<u16>,
+    /// For what it waits.
+    pub words: Vec<u8>,
+}
+
 /// What a row shows.
 #[derive(Drop)]
 pub enum Row {
@@ -84,6 +95,10 @@ pub enum Row {
     Delivered(Delivery),
     /// What was asked of a rank or a datagram that isn't there, and what that answered.
     Outside(Vec<u8>),
+    /// What the arrows of the rows below are: ranks wait for one another.
+    Cycle,
+    /// A rank of that cycle waits.
+    Waits(CycleWait),
 }
 
 /// Where a datagram came.
@@ -210,6 +225,23 @@ impl Picture {
         ensures arrows { self.new.arrows ≡ self.old.arrows }
     {
         push_row(&mut self.rows, Row::Outside(text))
+    }
+
+    /// Adds a row that tells that the rows below it are of ranks that wait for one another. The only error is want of
+    /// memory.
+    pub fn tell_cycle(&mut self) -> Result<(), AllocError>
+        ensures added { OnOk result (self.new.rows.items ≡ self.old.rows.items ++ rows.Cycle ∷ []) }
+        ensures arrows { self.new.arrows ≡ self.old.arrows }
+    {
+        push_row(&mut self.rows, Row::Cycle)
+    }
+
+    /// Adds a row in which a rank of a cycle waits. The only error is want of memory.
+    pub fn tell_wait(&mut self, wait: CycleWait) -> Result<(), AllocError>
+        ensures added { OnOk result (self.new.rows.items ≡ self.old.rows.items ++ rows.Waits wait ∷ []) }
+        ensures arrows { self.new.arrows ≡ self.old.arrows }
+    {
+        push_row(&mut self.rows, Row::Waits(wait))
     }
 
     /// Whether a frame of this number went out from this endpoint to that one before.

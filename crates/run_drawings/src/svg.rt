@@ -9,6 +9,7 @@ use crate::layout::{Layout, Point};
 use crate::lives::add_lives;
 use crate::notes::add_notes;
 use crate::picture::Picture;
+use crate::waits::add_waits;
 use std::alloc::{AllocError, Global};
 use std::fmt;
 
@@ -23,6 +24,7 @@ path{fill:none;stroke:#222}
 .event{stroke-width:3}.fault{stroke:#b91c1c;stroke-width:5}.end{stroke-width:8}.break{stroke-width:2}
 .taken{stroke:#1d4ed8;marker-end:url(#taken)}.refused{stroke:#b91c1c;marker-end:url(#refused)}
 .lost{stroke:#b91c1c;stroke-dasharray:5 3;marker-end:url(#lost)}
+.awaits,.turn{stroke:#b91c1c;stroke-width:1.5;stroke-dasharray:9 4}.awaits{marker-end:url(#awaits)}
 marker path{stroke-width:1.5}
 </style>
 <defs>
@@ -32,6 +34,8 @@ marker path{stroke-width:1.5}
 <path d=\"M0,0 L10,4 L0,8\" style=\"fill:#b91c1c;stroke:none\"/></marker>
 <marker id=\"lost\" markerWidth=\"12\" markerHeight=\"12\" refX=\"6\" refY=\"6\">
 <path d=\"M1,1 L11,11 M1,11 L11,1\" style=\"stroke:#b91c1c\"/></marker>
+<marker id=\"awaits\" markerWidth=\"10\" markerHeight=\"10\" refX=\"9\" refY=\"5\" orient=\"auto\">
+<path d=\"M1,1 L9,5 L1,9\" style=\"stroke:#b91c1c;stroke-dasharray:none\"/></marker>
 </defs>
 <rect width=\"100%\" height=\"100%\" fill=\"#fff\"/>
 ";
@@ -68,6 +72,7 @@ fn elements_of<'a>(
     add_lives(alloc, layout, picture, &mut elements)?;
     add_arrows(layout, picture, &mut elements)?;
     add_notes(layout, picture, &mut elements)?;
+    add_waits(layout, picture, &mut elements)?;
     Ok(elements)
 }
 

@@ -3,7 +3,8 @@
 use crate::cells::{blanks, fill, push_row, put, put_text};
 use crate::columns::{Columns, Span};
 use crate::labels::{ArrowLabel, RefusalLabel};
-use crate::picture::{Arrow, Change, Delivery, Note, Picture, Row, Tone};
+use crate::picture::{Arrow, Change, CycleWait, Delivery, Note, Picture, Row, Tone};
+use crate::waits::LEGEND;
 use std::alloc::{AllocError, Global};
 
 /// The mark of a failure.
@@ -79,6 +80,20 @@ fn put_label(columns: Columns, row: &mut Vec<char>, span: Span, is_right: bool, 
             span.first.saturating_sub(length.saturating_add(2)),
             text,
         );
+    }
+}
+
+/// Where words stand that tell for what a rank waits: on its arrow, if it has but one and that leaves some of its line,
+/// else behind the right end of its arrows, or before their left one; nowhere where they have no room.
+fn place_of_words(columns: Columns, span: Span, is_one: bool, length: usize) -> Option<usize> {
+    if is_one && length.saturating_add(6) <= span.len() {
+        Some(span.first.saturating_add(3))
+    } else if span.end.saturating_add(length.saturating_add(2)) <= columns.width {
+        Some(span.end.saturating_add(2))
+    } else if length.saturating_add(2) <= span.first {
+        Some(span.first.saturating_sub(length.saturating_add(2)))
+    } else {
+        None
     }
 }
 
@@ -263,6 +278,65 @@ impl Writer {
         self.push(&row)
     }
 
+    /// The places of all arrows of a rank that waits.
+    fn all_of(&self, wait: &CycleWait) -> Span {
+        let own = self.columns.place_of(wait.rank);
+        let mut all = Span {
+            first: own.saturating_add(1),
+            end: own,
+        };
+        for other in &wait.whom {
+            let span = self.columns.wait(wait.rank, *other);
+            all.first = all.first.min(span.first);
+            all.end = all.end.max(span.end);
+        }
+        all
+    }
+
+    /// The arrows of a rank that waits, and the lines of life to which they go.
+    fn put_waits(&self, row: &mut Vec<char>, wait: &CycleWait) {
+        for other in &wait.whom {
+            let span = self.columns.wait(wait.rank, *other);
+            fill(row, span.first, span.end, '═');
+        }
+        for other in &wait.whom {
+            let is_right = wait.rank < *other;
+            let span = self.columns.wait(wait.rank, *other);
+            put(row, span.tip(is_right), if is_right { '►' } else { '◄' });
+            if let Some(line) = self.lives.get(usize::from(*other)) {
+                put(row, self.columns.place_of(*other), *line);
+            }
+        }
+    }
+
+    /// Writes for whom a rank of a cycle waits, and for what, if that has room.
+    fn write_wait(&mut self, wait: &CycleWait) -> Result<(), AllocError> {
+        let mut row = self.blank_row()?;
+        self.put_waits(&mut row, wait);
+        let span = self.all_of(wait);
+        let (is_one, length) = (wait.whom.len() == 1, wait.words.len());
+        if let Some(place) = place_of_words(self.columns, span, is_one, length) {
+            put(&mut row, place.saturating_sub(1), ' ');
+            put_text(&mut row, place, &wait.words);
+            put(&mut row, place.saturating_add(length), ' ');
+        }
+        self.push(&row)
+    }
+
+    /// Writes what the arrows of a cycle mean.
+    fn write_legend(&mut self) -> Result<(), AllocError> {
+        let mut row = self.blank_row()?;
+        fill(&mut row, 2, 4, '═');
+        put(&mut row, 4, '►');
+        put_shortened(
+            &mut row,
+            6,
+            LEGEND.as_bytes(),
+            self.columns.width.saturating_sub(6),
+        );
+        self.push(&row)
+    }
+
     /// Writes the row at a place, but for the arrival that stands in the row before it.
     fn write_row(&mut self, picture: &Picture, place: usize, row: &Row) -> Result<(), AllocError> {
         match row {
@@ -277,6 +351,8 @@ impl Writer {
                 None => Ok(()),
             },
             Row::Outside(text) => self.write_outside(text),
+            Row::Cycle => self.write_legend(),
+            Row::Waits(wait) => self.write_wait(wait),
         }
     }
 }

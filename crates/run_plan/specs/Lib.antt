@@ -6,3 +6,4 @@ pub mod Ends
 pub mod Ports
 pub mod Commands
 pub mod Hosts
+pub mod Endings

@@ -4,9 +4,10 @@ use Rattle.std.specs.Prelude.{Result, Ok, Err, if◌then◌else◌}
 use Rattle.std.specs.List.{list_any}
 use Rattle.std.specs.Str.{bytes_eq}
 use Rattle.numerals.specs.Numbers.{number_between}
+use Rattle.rank_environment.specs.Frames.{frame_in}
 use Rattle.launch_keeper.specs.Words.{Word}
 use Rattle.run_plan.specs.declared.symbol.NumberOption.{NumberOption}
-use Rattle.run_plan.specs.declared.symbol.NumberOption.TheVariants.{Job, BasePort, Restart, Patience, Timeout, PerHost}
+use Rattle.run_plan.specs.declared.symbol.NumberOption.TheVariants.{Job, BasePort, Restart, Patience, Timeout, Frame, PerHost}
 use Rattle.run_plan.specs.declared.symbol.TextOption.{TextOption}
 use Rattle.run_plan.specs.declared.symbol.TextOption.TheVariants.{Folder, HostFile, Hosts, Launcher}
 use Rattle.run_plan.specs.declared.symbol.Symbol.{Symbol}
@@ -29,9 +30,11 @@ nothing_given = record {
   restarts = None;
   patience = None;
   timeout = None;
+  frame = None;
   per_host = None;
   marks_lines = false;
   keeps_going = false;
+  oversubscribes = false;
   folder = None;
   host_file = None;
   hosts = None;
@@ -45,6 +48,7 @@ given_of BasePort given = given.base_port
 given_of Restart given = given.restarts
 given_of Patience given = given.patience
 given_of Timeout given = given.timeout
+given_of Frame given = given.frame
 given_of PerHost given = given.per_host
 
 -- whether the option was given before
@@ -58,7 +62,28 @@ with_number BasePort given n = record given { base_port = Some n }
 with_number Restart given n = record given { restarts = Some n }
 with_number Patience given n = record given { patience = Some n }
 with_number Timeout given n = record given { timeout = Some n }
+with_number Frame given n = record given { frame = Some n }
 with_number PerHost given n = record given { per_host = Some n }
+
+-- whether its number is how long frames are
+abbrev pub is_frame : NumberOption → Bool
+is_frame Job = false
+is_frame BasePort = false
+is_frame Restart = false
+is_frame Patience = false
+is_frame Timeout = false
+is_frame Frame = true
+is_frame PerHost = false
+
+-- the number of an option that a word spells
+unfoldable pub number_in : NumberOption → Word → Option ℕ
+number_in option word =
+    if is_frame option then frame_in word else number_between word (least_of option) (greatest_of option)
+
+-- what may stand where an option's number is due
+abbrev pub wanted_number : NumberOption → Wanted
+wanted_number option =
+    if is_frame option then wanted.Frame else wanted.Number (least_of option) (greatest_of option)
 
 -- the place of the text that was given of an option
 abbrev pub text_of : TextOption → RunOptions → Option ℕ
@@ -115,6 +140,8 @@ at_option reading place symbols.Prefix =
     unless reading.options.marks_lines (with_options (record reading.options { marks_lines = true }))
 at_option reading place symbols.KeepGoing =
     unless reading.options.keeps_going (with_options (record reading.options { keeps_going = true }))
+at_option reading place symbols.Oversubscribe =
+    unless reading.options.oversubscribes (with_options (record reading.options { oversubscribes = true }))
 at_option reading place (symbols.Text option) =
     unless (has_text option reading.options) (due reading (stages.Text option))
 at_option reading place symbols.Variable = Ok (due reading stages.Name)
@@ -124,11 +151,11 @@ at_option reading place symbols.Other = Err wanted.Set
 -- a number that was read, or not
 abbrev pub number_read : Option ℕ → Reading → NumberOption → Result Reading Wanted
 number_read (Some number) reading option = Ok (with_options (with_number option reading.options number))
-number_read None reading option = Err (wanted.Number (least_of option) (greatest_of option))
+number_read None reading option = Err (wanted_number option)
 
 -- where an option's number is due
 unfoldable pub at_number : Reading → NumberOption → Word → Result Reading Wanted
-at_number reading option word = number_read (number_between word (least_of option) (greatest_of option)) reading option
+at_number reading option word = number_read (number_in option word) reading option
 
 -- where an option's text is due, which isn't empty
 abbrev pub at_text : Reading → TextOption → ℕ → Word → Result Reading Wanted
@@ -158,7 +185,7 @@ abbrev pub ended_at : Stage → Reading → ℕ → Result RunRequest RunFault
 ended_at (stages.Sets sets) reading place = Ok (record { options = reading.options; sets = sets })
 ended_at stages.Option reading place = Err (record { place = place; wanted = wanted.Set })
 ended_at (stages.Number option) reading place =
-    Err (record { place = place; wanted = wanted.Number (least_of option) (greatest_of option) })
+    Err (record { place = place; wanted = wanted_number option })
 ended_at (stages.Text option) reading place = Err (record { place = place; wanted = wanted_of option })
 ended_at stages.Name reading place = Err (record { place = place; wanted = wanted.Name })
 ended_at stages.Value reading place = Err (record { place = place; wanted = wanted.Value })

@@ -3,7 +3,7 @@ use Rattle.std.specs.Prelude.{ℕ, ◌||◌, codes, Option, Some, None, if◌the
 use Rattle.std.specs.Str.{bytes_eq}
 use Rattle.launch_keeper.specs.Words.{Word}
 use Rattle.run_plan.specs.declared.symbol.NumberOption.{NumberOption}
-use Rattle.run_plan.specs.declared.symbol.NumberOption.TheVariants.{Job, BasePort, Restart, Patience, Timeout, PerHost}
+use Rattle.run_plan.specs.declared.symbol.NumberOption.TheVariants.{Job, BasePort, Restart, Patience, Timeout, Frame, PerHost}
 use Rattle.run_plan.specs.declared.symbol.TextOption.{TextOption}
 use Rattle.run_plan.specs.declared.symbol.TextOption.TheVariants.{Folder, HostFile, Hosts, Launcher}
 use Rattle.run_plan.specs.declared.symbol.Symbol.{Symbol}
@@ -17,8 +17,9 @@ number_option word =
     else (if bytes_eq word (codes "-restart") then Some Restart
     else (if bytes_eq word (codes "-patience") then Some Patience
     else (if bytes_eq word (codes "-timeout") then Some Timeout
+    else (if bytes_eq word (codes "-frame") then Some Frame
     else (if bytes_eq word (codes "-ppn") then Some PerHost
-    else None)))))
+    else None))))))
 
 -- the option of this name whose value is a text
 unfoldable pub text_option : Word → Option TextOption
@@ -34,9 +35,10 @@ abbrev pub other_symbol : Word → Symbol
 other_symbol word =
     if bytes_eq word (codes "-prefix") then symbols.Prefix
     else (if bytes_eq word (codes "-keep-going") then symbols.KeepGoing
+    else (if bytes_eq word (codes "-oversubscribe") then symbols.Oversubscribe
     else (if bytes_eq word (codes "-env") then symbols.Variable
     else (if bytes_eq word (codes "-n") || bytes_eq word (codes "-np") then symbols.Set
-    else symbols.Other)))
+    else symbols.Other))))
 
 -- an option whose value is a number or a text, or any other word
 abbrev pub symbol_by : Option NumberOption → Option TextOption → Word → Symbol
@@ -55,6 +57,7 @@ least_of BasePort = 1
 least_of Restart = 0
 least_of Patience = 1
 least_of Timeout = 1
+least_of Frame = 1024
 least_of PerHost = 1
 
 -- the greatest value of an option
@@ -64,4 +67,5 @@ greatest_of BasePort = 65535
 greatest_of Restart = 65535
 greatest_of Patience = 3600000
 greatest_of Timeout = 31536000
+greatest_of Frame = 61440
 greatest_of PerHost = 1024

@@ -10,6 +10,7 @@ wanted_text wanted.Once = codes "another option than one that was given before"
 wanted_text wanted.Set = codes "a program (-n N PROGRAM ..)"
 wanted_text (wanted.Number least greatest) =
     codes "a number from " ++ decimal least ++ codes " to " ++ decimal greatest
+wanted_text wanted.Frame = codes "a multiple of 8 from 1024 to 61440"
 wanted_text wanted.Folder = codes "the name of a folder"
 wanted_text wanted.HostFile = codes "the name of a file of hosts"
 wanted_text wanted.Hosts = codes "hosts, with commas between them"

@@ -11,6 +11,8 @@ pub enum Wanted {
     Set,
     /// A number between these two, themselves included.
     Number(u64, u64),
+    /// A multiple of 8 from 1,024 to 61,440.
+    Frame,
     /// The name of a folder.
     Folder,
     /// The name of a file of hosts.
@@ -45,6 +47,7 @@ impl fmt::Display for Wanted {
             Wanted::Once => f.write_str("another option than one that was given before"),
             Wanted::Set => f.write_str("a program (-n N PROGRAM ..)"),
             Wanted::Number(least, greatest) => write!(f, "a number from {least} to {greatest}"),
+            Wanted::Frame => f.write_str("a multiple of 8 from 1024 to 61440"),
             Wanted::Folder => f.write_str("the name of a folder"),
             Wanted::HostFile => f.write_str("the name of a file of hosts"),
             Wanted::Hosts => f.write_str("hosts, with commas between them"),

@@ -1,6 +1,8 @@
-//! Ranks on other hosts: how a program is started there, and the variable that tells where the ranks are.
+//! Ranks on other hosts: how a program is started there, and the variables that tell where the ranks are and how long
+//! their frames.
 
 ghost use Rattle.std.specs.Prelude.{◌≡◌, ◌∷◌, [], codes, map, IfOk, OnOk};
+ghost use Rattle.std.specs.Fmt.{decimal};
 ghost use Rattle.std.specs.List.{slice_split};
 ghost use Rattle.std.specs.Process.{SameProgramAndArgs};
 ghost use Rattle.process_commands.specs.Commands.{Sets};
@@ -60,4 +62,14 @@ pub fn set_hosts(alloc: Global, command: &mut Command, hosts: &Word) -> io::Resu
 {
     let name = Word::from_slice(alloc, b"KOMBAZILY_HOSTS")?;
     set_text(command, &name, hosts)
+}
+
+/// Lets a command tell its program how many bytes of data a frame of the job has at most.
+pub fn set_frame(alloc: Global, command: &mut Command, bytes: u32) -> io::Result<()>
+    ensures call { OnOk result (SameProgramAndArgs command.old command.new) }
+    ensures set { OnOk result (Sets command.old ((codes "KOMBAZILY_FRAME", decimal bytes) ∷ []) command.new) }
+{
+    let name = Word::from_slice(alloc, b"KOMBAZILY_FRAME")?;
+    let value = Word::from_number(alloc, u64::from(bytes))?;
+    set_text(command, &name, &value)
 }

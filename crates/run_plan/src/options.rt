@@ -19,12 +19,16 @@ pub struct RunOptions {
     pub patience: Option<u32>,
     /// How long the job may take, in seconds, of `-timeout`.
     pub timeout: Option<u32>,
+    /// How many bytes of data a frame of the job has at most, of `-frame`: a multiple of 8.
+    pub frame: Option<u32>,
     /// How many ranks each host takes, of `-ppn`.
     pub per_host: Option<u16>,
     /// Whether `[r] ` stands before each line of rank r: `-prefix`.
     pub marks_lines: bool,
     /// Whether the other ranks go on once one has failed: `-keep-going`.
     pub keeps_going: bool,
+    /// Whether hosts take more ranks than their slots: `-oversubscribe`.
+    pub oversubscribes: bool,
     /// The place of the word, among all words, that names the folder in which the ranks start: of `-wdir`.
     pub folder: Option<usize>,
     /// The place of the word that names the file of hosts: of `-hostfile`.
@@ -46,9 +50,11 @@ impl RunOptions {
             restarts: None,
             patience: None,
             timeout: None,
+            frame: None,
             per_host: None,
             marks_lines: false,
             keeps_going: false,
+            oversubscribes: false,
             folder: None,
             host_file: None,
             hosts: None,
@@ -66,6 +72,7 @@ impl RunOptions {
             NumberOption::Restart => self.restarts.is_some(),
             NumberOption::Patience => self.patience.is_some(),
             NumberOption::Timeout => self.timeout.is_some(),
+            NumberOption::Frame => self.frame.is_some(),
             NumberOption::PerHost => self.per_host.is_some(),
         }
     }
@@ -130,6 +137,10 @@ impl RunOptions {
             },
             NumberOption::Timeout => RunOptions {
                 timeout: Some(number as u32),
+                ..self
+            },
+            NumberOption::Frame => RunOptions {
+                frame: Some(number as u32),
                 ..self
             },
             NumberOption::PerHost => RunOptions {

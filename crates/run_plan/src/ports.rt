@@ -1,6 +1,6 @@
 //! The ports that jobs may take, in blocks: a job claims whole blocks, so that no two jobs take one port.
 
-ghost use Rattle.std.specs.Prelude.{◌≡◌, ◌<◌, ◌≤◌, ◌*◌, ◌+◌};
+ghost use Rattle.std.specs.Prelude.{◌≡◌, ◌<◌, ◌≤◌, ◌*◌, ◌+◌, ◌&&◌, nat_le, nat_lt};
 ghost use Rattle.run_plan.specs.Ports.{block_port, IsEnough};
 
 /// How many ports a block has.
@@ -18,6 +18,13 @@ pub fn block_port(block: u16) -> u16
     ensures { result ≡ block_port block }
 {
     FIRST_PORT + block * BLOCK
+}
+
+/// Whether so many blocks are there from this one on, which is one of them.
+pub fn has_blocks(first: u16, blocks: u16) -> bool
+    ensures { result ≡ (nat_lt first 704 && nat_le (first + blocks) 704) }
+{
+    first < PORT_BLOCKS && u32::from(first) + u32::from(blocks) <= u32::from(PORT_BLOCKS)
 }
 
 /// How many blocks so many ranks take: as few as have a port for each.

@@ -1,15 +1,18 @@
 //! Reading the words of `mpirun` from left to right: its options, and where the sets begin.
 
-ghost use Rattle.std.specs.Prelude.{◌≡◌, IfOk};
+ghost use Rattle.std.specs.Prelude.{◌≡◌, ◌≤◌, IfOk, IfSome};
 ghost use Rattle.std.specs.Str.{bytes_eq};
 ghost use Rattle.run_plan.specs.Readings.{after, at_option, at_number, at_text, is_name, unless, due, with_options};
-ghost use Rattle.run_plan.specs.Readings.{ended, has_named, start, request_of, setting_places, wanted_of};
+ghost use Rattle.run_plan.specs.Readings.{ended, has_named, is_frame, number_in, start, request_of, setting_places};
+ghost use Rattle.run_plan.specs.Readings.{wanted_number, wanted_of};
+ghost use Rattle.run_plan.specs.Symbols.{greatest_of};
 
 use crate::fault::{RunFault, Wanted};
 use crate::options::RunOptions;
 use crate::symbol::{NumberOption, Symbol, TextOption, symbol_of};
 use launch_keeper::Word;
 use numerals::number_between;
+use rank_environment::frame_in;
 use std::alloc::{AllocError, Global};
 
 /// What the words of `mpirun` ask for.
@@ -59,6 +62,39 @@ fn is_name(word: &[u8]) -> bool
 {
     let (front, _) = word.split_at(word.len().min(10));
     !word.is_empty() && !is(front, b"KOMBAZILY_") && !word.contains(&b'=')
+}
+
+/// Whether the option's number is how long frames are.
+fn is_frame(option: NumberOption) -> bool
+    ensures { result ≡ is_frame option }
+{
+    matches!(option, NumberOption::Frame)
+}
+
+/// The number of this option that a word spells.
+#[tactic(auto, unfolding(crate::specs::Readings::number_in))]
+fn number_in(option: NumberOption, word: &[u8]) -> Option<u64>
+    ensures exact { result ≡ number_in option word.now }
+    ensures greatest { IfSome result (λ n. n ≤ greatest_of option) }
+{
+    if !is_frame(option) {
+        return number_between(word, option.least(), option.greatest());
+    }
+    match frame_in(word) {
+        Some(bytes) => Some(u64::from(bytes)),
+        None => None,
+    }
+}
+
+/// What may stand where this option's number is due.
+fn wanted_number(option: NumberOption) -> Wanted
+    ensures { result ≡ wanted_number option }
+{
+    if is_frame(option) {
+        Wanted::Frame
+    } else {
+        Wanted::Number(option.least(), option.greatest())
+    }
 }
 
 /// What may stand where this option's text is due.
@@ -134,6 +170,13 @@ impl Reading {
                 };
                 unless(options.keeps_going, Reading::with(going))
             }
+            Symbol::Oversubscribe => {
+                let more = RunOptions {
+                    oversubscribes: true,
+                    ..options
+                };
+                unless(options.oversubscribes, Reading::with(more))
+            }
             Symbol::Text(option) => {
                 unless(options.has_text(option), self.due(Stage::Text(option)))
             }
@@ -148,9 +191,9 @@ impl Reading {
     fn at_number(self, option: NumberOption, word: &[u8]) -> Result<Reading, Wanted>
         ensures { result ≡ at_number self option word.now }
     {
-        match number_between(word, option.least(), option.greatest()) {
+        match number_in(option, word) {
             Some(number) => Ok(Reading::with(self.options.with(option, number))),
-            None => Err(Wanted::Number(option.least(), option.greatest())),
+            None => Err(wanted_number(option)),
         }
     }
 
@@ -197,7 +240,7 @@ impl Reading {
                 });
             }
             Stage::Option => Wanted::Set,
-            Stage::Number(option) => Wanted::Number(option.least(), option.greatest()),
+            Stage::Number(option) => wanted_number(option),
             Stage::Text(option) => wanted_of(option),
             Stage::Name => Wanted::Name,
             Stage::Value => Wanted::Value,
@@ -220,9 +263,9 @@ impl Reading {
 /// memory. The sets are judged by `launch_plan`.
 ///
 /// Options stand in front of the first set, which `-n` or `-np` begins: `-job J`, `-baseport P`, `-restart K`,
-/// `-patience MS`, `-timeout S`, `-ppn K`, `-prefix`, `-keep-going`, `-wdir FOLDER`, `-hostfile FILE`, `-host LIST` and
-/// `-launcher WORDS`, each once, and `-env NAME VALUE` any number of times. Words of others are made these by
-/// `run_words`.
+/// `-patience MS`, `-timeout S`, `-frame N`, `-ppn K`, `-prefix`, `-keep-going`, `-oversubscribe`, `-wdir FOLDER`,
+/// `-hostfile FILE`, `-host LIST` and `-launcher WORDS`, each once, and `-env NAME VALUE` any number of times. Words of others are made
+/// these by `run_words`.
 pub fn request_of(words: &[Word]) -> Result<RunRequest, RunFault>
     ensures { result ≡ request_of words.now }
 {

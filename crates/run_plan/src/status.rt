@@ -1,8 +1,9 @@
 //! The statuses of ranks, and what is told of their ends.
 
 ghost use Rattle.std.specs.Prelude.{◌≡◌};
-ghost use Rattle.run_plan.specs.Ends.{is_over_time, run_status};
+ghost use Rattle.run_plan.specs.Ends.{consequence_of, is_over_time, job_status, rank_ending, run_status};
 
+use launch_decisions::Failure;
 use launch_keeper::ProgramEnding;
 use std::fmt;
 
@@ -14,6 +15,43 @@ pub fn run_status(ending: ProgramEnding) -> u8
     match ending {
         ProgramEnding::Signal(signal) => 128 + signal.min(127),
         _ => ending.status(),
+    }
+}
+
+/// The status of a job that the user interrupted.
+const INTERRUPTED: u8 = 130;
+
+/// The status of a job that took longer than it may.
+const LATE: u8 = 124;
+
+/// How a rank's program ended, where what ran on this machine ended so: its keeper, if it `is_kept` on another host,
+/// told how, unless it was lost.
+pub fn rank_ending(
+    is_kept: bool,
+    reported: Option<ProgramEnding>,
+    own: ProgramEnding,
+) -> ProgramEnding
+    ensures { result ≡ rank_ending is_kept reported own }
+{
+    if !is_kept {
+        return own;
+    }
+    match reported {
+        Some(ending) => ending,
+        None => ProgramEnding::WithoutStatus,
+    }
+}
+
+/// The status of a job whose ranks have all ended: that of the rank whose failure began, or else 130 where it was
+/// interrupted, 124 where it took longer than it may, and 0.
+pub fn job_status(began: Option<Failure>, is_interrupted: bool, is_late: bool) -> u8
+    ensures { result ≡ job_status began is_interrupted is_late }
+{
+    match began {
+        Some(failure) => failure.status,
+        None if is_interrupted => INTERRUPTED,
+        None if is_late => LATE,
+        None => 0,
     }
 }
 
@@ -34,6 +72,17 @@ pub enum Consequence {
     Nothing,
     /// They are ended.
     OthersEnd,
+}
+
+/// What a rank's failure does to the others: they are ended where some run, unless they are to go on.
+pub fn consequence_of(keeps_going: bool, others_run: bool) -> Consequence
+    ensures { result ≡ consequence_of keeps_going others_run }
+{
+    if keeps_going || !others_run {
+        Consequence::Nothing
+    } else {
+        Consequence::OthersEnd
+    }
 }
 
 /// The end of the line on a rank that failed.

@@ -17,6 +17,8 @@ pub enum NumberOption {
     Patience,
     /// `-timeout`: how long the job may take, in seconds.
     Timeout,
+    /// `-frame`: how many bytes of data a frame has at most.
+    Frame,
     /// `-ppn`: how many ranks each host takes.
     PerHost,
 }
@@ -28,6 +30,7 @@ impl NumberOption {
     {
         match self {
             NumberOption::Job | NumberOption::Restart => 0,
+            NumberOption::Frame => 1_024,
             _ => 1,
         }
     }
@@ -41,6 +44,7 @@ impl NumberOption {
             NumberOption::BasePort | NumberOption::Restart => 65_535,
             NumberOption::Patience => 3_600_000,
             NumberOption::Timeout => 31_536_000,
+            NumberOption::Frame => 61_440,
             NumberOption::PerHost => 1_024,
         }
     }
@@ -68,6 +72,8 @@ pub(crate) enum Symbol {
     Prefix,
     /// `-keep-going`.
     KeepGoing,
+    /// `-oversubscribe`.
+    Oversubscribe,
     /// An option whose value is a text.
     Text(TextOption),
     /// `-env`.
@@ -99,6 +105,8 @@ fn number_option(word: &[u8]) -> Option<NumberOption>
         Some(NumberOption::Patience)
     } else if is(word, b"-timeout") {
         Some(NumberOption::Timeout)
+    } else if is(word, b"-frame") {
+        Some(NumberOption::Frame)
     } else if is(word, b"-ppn") {
         Some(NumberOption::PerHost)
     } else {
@@ -139,6 +147,8 @@ pub(crate) fn symbol_of(word: &[u8]) -> Symbol
         Symbol::Prefix
     } else if is(word, b"-keep-going") {
         Symbol::KeepGoing
+    } else if is(word, b"-oversubscribe") {
+        Symbol::Oversubscribe
     } else if is(word, b"-env") {
         Symbol::Variable
     } else if is(word, b"-n") || is(word, b"-np") {

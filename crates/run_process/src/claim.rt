@@ -1,6 +1,9 @@
 //! The ports of a job that are chosen for it.
 
-use run_plan::{BLOCK, PORT_BLOCKS, block_port, blocks_for};
+ghost use Rattle.std.specs.Prelude.{◌≡◌, ◌≤◌, IfOk, IfSome};
+ghost use Rattle.run_plan.specs.Ports.{block_port};
+
+use run_plan::{BLOCK, PORT_BLOCKS, block_port, blocks_for, has_blocks};
 use std::alloc::AllocError;
 use std::io;
 use std::io::ErrorKind;
@@ -14,6 +17,8 @@ const LOW_BLOCKS: u64 = 256;
 pub struct Claim<R: Net> {
     /// The first of the ports.
     pub base_port: u16,
+    /// How many UDP ports from there on nobody had as they were claimed.
+    free: u16,
     /// What holds the TCP ports of the first number of each block; the ranks use UDP alone.
     held: Vec<R::Listener>,
 }
@@ -27,15 +32,17 @@ pub fn random_number() -> io::Result<u64> {
     Ok(u64::from_le_bytes(bytes))
 }
 
-/// Whether nobody has one of these UDP ports now.
-fn are_free<R: Net>(rt: &R, first: u16, count: u16) -> bool {
-    for place in 0..count {
+/// How many UDP ports from this one on nobody has now, at most so many.
+fn free_ports<R: Net>(rt: &R, first: u16, most: u16) -> u16
+    ensures { result ≤ most }
+{
+    for place in 0..most {
         let port = first.wrapping_add(place);
         if UdpSocket::bind(rt, SocketAddr::from((Ipv4Addr::LOCALHOST, port))).is_err() {
-            return false;
+            return place;
         }
     }
-    true
+    most
 }
 
 /// Claims so many blocks from this one on for a job of so many ranks; `None` where another job has one, or a port is
@@ -45,8 +52,11 @@ fn claim_at<R: Net + AllocGlobal>(
     first: u16,
     blocks: u16,
     size: u16,
-) -> io::Result<Option<Claim<R>>> {
-    if first >= PORT_BLOCKS || u32::from(first) + u32::from(blocks) > u32::from(PORT_BLOCKS) {
+) -> io::Result<Option<Claim<R>>>
+    ensures { IfOk result (λ found. IfSome found (λ claim.
+        (claim.base_port ≡ block_port first) × (size ≤ claim.free))) }
+{
+    if !has_blocks(first, blocks) {
         return Ok(None);
     }
     let base_port = block_port(first);
@@ -58,14 +68,21 @@ fn claim_at<R: Net + AllocGlobal>(
             Err(_) => return Ok(None),
         }
     }
-    if !are_free(rt, base_port, size) {
+    let free = free_ports(rt, base_port, size);
+    if free < size {
         return Ok(None);
     }
-    Ok(Some(Claim { base_port, held }))
+    Ok(Some(Claim {
+        base_port,
+        free,
+        held,
+    }))
 }
 
 /// Claims free ports for a job of so many ranks. An error where there are none.
-pub fn claim_ports<R: Net + AllocGlobal>(rt: &R, size: u16) -> io::Result<Claim<R>> {
+pub fn claim_ports<R: Net + AllocGlobal>(rt: &R, size: u16) -> io::Result<Claim<R>>
+    ensures { IfOk result (λ claim. size ≤ claim.free) }
+{
     let blocks = blocks_for(size.min(1_024));
     let start = (random_number()? % LOW_BLOCKS) as u16;
     for step in 0..PORT_BLOCKS {

@@ -1,19 +1,22 @@
 //! What the words of `mpirun` ask for: a job, and as which of its processes.
 
 use crate::claim::{Claim, claim_ports, random_number};
-use crate::front::{LAUNCH, run_front};
+use crate::front::{LAUNCH, LED, run_front};
 use crate::job::{FAILED, Job};
 use crate::job_hosts::{JobHosts, hosts_by};
 use crate::keeper::{KEEPER, run_keeper};
 use crate::own_words::{REFUSED, own_words_of, tell_fault};
-use crate::setup::{Setup, tell_as_own};
+use crate::setup::{Setup, UNASKED, tell_as_own};
+use crate::wish::Front;
 use launch_diagnostics::explain;
 use launch_keeper::{Word, Words};
 use launch_plan::Plan;
 use launch_plan::planning::plan;
 use numerals::number_between;
-use process_commands::{ClosedStreams, open_closed_streams};
-use run_plan::{RunRequest, plan_words, request_of};
+use process_commands::{ClosedStreams, open_closed_streams, text_of};
+use rank_environment::frame_in;
+use run_plan::{RunOptions, RunRequest, Wanted, plan_words, request_of};
+use shown_words::Shown;
 use std::alloc::AllocError;
 use std::io::ErrorKind;
 use std::net::Net;
@@ -22,7 +25,10 @@ use std::process::{OpenProcess, Processes};
 use std::rt::{Env, Files};
 use std::thread::Threads;
 use std::time::Clock;
-use std::{env, io};
+use std::{env, fs, io};
+
+/// The variable that tells ranks how long frames are.
+const FRAME: &str = "KOMBAZILY_FRAME";
 
 /// The words behind the program's own name.
 fn words_of(rt: &(impl Env + AllocGlobal)) -> io::Result<Vec<Word>> {
@@ -109,6 +115,28 @@ fn ports_for<R: Net + AllocGlobal>(
     }
 }
 
+/// These options, where `-frame` isn't among them with what this process's own environment says of frames, so that the
+/// ranks of all hosts are told the same; tells where it says no such length.
+fn with_own_frame<R: Env + Eprint + AllocGlobal>(
+    rt: &R,
+    options: RunOptions,
+) -> Result<RunOptions, u8> {
+    if options.frame.is_some() {
+        return Ok(options);
+    }
+    let Ok(text) = env::var(rt, FRAME) else {
+        return Ok(options);
+    };
+    let frame = frame_in(text.as_bytes());
+    if frame.is_none() {
+        let (word, wanted) = (text.as_bytes(), Wanted::Frame);
+        let shown = Shown { word };
+        let _ = eprintln!(rt; "mpirun: {FRAME}='{shown}': {wanted} may stand there");
+        return Err(REFUSED);
+    }
+    Ok(RunOptions { frame, ..options })
+}
+
 /// The hosts that a request asks for, if it does; tells why there are none.
 fn hosts_for<R: Net + Files + Eprint + AllocGlobal>(
     rt: &R,
@@ -123,6 +151,34 @@ fn hosts_for<R: Net + Files + Eprint + AllocGlobal>(
     Ok(Some(hosts_by(rt, words, options, size)?))
 }
 
+/// Whether the folder that was asked for can be entered, in which ranks of this machine start; tells where it can't.
+fn can_enter<R: Files + Eprint + AllocGlobal>(
+    rt: &R,
+    words: &[Word],
+    options: RunOptions,
+) -> io::Result<bool> {
+    let Some(place) = options.folder else {
+        return Ok(true);
+    };
+    let Some(word) = words.get(place) else {
+        return Ok(true);
+    };
+    let folder = text_of(word)?;
+    let inside = format!(in rt.alloc(); "{folder}/.")?;
+    match fs::metadata(rt, inside.as_str()) {
+        Ok(_) => Ok(true),
+        Err(error) => {
+            let shown = Shown {
+                word: word.as_bytes(),
+            };
+            let _ = eprintln!(rt;
+                "mpirun: the folder '{shown}' of -wdir can't be entered: {error}"
+            );
+            Ok(false)
+        }
+    }
+}
+
 /// Starts the ranks of a plan on their hosts, and follows them to their ends. Answers the status.
 fn follow_on_hosts<
     R: Net
@@ -132,20 +188,30 @@ fn follow_on_hosts<
         + AllocGlobal
         + Clock
         + Processes<Started: OpenProcess<Stderr: AsRawFd>>,
->(rt: &R, words: &[Word], request: &RunRequest, front: i32, plan: &Plan) -> io::Result<u8> {
+>(rt: &R, words: &[Word], request: &RunRequest, front: Front, plan: &Plan) -> io::Result<u8> {
+    let options = match with_own_frame(rt, request.options) {
+        Ok(options) => options,
+        Err(status) => return Ok(status),
+    };
     let hosts = match hosts_for(rt, words, request, plan.size()) {
         Ok(hosts) => hosts,
         Err(status) => return Ok(status),
     };
+    if hosts.is_none() && !can_enter(rt, words, request.options)? {
+        return Ok(REFUSED);
+    }
     let itself = env::current_exe(rt)?;
     let folder = env::current_dir(rt)?;
+    let told = env::var(rt, UNASKED).ok();
+    let unasked = told.as_ref().map(|text| text.as_str());
     let setup = Setup {
         words,
-        options: request.options,
+        options,
         front,
         hosts: hosts.as_ref(),
         itself: itself.as_str(),
         folder: folder.as_str(),
+        unasked,
     };
     follow(rt, &setup, plan)
 }
@@ -159,7 +225,7 @@ fn launch<
         + AllocGlobal
         + Clock
         + Processes<Started: OpenProcess<Stderr: AsRawFd>>,
->(rt: &R, words: &[Word], request: &RunRequest, front: i32) -> io::Result<u8> {
+>(rt: &R, words: &[Word], request: &RunRequest, front: Front) -> io::Result<u8> {
     let job = match request.options.job {
         Some(job) => job,
         None => random_number()?,
@@ -190,15 +256,59 @@ fn is_keeper(words: &[Word]) -> bool {
     }
 }
 
-/// The number of the front's process, where these are the words of the process that launches, and the words of `mpirun`.
-fn launching(words: &[Word]) -> Option<(i32, &[Word])> {
+/// The number that a word says.
+fn number_in(word: &Word) -> Option<i32> {
+    i32::try_from(number_between(word.as_bytes(), 1, 2_147_483_647)?).ok()
+}
+
+/// As which process of a job these words let this one run.
+enum Role<'a> {
+    /// As the one that the user started, with his words.
+    Front,
+    /// As the one that launches what these own words ask for, started by the front.
+    Launches(Front, &'a [Word]),
+    /// The same, started by a front of another program, which hands on the user's words.
+    IsLed(Front, &'a [Word]),
+}
+
+/// Which role these words ask for.
+fn role_of(words: &[Word]) -> Role<'_> {
+    match role_asked(words) {
+        Some(role) => role,
+        None => Role::Front,
+    }
+}
+
+/// The same, where they begin with the word of a role other than the front's.
+fn role_asked(words: &[Word]) -> Option<Role<'_>> {
     let (first, behind) = words.split_first()?;
     let (number, rest) = behind.split_first()?;
-    if first.as_bytes() != LAUNCH.as_bytes() {
+    if first.as_bytes() == LAUNCH.as_bytes() {
+        let process = number_in(number)?;
+        return Some(Role::Launches(Front { process, wire: -1 }, rest));
+    }
+    if first.as_bytes() != LED.as_bytes() {
         return None;
     }
-    let front = number_between(number.as_bytes(), 1, 2_147_483_647)?;
-    Some((i32::try_from(front).ok()?, rest))
+    let (wire, given) = rest.split_first()?;
+    let (process, wire) = (number_in(number)?, number_in(wire)?);
+    Some(Role::IsLed(Front { process, wire }, given))
+}
+
+/// The own words for what a user typed, and what they ask for; tells why there is nothing to launch.
+fn judged<R: Net + Env + Files + Print + Eprint + AllocGlobal + Threads>(
+    rt: &R,
+    words: &[Word],
+) -> Result<(Words, RunRequest), u8> {
+    let own = own_words_of(rt, words)?;
+    let request = match request_of(own.as_slice()) {
+        Ok(request) => request,
+        Err(fault) => return Err(tell_fault(rt, own.as_slice(), fault)),
+    };
+    let _options = with_own_frame(rt, request.options)?;
+    let base_port = request.options.base_port.unwrap_or(1);
+    let _plan = planned(rt, own.as_slice(), &request, 1, base_port)?;
+    Ok((own, request))
 }
 
 /// Judges the words, and hands them to the process that launches, as own words.
@@ -207,19 +317,28 @@ fn begin<R: Net + Env + Files + Print + Eprint + AllocGlobal + Processes + Threa
     words: &[Word],
     closed: &ClosedStreams,
 ) -> u8 {
-    let own = match own_words_of(rt, words) {
-        Ok(own) => own,
-        Err(status) => return status,
-    };
-    let words = own.as_slice();
-    let request = match request_of(words) {
-        Ok(request) => request,
-        Err(fault) => return tell_fault(rt, words, fault),
-    };
-    let base_port = request.options.base_port.unwrap_or(1);
-    match planned(rt, words, &request, 1, base_port) {
-        Ok(_) => run_front(rt, words, closed),
+    match judged(rt, words) {
+        Ok((own, _)) => run_front(rt, own.as_slice(), closed),
         Err(status) => status,
+    }
+}
+
+/// Launches what own words ask for, and answers the status; tells why that can't be gone on with.
+fn launch_to_end<
+    R: Net
+        + Env
+        + Files
+        + Eprint
+        + AllocGlobal
+        + Clock
+        + Processes<Started: OpenProcess<Stderr: AsRawFd>>,
+>(rt: &R, words: &[Word], request: &RunRequest, front: Front) -> u8 {
+    match launch(rt, words, request, front) {
+        Ok(status) => status,
+        Err(error) => {
+            let _ = eprintln!(rt; "mpirun: the job can't go on: {error}");
+            FAILED
+        }
     }
 }
 
@@ -241,18 +360,16 @@ pub fn run_words<
     if is_keeper(words) {
         return run_keeper(rt);
     }
-    let Some((front, rest)) = launching(words) else {
-        return begin(rt, words, &closed);
-    };
-    let Ok(request) = request_of(rest) else {
-        return REFUSED;
-    };
-    match launch(rt, rest, &request, front) {
-        Ok(status) => status,
-        Err(error) => {
-            let _ = eprintln!(rt; "mpirun: the job can't go on: {error}");
-            FAILED
-        }
+    match role_of(words) {
+        Role::Front => begin(rt, words, &closed),
+        Role::Launches(front, own) => match request_of(own) {
+            Ok(request) => launch_to_end(rt, own, &request, front),
+            Err(_) => REFUSED,
+        },
+        Role::IsLed(front, given) => match judged(rt, given) {
+            Ok((own, request)) => launch_to_end(rt, own.as_slice(), &request, front),
+            Err(status) => status,
+        },
     }
 }
 

@@ -16,6 +16,10 @@ const SCRIPT: &str = "trap '' INT QUIT HUP; exec \"$0\" \"$@\"";
 /// The first word of the process that launches.
 pub const LAUNCH: &str = "-launch";
 
+/// The same where another program is the front (bindings/launcher): its number, the descriptor where its bytes come, and
+/// the words that the user typed stand behind.
+pub const LED: &str = "-led";
+
 /// The command of the process that launches.
 fn launching<R: Files + AllocGlobal>(
     rt: &R,

@@ -1,29 +1,32 @@
 //! A job while its ranks run: it prints what they write, starts them again, and ends them.
 
+ghost use Rattle.std.specs.Prelude.{◌≡◌};
+ghost use Rattle.run_plan.specs.Ends.{job_status};
+
 use crate::guard::Guard;
 use crate::printing::{Printer, Stream, asked};
 use crate::rank::Rank;
 use crate::setup::Setup;
 use crate::shell::terminate;
 use crate::waits::cycle_text;
-use launch_decisions::{Failure, Next, Start, ending_by, first_failure};
+use crate::wish::Wish;
+use launch_decisions::{Failure, Next, Start, ending_of, first_failure};
 use launch_keeper::{EndingLine, LostKeeperLine, ProgramEnding, Word};
 use launch_plan::Plan;
 use libc::net::poll;
 use libc::types::pollfd;
 use process_commands::StartFault;
 use rank_lines::cycle_of;
-use run_plan::{Consequence, ConsequenceText, is_over_time, run_status};
+use run_plan::{
+    Consequence, ConsequenceText, EndStep, consequence_of, end_step, is_over_time, job_status,
+    run_status,
+};
 use std::alloc::AllocError;
 use std::os::fd::AsRawFd;
-use std::os::unix::process::ExitStatusExt;
-use std::process::{Command, ExitStatus, OpenProcess, Processes};
+use std::process::{Command, OpenProcess, Processes};
 use std::rt::Files;
 use std::time::{Clock, Instant};
 use std::{fs, io};
-
-/// How many milliseconds the programs have to end by themselves once they are asked to.
-const GRACE: u128 = 900;
 
 /// The time between two looks at the programs, in milliseconds.
 const LOOK: i32 = 50;
@@ -36,12 +39,6 @@ const SOON: i32 = 2;
 
 /// The status of a rank that gave up waiting.
 const PATIENCE: u8 = 4;
-
-/// The status of a job that was interrupted.
-const INTERRUPTED: u8 = 130;
-
-/// The status of a job that took longer than it may.
-const LATE: u8 = 124;
 
 /// The status of a job whose own output failed, or for which memory was wanting.
 pub const FAILED: u8 = 3;
@@ -57,6 +54,8 @@ pub struct Job<'a, R: Processes> {
     began: Option<Failure>,
     /// When the programs were asked to end.
     asked: Option<Instant>,
+    /// How the user asks for the end of the job.
+    wish: Wish,
     /// Whether the job was interrupted.
     is_interrupted: bool,
     /// When the job began.
@@ -75,6 +74,7 @@ impl<'a, R: Processes> Drop for Job<'a, R> {
             printer,
             began: _,
             asked: _,
+            wish: _,
             is_interrupted: _,
             start: _,
             is_late: _,
@@ -85,10 +85,9 @@ impl<'a, R: Processes> Drop for Job<'a, R> {
     }
 }
 
-/// What became of a program that ended so.
-fn ending_of(status: ExitStatus) -> ProgramEnding {
-    let byte = |number: i32| u8::try_from(number).ok();
-    ending_by(status.code().and_then(byte), status.signal().and_then(byte))
+/// How many milliseconds have passed since then.
+pub fn milliseconds_since<R: Clock>(rt: &R, time: &Instant) -> io::Result<u64> {
+    Ok(u64::try_from(time.elapsed(rt)?.as_millis()).unwrap_or(u64::MAX))
 }
 
 /// Why a program can't be started, at whose start this error came.
@@ -136,6 +135,7 @@ impl<
             printer: Printer::new(rt.alloc(), setup.options.marks_lines),
             began: None,
             asked: None,
+            wish: Wish::new(setup.front),
             is_interrupted: false,
             start: Instant::now(rt)?,
             is_late: false,
@@ -300,11 +300,11 @@ impl<
         if !ending.is_failure() {
             return Ok(());
         }
-        if self.setup.options.keeps_going || !self.others_run(rank) {
-            self.tell(rank, ending, next, Consequence::Nothing);
+        let consequence = consequence_of(self.setup.options.keeps_going, self.others_run(rank));
+        self.tell(rank, ending, next, consequence);
+        if consequence == Consequence::Nothing {
             return Ok(());
         }
-        self.tell(rank, ending, next, Consequence::OthersEnd);
         if run_status(ending) != PATIENCE {
             self.printer.drop_waits();
         }
@@ -353,7 +353,7 @@ impl<
         Ok(())
     }
 
-    /// What to ask of all streams, those of a rank side by side.
+    /// What to ask of all streams, those of a rank side by side, and of what tells the user's wish behind them.
     fn streams(&self) -> io::Result<Vec<pollfd>> {
         let mut all = Vec::with_capacity(self.rt.alloc(), self.ranks.len().saturating_mul(2))?;
         for one in &self.ranks {
@@ -362,6 +362,8 @@ impl<
             all.push(asked(one.error_descriptor()))
                 .map_err(AllocError::from)?;
         }
+        all.push(asked(self.wish.descriptor()))
+            .map_err(AllocError::from)?;
         Ok(all)
     }
 
@@ -411,20 +413,40 @@ impl<
         Ok(())
     }
 
-    /// Ends the job where the process is gone that the user started, or where it takes longer than it may; kills what was
-    /// asked to end and had the time to.
+    /// Ends the job since the user asks for it.
+    fn interrupt(&mut self) -> io::Result<()> {
+        self.is_interrupted = true;
+        self.setup
+            .tell(self.rt, "mpiexec: interrupted; the ranks are ended");
+        self.ask_all()
+    }
+
+    /// Lets those programs be that don't end though they were killed, and tells which.
+    fn leave_all(&mut self) {
+        for (rank, one) in self.ranks.iter_mut().enumerate() {
+            if let Some(child) = one.child.take() {
+                let id = child.id();
+                let _ = eprintln!(self.rt;
+                    "mpirun: rank {rank} doesn't end: its process {id} is left"
+                );
+            }
+        }
+    }
+
+    /// Does what is due for the job's end: where it takes longer than it may, where the user asks for it, and where what
+    /// was asked to end had the time to.
     fn attend(&mut self) -> io::Result<()> {
         self.attend_to_limit()?;
-        if !self.is_interrupted && libc::getppid() != self.setup.front {
-            self.is_interrupted = true;
-            self.setup
-                .tell(self.rt, "mpiexec: interrupted; the ranks are ended");
-            self.ask_all()?;
-        }
-        if let Some(asked) = self.asked {
-            if asked.elapsed(self.rt)?.as_millis() >= GRACE {
-                self.kill_all();
-            }
+        self.wish.listen();
+        let passed = match self.asked {
+            Some(asked) => Some(milliseconds_since(self.rt, &asked)?),
+            None => None,
+        };
+        match end_step(self.wish.requests(), passed) {
+            EndStep::Wait => {}
+            EndStep::Ask => self.interrupt()?,
+            EndStep::Kill => self.kill_all(),
+            EndStep::Leave => self.leave_all(),
         }
         Ok(())
     }
@@ -497,14 +519,11 @@ impl<
     }
 
     /// The status of the job, whose ranks have all ended: that of the rank whose failure began, or 0.
-    pub fn status(&mut self) -> u8 {
+    pub fn status(&mut self) -> u8
+        ensures { result ≡ job_status self.old.began self.old.is_interrupted self.old.is_late }
+    {
         self.tell_cycle();
         self.guard.close();
-        match self.began {
-            Some(failure) => failure.status,
-            None if self.is_interrupted => INTERRUPTED,
-            None if self.is_late => LATE,
-            None => 0,
-        }
+        job_status(self.began, self.is_interrupted, self.is_late)
     }
 }

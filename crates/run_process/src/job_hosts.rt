@@ -1,6 +1,8 @@
 //! The hosts of a job: on which of them each rank is, and at which addresses.
 
-use host_files::{FileFault, Host, hosts_in_list, hosts_of, hosts_of_ranks, slot_count};
+use host_files::{
+    FileFault, Host, hosts_in_list, hosts_of, hosts_of_more_ranks, hosts_of_ranks, slot_count,
+};
 use launch_keeper::Word;
 use process_commands::text_of;
 use rank_addresses::list_text;
@@ -142,24 +144,58 @@ fn slots_of_all(hosts: &[Host<'_>], per_host: Option<u16>) -> u64 {
     )
 }
 
+/// The host of each of so many ranks, by its place, where these hosts take them.
+fn places_by(
+    alloc: Global,
+    hosts: &[Host<'_>],
+    options: RunOptions,
+    size: u16,
+) -> Result<Option<Vec<usize>>, AllocError> {
+    if let Some(places) = hosts_of_ranks(alloc, hosts, options.per_host, size)? {
+        return Ok(Some(places));
+    }
+    if options.oversubscribes {
+        return hosts_of_more_ranks(alloc, hosts, options.per_host, size);
+    }
+    Ok(None)
+}
+
+/// Tells that these hosts don't take so many ranks, and what would let them.
+fn tell_too_many<R: Eprint>(
+    rt: &R,
+    name: &str,
+    hosts: &[Host<'_>],
+    options: RunOptions,
+    size: u16,
+) -> u8 {
+    let slots = slots_of_all(hosts, options.per_host);
+    let behind = if slots == 0 {
+        ""
+    } else if options.oversubscribes {
+        ", and max_slots says how many one takes at most"
+    } else {
+        "; with -oversubscribe hosts take more"
+    };
+    let _ = eprintln!(rt; "mpirun: {size} ranks, and {slots} slots in {name}{behind}");
+    REFUSED
+}
+
 /// The hosts of so many ranks, which these hosts take; tells where they are too many.
 fn shared_out<R: Net + Eprint + AllocGlobal>(
     rt: &R,
     name: &str,
     hosts: &[Host<'_>],
-    per_host: Option<u16>,
+    options: RunOptions,
     size: u16,
 ) -> Result<JobHosts, u8> {
-    let Ok(found) = hosts_of_ranks(rt.alloc(), hosts, per_host, size) else {
+    let Ok(found) = places_by(rt.alloc(), hosts, options, size) else {
         return Err(FAILED);
     };
     let Some(places) = found else {
-        let slots = slots_of_all(hosts, per_host);
-        let _ = eprintln!(rt; "mpirun: {size} ranks, and {slots} slots in {name}");
-        return Err(REFUSED);
+        return Err(tell_too_many(rt, name, hosts, options, size));
     };
     let addresses = addresses_of(rt, hosts)?;
-    let count = match places.last() {
+    let count = match places.iter().max() {
         Some(last) => last.saturating_add(1),
         None => 0,
     };
@@ -266,5 +302,5 @@ pub fn hosts_by<R: Net + Files + Eprint + AllocGlobal>(
 ) -> Result<JobHosts, u8> {
     let from = host_text(rt, words, options)?;
     let hosts = told_in(rt, &from)?;
-    shared_out(rt, from.name, &hosts, options.per_host, size)
+    shared_out(rt, from.name, &hosts, options, size)
 }

@@ -2,12 +2,15 @@
 //! what the program writes and how it ends over its standard output, and ends the program where the launcher asks for it
 //! or is gone.
 
+ghost use Rattle.std.specs.Prelude.{◌≡◌, Some, true, is_some, IfSome, OnOk};
+
 use crate::guard::Guard;
-use crate::job::{fault_by, is_folder};
+use crate::job::{fault_by, is_folder, milliseconds_since};
 use crate::kept_words::command_by;
 use crate::printing::{asked, is_ready, write_all};
 use crate::shell::terminate;
-use host_keepers::{FoundWords, ReportKind, push_report, words_in};
+use host_keepers::{FoundWords, ReportKind, push_report, told_end, words_in};
+use launch_decisions::{ending_of, is_grace_over};
 use launch_keeper::Words;
 use libc::net::poll;
 use process_commands::StartFault;
@@ -15,7 +18,6 @@ use std::alloc::Global;
 use std::io;
 use std::io::{ErrorKind, PipeReader, Read};
 use std::os::fd::{AsRawFd, RawFd};
-use std::os::unix::process::ExitStatusExt;
 use std::process::{Child, ExitStatus, OpenProcess, Processes, Stdio};
 use std::rt::Files;
 use std::time::{Clock, Instant};
@@ -35,9 +37,6 @@ const ROOM: usize = 65_536;
 
 /// How many bytes of words are read at most.
 const MOST_WORDS: usize = 16_777_216;
-
-/// How many milliseconds a program has to end by itself once it is asked to.
-const GRACE: u128 = 900;
 
 /// The time between two looks at the program, in milliseconds.
 const LOOK: i32 = 50;
@@ -134,12 +133,8 @@ fn pass_on<S: Read + Drop>(
 
 /// Reports how a program ended.
 fn report_end(alloc: Global, status: ExitStatus) -> io::Result<()> {
-    let byte = |number: i32| u8::try_from(number).ok();
-    match (status.code().and_then(byte), status.signal().and_then(byte)) {
-        (Some(code), _) => report(alloc, ReportKind::Status, &[code]),
-        (None, Some(signal)) => report(alloc, ReportKind::Signal, &[signal]),
-        (None, None) => report(alloc, ReportKind::Nothing, &[]),
-    }
+    let (kind, number) = told_end(ending_of(status));
+    report(alloc, kind, &[number])
 }
 
 impl<'a, R: AllocGlobal + Clock + Processes, P: OpenProcess<Stderr: AsRawFd> + Drop> Kept<
@@ -147,8 +142,12 @@ impl<'a, R: AllocGlobal + Clock + Processes, P: OpenProcess<Stderr: AsRawFd> + D
     R,
     P,
 > {
-    /// Takes in what the launcher says. An error where it is gone.
-    fn listen(&mut self) -> io::Result<()> {
+    /// Takes in what the launcher says: the program's time to end begins with the first word. An error where it is
+    /// gone.
+    fn listen(&mut self) -> io::Result<()>
+        ensures asked { OnOk result (is_some self.new.asked ≡ true) }
+        ensures first { IfSome self.old.asked (λ asked. self.new.asked ≡ Some asked) }
+    {
         let mut word = [0u8; 16];
         if libc::read(LAUNCHER, &mut word) <= 0 {
             return Err(io::Error::from(ErrorKind::BrokenPipe));
@@ -163,7 +162,7 @@ impl<'a, R: AllocGlobal + Clock + Processes, P: OpenProcess<Stderr: AsRawFd> + D
     /// Kills a program that was asked to end and had the time to.
     fn hurry(&mut self) -> io::Result<()> {
         if let Some(asked) = self.asked {
-            if asked.elapsed(self.rt)?.as_millis() >= GRACE {
+            if is_grace_over(milliseconds_since(self.rt, &asked)?) {
                 let _ = self.child.kill();
             }
         }

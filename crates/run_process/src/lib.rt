@@ -1,8 +1,9 @@
 //! `mpirun` as processes (docs/LAUNCHING.md): what the program does, apart from its `main`.
 //!
 //! The process that a user starts, the front, waits for another one, which launches: that one ignores what a terminal
-//! sends to all its processes, and sees by its parent that the front is gone. A guard, a shell, is told which programs
-//! run, and kills them where the launching process goes away.
+//! sends to all its processes, and sees by its parent that the front is gone. Where the front is the program of
+//! bindings/launcher it lives on, and hands on each signal as a byte. A guard, a shell, is told which programs run, and
+//! kills them where the launching process goes away.
 #![tactic(auto)]
 
 mod claim;
@@ -19,5 +20,6 @@ mod rank;
 mod setup;
 mod shell;
 mod waits;
+mod wish;
 
 pub use crate::command::{run, run_words};

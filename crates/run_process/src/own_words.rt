@@ -42,10 +42,12 @@ prints their lines as they come. Each finds its place in its environment.\n\
 \x20 -hostfile FILE    the ranks are on the hosts of its lines; also -f, -machinefile\n\
 \x20 -host LIST        the ranks are on these hosts: HOST[:N],..; also -H, -hosts\n\
 \x20 -ppn K, -N K      each host takes K ranks\n\
+\x20 -oversubscribe    hosts take more ranks than they have slots\n\
 \x20 -launcher WORDS   start a program on a host; without it ssh, which asks nothing\n\
 \x20 -keep-going       the other ranks go on when one has failed\n\
 \x20 -timeout S        the job is ended after so many seconds\n\
 \x20 -restart K        each rank may be started again so often; without it 0\n\
+\x20 -frame N          a frame has N bytes of data at most: 1024 to 61440, a multiple of 8\n\
 \x20 -patience MS      so many milliseconds a rank waits before it gives up\n\
 \x20 -job J            the job's number; without it a random one\n\
 \x20 -baseport P       rank R's port is P + R; without it free ones\n\

@@ -1,5 +1,8 @@
 //! Printing what ranks write.
 
+ghost use Rattle.std.specs.Prelude.{◌≡◌};
+ghost use Rattle.run_process.specs.Streams.{descriptor_of};
+
 use crate::waits::{add_waits, without_waits};
 use libc::net::{POLLIN, POLLOUT, poll};
 use libc::types::pollfd;
@@ -24,7 +27,9 @@ pub enum Stream {
 
 impl Stream {
     /// The stream's descriptor.
-    fn descriptor(self) -> RawFd {
+    fn descriptor(self) -> RawFd
+        ensures { result ≡ descriptor_of self }
+    {
         match self {
             Stream::Output => 1,
             Stream::Error => 2,

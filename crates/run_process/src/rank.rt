@@ -1,11 +1,18 @@
 //! One rank's program, while it runs.
 
+ghost use Rattle.std.specs.Prelude.{◌≡◌, ◌&&◌, is_none, OnOk};
+ghost use Rattle.host_keepers.specs.Ends.{ending_told, first_byte};
+ghost use Rattle.run_plan.specs.Ends.{rank_ending};
+ghost use Rattle.run_process.specs.Kept.{told_behind};
+ghost use Rattle.run_process.specs.Streams.{stream_of};
+
 use crate::printing::{Printer, Stream, is_ready};
 use host_keepers::{Report, ReportKind, next_report};
 use launch_decisions::Start;
 use launch_keeper::ProgramEnding;
 use process_commands::StartFault;
 use rank_lines::LineBuffer;
+use run_plan::rank_ending;
 use std::alloc::Global;
 use std::io::{ErrorKind, PipeReader, Read, Write};
 use std::os::fd::{AsRawFd, RawFd};
@@ -145,6 +152,17 @@ fn read_lines<R: AllocGlobal + Clock, S: Read + Drop>(
     }
 }
 
+/// On which stream of this process the bytes of a report are printed, if it is of such.
+fn stream_of(kind: ReportKind) -> Option<Stream>
+    ensures { result ≡ stream_of kind }
+{
+    match kind {
+        ReportKind::Output => Some(Stream::Output),
+        ReportKind::Errors => Some(Stream::Error),
+        ReportKind::Status | ReportKind::Signal | ReportKind::Nothing => None,
+    }
+}
+
 impl<'a, P: OpenProcess<Stderr: AsRawFd> + Drop> Rank<'a, P> {
     /// A rank of which nothing runs yet.
     pub fn new(alloc: Global, start: Start<'a>) -> Rank<'a, P> {
@@ -205,18 +223,27 @@ impl<'a, P: OpenProcess<Stderr: AsRawFd> + Drop> Rank<'a, P> {
     }
 
     /// Whether what ended was a keeper that reported no end.
-    pub fn has_lost_keeper(&self) -> bool {
+    pub fn has_lost_keeper(&self) -> bool
+        ensures { result ≡ (self.now.is_kept && is_none self.now.reported) }
+    {
         self.is_kept && self.reported.is_none()
     }
 
     /// How its program ended, where what ran ended so.
-    pub fn ending(&self, own: ProgramEnding) -> ProgramEnding {
-        if !self.is_kept {
-            return own;
-        }
-        match self.reported {
-            Some(ending) => ending,
-            None => ProgramEnding::WithoutStatus,
+    pub fn ending(&self, own: ProgramEnding) -> ProgramEnding
+        ensures { result ≡ rank_ending self.now.is_kept self.now.reported own }
+    {
+        rank_ending(self.is_kept, self.reported, own)
+    }
+
+    /// Notes what a report of its keeper tells of the program's end, if it tells that.
+    fn note_end(&mut self, report: &Report)
+        ensures { self.new.reported ≡ told_behind
+            (ending_told report.now.kind (first_byte report.now.bytes.now)) self.old.reported }
+    {
+        if let Some(ending) = report.ending() {
+            self.reported = Some(ending);
+            self.fault = StartFault::of_number(report.number());
         }
     }
 
@@ -227,25 +254,19 @@ impl<'a, P: OpenProcess<Stderr: AsRawFd> + Drop> Rank<'a, P> {
         report: &Report,
         rank: usize,
         printer: &mut Printer,
-    ) -> io::Result<()> {
-        let number = report.bytes.first().copied().unwrap_or(0);
-        match report.kind {
-            ReportKind::Output => {
-                let lines = self.written.take(rt, report.bytes)?;
-                return printer.print(rt.alloc(), Stream::Output, rank, lines);
-            }
-            ReportKind::Errors => {
-                let lines = self.told.take(rt, report.bytes)?;
-                return printer.print(rt.alloc(), Stream::Error, rank, lines);
-            }
-            ReportKind::Status => self.reported = Some(ProgramEnding::Status(number)),
-            ReportKind::Signal => self.reported = Some(ProgramEnding::Signal(number)),
-            ReportKind::Nothing => {
-                self.reported = Some(ProgramEnding::NotStarted);
-                self.fault = StartFault::of_number(number);
-            }
-        }
-        Ok(())
+    ) -> io::Result<()>
+        ensures { OnOk result (self.new.reported ≡ told_behind
+            (ending_told report.now.kind (first_byte report.now.bytes.now)) self.old.reported) }
+    {
+        self.note_end(report);
+        let Some(stream) = stream_of(report.kind) else {
+            return Ok(());
+        };
+        let lines = match stream {
+            Stream::Output => self.written.take(rt, report.bytes)?,
+            Stream::Error => self.told.take(rt, report.bytes)?,
+        };
+        printer.print(rt.alloc(), stream, rank, lines)
     }
 
     /// Takes in the reports that came whole.

@@ -3,15 +3,19 @@
 use crate::job_hosts::JobHosts;
 use crate::keeper::KEEPER;
 use crate::kept_words::words_of;
+use crate::wish::Front;
 use host_keepers::message_text;
 use launch_decisions::Start;
 use launch_keeper::Word;
 use process_commands::{command_of, text_of};
-use run_plan::{RunOptions, USUAL_LAUNCHER, launcher_words, rank_command, set_hosts};
+use run_plan::{RunOptions, USUAL_LAUNCHER, launcher_words, rank_command, set_frame, set_hosts};
 use std::alloc::Global;
 use std::io;
 use std::io::ErrorKind;
 use std::process::{Command, Stdio};
+
+/// The variable that tells C programs how much may wait that no rank has asked for.
+pub const UNASKED: &str = "KOMBAZILY_UNASKED";
 
 /// How long the name is with which lines of the launcher begin that speak of `mpiexec`.
 const OTHER_NAME: usize = 7;
@@ -37,14 +41,16 @@ pub struct Setup<'a> {
     pub words: &'a [Word],
     /// Its options.
     pub options: RunOptions,
-    /// The number of the process that the user started.
-    pub front: i32,
+    /// What is known of the process that the user started.
+    pub front: Front,
     /// The hosts of its ranks, where they aren't all this machine.
     pub hosts: Option<&'a JobHosts>,
     /// The name of this program's file.
     pub itself: &'a str,
     /// The folder in which this process is.
     pub folder: &'a str,
+    /// What its environment says of [`UNASKED`], if it does.
+    pub unasked: Option<&'a str>,
 }
 
 /// Tells a line, which begins with the name of the other launcher, under this one's name.
@@ -88,6 +94,12 @@ impl<'a> Setup<'a> {
             None => {
                 let _removed = command.env_remove("KOMBAZILY_HOSTS")?;
             }
+        }
+        if let Some(bytes) = self.options.frame {
+            set_frame(alloc, &mut command, bytes)?;
+        }
+        if let Some(text) = self.unasked {
+            let _set = command.env(UNASKED, text)?;
         }
         Ok(command)
     }

@@ -6,9 +6,9 @@ use Rattle.std.specs.List.{position_from}
 use Rattle.std.specs.Str.{bytes_eq}
 use Rattle.launch_keeper.specs.Words.{Word}
 use Rattle.run_words.specs.declared.symbol.OwnOption.{OwnOption}
-use Rattle.run_words.specs.declared.symbol.OwnOption.TheVariants.{Job, BasePort, Restart, Patience, Timeout, PerHost}
-use Rattle.run_words.specs.declared.symbol.OwnOption.TheVariants.{Prefix, KeepGoing, Folder, HostFile, Hosts, Launcher}
-use Rattle.run_words.specs.declared.symbol.OwnOption.TheVariants.{Variable}
+use Rattle.run_words.specs.declared.symbol.OwnOption.TheVariants.{Job, BasePort, Restart, Patience, Timeout, Frame, PerHost}
+use Rattle.run_words.specs.declared.symbol.OwnOption.TheVariants.{Prefix, KeepGoing, Oversubscribe, Folder, HostFile, Hosts}
+use Rattle.run_words.specs.declared.symbol.OwnOption.TheVariants.{Launcher, Variable}
 use Rattle.run_words.specs.declared.symbol.Symbol.{Symbol}
 use Rattle.run_words.specs.declared.symbol.Symbol.TheVariants as symbols
 
@@ -19,9 +19,11 @@ own_name BasePort = codes "-baseport"
 own_name Restart = codes "-restart"
 own_name Patience = codes "-patience"
 own_name Timeout = codes "-timeout"
+own_name Frame = codes "-frame"
 own_name PerHost = codes "-ppn"
 own_name Prefix = codes "-prefix"
 own_name KeepGoing = codes "-keep-going"
+own_name Oversubscribe = codes "-oversubscribe"
 own_name Folder = codes "-wdir"
 own_name HostFile = codes "-hostfile"
 own_name Hosts = codes "-host"
@@ -35,9 +37,11 @@ value_count BasePort = 1
 value_count Restart = 1
 value_count Patience = 1
 value_count Timeout = 1
+value_count Frame = 1
 value_count PerHost = 1
 value_count Prefix = 0
 value_count KeepGoing = 0
+value_count Oversubscribe = 0
 value_count Folder = 1
 value_count HostFile = 1
 value_count Hosts = 1
@@ -51,9 +55,11 @@ is_of_set BasePort = false
 is_of_set Restart = false
 is_of_set Patience = false
 is_of_set Timeout = false
+is_of_set Frame = false
 is_of_set PerHost = false
 is_of_set Prefix = false
 is_of_set KeepGoing = false
+is_of_set Oversubscribe = false
 is_of_set Folder = true
 is_of_set HostFile = false
 is_of_set Hosts = true
@@ -68,7 +74,8 @@ number_option word =
     else (if bytes_eq word (codes "-restart") then Some Restart
     else (if bytes_eq word (codes "-patience") then Some Patience
     else (if bytes_eq word (codes "-timeout") then Some Timeout
-    else None))))
+    else (if bytes_eq word (codes "-frame") then Some Frame
+    else None)))))
 
 -- the option of this name that says where ranks are
 unfoldable pub host_option : Word → Option OwnOption
@@ -95,7 +102,8 @@ flag_option word =
     if bytes_eq word (codes "-prefix") || bytes_eq word (codes "-l") || bytes_eq word (codes "-tag-output") ||
     bytes_eq word (codes "-prepend-rank") then Some Prefix
     else (if bytes_eq word (codes "-keep-going") then Some KeepGoing
-    else None)
+    else (if bytes_eq word (codes "-oversubscribe") then Some Oversubscribe
+    else None))
 
 -- the first of two that is there
 abbrev pub first_of : {A : Type 0} → Option A → Option A → Option A
@@ -113,8 +121,8 @@ own_option word = first_of (number_option word) (first_of (host_option word) (ot
 -- options without value that are taken and have no effect
 unfoldable pub is_idle_flag : Word → Bool
 is_idle_flag word =
-    bytes_eq word (codes "-abort") || bytes_eq word (codes "-oversubscribe") ||
-    bytes_eq word (codes "-allow-run-as-root") || bytes_eq word (codes "-report-bindings") ||
+    bytes_eq word (codes "-abort") || bytes_eq word (codes "-allow-run-as-root") ||
+    bytes_eq word (codes "-report-bindings") ||
     bytes_eq word (codes "-q") || bytes_eq word (codes "-quiet") || bytes_eq word (codes "-envall") ||
     bytes_eq word (codes "-genvall")
 

@@ -8,7 +8,7 @@ use std::alloc::{AllocError, Global};
 use strsim::osa_distance;
 
 /// The names that are told.
-const NAMES: [&str; 45] = [
+const NAMES: [&str; 46] = [
     "-np",
     "-hostfile",
     "-machinefile",
@@ -31,6 +31,7 @@ const NAMES: [&str; 45] = [
     "-restart",
     "-patience",
     "-timeout",
+    "-frame",
     "-configfile",
     "-verbose",
     "-help",

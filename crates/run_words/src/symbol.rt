@@ -21,12 +21,16 @@ pub(crate) enum OwnOption {
     Patience,
     /// How long the job may take.
     Timeout,
+    /// How long its frames are.
+    Frame,
     /// How many ranks each host takes.
     PerHost,
     /// The rank stands in front of each line.
     Prefix,
     /// The other ranks go on when one has failed.
     KeepGoing,
+    /// Hosts take more ranks than their slots.
+    Oversubscribe,
     /// The folder in which the ranks start.
     Folder,
     /// The file of hosts.
@@ -82,9 +86,11 @@ impl OwnOption {
             OwnOption::Restart => b"-restart",
             OwnOption::Patience => b"-patience",
             OwnOption::Timeout => b"-timeout",
+            OwnOption::Frame => b"-frame",
             OwnOption::PerHost => b"-ppn",
             OwnOption::Prefix => b"-prefix",
             OwnOption::KeepGoing => b"-keep-going",
+            OwnOption::Oversubscribe => b"-oversubscribe",
             OwnOption::Folder => b"-wdir",
             OwnOption::HostFile => b"-hostfile",
             OwnOption::Hosts => b"-host",
@@ -98,7 +104,7 @@ impl OwnOption {
         ensures { result ≡ value_count self }
     {
         match self {
-            OwnOption::Prefix | OwnOption::KeepGoing => 0,
+            OwnOption::Prefix | OwnOption::KeepGoing | OwnOption::Oversubscribe => 0,
             OwnOption::Variable => 2,
             _ => 1,
         }
@@ -136,6 +142,8 @@ fn number_option(word: &[u8]) -> Option<OwnOption>
         Some(OwnOption::Patience)
     } else if is(word, b"-timeout") {
         Some(OwnOption::Timeout)
+    } else if is(word, b"-frame") {
+        Some(OwnOption::Frame)
     } else {
         None
     }
@@ -190,6 +198,8 @@ fn flag_option(word: &[u8]) -> Option<OwnOption>
         Some(OwnOption::Prefix)
     } else if is(word, b"-keep-going") {
         Some(OwnOption::KeepGoing)
+    } else if is(word, b"-oversubscribe") {
+        Some(OwnOption::Oversubscribe)
     } else {
         None
     }
@@ -224,7 +234,6 @@ fn is_idle_flag(word: &[u8]) -> bool
     ensures { result ≡ is_idle_flag word.now }
 {
     is(word, b"-abort")
-        || is(word, b"-oversubscribe")
         || is(word, b"-allow-run-as-root")
         || is(word, b"-report-bindings")
         || is(word, b"-q")

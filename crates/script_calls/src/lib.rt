@@ -8,6 +8,7 @@
 mod entries;
 mod outcomes;
 mod pending;
+mod standing;
 mod table;
 
 pub use entries::{

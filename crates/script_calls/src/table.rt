@@ -1,9 +1,10 @@
 //! Tables from names to what they stand for.
 
-ghost use Rattle.std.specs.Prelude.{◌≡◌, [], None, IfSome, IfNone, OnOk, OnErr};
+ghost use Rattle.std.specs.Prelude.{◌≡◌, [], None, IfSome, IfNone, IsTrue, OnOk, OnErr};
 ghost use Rattle.std.specs.Option.{option_copied};
 ghost use Rattle.script_calls.specs.Tables.{entries_of, value_at, with_value};
 
+use alike::Alike;
 use indexmap::IndexMap;
 use std::alloc::{AllocError, Global};
 use std::marker::Model;
@@ -87,5 +88,33 @@ impl<V: Drop> Table<V> {
     {
         let there = self.values.get_mut(name.as_bytes())?;
         Some(mem::replace(there, value))
+    }
+}
+
+/// Whether both have as many entries, whose names are the same and whose values stand alike, one by one.
+fn entries_are_alike<V: Alike>(these: &IndexMap<Vec<u8>, V>, those: &IndexMap<Vec<u8>, V>) -> bool
+    ensures { IsTrue result → entries_of these.now.entries ≡ entries_of those.now.entries }
+{
+    let these = these.as_slice();
+    let those = those.as_slice();
+    if these.len() != those.len() {
+        return false;
+    }
+    for place in 0..these.len() {
+        match (these.get_index(place), those.get_index(place)) {
+            (Some((name, value)), Some((other_name, other_value))) => {
+                if name.as_slice() != other_name.as_slice() || !value.stands_as(other_value) {
+                    return false;
+                }
+            }
+            _ => return false,
+        }
+    }
+    true
+}
+
+impl<V: Alike> Alike for Table<V> {
+    fn stands_as(&self, other: &Self) -> bool {
+        entries_are_alike(&self.values, &other.values)
     }
 }

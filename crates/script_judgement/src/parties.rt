@@ -1,5 +1,9 @@
 //! Ranks that have the same lines.
 
+ghost use Rattle.std.specs.Prelude.{◌≡◌};
+ghost use Rattle.std.specs.List.{list_all, list_any};
+ghost use Rattle.script_judgement.specs.Parties.{is_first, is_lowest_of, is_meant, is_meant_as, is_not_below};
+
 use crate::known_names::KnownNames;
 use script_files::{Audience, AudienceMember, Item, Script};
 use std::alloc::{AllocError, Global};
@@ -16,9 +20,63 @@ pub(crate) struct Party {
     pub names: KnownNames,
 }
 
+/// Whether lines are for a rank's first incarnation that are for this one, or for each where none is named.
+fn is_first(incarnation: Option<u32>) -> bool
+    ensures { result ≡ is_first incarnation }
+{
+    match incarnation {
+        Some(one) => one == 0,
+        None => true,
+    }
+}
+
 /// Whether it is below the size, at its first incarnation.
-pub(crate) fn is_meant(member: &AudienceMember, size: u16) -> bool {
-    member.rank < size && member.incarnation.unwrap_or(0) == 0
+pub(crate) fn is_meant(member: &AudienceMember, size: u16) -> bool
+    ensures { result ≡ is_meant size member.now }
+{
+    member.rank < size && is_first(member.incarnation)
+}
+
+/// Whether it is this rank, at its first incarnation.
+fn is_meant_as(member: &AudienceMember, rank: u16, size: u16) -> bool
+    ensures { result ≡ is_meant_as rank size member.now }
+{
+    is_meant(member, size) && member.rank == rank
+}
+
+/// Whether it is no lower rank than this one at its first incarnation.
+fn is_not_below(member: &AudienceMember, rank: u16, size: u16) -> bool
+    ensures { result ≡ is_not_below rank size member.now }
+{
+    !is_meant(member, size) || rank <= member.rank
+}
+
+fn is_one_of(members: &[AudienceMember], rank: u16, size: u16) -> bool
+    ensures { result ≡ list_any (is_meant_as rank size) members.now }
+{
+    members.iter().any(|member| is_meant_as(member, rank, size))
+}
+
+fn has_none_below(members: &[AudienceMember], rank: u16, size: u16) -> bool
+    ensures { result ≡ list_all (is_not_below rank size) members.now }
+{
+    members
+        .iter()
+        .all(|member| is_not_below(member, rank, size))
+}
+
+/// Whether the rank is the lowest that lines with this audience are for, in a job of this size at its first
+/// incarnations.
+pub(crate) fn is_lowest_of(audience: &Audience, rank: u16, size: u16) -> bool
+    ensures { result ≡ is_lowest_of rank size audience.now }
+{
+    match audience {
+        Audience::All => rank == 0,
+        Audience::Ranks(members) => {
+            let members = members.as_slice();
+            is_one_of(members, rank, size) && has_none_below(members, rank, size)
+        }
+    }
 }
 
 /// Parties get new numbers by one `on`: those of its ranks that had the same number have the same new one.

@@ -1,7 +1,7 @@
 //! The names that a script uses though no line before sets them.
 
 use crate::known_names::KnownNames;
-use crate::parties::{Parties, Party, is_meant};
+use crate::parties::{Parties, Party, is_lowest_of};
 use crate::slips::is_slip;
 use line_diagnostics::{LineFault, lack_of_statement};
 use script_files::{Audience, Item, Script, ScriptStatement};
@@ -150,19 +150,6 @@ pub fn unset_names(
     Ok(search.found)
 }
 
-/// The lowest rank that lines are for with this audience, in a job of this size at its first incarnations.
-fn lowest_of(audience: &Audience, size: u16) -> Option<u16> {
-    match audience {
-        Audience::All => Some(0),
-        Audience::Ranks(members) => members
-            .as_slice()
-            .iter()
-            .filter(|member| is_meant(member, size))
-            .map(|member| member.rank)
-            .min(),
-    }
-}
-
 /// The lines for this rank are followed by its party, as far as they set names; of those that are for other ranks too
 /// what they lack is noted where it is the lowest of them. Nothing is owned here, since what is would be dropped at each
 /// error.
@@ -177,7 +164,7 @@ fn follow_own(
         match &line.item {
             Item::On(audience) => {
                 here = audience.includes(rank, 0);
-                tells = lowest_of(audience, size) == Some(rank);
+                tells = is_lowest_of(audience, rank, size);
             }
             Item::Does(statement) => {
                 if here && tells {

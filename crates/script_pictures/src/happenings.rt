@@ -1,6 +1,6 @@
 //! What happens in a play, as it is drawn.
 
-use run_drawings::{Change, Delivery, Emission, Note, Picture, Tone};
+use run_drawings::{Change, CycleWait, Delivery, Emission, Note, Picture, Tone};
 use std::alloc::{AllocError, Global};
 
 /// Something that is drawn.
@@ -12,6 +12,10 @@ enum Happening {
     Emitted(Emission),
     /// A datagram comes.
     Delivered(Delivery),
+    /// Ranks wait for one another, as is told behind this.
+    Cycle,
+    /// A rank of a cycle waits.
+    Waits(CycleWait),
 }
 
 /// What has happened so far, in order.
@@ -46,6 +50,18 @@ impl Happenings {
     /// Adds that a datagram comes.
     pub(crate) fn deliver(&mut self, delivery: Delivery) -> Result<(), AllocError> {
         self.list.push(Happening::Delivered(delivery))?;
+        Ok(())
+    }
+
+    /// Adds that the waits behind this are a cycle.
+    pub(crate) fn begin_cycle(&mut self) -> Result<(), AllocError> {
+        self.list.push(Happening::Cycle)?;
+        Ok(())
+    }
+
+    /// Adds that a rank of a cycle waits.
+    pub(crate) fn wait(&mut self, wait: CycleWait) -> Result<(), AllocError> {
+        self.list.push(Happening::Waits(wait))?;
         Ok(())
     }
 
@@ -91,6 +107,8 @@ impl Happenings {
                 Happening::Told(note) => picture.tell(note)?,
                 Happening::Emitted(emission) => picture.emit(alloc, emission)?,
                 Happening::Delivered(delivery) => picture.deliver(delivery)?,
+                Happening::Cycle => picture.tell_cycle()?,
+                Happening::Waits(wait) => picture.tell_wait(wait)?,
             }
         }
         Ok(picture)

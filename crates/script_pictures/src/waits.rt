@@ -2,8 +2,10 @@
 
 use engine::{Call, Request};
 use play_waits::{
-    Waiter, blocked_in, communicators_of, left_of, requests_in, waiting_of, waits_alone,
+    CycleArrow, Wait, Waiter, Waiting, blocked_in, communicators_of, cycle_in, left_of,
+    requests_in, waiting_of, waits_alone,
 };
+use run_drawings::CycleWait;
 use script_plays::{Move, Played, RunnerState, play};
 use std::alloc::{AllocError, Global};
 use stepped_plays::{PlayError, SteppedPlay, scripts_of};
@@ -16,6 +18,22 @@ pub(crate) struct StuckRank {
     pub rank: u16,
     /// The words.
     pub words: Vec<u8>,
+    /// Whom it waits for.
+    pub wait: Wait,
+}
+
+/// A rank that waits so for ever.
+fn stuck_rank(rank: u16, waiting: Waiting) -> StuckRank {
+    let Waiting {
+        words,
+        whom,
+        any_of,
+    } = waiting;
+    StuckRank {
+        rank,
+        words: words.into_text(),
+        wait: Wait { whom, any_of },
+    }
 }
 
 /// Whether no rank can go on, and nothing is on its way.
@@ -151,12 +169,63 @@ impl EndedPlay<'_> {
                     history,
                     communicators: &communicators,
                 };
-                let waiting = waiting_of(waiter, call, &left)?;
-                let words = Vec::from_slice(self.alloc, waiting.words.as_slice())?;
-                drop(waiting);
-                stuck.push(StuckRank { rank, words })?;
+                stuck.push(stuck_rank(rank, waiting_of(waiter, call, &left)?))?;
             }
         }
         Ok(stuck)
     }
+}
+
+/// What is known of this rank, if it waits for ever.
+fn stuck_at(stuck: &[StuckRank], rank: u16) -> Option<&StuckRank> {
+    for one in stuck {
+        if one.rank == rank {
+            return Some(one);
+        }
+    }
+    None
+}
+
+/// Whom each of so many ranks waits for.
+fn waits_of(alloc: Global, size: u16, stuck: &[StuckRank]) -> Result<Vec<Wait>, AllocError> {
+    let mut waits = Vec::new(alloc);
+    for rank in 0..size {
+        let mut wait = Wait {
+            whom: Vec::new(alloc),
+            any_of: Vec::new(alloc),
+        };
+        if let Some(one) = stuck_at(stuck, rank) {
+            wait.whom.extend_from_slice(&one.wait.whom)?;
+            wait.any_of.extend_from_slice(&one.wait.any_of)?;
+        }
+        waits.push(wait)?;
+    }
+    Ok(waits)
+}
+
+/// For what this rank waits, in words.
+fn words_of(alloc: Global, stuck: &[StuckRank], rank: u16) -> Result<Vec<u8>, AllocError> {
+    match stuck_at(stuck, rank) {
+        Some(one) => Vec::from_slice(alloc, &one.words),
+        None => Ok(Vec::new(alloc)),
+    }
+}
+
+/// The waits of the cycle in which these of so many ranks are; none where they are in none.
+pub(crate) fn cycle_waits(
+    alloc: Global,
+    size: u16,
+    stuck: &[StuckRank],
+) -> Result<Vec<CycleWait>, AllocError> {
+    let mut told = Vec::new(alloc);
+    let waits = waits_of(alloc, size, stuck)?;
+    let Some(cycle) = cycle_in(alloc, &waits)? else {
+        return Ok(told);
+    };
+    for arrow in cycle.arrows(alloc, &waits)? {
+        let CycleArrow { rank, whom } = arrow;
+        let words = words_of(alloc, stuck, rank)?;
+        told.push(CycleWait { rank, whom, words })?;
+    }
+    Ok(told)
 }

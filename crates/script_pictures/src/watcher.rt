@@ -7,7 +7,7 @@ use crate::happenings::Happenings;
 use crate::rank_lines::{Manner, OwnLines, lines_of, manner_of, statement_in};
 use crate::standing::{LastStatement, Standing, standing_of, status_of};
 use crate::unfollowed::{Unfollowed, reason_of};
-use crate::waits::{EndedPlay, StuckRank};
+use crate::waits::{EndedPlay, StuckRank, cycle_waits};
 use crate::{ScriptPicture, Shown};
 use error_lines::{MetError, uncalled_error};
 use play_events::ScriptLines;
@@ -495,6 +495,30 @@ impl<'t, 's> Watcher<'t, 's> {
         }
     }
 
+    /// Adds that a rank waits for ever, and for what.
+    fn tell_wait(&mut self, stuck: &StuckRank) -> Result<(), AllocError> {
+        let text = b"waits for ever";
+        self.tell_alone(stuck.rank, text, Tone::Fails, Change::WaitsForEver)?;
+        if !stuck.words.is_empty() {
+            let mut text = Vec::from_slice(self.alloc, b"for ")?;
+            text.extend_from_slice(&stuck.words)?;
+            self.tell_alone(stuck.rank, &text, Tone::Fails, Change::Stays)?;
+        }
+        Ok(())
+    }
+
+    /// Adds the cycle in which these ranks wait for one another, if they are in one.
+    fn tell_cycle(&mut self, stuck: &[StuckRank]) -> Result<(), AllocError> {
+        let waits = cycle_waits(self.alloc, self.size, stuck)?;
+        if !waits.is_empty() {
+            self.happenings.begin_cycle()?;
+        }
+        for wait in waits {
+            self.happenings.wait(wait)?;
+        }
+        Ok(())
+    }
+
     /// Adds which ranks wait for ever, and for what.
     fn tell_stuck(&mut self, schedule: &[Move]) -> Result<(), PlayError> {
         let ended = EndedPlay {
@@ -503,17 +527,11 @@ impl<'t, 's> Watcher<'t, 's> {
             schedule,
             play: &self.play,
         };
-        for one in ended.stuck_ranks()? {
-            let StuckRank { rank, words } = one;
-            let text = b"waits for ever";
-            self.tell_alone(rank, text, Tone::Fails, Change::WaitsForEver)?;
-            if !words.is_empty() {
-                let text = format!(in self.alloc; "for ")?;
-                let mut text = text.into_bytes();
-                text.extend_from_slice(&words)?;
-                self.tell_alone(rank, &text, Tone::Fails, Change::Stays)?;
-            }
+        let stuck = ended.stuck_ranks()?;
+        for one in &stuck {
+            self.tell_wait(one)?;
         }
+        self.tell_cycle(&stuck)?;
         Ok(())
     }
 }

@@ -14,6 +14,8 @@ use Rattle.script_players.specs.Players.{AreAlike, CallGoes, IsHandedBack, numbe
 use Rattle.event_loop.specs.declared.loop_state.RunnerState.{RunnerState}
 use Rattle.event_loop.specs.declared.loop_state.RunnerState.TheVariants.{Ready}
 use Rattle.script_runner.specs.ScriptSteps.{ScriptState}
+use Rattle.vocabulary.specs.MessageLimits.{least}
+use Rattle.vocabulary.specs.declared.message_limit.MessageLimit.{MessageLimit}
 use Rattle.world.specs.Faults.{event_fault, first_fault}
 use Rattle.world.specs.Steps.{ByTheEngine, ByTheWorld, ForRoom, IsRefusedBy, IsWhy, Went, entry_of}
 use Rattle.world.specs.WorldState.{WorldState}
@@ -28,7 +30,7 @@ use Rattle.world.specs.declared.refusal.WorldRefusal.TheVariants as refusals
 abbrev rank_fault : Bool → Option world_refusal.WorldRefusal
 rank_fault b = first_fault (if b then Some refusals.NoSuchRank else None) None
 
-no_world_fault : (n limit : ℕ) (ds : List (ℕ × List ℕ)) (r : ℕ) (call : Call) → r < n →
+no_world_fault : (n : ℕ) (limit : MessageLimit) (ds : List (ℕ × List ℕ)) (r : ℕ) (call : Call) → r < n →
     event_fault n limit ds (events.Call r call) ≡ None
 no_world_fault n limit ds r call h = ap rank_fault (lt-leb n r h)
 
@@ -37,7 +39,7 @@ pub engine_refuses : (w : WorldState) (r : ℕ) (call : Call) (refused : world_r
     (out : List (ℕ × List ℕ)) → r < length w.engines → IsWhy w (events.Call r call) refused out →
     (why : lower.Refusal) × (refused ≡ refusals.Engine why)
 engine_refuses w r call refused out h (ByTheWorld fault o) =
-    absurd (none-some refused (sym (no_world_fault (length w.engines) 0 w.datagrams r call h) ∙ fault))
+    absurd (none-some refused (sym (no_world_fault (length w.engines) least w.datagrams r call h) ∙ fault))
 engine_refuses w r call refused out h (ForRoom a b c e o) = (lowers.OutOfMemory, e)
 engine_refuses w r call refused out h (ByTheEngine e a is o ran) = (e.refused, is)
 

@@ -1,5 +1,5 @@
 -- A rank that plays in a world: how it stands, and what a step of its runner makes of both.
-use Rattle.std.specs.Prelude.{◌≡◌, ℕ, Bool, true, false, List, ◌∷◌, [], ◌++◌, Option, Some, None, Result, Ok, Err}
+use Rattle.std.specs.Prelude.{◌≡◌, ℕ, Bool, true, false, List, ◌∷◌, [], ◌++◌, length, Option, Some, None, Result, Ok, Err}
 use Rattle.engine_calls.specs.declared.call.Call.{Call}
 use Rattle.engine_calls.specs.declared.reply.Completion.{Completion}
 use Rattle.engine_calls.specs.declared.reply.Reply.{Reply}
@@ -12,6 +12,7 @@ use Rattle.event_loop.specs.declared.loop_state.RunnerState.TheVariants.{Blocked
 use Rattle.event_loop.specs.declared.runner.RunnerStep.{RunnerStep}
 use Rattle.event_loop.specs.declared.runner.RunnerStep.TheVariants as steps
 use Rattle.replies.specs.Copies.{IsCopyOf, reply_of}
+use Rattle.script_runner.specs.ScriptRanks.{RankState}
 use Rattle.script_runner.specs.ScriptSteps.{NextGives, ScriptState}
 use Rattle.world.specs.Steps.{IsRefusedBy, Went}
 use Rattle.world.specs.WorldState.{WorldState}
@@ -34,6 +35,23 @@ pub record PlayerState : Type 0 where
   pub state : RunnerState Call
   pub lines : List (List ℕ)
   pub refused : List ℕ
+
+-- how a player stands, whichever lines are left to it: they are so many
+pub record Standing : Type 0 where
+  pub left : ℕ
+  pub rank : RankState
+  pub state : RunnerState Call
+  pub lines : List (List ℕ)
+  pub refused : List ℕ
+
+abbrev pub standing_of : PlayerState → Standing
+standing_of p = record {
+  left = length p.runner.lines;
+  rank = p.runner.rank;
+  state = p.state;
+  lines = p.lines;
+  refused = p.refused;
+}
 
 -- what a rank waits for once its call was replied so, and, in the same event, completed or not
 abbrev pub state_by_reply : Call → Option Reply → RunnerState Call

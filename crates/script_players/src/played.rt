@@ -1,11 +1,12 @@
 //! A rank that plays in a world.
 
-ghost use Rattle.std.specs.Prelude.{◌≡◌, ◌<◌, ℕ, [], List, length, IfOk, OnOk, Result, Some, None};
+ghost use Rattle.std.specs.Prelude.{◌≡◌, ◌<◌, ℕ, [], List, length, IfOk, IsTrue, OnOk, Result, Some, None};
 ghost use Rattle.script_players.specs.Players.{AreAlike, CallGoes, IsHandedBack, PlayerGoes, StepGoes, TakesTold};
-ghost use Rattle.script_players.specs.Players.{is_over, state_by, told_at, told_completion};
+ghost use Rattle.script_players.specs.Players.{is_over, standing_of, state_by, told_at, told_completion};
 ghost use Rattle.script_runner.specs.ScriptSteps.{ScriptState, opening};
 ghost use Rattle.world.specs.declared.event.Stepped.{Stepped};
 
+use alike::{Alike, are_alike};
 use datagram::Bytes;
 use engine::{Call, Completion, Reply};
 use event_loop::{Runner, RunnerState, RunnerStep};
@@ -270,6 +271,17 @@ impl Played {
         ensures { OnOk result (self.new ≡ told_completion completion.now self.old) }
     {
         hear(alloc, &mut self.state, completion)
+    }
+
+    /// Whether both have as many lines of their scripts left, and stand alike in all else: what their names stand for,
+    /// what they wait for, what they printed and which of their calls were refused.
+    pub fn stands_as(&self, other: &Played) -> bool
+        ensures { IsTrue result → standing_of self.now ≡ standing_of other.now }
+    {
+        self.runner.stands_as(&other.runner)
+            && self.state.stands_as(&other.state)
+            && are_alike(&self.lines, &other.lines)
+            && self.refused.as_slice() == other.refused.as_slice()
     }
 
     /// The runner of its script: how many lines are left to it, and whether it awaits an answer.

@@ -1,7 +1,7 @@
 -- A play in a world is one over the machine.
 use Rattle.std.proofs.Common.{◌≡◌, ℕ, suc, Bool, true, false, List, [], ◌∷◌, ◌++◌, length, Option, Some, None, Ok, Err}
 use Rattle.std.proofs.Common.{slice_get, slice_set, refl, sym, ap, ap₂, ◌∙◌, subst, append-nil}
-use Rattle.vocabulary.specs.Limits.{send_limit}
+use Rattle.vocabulary.specs.MessageLimits.{least}
 use Rattle.vocabulary.specs.declared.endpoint.Endpoint.{Endpoint}
 use Rattle.engine_calls.specs.Calls.{IsTaken}
 use Rattle.engine_calls.specs.declared.call.Call.{Call}
@@ -183,7 +183,7 @@ pub replied : (scripts : List (List ScriptLine)) (old : PlayState) (j : Joined s
     slice_get old.players r ≡ Some p → p.state ≡ Ready reply → NextGives p.runner reply (steps.Call call) s →
     IsTaken told →
     history_seen w.history ≡ history_seen old.world.history ++ told_call (first_endpoint r) call (Some told) →
-    IsHistory (length scripts) send_limit (history_seen w.history) →
+    IsHistory (length scripts) least (history_seen w.history) →
     Joined scripts
     (record {
       world = w;

@@ -7,7 +7,7 @@ use Rattle.std.proofs.lemmas.Option.{none-some, same_Some}
 use Rattle.one_meaning.specs.Courses.{Process}
 use Rattle.perfect_groups.specs.Events as machine
 use Rattle.std.specs.List.{AllByRecursion}
-use Rattle.vocabulary.specs.Limits.{send_limit}
+use Rattle.vocabulary.specs.MessageLimits.{least}
 use Rattle.vocabulary.specs.declared.endpoint.Endpoint.{Endpoint}
 use Rattle.engine_calls.specs.declared.reply.Completion.{Completion}
 use Rattle.engine_calls.specs.declared.reply.Completion.TheVariants as completions
@@ -103,11 +103,11 @@ last_first (x ∷ h) v f = last_first h v f.1
 
 -- the last that is told is told of a first endpoint
 pub told_first : (n : ℕ) (h : List machine.Entry) (v : machine.Entry) → HasNoRestart h → HasNoRestart (v ∷ []) →
-    IsHistory n send_limit (h ++ v ∷ []) → IsOfFirst v
+    IsHistory n least (h ++ v ∷ []) → IsOfFirst v
 told_first n h v f g history = last_first h v (endpoints_are_first n (h ++ v ∷ []) (no_restart_more h v f g) history)
 
 pub answer_first : (n : ℕ) (h : List machine.Entry) (e : Endpoint) (c : Completion) → HasNoRestart h →
-    IsHistory n send_limit (h ++ told_completion e (Some c)) → e ≡ first_endpoint e.rank
+    IsHistory n least (h ++ told_completion e (Some c)) → e ≡ first_endpoint e.rank
 answer_first n h e (completions.Requests a) f history = told_first n h _ f tt history
 answer_first n h e (completions.Collective a) f history = told_first n h _ f tt history
 

@@ -24,7 +24,8 @@ use Rattle.script_plays.specs.Plays.{HasHeadline, PlayGives, PlayState}
 use Rattle.script_plays.specs.declared.moves.Move.{Move}
 use Rattle.script_runner.specs.ScriptSteps.{NextGives, ScriptState}
 use Rattle.proof_network_bridge.specs.WorldViews.{limit_in}
-use Rattle.vocabulary.specs.Limits.{send_limit}
+use Rattle.vocabulary.specs.MessageLimits.{least}
+use Rattle.vocabulary.specs.declared.message_limit.MessageLimit.{MessageLimit}
 use Rattle.vocabulary.specs.declared.endpoint.Endpoint.{Endpoint}
 use Rattle.world.specs.Faults.{event_fault, first_fault}
 use Rattle.world.specs.GivenRequests.{NamesOwn}
@@ -67,7 +68,7 @@ rule_of found why (NoRoom (inr memory) none) a b = absurd (b (ap number_of_refus
 -- in a world
 engine_rule : (w : WorldState) (head : HasHeadline w) → HasNoRestart (history_seen w.history) →
     (r : ℕ) (e : EngineState) (call back : Call) (why : lower.Refusal) → slice_get w.engines r ≡ Some e →
-    NamesOwn w.history (first_endpoint r) call → limit_in w.engines ≡ send_limit →
+    NamesOwn w.history (first_endpoint r) call → limit_in w.engines ≡ least →
     Rattle.engine_calls.specs.Calls.CallGives e call
     (Rattle.engine_calls.specs.declared.reply.Reply.TheVariants.Refused why back) e →
     number_of_refusal why ≢ 13 → number_of_refusal why ≢ 14 →
@@ -75,10 +76,12 @@ engine_rule : (w : WorldState) (head : HasHeadline w) → HasNoRestart (history_
 engine_rule w head fresh r e call back why there own limit gives a b =
     record {
       events = head.run.run_events;
-      run = subst (λ (l : ℕ). IsRun n (machine_opening n l) head.run.run_events) limit head.run.run;
-      tells = subst (λ (l : ℕ). seen (machine_opening n l) head.run.run_events ≡ history_seen w.history) limit
+      run = subst (λ (l : MessageLimit). IsRun n (machine_opening n l) head.run.run_events) limit head.run.run;
+      tells = subst (λ (l : MessageLimit). seen (machine_opening n l) head.run.run_events ≡ history_seen w.history)
+          limit
           head.run.tells;
-      fault_is = subst (λ (l : ℕ). fault_in (after_run (machine_opening n l) head.run.run_events) (first_endpoint r)
+      fault_is = subst (λ (l : MessageLimit). fault_in (after_run (machine_opening n l) head.run.run_events)
+          (first_endpoint r)
           (call_seen call) ≡ Some (number_of_refusal why)) limit fault_is;
     }
   where

@@ -2,8 +2,7 @@
 use Rattle.std.proofs.Common.{◌≡◌, ℕ, zero, suc, List, [], ◌∷◌, length, Option, Some, None, Result, Ok, Err, slice_get}
 use Rattle.std.proofs.Common.{slice_set, refl, ap, ◌∙◌}
 use Rattle.vocabulary.specs.declared.message_limit.MessageLimit.{MessageLimit}
-use Rattle.vocabulary.specs.Limits.{send_limit}
-use Rattle.vocabulary.specs.MessageLimits.{least, limit_of}
+use Rattle.vocabulary.specs.MessageLimits.{least}
 use Rattle.engine_calls.specs.EngineState.{EngineState}
 use Rattle.engine_calls.specs.declared.reply.Completion.{Completion}
 use Rattle.proof_network_bridge.specs.WorldViews.{limit_in, opening_engines}
@@ -35,18 +34,18 @@ went_size : (old : WorldState) (event : Event) (added : Stepped) (new : WorldSta
     length new.engines ≡ length old.engines
 went_size old event added new w = ap length w.ran.others ∙ as_long old.engines w.ran.rank w.ran.next
 
--- a number of a world's engines that no event changes
-abbrev IsKept : (List EngineState → ℕ) → Type 0
+-- what of a world's engines no event changes
+abbrev IsKept : {A : Type 0} → (List EngineState → A) → Type 0
 IsKept f =
     (old : WorldState) (event : Event) (added : Stepped) (new : WorldState) → Went old event added new →
     f new.engines ≡ f old.engines
 
-refused_kept : (f : List EngineState → ℕ) → IsKept f →
+refused_kept : {A : Type 0} (f : List EngineState → A) → IsKept f →
     (old : WorldState) (event : Event) (failed : Failed) (new : WorldState) →
     IsRefusedBy old event failed new → f new.engines ≡ f old.engines
 refused_kept f kept old event failed new h = ap (λ (w : WorldState). f w.engines) h.unchanged
 
-call_kept : (f : List EngineState → ℕ) → IsKept f →
+call_kept : {A : Type 0} (f : List EngineState → A) → IsKept f →
     (old : PlayState) (r : ℕ) (p : PlayerState) (s : ScriptState) (call : _) (result : Result Stepped Failed)
     (new : PlayState) → CallMoves old r p s call result new → f new.world.engines ≡ f old.world.engines
 call_kept f kept old r p s call (Ok added) new g = ap (λ (x : PlayState). f x.world.engines) g.4 ∙
@@ -54,14 +53,14 @@ call_kept f kept old r p s call (Ok added) new g = ap (λ (x : PlayState). f x.w
 call_kept f kept old r p s call (Err failed) new g = ap (λ (x : PlayState). f x.world.engines) g.4 ∙
     refused_kept f kept old.world (events.Call r call) failed g.0 g.2
 
-step_kept : (f : List EngineState → ℕ) → IsKept f →
+step_kept : {A : Type 0} (f : List EngineState → A) → IsKept f →
     (old : PlayState) (r : ℕ) (p : PlayerState) (s : ScriptState) (step : RunnerStep) (new : PlayState) →
     StepMoves old r p s step new → f new.world.engines ≡ f old.world.engines
 step_kept f kept old r p s (steps.Print line) new g = ap (λ (x : PlayState). f x.world.engines) g
 step_kept f kept old r p s (steps.End status line) new g = ap (λ (x : PlayState). f x.world.engines) g
 step_kept f kept old r p s (steps.Call call) new g = call_kept f kept old r p s call g.0 new g.1
 
-go_kept : (f : List EngineState → ℕ) → IsKept f →
+go_kept : {A : Type 0} (f : List EngineState → A) → IsKept f →
     (old : PlayState) (r : ℕ) (p : PlayerState) (state : RunnerState Call) (new : PlayState) →
     GoesBy old r p state new →
     f new.world.engines ≡ f old.world.engines
@@ -69,13 +68,13 @@ go_kept f kept old r p (Ready reply) new g = step_kept f kept old r p g.1 g.0 ne
 go_kept f kept old r p (Blocked call) new g = ap (λ (x : PlayState). f x.world.engines) g
 go_kept f kept old r p (Over status line) new g = ap (λ (x : PlayState). f x.world.engines) g
 
-may_kept : (f : List EngineState → ℕ) → IsKept f →
+may_kept : {A : Type 0} (f : List EngineState → A) → IsKept f →
     (old : PlayState) (r : ℕ) (p : Option PlayerState) (new : PlayState) → GoGives old r p new →
     f new.world.engines ≡ f old.world.engines
 may_kept f kept old r None new g = ap (λ (x : PlayState). f x.world.engines) g
 may_kept f kept old r (Some p) new g = go_kept f kept old r p p.state new g
 
-event_kept : (f : List EngineState → ℕ) → IsKept f →
+event_kept : {A : Type 0} (f : List EngineState → A) → IsKept f →
     (event : Event) (old : PlayState) (result : Result Stepped Failed) (new : PlayState) →
     EventGives old event result new → f new.world.engines ≡ f old.world.engines
 event_kept f kept event old (Ok added) new g = ap (λ (x : PlayState). f x.world.engines) g.2 ∙
@@ -83,14 +82,14 @@ event_kept f kept event old (Ok added) new g = ap (λ (x : PlayState). f x.world
 event_kept f kept event old (Err failed) new g = ap (λ (x : PlayState). f x.world.engines) g.2 ∙
     refused_kept f kept old.world event failed g.0 g.1
 
-move_kept : (f : List EngineState → ℕ) → IsKept f →
+move_kept : {A : Type 0} (f : List EngineState → A) → IsKept f →
     (m : Move) (old new : PlayState) → MoveGives old m new →
     f new.world.engines ≡ f old.world.engines
 move_kept f kept (moves.Go r) old new g = may_kept f kept old r (slice_get old.players r) new g
 move_kept f kept (moves.Deliver d) old new g = event_kept f kept (events.Deliver d) old g.0 new g.1
 move_kept f kept (moves.Tick r now) old new g = event_kept f kept (events.Tick r now) old g.0 new g.1
 
-schedule_kept : (f : List EngineState → ℕ) → IsKept f →
+schedule_kept : {A : Type 0} (f : List EngineState → A) → IsKept f →
     (ms : List Move) (old new : PlayState) → ScheduleGives old ms new →
     f new.world.engines ≡ f old.world.engines
 schedule_kept f kept [] old new g = ap (λ (x : PlayState). f x.world.engines) g.0
@@ -106,17 +105,13 @@ went_limit : (old : WorldState) (event : Event) (added : Stepped) (new : WorldSt
     limit_in new.engines ≡ limit_in old.engines
 went_limit old event added new w = w.limit
 
--- that of scripts, in bytes
-least_is : limit_of least ≡ send_limit
-unfolding limit_of
-least_is = refl
-
-opening_limit : (n k : ℕ) → limit_in (opening_engines least n 0 k) ≡ send_limit
-opening_limit n zero = least_is
-opening_limit n (suc k) = least_is
+-- that of scripts
+opening_limit : (n k : ℕ) → limit_in (opening_engines least n 0 k) ≡ least
+opening_limit n zero = refl
+opening_limit n (suc k) = refl
 
 pub limit_is : (scripts : List (List ScriptLine)) (schedule : List Move) (st : PlayState) →
-    ScheduleGives (play_opening scripts) schedule st → limit_in st.world.engines ≡ send_limit
+    ScheduleGives (play_opening scripts) schedule st → limit_in st.world.engines ≡ least
 limit_is scripts schedule st g =
     schedule_kept (λ es. limit_in es) went_limit schedule (play_opening scripts) st g ∙
     opening_limit (length scripts) (length scripts)

@@ -5,7 +5,8 @@ use Rattle.std.proofs.Common.{append-nil, append_assoc, arith}
 use Rattle.std.proofs.lemmas.Bool.{lt-leb}
 use Rattle.std.proofs.lemmas.Option.{none-some, same_Some}
 use Rattle.proof_network_bridge.specs.WorldViews.{limit_in}
-use Rattle.vocabulary.specs.Limits.{send_limit}
+use Rattle.vocabulary.specs.MessageLimits.{least}
+use Rattle.vocabulary.specs.declared.message_limit.MessageLimit.{MessageLimit}
 use Rattle.vocabulary.specs.declared.endpoint.Endpoint.{Endpoint}
 use Rattle.engine_calls.specs.declared.call.Call.{Call}
 use Rattle.engine_calls.specs.declared.reply.Completion.{Completion}
@@ -97,7 +98,7 @@ as_told (completions.Collective o) = refl
 -- who is answered was blocked
 waited : (scripts : List (List ScriptLine)) → Premises scripts →
     (st : PlayState) (j : Joined scripts st) (r : ℕ) (a : machine.Answer) →
-    IsHistory (length scripts) send_limit (history_seen st.world.history ++ Completed (first_endpoint r) a ∷ []) →
+    IsHistory (length scripts) least (history_seen st.world.history ++ Completed (first_endpoint r) a ∷ []) →
     (p : PlayerState) → slice_get st.players r ≡ Some p → (call : Call) × (p.state ≡ Blocked call)
 waited scripts pre st j r a there p is = by p.state refl
   where
@@ -117,7 +118,7 @@ waited scripts pre st j r a there p is = by p.state refl
 answered : (scripts : List (List ScriptLine)) → Premises scripts →
     (st : PlayState) (j : Joined scripts st) (r : ℕ) (c : Completion) (w : WorldState) →
     history_seen w.history ≡ history_seen st.world.history ++ told_completion (first_endpoint r) (Some c) →
-    IsHistory (length scripts) send_limit (history_seen w.history) →
+    IsHistory (length scripts) least (history_seen w.history) →
     (o : Option PlayerState) → slice_get st.players r ≡ o →
     Joined scripts (record { world = w; players = with_told st.players r (Some c) o })
 answered scripts pre st j r c w h there = go
@@ -153,7 +154,7 @@ answered scripts pre st j r c w h there = go
     go None is =
         grow scripts st j (with_player j.now r q') w st.players on (alike_none st.players r j.now q' j.alike is)
     go (Some p) is =
-        let t = waited scripts pre st j r (answer_in c) (subst (IsHistory (length scripts) send_limit) more there) p is in
+        let t = waited scripts pre st j r (answer_in c) (subst (IsHistory (length scripts) least) more there) p is in
         subst (λ (state : RunnerState Call). Joined scripts
         (record { world = w; players = slice_set st.players r (told_if state c p) })) (sym t.1)
         (grow scripts st j (with_player j.now r q') w _ on
@@ -165,15 +166,15 @@ answered scripts pre st j r c w h there = go
 delivered : (scripts : List (List ScriptLine)) → Premises scripts → (old : PlayState) →
     (j : Joined scripts old) (event : Event) → ((e : Endpoint) (x : Option Reply) → event_seen e event x ≡ []) →
     (result : Result Stepped Failed) (new : PlayState) → EventGives old event result new →
-    IsHistory (length scripts) send_limit (history_seen new.world.history) → Joined scripts new
+    IsHistory (length scripts) least (history_seen new.world.history) → Joined scripts new
 delivered scripts pre old j event silent (Err failed) new g history =
     subst (Joined scripts) (sym g.2)
     (still scripts old j g.0 (ap (λ (w : WorldState). history_seen w.history) g.1.unchanged))
 delivered scripts pre old j event silent (Ok added) new g history =
     go g.1.gave.completion refl (slice_get old.players g.1.gave.endpoint.rank) refl g.2 more
   where
-    there : IsHistory (length scripts) send_limit (history_seen g.0.history)
-    there = subst (λ (y : PlayState). IsHistory (length scripts) send_limit (history_seen y.world.history)) g.2 history
+    there : IsHistory (length scripts) least (history_seen g.0.history)
+    there = subst (λ (y : PlayState). IsHistory (length scripts) least (history_seen y.world.history)) g.2 history
 
     more : history_seen g.0.history ≡ history_seen old.world.history ++
         told_completion g.1.gave.endpoint g.1.gave.completion
@@ -202,7 +203,7 @@ delivered scripts pre old j event silent (Ok added) new g history =
             told_completion (first_endpoint g.1.gave.endpoint.rank) (Some c)
         first = h ∙ ap (λ (e : Endpoint). history_seen old.world.history ++ told_completion e (Some c))
             (answer_first (length scripts) (history_seen old.world.history) g.1.gave.endpoint c j.fresh
-            (subst (IsHistory (length scripts) send_limit) h there))
+            (subst (IsHistory (length scripts) least) h there))
 
 -- A CALL THAT IS TAKEN
 
@@ -221,7 +222,7 @@ taken : (scripts : List (List ScriptLine)) → Premises scripts → (old : PlayS
     (j : Joined scripts old) (r : ℕ) (p : PlayerState) (reply : Option Reply) (call : Call) (s : ScriptState)
     (added : Stepped) (new : PlayState) →
     slice_get old.players r ≡ Some p → p.state ≡ Ready reply → NextGives p.runner reply (steps.Call call) s →
-    CallMoves old r p s call (Ok added) new → IsHistory (length scripts) send_limit (history_seen new.world.history) →
+    CallMoves old r p s call (Ok added) new → IsHistory (length scripts) least (history_seen new.world.history) →
     Joined scripts new
 taken scripts pre old head j r p reply call s added new is e n g history = go g.1.gave.completion refl
   where
@@ -234,8 +235,8 @@ taken scripts pre old head j r p reply call s added new is e n g history = go g.
     before : List seen_events.Entry
     before = history_seen old.world.history
 
-    there : IsHistory (length scripts) send_limit (history_seen g.0.history)
-    there = subst (λ (y : PlayState). IsHistory (length scripts) send_limit (history_seen y.world.history)) g.4 history
+    there : IsHistory (length scripts) least (history_seen g.0.history)
+    there = subst (λ (y : PlayState). IsHistory (length scripts) least (history_seen y.world.history)) g.4 history
 
     first : gave.endpoint ≡ first_endpoint r
     first = call_at old.world g.0 r call added head j.fresh g.1
@@ -303,10 +304,10 @@ taken scripts pre old head j r p reply call s added new is e n g history = go g.
             (told_completion (first_endpoint r) (Some c)))
             ∙ ap (λ (ys : List seen_events.Entry). ys ++ told_completion (first_endpoint r) (Some c)) (sym seen_mid)))
 
-        answer_there : IsHistory (length scripts) send_limit (history_seen half.history ++
+        answer_there : IsHistory (length scripts) least (history_seen half.history ++
             Completed (first_endpoint r) (answer_in c) ∷ [])
         answer_there =
-            subst (IsHistory (length scripts) send_limit)
+            subst (IsHistory (length scripts) least)
             (whole ∙ ap (λ (ys : List seen_events.Entry). history_seen half.history ++ ys)
             (told_as (first_endpoint r) c)) there
 
@@ -332,7 +333,7 @@ steps_on : (scripts : List (List ScriptLine)) → Premises scripts → (done : L
     (new : PlayState) →
     slice_get old.players r ≡ Some p → p.state ≡ Ready reply → NextGives p.runner reply step s →
     StepMoves old r p s step new → AreFine new →
-    IsHistory (length scripts) send_limit (history_seen new.world.history) →
+    IsHistory (length scripts) least (history_seen new.world.history) →
     Joined scripts new
 steps_on scripts pre done old reached head j r p reply (steps.Print line) s new is e n g fine history =
     prints scripts old j r p reply line s new is e n g
@@ -347,7 +348,7 @@ steps_on scripts pre done old reached head j r p reply (steps.Call call) s new i
 goes : (scripts : List (List ScriptLine)) → Premises scripts → (done : List Move) (old : PlayState) →
     PlayGives scripts done old → HasHeadline old.world →
     (j : Joined scripts old) (r : ℕ) (o : Option PlayerState) (new : PlayState) → slice_get old.players r ≡ o →
-    GoGives old r o new → AreFine new → IsHistory (length scripts) send_limit (history_seen new.world.history) →
+    GoGives old r o new → AreFine new → IsHistory (length scripts) least (history_seen new.world.history) →
     Joined scripts new
 goes scripts pre done old reached head j r None new is g fine history = subst (Joined scripts) (sym g) j
 goes scripts pre done old reached head j r (Some p) new is g fine history = go p.state refl g
@@ -360,7 +361,7 @@ goes scripts pre done old reached head j r (Some p) new is g fine history = go p
 moved : (scripts : List (List ScriptLine)) → Premises scripts → (done : List Move) (old : PlayState) →
     PlayGives scripts done old → HasHeadline old.world → Joined scripts old → (m : Move) (new : PlayState) →
     MoveGives old m new → AreFine new →
-    IsHistory (length scripts) send_limit (history_seen new.world.history) → Joined scripts new
+    IsHistory (length scripts) least (history_seen new.world.history) → Joined scripts new
 moved scripts pre done old reached head j (moves.Go r) new g fine history =
     goes scripts pre done old reached head j r (slice_get old.players r) new refl g fine history
 moved scripts pre done old reached head j (moves.Deliver d) new g fine history =
@@ -376,8 +377,8 @@ all_moved scripts pre [] done old new reached j g fine = subst (Joined scripts) 
 all_moved scripts pre (m ∷ ms) done old new reached j g fine =
     let head : HasHeadline g.1.0.world = headline_of ms g.1.0 new g.1.2 in
     let more : PlayGives scripts (done ++ m ∷ []) g.1.0 = one_more done (play_opening scripts) old reached m g.1.0 g.1.1 head in
-    let history : IsHistory (length scripts) send_limit (history_seen g.1.0.world.history) =
-    subst (λ (l : ℕ). IsHistory (length scripts) l (history_seen g.1.0.world.history))
+    let history : IsHistory (length scripts) least (history_seen g.1.0.world.history) =
+    subst (λ (l : MessageLimit). IsHistory (length scripts) l (history_seen g.1.0.world.history))
     (limit_is scripts (done ++ m ∷ []) g.1.0 more)
     (subst (λ (k : ℕ). IsHistory k (limit_in g.1.0.world.engines) (history_seen g.1.0.world.history))
     (size_is scripts (done ++ m ∷ []) g.1.0 more)

@@ -1,6 +1,6 @@
 //! Running the script of a rank.
 
-ghost use Rattle.std.specs.Prelude.{◌≡◌, ◌≢◌, [], IfOk, OnErr, is_some, length, ℕ};
+ghost use Rattle.std.specs.Prelude.{◌≡◌, ◌≢◌, [], IfOk, IsTrue, OnErr, is_some, length, ℕ};
 ghost use Rattle.line_diagnostics.specs.Lacks.{lack_of_statement};
 ghost use Rattle.interpreter.specs.NamesState.{holdings};
 ghost use Rattle.script_runner.specs.ScriptRanks.{heeds, states};
@@ -8,6 +8,7 @@ ghost use Rattle.script_runner.specs.ScriptSteps.{IsMore, along, does_after, nex
 ghost use Rattle.script_runner.specs.Positions.{StopsWhere};
 
 use crate::ScriptRank;
+use alike::Alike;
 use engine::Reply;
 use event_loop::{Runner, RunnerStep};
 use line_diagnostics::LineFault;
@@ -88,6 +89,14 @@ impl ScriptRunner {
             lines,
             rank: ScriptRank::new(alloc, rank),
         })
+    }
+
+    /// Whether both have as many lines left, and stand alike in all but these.
+    pub fn stands_as(&self, other: &ScriptRunner) -> bool
+        ensures lines { IsTrue result → length self.now.lines ≡ length other.now.lines }
+        ensures rank { IsTrue result → self.now.rank ≡ other.now.rank }
+    {
+        self.rank.stands_as(&other.rank) && self.lines.len() == other.lines.len()
     }
 
     /// How many of its lines are left behind the one that it stands at.

@@ -8,6 +8,7 @@ ghost use Rattle.script_runner.specs.ScriptRanks.{acts, does, follows, heeds, Is
 ghost use Rattle.script_runner.specs.ScriptRanks.{prints_elements, says, states};
 
 use crate::lines::line_of;
+use alike::Alike;
 use engine_calls::Reply;
 use event_loop::RunnerStep;
 use interpreter::{Names, NextStep, PendingCall};
@@ -35,6 +36,12 @@ impl Model for ScriptRank {
     ghost Value = { RankState };
 
     ghost view = { λ r. record { names = r.names; pending = r.pending } };
+}
+
+impl Alike for ScriptRank {
+    fn stands_as(&self, other: &Self) -> bool {
+        self.names.stands_as(&other.names) && self.pending.stands_as(&other.pending)
+    }
 }
 
 impl ScriptRank {

@@ -4,7 +4,6 @@ use Rattle.reliable_link.specs.SenderState.{SenderState, IsOfSent, out_end, afte
 use Rattle.datagram.specs.declared.refusal.DatagramRefusal as lower
 use Rattle.datagram.specs.Spellings.{DatagramText}
 use Rattle.datagram.specs.ByteMeanings.{datagram_within}
-use Rattle.vocabulary.specs.MessageLimits.{limit_of}
 use Rattle.incarnation.specs.declared.judgement.Judgement.{Judgement}
 use Rattle.incarnation.specs.declared.refusal.IncarnationRefusal as judging
 use Rattle.incarnation.specs.Judgements.{judgement}
@@ -19,7 +18,7 @@ good d = Ok d
 
 pub hears : (s : SessionsState) (bytes : List ℕ) (d : DatagramText) (j : Result Judgement judging.IncarnationRefusal)
     (r : Result Heard Unheard)
-    → datagram_within (limit_of s.place.message_limit) bytes ≡ Ok d → judgement (knowledge s) d.header ≡ j →
+    → datagram_within s.place.message_limit bytes ≡ Ok d → judgement (knowledge s) d.header ≡ j →
     Hears r (heard_by j s d bytes) → Hears r (heard_of s bytes)
 unfolding heard_of
 hears s bytes d j r read judged h = rw (read, judged) h
@@ -27,11 +26,11 @@ hears s bytes d j r read judged h = rw (read, judged) h
 -- the same where the limit was taken from the place as it was answered
 pub hears_at : (p : Place) (s : SessionsState) (bytes : List ℕ) (d : DatagramText)
     (j : Result Judgement judging.IncarnationRefusal) (r : Result Heard Unheard) → p ≡ s.place →
-    datagram_within (limit_of p.message_limit) bytes ≡ Ok d → judgement (knowledge s) d.header ≡ j →
+    datagram_within p.message_limit bytes ≡ Ok d → judgement (knowledge s) d.header ≡ j →
     Hears r (heard_by j s d bytes) → Hears r (heard_of s bytes)
 hears_at p s bytes d j r is read judged h =
     hears s bytes d j r
-    (subst (λ (q : Place). datagram_within (limit_of q.message_limit) bytes ≡ good d) is read) judged h
+    (subst (λ (q : Place). datagram_within q.message_limit bytes ≡ good d) is read) judged h
 
 -- ---- of a session that starts anew nothing went out
 

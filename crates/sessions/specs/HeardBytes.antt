@@ -1,7 +1,6 @@
 -- What the sessions hear in bytes.
 use Rattle.std.specs.Prelude.{◌≡◌, ℕ, ◌+◌, ◌-◌, ◌^◌, ◌<◌, nat_le, nat_lt, ◌==◌, Bool, true, false, List, length, Option}
 use Rattle.std.specs.Prelude.{Some, None, Result, Ok, Err, if◌then◌else◌}
-use Rattle.vocabulary.specs.MessageLimits.{limit_of}
 use Rattle.vocabulary.specs.declared.endpoint.Endpoint.{Endpoint}
 use Rattle.datagram.specs.declared.refusal.DatagramRefusal as lower
 use Rattle.datagram.specs.Spellings.{FrameText, BodyText, FrameBody, AckBody, ResetBody, DatagramText, frame_text}
@@ -149,10 +148,10 @@ abbrev pub heard_in : SessionsState → Result DatagramText lower.DatagramRefusa
 heard_in s (Err e) bytes = plainly (of_datagram e)
 heard_in s (Ok d) bytes = heard_by (judgement (knowledge s) d.header) s d bytes
 
--- what is heard in these bytes: they are read (21 to 25, 30), where they may speak of no message above the job's limit,
--- judged by both endpoints (26 to 29), and by the link (31)
+-- what is heard in these bytes: they are read (21 to 25, 30), where they may speak of no message and no frame above the
+-- job's limit, judged by both endpoints (26 to 29), and by the link (31)
 unfoldable pub heard_of : SessionsState → List ℕ → Result HeardText Unheard
-heard_of s bytes = heard_in s (datagram_within (limit_of s.place.message_limit) bytes) bytes
+heard_of s bytes = heard_in s (datagram_within s.place.message_limit bytes) bytes
 
 -- what a function answered is that, seen as text
 abbrev pub Hears : Result Heard Unheard → Result HeardText Unheard → Type 0

@@ -171,10 +171,11 @@ impl Sessions {
 
     /// What is heard in the bytes of a datagram. It changes nothing, and takes no memory.
     ///
-    /// Refused is the first that holds of: 21 to 25 and 30 (the bytes spell no datagram, or their frame speaks of a
-    /// message above the job's limit), 26 (another job), 27 (for another rank or a later incarnation of this one, or
-    /// from no other rank of the job), 28 (from a former incarnation of its source), 29 (for a former incarnation of
-    /// this rank; with it comes for whom a reset is) and 31 (a number outside the window). A limit is told by `limit_of`.
+    /// Refused is the first that holds of: 21 to 25 and 30 (the bytes spell no datagram, or their frame, or a message
+    /// that it speaks of, is above the job's limit), 26 (another job), 27 (for another rank or a later incarnation of
+    /// this one, or from no other rank of the job), 28 (from a former incarnation of its source), 29 (for a former
+    /// incarnation of this rank; with it comes for whom a reset is) and 31 (a number outside the window). A limit is
+    /// told by `limit_of`.
     #[tactic(auto, unfolding(crate::specs::HeardBytes::heard_of))]
     pub fn judge<'a>(&self, bytes: &'a [u8]) -> Result<Heard<'a>, Unheard>
         ensures exact { Hears result (heard_of self.now bytes.now) }

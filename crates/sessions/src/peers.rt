@@ -14,6 +14,7 @@ ghost use Rattle.sessions.specs.Peers.{with_wait};
 ghost use Rattle.sessions.specs.Peers.{IsAnyDue, due_out, after_all_due};
 
 use crate::refusal::SessionRefusal;
+use alike::Alike;
 use datagram::{Bytes, Drafts};
 use reliable_link::{Receiver, Sender};
 use std::alloc::{AllocError, Global};
@@ -469,4 +470,10 @@ pub(crate) fn count_busy(peers: &[Peer]) -> usize
         busy += busy_of(peer);
     }
     busy
+}
+
+impl Alike for Peer {
+    fn stands_as(&self, other: &Self) -> bool {
+        self.sender.stands_as(&other.sender) && self.receiver.stands_as(&other.receiver)
+    }
 }

@@ -4,6 +4,7 @@ ghost use Rattle.std.specs.Prelude.{◌≡◌, ◌++◌, [], ◌∷◌, OnOk};
 
 use crate::collective_line::{Broadcasting, Gathering, Reducing, ReducingToAll, Scattering};
 use crate::layout_line::LayoutLine;
+use alike::{Alike, are_alike};
 use datatypes::Buffer;
 use std::alloc::{AllocFailed, Global};
 use std::marker::Model;
@@ -30,6 +31,18 @@ pub enum RequestName {
     Named(Name),
 }
 
+impl Alike for RequestName {
+    fn stands_as(&self, other: &Self) -> bool {
+        match (self, other) {
+            (RequestName::Null, RequestName::Null) => true,
+            (RequestName::Named(name), RequestName::Named(other_name)) => {
+                name.stands_as(other_name)
+            }
+            _ => false,
+        }
+    }
+}
+
 /// Requests that a line names, in order. Contracts see them as a list.
 #[derive(Drop)]
 pub struct RequestNames {
@@ -43,6 +56,12 @@ impl Model for RequestNames {
     ghost Value = { List RequestName };
 
     ghost view = { λ r. r.items.items };
+}
+
+impl Alike for RequestNames {
+    fn stands_as(&self, other: &Self) -> bool {
+        are_alike(&self.items, &other.items)
+    }
 }
 
 impl RequestNames {

@@ -2,9 +2,11 @@
 #![tactic(auto)]
 
 mod error;
+mod laws;
 mod scripts;
 mod stepped;
 
 pub use error::PlayError;
+pub use laws::alike_players_are_the_same;
 pub use scripts::{rank_lines_of, scripts_of};
 pub use stepped::SteppedPlay;

@@ -7,6 +7,7 @@ ghost use Rattle.tokens.specs.Words.{basic_type_of, is_letter, is_name_byte, is_
 
 use crate::token::is;
 use crate::types::basic_type_of;
+use alike::Alike;
 use smallvec::SmallVec;
 use std::alloc::{AllocError, Global};
 use std::marker::Model;
@@ -27,6 +28,12 @@ impl Model for Name {
     ghost Value = { List ℕ };
 
     ghost view = { λ n. n.bytes.items };
+}
+
+impl Alike for Name {
+    fn stands_as(&self, other: &Self) -> bool {
+        self.as_bytes() == other.as_bytes()
+    }
 }
 
 impl Name {

@@ -123,7 +123,8 @@ made_has_none l n engines datagrams history datagram_room entry_room few es ds h
 -- ---- A STEP
 
 -- the endpoint of the engine at a rank is the network's
-endpoint_there : (n limit rank : ℕ) (happenings : List Happening) (engines : List EngineState) (d : List (ℕ × List ℕ))
+endpoint_there : (n : ℕ) (limit : MessageLimit) (rank : ℕ) (happenings : List Happening) (engines : List EngineState)
+    (d : List (ℕ × List ℕ))
     (h : List machine.Entry) (e : EngineState) → IsFollowedBy n limit happenings engines d h →
     slice_get engines rank ≡ Some e →
     here (after n limit happenings).net rank ≡ e.sessions.place.endpoint
@@ -158,7 +159,7 @@ event_adds old new event run_events h gave ran limit on = go on
     goes_there : (happenings : List Happening) (vs : List machine.Event) →
         GoesWith (length old.engines) (limit_in old.engines) happenings vs →
         GoesWith (length new.engines) (limit_in new.engines) happenings vs
-    goes_there happenings vs g = subst (λ (l : ℕ). GoesWith (length new.engines) l happenings vs) (sym limit)
+    goes_there happenings vs g = subst (λ (l : MessageLimit). GoesWith (length new.engines) l happenings vs) (sym limit)
         (subst (λ (n : ℕ). GoesWith n (limit_in old.engines) happenings vs) (sym size) g)
 
     endpoint : here (after (length old.engines) (limit_in old.engines) h.happenings).net ran.rank ≡
@@ -230,7 +231,7 @@ went_on old new event added run_events w sound h = (a.more, (a.own, one), a.has)
         one_behind (length old.engines) (limit_in old.engines) run_events a.more old.history old.datagrams event
         w.ran.engine w.ran.next
         w.gave w.ran.ran a.own.one a.still (tells_of old run_events h)
-        (subst (λ (l : ℕ). seen (machine_opening (length old.engines) l) (run_events ++ a.more) ≡
+        (subst (λ (l : MessageLimit). seen (machine_opening (length old.engines) l) (run_events ++ a.more) ≡
         history_seen (old.history ++ entry_of event w.gave ∷ [])) limit
         (subst (λ (n : ℕ). seen (machine_opening n (limit_in new.engines)) (run_events ++ a.more) ≡
         history_seen (old.history ++ entry_of event w.gave ∷ [])) size
@@ -330,12 +331,13 @@ shares_onwards w us more v size limit h k r x e d first second a b e_there d_the
     w.datagrams
     v.datagrams (history_seen w.history) (history_seen v.history) r x e d a b
     h.sound.followed h.goes
-    (subst (λ (l : ℕ). IsFollowedBy (length w.engines) l k.happenings v.engines v.datagrams (history_seen v.history))
+    (subst (λ (l : MessageLimit). IsFollowedBy (length w.engines) l k.happenings v.engines v.datagrams
+    (history_seen v.history))
     limit
     (subst (λ (n : ℕ). IsFollowedBy n (limit_in v.engines) k.happenings v.engines v.datagrams (history_seen v.history))
     size
     k.sound.followed))
-    (subst (λ (l : ℕ). GoesWith (length w.engines) l k.happenings (us ++ more)) limit
+    (subst (λ (l : MessageLimit). GoesWith (length w.engines) l k.happenings (us ++ more)) limit
     (subst (λ (n : ℕ). GoesWith n (limit_in v.engines) k.happenings (us ++ more)) size k.goes)) e_there d_there
     (among_held (member_of e.groups) first a a_is) (among_held (member_of d.groups) second b b_is) same
 

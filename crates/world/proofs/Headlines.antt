@@ -1,5 +1,6 @@
 -- A world that follows the pure network with communicators is seen as a run of the machine of queues and groups.
 use Rattle.std.proofs.Common.{ℕ, length, subst}
+use Rattle.vocabulary.specs.declared.message_limit.MessageLimit.{MessageLimit}
 use Rattle.proof_network_bridge.proofs.WorldLaws.{following_is_run}
 use Rattle.proof_network_bridge.specs.EventLaws.{IsSeenOfMachine}
 use Rattle.proof_network_bridge.specs.WorldViews.{limit_in, network_after}
@@ -10,7 +11,7 @@ use Rattle.world.specs.WorldState.{WorldState}
 pub is_run_of_machine : (w : WorldState) → IsSound w.engines w.datagrams w.history → IsRunOfMachine w
 is_run_of_machine w s =
     let m : IsSeenOfMachine (length w.engines) (limit_in w.engines) w.engines (history_seen w.history) =
-    subst (λ (l : ℕ). IsSeenOfMachine (length w.engines) l w.engines (history_seen w.history)) s.limited
+    subst (λ (l : MessageLimit). IsSeenOfMachine (length w.engines) l w.engines (history_seen w.history)) s.limited
     (following_is_run (length w.engines) w.engines w.datagrams (history_seen w.history) s.followed) in
     record {
       run_events = m.events;

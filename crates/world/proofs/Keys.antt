@@ -18,6 +18,7 @@ use Rattle.proof_group_network.specs.Network.{GroupNetwork}
 use Rattle.proof_pure_network.specs.Network.{here}
 use Rattle.proof_session_carrying.specs.Announcements.{announcements_in}
 use Rattle.observation.specs.CoreCalls.{own_serial, request_by, requests_by, serial_meant}
+use Rattle.vocabulary.specs.declared.message_limit.MessageLimit.{MessageLimit}
 use Rattle.proof_network_bridge.proofs.Worlds.{set_cases}
 use Rattle.proof_network_bridge.specs.EventLaws.{next_place}
 use Rattle.proof_network_bridge.specs.WorldViews.{IsFollowed, limit_in, network_after}
@@ -239,7 +240,8 @@ restart_named h event e next gave ran n =
     (sym ran.1) (named_anew h (entry_of event (nothing_of e.sessions.place.endpoint)) e refl refl n))
 
 -- the engine to which it comes
-event_named : (size limit : ℕ) (d : List (ℕ × List ℕ)) (h : List HistoryEntry) (event : Event) (e next : EngineState)
+event_named : (size : ℕ) (limit : MessageLimit) (d : List (ℕ × List ℕ)) (h : List HistoryEntry) (event : Event)
+    (e next : EngineState)
     (gave : Gave) → event_fault size limit d event ≡ None → EventRuns d event e (Ok gave) next →
     next.core.place ≡ next.sessions.place → e.core.place ≡ e.sessions.place → AreGiven e.core → AreNamed h e →
     AreNamed (h ++ entry_of event gave ∷ []) next

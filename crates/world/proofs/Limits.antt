@@ -5,18 +5,21 @@ use Rattle.engine_calls.specs.EngineState.{EngineState}
 use Rattle.perfect_groups.specs.Events as machine
 use Rattle.proof_group_network.proofs.NetworkInvariant.{run_limit_with_groups}
 use Rattle.proof_group_network.specs.Network.{Happening, new_group_network}
+use Rattle.vocabulary.specs.declared.message_limit.MessageLimit.{MessageLimit}
 use Rattle.proof_network_bridge.specs.GoingOn.{Happened, IsFollowedBy, IsFollowedOn, Stands}
 use Rattle.proof_network_bridge.specs.WorldViews.{limit_in}
 
 -- what engines follow has their limit, where there is one
-pub limit_by : (n limit : ℕ) (happenings : List Happening) (engines : List EngineState) (d : List (ℕ × List ℕ))
+pub limit_by : (n : ℕ) (limit : MessageLimit) (happenings : List Happening) (engines : List EngineState)
+    (d : List (ℕ × List ℕ))
     (h : List machine.Entry) (e : EngineState) → IsFollowedBy n limit happenings engines d h →
     slice_get engines 0 ≡ Some e → limit_in engines ≡ limit
 limit_by n limit happenings [] d h e f is = absurd cc
 limit_by n limit happenings (x ∷ xs) d h e f is =
     f.joined.limits 0 x refl ∙ run_limit_with_groups n happenings (new_group_network n limit)
 
-pub limit_on : (n limit r : ℕ) (before : List Happening) (engines : List EngineState) (d : List (ℕ × List ℕ))
+pub limit_on : (n : ℕ) (limit : MessageLimit) (r : ℕ) (before : List Happening) (engines : List EngineState)
+    (d : List (ℕ × List ℕ))
     (h : List machine.Entry) (e : EngineState) → IsFollowedOn n limit r before engines d h →
     slice_get engines 0 ≡ Some e → limit_in engines ≡ limit
 limit_on n limit r before engines d h e (Stands f) is = limit_by n limit before engines d h e f is

@@ -20,6 +20,7 @@ use Rattle.perfect_groups.specs.Machine.{Machine, Move, after_moves, machine_ope
 use Rattle.perfect_groups.specs.Runs.{after_run, seen}
 use Rattle.proof_network_runs.specs.Runs.{IsOneAtMost}
 use Rattle.vocabulary.specs.declared.endpoint.Endpoint.{Endpoint}
+use Rattle.vocabulary.specs.declared.message_limit.MessageLimit.{MessageLimit}
 use Rattle.world.proofs.Sound.{IsNoTick}
 use Rattle.world.specs.EventByEvent.{IsCallOf, IsOneFor, IsWithoutCall}
 use Rattle.world.specs.Headline.{entry_seen, history_seen}
@@ -46,7 +47,8 @@ left_over [] a b is = is
 left_over (x ∷ xs) a b is = left_over xs a b (ap rest_of is)
 
 -- the entry of an event is told by the machine's events behind the run
-told_behind : (n limit : ℕ) (vs more : List machine.Event) (history : List HistoryEntry) (entry : HistoryEntry) →
+told_behind : (n : ℕ) (limit : MessageLimit) (vs more : List machine.Event) (history : List HistoryEntry)
+    (entry : HistoryEntry) →
     seen (machine_opening n limit) vs ≡ history_seen history →
     seen (machine_opening n limit) (vs ++ more) ≡ history_seen (history ++ entry ∷ []) →
     seen (after_run (machine_opening n limit) vs) more ≡ entry_seen entry
@@ -199,7 +201,8 @@ one_for s d (events.Tick r now) old next gave more ran one still is = still (λ 
 one_for s d (events.Restart r) old next gave more ran one still is = one_of_restart s more r one (ap rank_of is)
 
 -- behind a run the events that an event of the world adds are what that is
-pub one_behind : (n limit : ℕ) (vs more : List machine.Event) (history : List HistoryEntry) (d : List (ℕ × List ℕ))
+pub one_behind : (n : ℕ) (limit : MessageLimit) (vs more : List machine.Event) (history : List HistoryEntry)
+    (d : List (ℕ × List ℕ))
     (event : Event) (old next : EngineState) (gave : Gave) → EventRuns d event old (Ok gave) next → IsOneAtMost more →
     ((IsNoTick event → ⊥) → more ≡ []) → seen (machine_opening n limit) vs ≡ history_seen history →
     seen (machine_opening n limit) (vs ++ more) ≡ history_seen (history ++ entry_of event gave ∷ []) →

@@ -18,6 +18,7 @@ use Rattle.sessions.specs.Events.{TurnedAway}
 use Rattle.sessions.specs.HeardBytes.{HeardText, heard_of}
 use Rattle.sessions.specs.SessionsState.{SessionsState}
 use Rattle.point_to_point_calls.specs.declared.refusal.Refusal.{Refusal}
+use Rattle.vocabulary.specs.declared.message_limit.MessageLimit.{MessageLimit}
 use Rattle.proof_network_bridge.specs.EventLaws.{RefusesDatagram}
 use Rattle.proof_group_network.specs.Network.{Happening}
 use Rattle.proof_network_bridge.specs.GoingOn.{IsFollowedBy}
@@ -123,7 +124,7 @@ emptied_is_old old mid bytes why clean g =
 -- ---- what it leaves of a world
 
 -- a refusal with which nothing goes out
-silent : (n limit : ℕ) (before : List Happening) (engines : List EngineState) (d : List (ℕ × List ℕ))
+silent : (n : ℕ) (limit : MessageLimit) (before : List Happening) (engines : List EngineState) (d : List (ℕ × List ℕ))
     (h : List machine.Entry)
     (out : List (ℕ × List ℕ)) → out ≡ [] → IsFollowedBy n limit before engines d h →
     IsFollowedBy n limit before engines (d ++ out) h

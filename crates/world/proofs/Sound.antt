@@ -66,7 +66,8 @@ sound_by engines d h s =
     record {
       world = s.world;
       followed = subst
-          (λ (l : ℕ). IsFollowedBy (length engines) l s.followed.happenings engines d (history_seen h)) s.limited
+          (λ (l : MessageLimit). IsFollowedBy (length engines) l s.followed.happenings engines d (history_seen h))
+          s.limited
           (by_happenings (length engines) engines d (history_seen h) s.followed);
       named =
           s.named;
@@ -162,7 +163,8 @@ followed_still before old new d h rank event gave mid next seen f state others o
     (d ++ mid.sessions.out) (history_seen h ++ seen)) (sym size_is) f)))
 
 -- what an event that the engine of a rank took leaves, by what the history says of it
-abbrev pub Leaves : (limit rank : ℕ) (before : List Happening) (new : List EngineState) (d : List (ℕ × List ℕ))
+abbrev pub Leaves : (limit : MessageLimit) (rank : ℕ) (before : List Happening) (new : List EngineState)
+    (d : List (ℕ × List ℕ))
     (h : List HistoryEntry) → Event → Gave → Type 0
 Leaves limit rank before new d h event gave =
     IsFollowedOn (length new) limit rank before new (d ++ gave.out) (history_seen (h ++ entry_of event gave ∷ []))
@@ -248,7 +250,7 @@ delivery_followed before old new d h number rank e next gave at target ran = go 
 -- ---- a tick
 
 -- nothing happens at one
-abbrev LeavesStill : (limit : ℕ) (before : List Happening) (new : List EngineState) (d : List (ℕ × List ℕ))
+abbrev LeavesStill : (limit : MessageLimit) (before : List Happening) (new : List EngineState) (d : List (ℕ × List ℕ))
     (h : List HistoryEntry) →
     Event → Gave → Type 0
 LeavesStill limit before new d h event gave =
@@ -302,15 +304,17 @@ restart_followed before old new d h rank e next gave at ran =
 -- ---- any event
 
 -- the fault of an event by what a world's size and its datagrams equal
-pub fault_as : (size n limit most : ℕ) (d d' : List (ℕ × List ℕ)) (event : Event) (o : Option WorldRefusal) → size ≡ n →
+pub fault_as : (size n : ℕ) (limit most : MessageLimit) (d d' : List (ℕ × List ℕ)) (event : Event)
+    (o : Option WorldRefusal) → size ≡ n →
     limit ≡ most → d ≡ d' → event_fault size limit d event ≡ o → event_fault n most d' event ≡ o
 fault_as size n limit most d d' event o size_is limit_is d_is h =
     subst (λ (m : ℕ). event_fault m most d' event ≡ o) size_is
-    (subst (λ (l : ℕ). event_fault size l d' event ≡ o) limit_is
+    (subst (λ (l : MessageLimit). event_fault size l d' event ≡ o) limit_is
     (subst (λ (x : List (ℕ × List ℕ)). event_fault size limit x event ≡ o) d_is h))
 
 -- at a tick nothing happens; at any other event something may
-abbrev LeavesBy : (limit rank : ℕ) (before : List Happening) (new : List EngineState) (d : List (ℕ × List ℕ))
+abbrev LeavesBy : (limit : MessageLimit) (rank : ℕ) (before : List Happening) (new : List EngineState)
+    (d : List (ℕ × List ℕ))
     (h : List HistoryEntry) → Event → Gave → Type 0
 LeavesBy limit rank before new d h (events.Call r call) gave =
     Leaves limit rank before new d h (events.Call r call) gave
@@ -405,7 +409,7 @@ event_sound_on before old new d h event gave s allowed ran w =
         IsFollowedBy (length new) (limit_in new) happenings new (d ++ gave.out)
         (history_seen (h ++ entry_of event gave ∷ []))
     with_new happenings f =
-        subst (λ (l : ℕ). IsFollowedBy (length new) l happenings new (d ++ gave.out)
+        subst (λ (l : MessageLimit). IsFollowedBy (length new) l happenings new (d ++ gave.out)
         (history_seen (h ++ entry_of event gave ∷ [])))
         (sym (limit_stays before old new d h event gave s allowed ran)) f
 

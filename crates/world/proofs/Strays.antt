@@ -5,7 +5,7 @@ use Rattle.std.specs.Prelude.{Ok, Err, ◌==◌, ◌&&◌, nat_le, slice_get, if
 use Rattle.std.proofs.lemmas.Option.{same_Some, slice_get_within}
 use Rattle.std.proofs.lemmas.Bool.{le-leb, leb-true, lt-leb}
 use Rattle.std.proofs.lemmas.Grind.{common_steps}
-use Rattle.vocabulary.specs.MessageLimits.{limit_of}
+use Rattle.vocabulary.specs.declared.message_limit.MessageLimit.{MessageLimit}
 use Rattle.proof_network_bridge.specs.WorldViews.{limit_in}
 use Rattle.datagram.specs.declared.datagram.Header.{Header}
 use Rattle.datagram.specs.declared.refusal.DatagramRefusal as reading
@@ -15,6 +15,7 @@ use Rattle.datagram.specs.ByteMeanings.{
   body_of,
   content_of,
   datagram_of,
+  datagram_up_to,
   datagram_within,
   header_of,
   kind_of,
@@ -50,11 +51,11 @@ use Rattle.world.specs.declared.event.Event.TheVariants as events
 -- a datagram has a whole header, and its job is what bytes 16 to 23 spell
 header_read : (bytes : List ℕ) (d : DatagramText) → datagram_of bytes ≡ Ok d → (nat_le 24 (length bytes) ≡ true) ×
     (d.header.job ≡ number_at 16 8 bytes)
-unfolding datagram_of header_of kind_of
+unfolding datagram_up_to header_of kind_of
 header_read bytes d is =
     let k = bind_ok (kind_of bytes) _ d is in
     let long = guard_ok (nat_le 32 (length bytes)) readings.Short _ k.0 k.1 in
-    let b = bind_ok (body_of k.0 bytes) _ d k.2 in
+    let b = bind_ok (body_of 61440 k.0 bytes) _ d k.2 in
     let c = bind_ok (content_of k.0 (number_at 24 8 bytes) b.0) _ d b.2 in
     let most = leb-true _ _ long.0 in
     (le-leb _ _ (omega (arith, most)), sym (ap (λ (x : DatagramText). x.header.job) (ok_is _ d c.2)))
@@ -90,14 +91,14 @@ same_unread readings.BadFrame = refl
 
 -- bytes that don't carry the world's job number are refused by an engine of that job, as the world refuses them
 pub stray_refused : (e : EngineState) (bytes : List ℕ) → e.sessions.place.job ≡ 1 → carries_job bytes ≡ false →
-    EngineRefuses e bytes (stray_fault (limit_of e.sessions.place.message_limit) bytes)
+    EngineRefuses e bytes (stray_fault e.sessions.place.message_limit bytes)
 unfolding heard_of
 stray_refused e bytes job other result new gives =
     subst (λ (why : WorldRefusal). (new ≡ e) × ((x : lower.Refusal) × (result ≡ Err x) × (why ≡ Engine x)))
     (sym fault_is) (go (datagram_within limit bytes) refl gives)
   where
-    limit : ℕ
-    limit = limit_of e.sessions.place.message_limit
+    limit : MessageLimit
+    limit = e.sessions.place.message_limit
 
     fault_is : stray_fault limit bytes ≡ fault_of_text (datagram_within limit bytes)
     fault_is = ap (λ (b : Bool). if b then CarriesJob else fault_of_text (datagram_within limit bytes)) other
@@ -117,7 +118,8 @@ stray_refused e bytes job other result new gives =
         result new) (foreign (knowledge e.sessions) d.header apart) g)
 
 -- the fault of stray bytes at a rank that is there
-stray_fault_there : (size limit : ℕ) (d : List (ℕ × List ℕ)) (rank : ℕ) (bytes : List ℕ) → rank < size →
+stray_fault_there : (size : ℕ) (limit : MessageLimit) (d : List (ℕ × List ℕ)) (rank : ℕ) (bytes : List ℕ) →
+    rank < size →
     event_fault size limit d (events.Stray rank bytes) ≡ Some (stray_fault limit bytes)
 stray_fault_there size limit d rank bytes inside =
     ap (λ (b : Bool). first_fault (if b then Some NoSuchRank else None) (Some (stray_fault limit bytes)))
@@ -138,7 +140,7 @@ stray_alike old r bytes why out e placed is there other = go is
     go (ByTheWorld fault silent) =
         subst (λ (x : WorldRefusal). EngineRefuses e bytes x)
         (same_Some (stray_fault (limit_in old.engines) bytes) why (sym fault_is ∙ fault))
-        (subst (λ (l : ℕ). EngineRefuses e bytes (stray_fault l bytes)) (placed r e there).limit_is
+        (subst (λ (l : MessageLimit). EngineRefuses e bytes (stray_fault l bytes)) (placed r e there).limit_is
         (stray_refused e bytes (placed r e there).job other))
     go (ForRoom none allowed needs room silent) =
         let clash : Some (stray_fault (limit_in old.engines) bytes) ≡ None = sym fault_is ∙ none in absurd cc
@@ -157,7 +159,7 @@ alike_at_engine old (events.Stray r bytes) why out placed is =
     λ e there other. stray_alike old r bytes why out e placed is there other
 
 -- stray bytes always break a rule
-pub stray_breaks : (size limit : ℕ) (d : List (ℕ × List ℕ)) (r : ℕ) (bytes : List ℕ) →
+pub stray_breaks : (size : ℕ) (limit : MessageLimit) (d : List (ℕ × List ℕ)) (r : ℕ) (bytes : List ℕ) →
     event_fault size limit d (events.Stray r bytes) ≡ None → ⊥
 stray_breaks size limit d r bytes none = go (target_fault size (Some r)) none
   where

@@ -1,5 +1,6 @@
 -- Which rules of the world itself an event breaks, whatever its engines hold.
 use Rattle.std.specs.Prelude.{ℕ, nat_le, List, Option, Some, None, option_map, slice_get, if◌then◌else◌}
+use Rattle.vocabulary.specs.declared.message_limit.MessageLimit.{MessageLimit}
 use Rattle.world.specs.declared.event.Event.{Event}
 use Rattle.world.specs.declared.event.Event.TheVariants as events
 use Rattle.world.specs.declared.refusal.WorldRefusal.{WorldRefusal}
@@ -21,7 +22,7 @@ target_fault size None = Some NoSuchDatagram
 target_fault size (Some rank) = if nat_le size rank then Some NoSuchRank else None
 
 -- stray bytes are refused at every rank, and nothing else is
-abbrev pub bytes_fault : (limit : ℕ) → Event → Option WorldRefusal
+abbrev pub bytes_fault : (limit : MessageLimit) → Event → Option WorldRefusal
 bytes_fault limit (events.Call rank call) = None
 bytes_fault limit (events.Deliver number) = None
 bytes_fault limit (events.Stray rank bytes) = Some (stray_fault limit bytes)
@@ -33,7 +34,8 @@ abbrev pub first_fault : Option WorldRefusal → Option WorldRefusal → Option 
 first_fault None later = later
 first_fault (Some fault) later = Some fault
 
--- the first rule of a world of so many ranks that an event breaks, where a message has at most this many bytes
-abbrev pub event_fault : (size limit : ℕ) → (datagrams : List (ℕ × List ℕ)) → Event → Option WorldRefusal
+-- the first rule of a world of so many ranks that an event breaks, in a job with this limit of messages
+abbrev pub event_fault : (size : ℕ) (limit : MessageLimit) → (datagrams : List (ℕ × List ℕ)) → Event →
+    Option WorldRefusal
 event_fault size limit datagrams event =
     first_fault (target_fault size (target_of datagrams event)) (bytes_fault limit event)

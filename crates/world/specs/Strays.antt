@@ -8,6 +8,7 @@ use Rattle.engine_calls.specs.EngineState.{EngineState}
 use Rattle.point_to_point_calls.specs.declared.refusal.Refusal as lower
 use Rattle.point_to_point_calls.specs.declared.refusal.Refusal.TheVariants as engines
 use Rattle.point_to_point_calls.specs.Refusals.{of_datagram}
+use Rattle.vocabulary.specs.declared.message_limit.MessageLimit.{MessageLimit}
 use Rattle.world.specs.declared.refusal.WorldRefusal.{WorldRefusal}
 use Rattle.world.specs.declared.refusal.WorldRefusal.TheVariants.{Engine, CarriesJob}
 
@@ -23,7 +24,7 @@ fault_of_text (Ok d) = Engine engines.ForeignJob
 
 -- why stray bytes are refused: they carry the world's job number (63), or by what they spell within the job's limit of
 -- messages
-abbrev pub stray_fault : (limit : ℕ) → List ℕ → WorldRefusal
+abbrev pub stray_fault : (limit : MessageLimit) → List ℕ → WorldRefusal
 stray_fault limit bytes = if carries_job bytes then CarriesJob else fault_of_text (datagram_within limit bytes)
 
 -- whatever memory there is, the engine would refuse the bytes by this number, and stay as it was

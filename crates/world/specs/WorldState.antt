@@ -4,7 +4,7 @@ use Rattle.std.specs.Prelude.{slice_get}
 use Rattle.engine_calls.specs.EngineState.{EngineState}
 use Rattle.proof_network_bridge.specs.WorldViews.{IsClean, limit_in, opening_engines}
 use Rattle.vocabulary.specs.Limits.{most_ranks}
-use Rattle.vocabulary.specs.MessageLimits.{least, limit_of}
+use Rattle.vocabulary.specs.MessageLimits.{least}
 use Rattle.vocabulary.specs.declared.message_limit.MessageLimit.{MessageLimit}
 use Rattle.world.specs.declared.event.HistoryEntry.{HistoryEntry}
 
@@ -54,8 +54,8 @@ pub record IsReady (e : EngineState) : Type 0 where
   pub clean : IsClean e
 
 -- the engine's place is that of rank r among n, in the world's job, which has this limit of messages
-pub record IsPlaced (n limit r : ℕ) (e : EngineState) : Type 0 where
-  pub limit_is : limit_of e.sessions.place.message_limit ≡ limit
+pub record IsPlaced (n : ℕ) (limit : MessageLimit) (r : ℕ) (e : EngineState) : Type 0 where
+  pub limit_is : e.sessions.place.message_limit ≡ limit
   pub size : e.sessions.place.size ≡ n
   pub rank : e.sessions.place.endpoint.rank ≡ r
   pub job : e.sessions.place.job ≡ 1

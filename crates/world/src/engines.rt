@@ -1,13 +1,12 @@
 //! What one event does to the engines of a world.
 
 ghost use Rattle.std.specs.Prelude.{◌≡◌, ◌≤◌, ◌<◌, ◌*◌, length, option_map, Option, Some, None, IfOk, IfErr, OnErr};
-ghost use Rattle.std.specs.Prelude.{slice_get, vec_len};
+ghost use Rattle.std.specs.Prelude.{IsTrue, map, slice_get, vec_len};
 ghost use Rattle.point_to_point_calls.specs.declared.refusal.Refusal.TheVariants as lowers;
-ghost use Rattle.engine_calls.specs.EngineState.{opening};
-ghost use Rattle.proof_network_bridge.specs.WorldViews.{limit_among, limit_in, opening_engines};
+ghost use Rattle.engine_calls.specs.EngineState.{opening, trimmed};
+ghost use Rattle.proof_network_bridge.specs.WorldViews.{limit_in, opening_engines};
 ghost use Rattle.link_truth.specs.Wire.{at, in_job, place_of};
 ghost use Rattle.vocabulary.specs.Limits.{most_ranks};
-ghost use Rattle.vocabulary.specs.MessageLimits.{limit_of};
 ghost use Rattle.world.specs.Faults.{target_of, bytes_fault, event_fault};
 ghost use Rattle.world.specs.WorldState.{IsWorld, ArePlaced};
 ghost use Rattle.world.specs.Steps.{RanAt, emitted, fault_by};
@@ -17,6 +16,7 @@ ghost use Rattle.world.specs.Views.{gave_of};
 use crate::event::Event;
 use crate::one_engine::{EngineEvent, EngineOutput, Rejected, ask, happen};
 use crate::refusal::WorldRefusal;
+use alike::Alike;
 use byteorder::{BigEndian, ByteOrder};
 use datagram::Bytes;
 use engine::{Engine, Place};
@@ -51,8 +51,8 @@ fn target_of(datagrams: &[(u16, Bytes)], event: &Event) -> Option<u16>
 }
 
 /// The limit of messages of the engines of a world, which all have one.
-fn limit_among(engines: &[Engine]) -> MessageLimit
-    ensures { result ≡ limit_among engines.now }
+fn limit_in(engines: &[Engine]) -> MessageLimit
+    ensures { result ≡ limit_in engines.now }
 {
     match engines.first() {
         Some(engine) => engine.place().message_limit,
@@ -62,7 +62,7 @@ fn limit_among(engines: &[Engine]) -> MessageLimit
 
 /// Why stray bytes are refused.
 fn fault_of_stray(bytes: &[u8], limit: MessageLimit) -> WorldRefusal
-    ensures { result ≡ stray_fault (limit_of limit) bytes.now }
+    ensures { result ≡ stray_fault limit bytes.now }
 {
     if bytes.len() >= 24 && BigEndian::read_u64(&bytes[16..]) == JOB {
         return WorldRefusal::CarriesJob;
@@ -75,7 +75,7 @@ fn fault_of_stray(bytes: &[u8], limit: MessageLimit) -> WorldRefusal
 
 /// Why an event is refused at whatever rank it comes to: if it is one of stray bytes.
 fn fault_of_bytes(event: &Event, limit: MessageLimit) -> Option<WorldRefusal>
-    ensures { result ≡ bytes_fault (limit_of limit) event.now }
+    ensures { result ≡ bytes_fault limit event.now }
 {
     match event {
         Event::Stray(_, bytes) => Some(fault_of_stray(bytes.as_slice(), limit)),
@@ -105,7 +105,7 @@ pub fn judge(
     if rank as usize >= engines.len() {
         return Err(WorldRefusal::NoSuchRank);
     }
-    match fault_of_bytes(event, limit_among(engines)) {
+    match fault_of_bytes(event, limit_in(engines)) {
         Some(fault) => Err(fault),
         None => Ok(rank),
     }
@@ -188,4 +188,34 @@ pub fn new_engines(
         engines.push(new_engine(alloc, rank, size, limit)?)?;
     }
     Ok(engines)
+}
+
+/// Whether there are as many engines here as there, which stand alike one by one.
+pub fn engines_are_alike(these: &[Engine], those: &[Engine]) -> bool
+    ensures { IsTrue result → map trimmed these.now ≡ map trimmed those.now }
+{
+    let [this, rest @ ..] = these else {
+        return those.is_empty();
+    };
+    let [that, others @ ..] = those else {
+        return false;
+    };
+    this.stands_as(that) && engines_are_alike(rest, others)
+}
+
+/// Whether the datagram of a number here goes to the same rank, with the same bytes, as that of the other number does
+/// there; or neither is there.
+pub fn datagrams_are_alike(
+    these: &[(u16, Bytes)],
+    number: usize,
+    those: &[(u16, Bytes)],
+    other_number: usize,
+) -> bool
+    ensures { IsTrue result → slice_get these.now number ≡ slice_get those.now other_number }
+{
+    match (these.get(number), those.get(other_number)) {
+        (Some(this), Some(that)) => this.stands_as(that),
+        (None, None) => true,
+        _ => false,
+    }
 }

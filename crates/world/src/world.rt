@@ -2,6 +2,8 @@
 
 ghost use Rattle.std.specs.Prelude.{◌≡◌, ◌≤◌, ◌+◌, ◌*◌, [], ◌∷◌, ◌++◌, length, Option, option_map, IfOk, IfErr, IsTrue};
 ghost use Rattle.std.specs.Prelude.{slice_get, Err, vec_len, vec_capacity, ◌↔◌, ◌⊎◌};
+ghost use Rattle.std.specs.Prelude.{map};
+ghost use Rattle.engine_calls.specs.EngineState.{trimmed};
 ghost use Rattle.point_to_point_calls.specs.declared.refusal.Refusal.TheVariants as lowers;
 ghost use Rattle.link_truth.specs.Quiet.{AreQuiet};
 ghost use Rattle.observation.specs.Sessions.{sessions_in};
@@ -12,7 +14,9 @@ ghost use Rattle.world.specs.EventByEvent.{GoesAllTheWay, GoesOn, GoesOnFrom, Ha
 ghost use Rattle.world.specs.Steps.{StepGives, RunGives, IsNotRun, entry_of, first_of};
 ghost use Rattle.world.specs.Views.{gave_in};
 
-use crate::engines::{ask_at, datagram_at, judge, new_engines, run_event};
+use crate::engines::{
+    ask_at, datagram_at, datagrams_are_alike, engines_are_alike, judge, new_engines, run_event,
+};
 use crate::event::{Event, Failed, FailedRun, HistoryEntry, StepResult, Stepped};
 use crate::one_engine::{EngineEvent, EngineOutput, Rejected};
 use crate::quiet::are_quiet;
@@ -261,6 +265,22 @@ impl World {
         ensures { slice_get self.now.datagrams number ≡ option_map (λ d. (d.0, d.1.now)) result }
     {
         datagram_at(&self.datagrams, number)
+    }
+
+    /// Whether both have as many ranks, whose engines stand alike, rank by rank.
+    pub fn engines_stand_as(&self, other: &World) -> bool
+        ensures { IsTrue result → map trimmed self.now.engines ≡ map trimmed other.now.engines }
+    {
+        engines_are_alike(&self.engines, &other.engines)
+    }
+
+    /// Whether the datagram of this number goes to the same rank, with the same bytes, as that of the other number does
+    /// in the other world; or neither world has it.
+    pub fn datagram_stands_as(&self, number: usize, other: &World, other_number: usize) -> bool
+        ensures { IsTrue result →
+            slice_get self.now.datagrams number ≡ slice_get other.now.datagrams other_number }
+    {
+        datagrams_are_alike(&self.datagrams, number, &other.datagrams, other_number)
     }
 
     /// The events that were not refused, with what they answered, in order. It takes no memory.

@@ -15,7 +15,7 @@ def lines(rows):
 def add_round(drawn, rows, number):
     """One more round of messages or a collective, which all ranks take part in."""
     ranks, tag = len(rows), str(10 + number)
-    what = drawn.choice(["ring", "pairs", "barrier", "allreduce", "gather", "blocking"])
+    what = drawn.choice(["ring", "pairs", "barrier", "allreduce", "gather", "blocking", "scan", "iallreduce", "ibarrier"])
     if what == "ring":
         for rank in range(ranks):
             receive, send = str(2 * number), str(2 * number + 1)
@@ -33,6 +33,14 @@ def add_round(drawn, rows, number):
         one, other = drawn.sample(range(ranks), 2)
         rows[one] += [("send", str(other), tag, "1")]
         rows[other] += [("take", str(one), tag, "")]
+    elif what.startswith("i"):
+        # Something else is between its beginning and its end.
+        request = str(2 * number)
+        for row in rows:
+            row += [(what, request, "", "")]
+        add_round(drawn, rows, number + 6)
+        for row in rows:
+            row += [("end", request, "", "")]
     else:
         for row in rows:
             row += [(what, "", "", "")]
@@ -45,21 +53,38 @@ def right(drawn):
     return rows
 
 
-def planted(drawn, kind, rows):
-    """The same program with a fault, at its beginning or its end; or None where it has too few ranks for it."""
+def other_collectives(drawn, has_later):
+    """Calls of one rank and of all others that enter another collective."""
+    kinds = drawn.sample(["barrier", "allreduce", "scan"], 2)
+    if not has_later or drawn.random() < .5:
+        return [[(it, "", "", "")] for it in kinds]
+    return [[(it, "201", "", ""), ("end", "201", "", "")] for it in drawn.sample(["ibarrier", "iallreduce"], 2)]
+
+
+def never_waited(drawn, one, other, ranks, has_later):
+    """A send or a collective that rank `one` never waits for."""
+    if not has_later or drawn.random() < .5:
+        return {one: [("isend", str(other), "99", "200")], other: [("take", str(one), "99", "")]}
+    return {it: [("iallreduce", "200", "", "")] + ([] if it == one else [("end", "200", "", "")]) for it in range(ranks)}
+
+
+def planted(drawn, kind, rows, has_later=True):
+    """The same program with a fault, at its beginning or its end; or None where it has too few ranks for it. Without `has_later` no
+    collective that doesn't wait is at fault."""
     ranks = len(rows)
     one, other = drawn.sample(range(ranks), 2)
     at = [0] * ranks if drawn.random() < .5 else [len(it) for it in rows]
     third = [it for it in range(ranks) if it not in (one, other)]
     if kind == "any_then_one" and not third:
         return None
+    mine, theirs = other_collectives(drawn, has_later)
     calls = {
         "unreceived": {one: [("send", str(other), "99", "1")]},
         "no_send": {other: [("take", str(one), "99", "")]},
         "type": {one: [("send_double", str(other), "99", "")], other: [("take", str(one), "99", "")]},
         "too_long": {one: [("send_two", str(other), "99", "")], other: [("take", str(one), "99", "")]},
-        "never_waited": {one: [("isend", str(other), "99", "200")], other: [("take", str(one), "99", "")]},
-        "collective": {it: [("barrier" if it == one else "allreduce", "", "", "")] for it in range(ranks)},
+        "never_waited": never_waited(drawn, one, other, ranks, has_later),
+        "collective": {it: mine if it == one else theirs for it in range(ranks)},
         "head_to_head": {it: [("send", str(to), "99", "1"), ("take", str(to), "99", "")] for it, to in ((one, other), (other, one))},
         "any_then_one": {one: [("take", "any", "99", ""), ("take", str(other), "99", "")], other: [("send", str(one), "99", "1")]},
         "self_wait": {one: [("take", str(one), "99", "")]},

@@ -50,13 +50,13 @@ class Result:
 
 
 class Told:
-    """All results. `is_whole`: every choice was tried; `has_findings`: each that can lead to another finding. `is_counted`: of each result
+    """All results. `is_whole`: every choice was tried; `has_findings`: all but plays that stood as another one. `is_counted`: of each result
     it is said for how many it stands."""
 
     def __init__(self, text, size):
         head, *parts = re.split(r"^(result \d+(?: of|, found in) .*)\n", text, flags=re.M)
         titles, bodies = parts[::2], parts[1::2]
-        self.has_findings = "but each that can lead to another finding" in text
+        self.has_findings = "plays that stood alike were broken off" in text
         self.is_whole = "not every choice was tried" not in text
         self.is_counted = not any(title.endswith(TOLD_BEFORE) for title in titles)
         self.results = [Result(body.splitlines(), size) for title, body in zip(titles, bodies) if not title.endswith(TOLD_BEFORE)]

@@ -1,4 +1,5 @@
 /* Waits that never end, of two ranks or more: each is to say what it waits for. Its word says which. */
+#define _GNU_SOURCE
 #include <mpi.h>
 
 #include <stdio.h>
@@ -8,7 +9,7 @@
 #include <unistd.h>
 
 static int rank, size, other;
-static int row[1000];
+static int row[20000]; /* more than one frame takes */
 static const MPI_Comm world_of_none = MPI_COMM_NULL;
 
 static void begin_lists(const char *what) {
@@ -31,11 +32,11 @@ static void begin_persistent(void) {
     MPI_Wait(&request, MPI_STATUS_IGNORE);
 }
 static void fill_buffer(void) {
-    static char room[4000 + MPI_BSEND_OVERHEAD];
+    static char room[sizeof row + MPI_BSEND_OVERHEAD];
     void *at;
     int bytes;
     MPI_Buffer_attach(room, sizeof room);
-    MPI_Bsend(row, 1000, MPI_INT, other, 0, MPI_COMM_WORLD);
+    MPI_Bsend(row, 20000, MPI_INT, other, 0, MPI_COMM_WORLD);
     MPI_Buffer_detach(&at, &bytes);
 }
 
@@ -88,13 +89,20 @@ static void make_of_group(const char *what) {
     MPI_Recv(row, 1, MPI_INT, other, 1, MPI_COMM_WORLD, MPI_STATUS_IGNORE);
 }
 
+/* More than may wait unasked. */
+static void send_too_much(void) {
+    MPI_Send(row, 936, MPI_BYTE, other, 0, MPI_COMM_WORLD);
+    MPI_Send(row, 1, MPI_INT, other, 0, MPI_COMM_WORLD);
+}
+
 static void wait_for_ever(const char *what) {
     MPI_Status status;
     MPI_Message message;
     if (strcmp(what, "receive") == 0) MPI_Recv(row, 1, MPI_INT, other, 5, MPI_COMM_WORLD, &status);
     if (strcmp(what, "any_source") == 0) MPI_Recv(row, 1, MPI_INT, MPI_ANY_SOURCE, 5, MPI_COMM_WORLD, &status);
-    if (strcmp(what, "send") == 0) MPI_Send(row, 1000, MPI_INT, other, 0, MPI_COMM_WORLD);
+    if (strcmp(what, "send") == 0) MPI_Send(row, 20000, MPI_INT, other, 0, MPI_COMM_WORLD);
     if (strcmp(what, "small_send") == 0) MPI_Send(row, 1, MPI_INT, other, 0, MPI_COMM_WORLD);
+    if (strcmp(what, "crowded") == 0) send_too_much();
     if (strcmp(what, "synchronous") == 0) MPI_Ssend(row, 1, MPI_INT, other, 0, MPI_COMM_WORLD);
     if (strcmp(what, "started") == 0) begin_persistent();
     if (strcmp(what, "threads") == 0) wait_in_threads();
@@ -105,11 +113,15 @@ static void wait_for_ever(const char *what) {
     if (strcmp(what, "broadcast") == 0 && rank == 0) MPI_Bcast(row, 1, MPI_INT, 1, MPI_COMM_WORLD);
     if (strcmp(what, "split") == 0 && rank == 0) MPI_Comm_dup(MPI_COMM_WORLD, &(MPI_Comm){MPI_COMM_NULL});
     if (strcmp(what, "computes") == 0 && rank == 1) pause();
+    if (strcmp(what, "quits") == 0 && rank == 1) _exit(0);
+    if (strcmp(what, "quits_first") == 0 && rank == 0) _exit(0);
+    if (strncmp(what, "quits", 5) == 0) MPI_Recv(row, 1, MPI_INT, other, 5, MPI_COMM_WORLD, &status);
 }
 
 int main(int argc, char **argv) {
     const char *what = argc > 1 ? argv[1] : "";
     int level;
+    if (strcmp(what, "crowded") == 0) setenv("KOMBAZILY_UNASKED", "1000", 1);
     MPI_Init_thread(&argc, &argv, strcmp(what, "threads") == 0 ? MPI_THREAD_MULTIPLE : MPI_THREAD_SINGLE, &level);
     MPI_Comm_rank(MPI_COMM_WORLD, &rank);
     MPI_Comm_size(MPI_COMM_WORLD, &size);

@@ -16,7 +16,7 @@ accumulate-requires-clause-like c =
 pub turn_elements-requires : goal.turn_elements-requires
 turn_elements-requires c =
     let e : length c.as_bytes.result.now ≡ length c.args.high.now =
-    rw (c.as_bytes.ensures.bytes, c.accumulate.ensures, c.in-Ok.ensures, c.in-Ok-elements_in.ensures)
+    rw (c.as_bytes.ensures.bytes, c.into_whole-whole.ensures, c.accumulate.ensures, c.in-Ok.ensures, c.in-Ok-elements_in.ensures)
     (length-folded (combined c.args.reduction.now.operation c.args.reduction.now.basic) c.args.basic c.args.low.now
     c.args.high.now c.requires.len c.requires.whole) in
     omega (arith, e)
@@ -28,6 +28,7 @@ returns c =
     (combined_values f (elements_of c.args.basic c.args.low.now).values (elements_of c.args.basic c.args.high.now).values) =
     rw (
       c.as_bytes.ensures.bytes,
+      c.into_whole-whole.ensures,
       c.accumulate.ensures,
       c.in-Ok.ensures,
       c.in-Ok-elements_in.ensures,

@@ -11,7 +11,7 @@ use Rattle.vocabulary.specs.BasicTypes.{size_of}
 use Rattle.vocabulary.specs.declared.basic_type.BasicType.{BasicType}
 use Rattle.collective_progress.proofs.Blocks.{joined_more, joined_step, known_like, whole_none, whole_step}
 use Rattle.collective_progress.proofs.gather.joined_bytes.Goals as goal
-use Rattle.collective_progress.proofs.gather.joined_bytes.Goals.{in-Some+in_ok-extend_from_slice, in_default}
+use Rattle.collective_progress.proofs.gather.joined_bytes.Goals.{in-Some+in_ok-append_to, in_default}
 
 pub loop-rank-init : goal.loop-rank-init
 loop-rank-init c =
@@ -32,16 +32,15 @@ loop-rank-preserved c =
     let here = get_or ranks k 0 in
     let front = c.loop-rank.bytes.items in
     elim c.match-block_known.branch [
-      | in-Some+in_ok-extend_from_slice w ↦
+      | in-Some+in_ok-append_to w ↦
           let b = w.in-Some.block.now in
           let is : of here ≡ Some b = grind (arith, common_steps) in
           let like = known_like c.args.seat.now.own mine c.args.seat.now.inside.now.context c.args.seat.now.inside.now.number c.args.seat.now.notes.now (member_at c.args.seat.now.inside.now.incarnation here) b is in
-          let within : AreWithin (size_of mine.basic) b.values = subst (λ (t : BasicType). AreWithin (size_of t) b.values) like.basic_is w.as_bytes.ensures.within in
-          let block : w.as_bytes.result.now ≡ bytes_of (size_of mine.basic) b.values =
-          w.as_bytes.ensures.bytes ∙ ap (λ (t : BasicType). bytes_of (size_of t) b.values) like.basic_is
+          let within : AreWithin (size_of mine.basic) b.values = subst (λ (t : BasicType). AreWithin (size_of t) b.values) like.basic_is w.append_to.ensures.within in
+          let both : c.match-block_known.bytes.items ≡ front ++ bytes_of (size_of b.basic) b.values = grind (arith, common_steps) in
+          let items : c.match-block_known.bytes.items ≡ front ++ bytes_of (size_of mine.basic) b.values =
+          both ∙ ap (λ (t : BasicType). front ++ bytes_of (size_of t) b.values) like.basic_is
           in
-          let both : c.match-block_known.bytes.items ≡ front ++ w.as_bytes.result.now = grind (arith, common_steps) in
-          let items : c.match-block_known.bytes.items ≡ front ++ bytes_of (size_of mine.basic) b.values = both ∙ ap (λ (t : List ℕ). front ++ t) block in
           record {
             values_are = ap (values_of (size_of mine.basic)) items
                 ∙ joined_step mine.basic front b.values c.loop-rank.invariant.whole within

@@ -18,7 +18,7 @@ both_on P Q (Err e) p q = tt
 
 pub add_whole-requires-clause-small : goal.add_whole-requires-clause-small
 add_whole-requires-clause-small c =
-    small_enough (counted (with_lesson c.args.lesson c.args.transfers.now.state.numbers) c.deref.result.now)
+    small_enough c.args.place.message_limit (counted (with_lesson c.args.lesson c.args.transfers.now.state.numbers) c.deref.result.now)
     c.args.message.now (length c.in_ok-bytes.bytes.items) (ap length c.in_ok-bytes.ensures.ok)
     (sym c.in-Ok-None.field-0-is ∙ c.in-Ok-None.ensures.ok)
 
@@ -37,7 +37,7 @@ returns-in-Ok-None-clause-ok c =
     c.args.announced.now.items
     (subst (λ (ps : List Announced). can_go c.args.place (counted ns ps) m ≡ true) c.deref.ensures.value
     c.in-Ok-None.ensures.goes)
-    (subst (λ (ps : List Announced). None ≡ transfer_of (counted ns ps) m) c.deref.ensures.value
+    (subst (λ (ps : List Announced). None ≡ transfer_of c.args.place.message_limit (counted ns ps) m) c.deref.ensures.value
     (sym c.in-Ok-None.field-0-is ∙ c.in-Ok-None.ensures.ok))
     c.in_ok-bytes.ensures.whole)
     c.add_whole.ensures.ok
@@ -59,7 +59,7 @@ returns-in-Ok-Some-clause-ok c =
     (map written c.add_announced.new.frames.items) c.args.announced.now.items c.add_announced.new.announced.items
     (subst (λ (ps : List Announced). can_go c.args.place (counted ns ps) m ≡ true) c.deref.ensures.value
     c.in-Ok-Some.ensures.goes)
-    (subst (λ (ps : List Announced). Some c.in-Ok-Some.transfer ≡ transfer_of (counted ns ps) m) c.deref.ensures.value
+    (subst (λ (ps : List Announced). Some c.in-Ok-Some.transfer ≡ transfer_of c.args.place.message_limit (counted ns ps) m) c.deref.ensures.value
     (sym c.in-Ok-Some.field-0-is ∙ c.in-Ok-Some.ensures.ok))
     c.in_ok-bytes.ensures.whole both.0 both.1)
     (both_on _ _ c.add_announced.result c.add_announced.ensures.frames c.add_announced.ensures.announced)

@@ -1,10 +1,11 @@
 -- A step is sent.
-use Rattle.std.proofs.Common.{map, ap}
+use Rattle.std.proofs.Common.{map, ap, ◌∙◌}
+use Rattle.incarnation.specs.declared.place.Place.{Place}
 use Rattle.rendezvous.specs.PayloadNumbers.{counted}
 use Rattle.sessions.specs.HeardBytes.{heard_option}
 use Rattle.engine_calls.proofs.StepFrames.{written_send}
 use Rattle.engine_calls.proofs.StepNumbers.{ready_left}
-use Rattle.engine_calls.specs.Frames.{numbers_heard}
+use Rattle.engine_calls.specs.Frames.{numbers_heard, step_numbers, step_payloads}
 use Rattle.engine_calls.specs.Steps.{written}
 use Rattle.engine_calls.proofs.frames.send_step.Goals as goal
 
@@ -24,7 +25,13 @@ returns-clause-left c =
     (map written c.in_ok-step.step.frames.items) c.in_ok-step.step.announced.items c.in_ok-step.ensures.ok
 
 pub returns-clause-counted : goal.returns-clause-counted
-returns-clause-counted c = c.in_ok-step.ensures.ok.numbers
+returns-clause-counted c =
+    let ns = numbers_heard c.args.core.now.state.transfers.numbers (heard_option c.args.heard) in
+    c.in_ok-step.ensures.ok.numbers
+    ∙ ap (λ (p : Place). step_numbers p.message_limit ns c.args.messages.now) c.place-place.ensures.place
 
 pub returns-clause-announced : goal.returns-clause-announced
-returns-clause-announced c = c.in_ok-step.ensures.ok.kept
+returns-clause-announced c =
+    let ns = numbers_heard c.args.core.now.state.transfers.numbers (heard_option c.args.heard) in
+    c.in_ok-step.ensures.ok.kept
+    ∙ ap (λ (p : Place). step_payloads p.message_limit ns c.args.messages.now) c.place-place.ensures.place

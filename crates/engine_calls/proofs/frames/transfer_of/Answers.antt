@@ -1,5 +1,5 @@
 -- Each exit tells whether the message can go, and under which number.
-use Rattle.std.proofs.Common.{sym, ◌∙◌}
+use Rattle.std.proofs.Common.{ℕ, ◌<◌, ◌≤◌, sym, subst, ◌∙◌}
 use Rattle.rendezvous.specs.PayloadNumbers.{counted, with_lesson}
 use Rattle.engine_calls.proofs.StepNumbers.{announced_goes, announced_has, none_left, out_of_job, out_of_tags, too_long}
 use Rattle.engine_calls.proofs.StepNumbers.{whole_goes, whole_has_none}
@@ -17,16 +17,16 @@ returns-then-message-place-clause-err c =
           out_of_tags c.args.place ns c.args.message.now w.if-message-gt-HIGHEST_TAG.true
     ]
 
-pub returns-then-count-le-EAGER_LIMIT-clause-ok : goal.returns-then-count-le-EAGER_LIMIT-clause-ok
-returns-then-count-le-EAGER_LIMIT-clause-ok c =
-    whole_has_none (counted (with_lesson c.args.lesson c.args.transfers.now.state.numbers) c.args.announced.now)
-    c.args.message.now c.args.count c.requires.count c.if-count-le-EAGER_LIMIT.true
+pub returns-then-count-frame_bytes-clause-ok : goal.returns-then-count-frame_bytes-clause-ok
+returns-then-count-frame_bytes-clause-ok c =
+    whole_has_none c.args.place.message_limit (counted (with_lesson c.args.lesson c.args.transfers.now.state.numbers) c.args.announced.now)
+    c.args.message.now c.args.count c.requires.count (subst (λ (n : ℕ). c.args.count ≤ n) c.frame_bytes.ensures.exact c.if-count-frame_bytes.true)
 
-pub returns-then-count-le-EAGER_LIMIT-clause-goes : goal.returns-then-count-le-EAGER_LIMIT-clause-goes
-returns-then-count-le-EAGER_LIMIT-clause-goes c =
+pub returns-then-count-frame_bytes-clause-goes : goal.returns-then-count-frame_bytes-clause-goes
+returns-then-count-frame_bytes-clause-goes c =
     whole_goes c.args.place (counted (with_lesson c.args.lesson c.args.transfers.now.state.numbers) c.args.announced.now)
     c.args.message.now c.args.count c.requires.count c.if-message-place.false c.if-message-gt-HIGHEST_TAG.false
-    c.if-count-le-EAGER_LIMIT.true
+    (subst (λ (n : ℕ). c.args.count ≤ n) c.frame_bytes.ensures.exact c.if-count-frame_bytes.true)
 
 pub returns-then-count-gt-GREATEST_LIMIT-clause-err : goal.returns-then-count-gt-GREATEST_LIMIT-clause-err
 returns-then-count-gt-GREATEST_LIMIT-clause-err c =
@@ -35,8 +35,8 @@ returns-then-count-gt-GREATEST_LIMIT-clause-err c =
 
 pub returns-in-Some-clause-ok : goal.returns-in-Some-clause-ok
 returns-in-Some-clause-ok c =
-    announced_has (counted (with_lesson c.args.lesson c.args.transfers.now.state.numbers) c.args.announced.now)
-    c.args.message.now c.args.count c.in-Some.transfer c.requires.count c.if-count-le-EAGER_LIMIT.false
+    announced_has c.args.place.message_limit (counted (with_lesson c.args.lesson c.args.transfers.now.state.numbers) c.args.announced.now)
+    c.args.message.now c.args.count c.in-Some.transfer c.requires.count (subst (λ (n : ℕ). n < c.args.count) c.frame_bytes.ensures.exact c.if-count-frame_bytes.false)
     (sym c.in-Some.is ∙ c.number_behind.ensures)
 
 pub returns-in-Some-clause-goes : goal.returns-in-Some-clause-goes
@@ -44,10 +44,10 @@ returns-in-Some-clause-goes c =
     announced_goes c.args.place
     (counted (with_lesson c.args.lesson c.args.transfers.now.state.numbers) c.args.announced.now) c.args.message.now
     c.args.count c.in-Some.transfer c.requires.count c.if-message-place.false c.if-message-gt-HIGHEST_TAG.false
-    c.if-count-le-EAGER_LIMIT.false c.if-count-gt-GREATEST_LIMIT.false (sym c.in-Some.is ∙ c.number_behind.ensures)
+    (subst (λ (n : ℕ). n < c.args.count) c.frame_bytes.ensures.exact c.if-count-frame_bytes.false) c.if-count-gt-GREATEST_LIMIT.false (sym c.in-Some.is ∙ c.number_behind.ensures)
 
 pub returns-in-None-clause-err : goal.returns-in-None-clause-err
 returns-in-None-clause-err c =
     none_left c.args.place (counted (with_lesson c.args.lesson c.args.transfers.now.state.numbers) c.args.announced.now)
-    c.args.message.now c.args.count c.requires.count c.if-count-le-EAGER_LIMIT.false
+    c.args.message.now c.args.count c.requires.count (subst (λ (n : ℕ). n < c.args.count) c.frame_bytes.ensures.exact c.if-count-frame_bytes.false)
     c.if-count-gt-GREATEST_LIMIT.false (sym c.in-None.is ∙ c.number_behind.ensures)

@@ -9,7 +9,7 @@ pub returns-in-Ok-near-clause-opening : goal.returns-in-Ok-near-clause-opening
 returns-in-Ok-near-clause-opening c =
     record {
       limit = _;
-      bytes = c.in-Ok.ensures.ok.1;
+      limits = c.in-Ok.ensures.ok.1;
       engine = c.in-Ok-new.ensures.opening ∙ ap opening c.in-Ok.ensures.ok.0;
       received = refl;
       waiting = c.new-in-Ok-near.ensures.0;

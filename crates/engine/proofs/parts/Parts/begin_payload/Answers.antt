@@ -47,7 +47,7 @@ returns-clause-exact c =
           (with_announced n h.source.rank)) (news_numbers old.core.state h),
       c.begin_payload.ensures.payloads
           ∙ ap (λ (k : Coming). after_begin c.take_news.new.self.payloads.state k) c.requires.coming
-          ∙ ap (λ (q : payloads.State). after_begin q (coming_by h (request_text c.args.request)))
+          ∙ ap (λ (q : payloads.State). after_begin q (coming_by old.core.state.place.message_limit h (request_text c.args.request)))
           (c.take_news.ensures.payloads
           ∙ left_payloads h c.prepare_news.new.self.payloads.state
           ∙ ap (λ (q : payloads.Held). payloads_met q.state (lesson_in h)) c.prepare_news.ensures.payloads),

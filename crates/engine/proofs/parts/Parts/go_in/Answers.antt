@@ -51,13 +51,14 @@ returns-in-Ok-send_step-clause-exact c =
           (counted x.transfers.numbers c.in-Ok-send_step.announced.items)) same
           ∙ ap (λ (n : List Numbers). with_numbers old.core.state n)
           (subst (λ (ms : List CollectiveMessage).
-          counted ns c.in-Ok-send_step.announced.items ≡ step_numbers ns ms)
+          counted ns c.in-Ok-send_step.announced.items ≡ step_numbers old.sessions.place.message_limit ns ms)
           c.messages.ensures c.in-Ok-send_step.ensures.counted);
       kept = c.announce_payloads.ensures.payloads
           ∙ ap (λ (x : cores.Held). after_announcing x.payloads.state c.in-Ok-send_step.announced.items)
           c.send_step.ensures.kept
           ∙ ap (λ (l : List Announced). after_announcing old.core.payloads.state l)
-          (subst (λ (ms : List CollectiveMessage). c.in-Ok-send_step.announced.items ≡ step_payloads ns ms)
+          (subst (λ (ms : List CollectiveMessage).
+          c.in-Ok-send_step.announced.items ≡ step_payloads old.sessions.place.message_limit ns ms)
           c.messages.ensures c.in-Ok-send_step.ensures.announced);
       sent = subst
           (λ (ms : List CollectiveMessage). c.send_step.new.sessions ≡

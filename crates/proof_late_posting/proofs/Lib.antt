@@ -1,0 +1,13 @@
+pub mod Completing
+pub mod Example
+pub mod Judging
+pub mod Lists
+pub mod Numbers
+pub mod Parts
+pub mod Peeking
+pub mod Playing
+pub mod Rows
+pub mod Runs
+pub mod Tied
+pub mod WholeRuns
+pub mod Worlds

@@ -1,0 +1,5 @@
+pub mod Places
+pub mod Ties
+pub mod Explored
+pub mod Example
+pub mod Written
