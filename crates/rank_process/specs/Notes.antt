@@ -1,5 +1,5 @@
 -- What a transport notes of round trips, as datagrams go out and come.
-use Rattle.std.proofs.Common.{◌≡◌, ℕ, Bool, true, false, List, sym, subst}
+use Rattle.std.proofs.Common.{◌≡◌, ℕ, Bool, true, false, List, refl, sym, subst}
 use Rattle.std.specs.Prelude.{Option, Some, None, Result}
 use Rattle.datagram.specs.Spellings.{DatagramText}
 use Rattle.datagram.specs.declared.refusal.DatagramRefusal.{DatagramRefusal}

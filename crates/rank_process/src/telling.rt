@@ -172,13 +172,21 @@ impl<'a> ErrorReport<'a> {
         explanation(alloc, self.speaker(alloc)?.as_bytes(), &fault, line).ok()
     }
 
+    /// The number of the line that the rank took last.
+    fn number_taken_last(&self, alloc: Global, runner: &ScriptRunner) -> Option<usize> {
+        let last = line_taken_last(self.rank_lines(alloc)?, runner.lines_left())?;
+        let number = last.number;
+        drop(last);
+        Some(number)
+    }
+
     /// Where the patience of the rank was over.
     fn standing_line(&self, alloc: Global, runner: &ScriptRunner) -> Option<Vec<u8>> {
         let (speaker, patience) = (self.speaker(alloc)?, self.settings.patience);
         if !runner.awaits_answer() {
             return gave_up_behind(alloc, speaker.as_bytes(), patience).ok();
         }
-        let number = line_taken_last(self.rank_lines(alloc)?, runner.lines_left())?.number;
+        let number = self.number_taken_last(alloc, runner)?;
         let line = self.line(alloc, number)?;
         gave_up_at(alloc, speaker.as_bytes(), patience, number, line).ok()
     }
@@ -191,7 +199,7 @@ impl<'a> ErrorReport<'a> {
                 "rank_main: rank {rank} was stopped behind the end of its script"
             ).ok();
         }
-        let number = line_taken_last(self.rank_lines(alloc)?, runner.lines_left())?.number;
+        let number = self.number_taken_last(alloc, runner)?;
         let line = Shown {
             word: self.line(alloc, number)?,
         };
