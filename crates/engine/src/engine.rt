@@ -38,9 +38,11 @@ impl Drop for Engine {
     fn drop(self) {
         let Engine {
             alloc: _,
-            parts: _parts,
-            ended: _ended,
+            parts,
+            ended,
         } = self;
+        drop(parts);
+        drop(ended);
     }
 }
 
@@ -78,7 +80,13 @@ impl Engine {
             Ok(sessions) => sessions,
             Err(refused) => return Err(of_sessions(refused)),
         };
-        let core = Core::new(alloc, place)?;
+        let core = match Core::new(alloc, place) {
+            Ok(core) => core,
+            Err(refused) => {
+                drop(sessions);
+                return Err(refused);
+            }
+        };
         match Communicators::new(alloc, place.endpoint, place.size) {
             Ok(communicators) => Ok(Engine {
                 alloc,
@@ -89,7 +97,11 @@ impl Engine {
                 },
                 ended: None,
             }),
-            Err(refused) => Err(of_collectives(refused)),
+            Err(refused) => {
+                drop(core);
+                drop(sessions);
+                Err(of_collectives(refused))
+            }
         }
     }
 

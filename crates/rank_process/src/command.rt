@@ -177,7 +177,9 @@ fn start<R: Net + Env + Wait + Print + Eprint + AllocGlobal + Clock>(
     match new_engine(rt.alloc(), told.settings) {
         Ok(engine) => {
             let mut rank = Rank::new(engine, runner);
-            open(rt, told, &mut rank)
+            let status = open(rt, told, &mut rank);
+            drop(rank);
+            status
         }
         Err(status) => {
             drop(runner);
