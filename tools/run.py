@@ -7,7 +7,7 @@ usage: ./run                            two ranks play ping-pong
        ./run --picture FILE             the same as a picture in the terminal, a column a rank
        ./run --picture [-n N] SCRIPT    one play of a script as a picture
        ./run --svg PICTURE.svg ..       the same, written as an SVG
-       ./run --explore [-n N] SCRIPT    all schedules of a script that can matter: what may go wrong
+       ./run --explore [-n N] SCRIPT    plays a script by the schedules that can matter: what may go wrong
        ./run --explore [-n N] FILE.c    compiles a C program and runs it again and again, by other choices each time
        ./run check -n N [..] PROGRAM    explores a C program that is compiled (tools/mpicc); ./run check --help has all options
        ./run .. -                       what stands on the standard input, in place of a file
@@ -25,9 +25,10 @@ options, as mpiexec and mpirun have them:
        -baseport P     the port of rank 0; the others have the ports behind it (free ones)
        -v              says which programs are taken, and the command that is run
 
-Options stand in any order, in front of the file or behind it. Those of mpiexplore (--most K, --seed S, ..) may
-stand beside --explore, and those of mpidraw (--width W, --datagrams) beside --picture and --svg; of those of mpiexplore the
-exploration of a C program has --most, --results, --out, --synchronous and --both, and it has those of `./run check`.
+Options stand in any order, in front of the file or behind it; behind a C program's file stand -n N and the program's own
+words alone. Those of mpiexplore (--most K, --seed S, ..) may stand beside --explore, and those of mpidraw (--width W,
+--datagrams) beside --picture and --svg; of those of mpiexplore the exploration of a C program has --most, --results, --out,
+--synchronous and --both, and it has those of `./run check`.
 
 A script is judged before ranks are started: what is wrong with it is told once, and the status is 1. Scripts are
 run by mpiexec and rank_main and explored by mpiexplore, files of events are run by mpisim and drawn by mpidraw, C programs
@@ -143,6 +144,17 @@ class Request:
             raise Fault("behind '--svg' stands the picture's file, PICTURE.svg")
         return Path(words.pop(0))
 
+    def why_not(self, option):
+        """Why this option can't stand here."""
+        others = [view for view, it in SHOWING.items() if option in it]
+        if self.view == "--explore" and option in EXPLORING_C:
+            return "it stands beside '--explore' of a C program, in front of its file"
+        if self.view == "--explore" and option in SHOWING["--explore"]:
+            return "it stands beside '--explore' of a script alone"
+        if not self.view and others:
+            return "it stands beside %s alone" % " and ".join("'%s'" % it for it in others)
+        return "no such option" + (" beside '%s'" % self.view if self.view else "")
+
     def take_option(self, words):
         option = words.pop(0)
         shown = self.shows
@@ -156,7 +168,7 @@ class Request:
             if option == "--svg":
                 self.svg = self.svg_in(words)
         elif option not in ("-n", "-np", *PASSED_ON, *shown):
-            raise Fault("'%s': no such option%s %s" % (option, " beside '%s'" % self.view if self.view else "", HELP))
+            raise Fault("'%s': %s %s" % (option, self.why_not(option), HELP))
         elif shown.get(option) == 0:
             self.shown.append(option)
         elif not words:
@@ -191,6 +203,15 @@ def lines_of(file):
         raise Fault("%s can't be read: %s" % (file, why.strerror))
     lines = (it.split() for it in text.split("\n"))
     return [it for it in lines if it and not it[0].startswith("#")]
+
+
+def is_compiled(file):
+    """Whether it begins as a program that is compiled does."""
+    try:
+        with open(file, "rb") as it:
+            return it.read(4) == b"\x7fELF"
+    except OSError:
+        return False
 
 
 def is_events(lines):
@@ -268,6 +289,9 @@ def command(request):
     if is_program(request.file):
         return command_of_c(request)
     request.file = taken(request.file)
+    if is_compiled(request.file):
+        raise Fault("%s is a compiled program, and no script: 'mpirun -n N PROGRAM' runs it, '%s check -n N PROGRAM' explores it" % (
+            request.file, CALLED))
     lines = lines_of(request.file)
     if is_events(lines):
         if request.view == "--explore":
@@ -353,6 +377,8 @@ def check(words):
         return 0
     try:
         named = recorded.program_of(words)
+        if named and Path(named).is_file() and not os.access(named, os.X_OK):
+            raise recorded.Fault(recorded.START, "%s is no program: '%s --explore' takes a script or FILE.c" % (named, CALLED))
         kind, library = recorded.kind_of(named) if named else (None, None)
         if named and kind is None:
             recorded.refuse_static(named)
