@@ -35,7 +35,7 @@ run by mpiexec and rank_main and explored by mpiexplore, files of events are run
 are run by mpirun and explored by kombazily-check.
 
 In the repository the proved programs are taken where `rt ci` or `./run --proved` has left them and no source has changed
-since. Else programs of the same sources are taken, of which nothing is proved: they are built once, in two to three
+since. Else programs of the same sources are taken, of which nothing is proved: they are built once, in some three
 minutes, and kept in out/unproved. RUN_PROGRAMS may name a folder whose programs are taken as they are.
 
 What `run` itself says stands on standard error behind 'run:'. The status is that of mpiexec, mpirun,
@@ -365,6 +365,9 @@ def exploration_of_c(request):
     """The words that explore a C program, which is compiled first."""
     if request.options:
         raise Fault("'%s': a C program is explored without ports %s" % (next(iter(request.options)), HELP))
+    for word in request.words:
+        if word in EXPLORING_C:
+            say("'%s' stands behind %s, so it is handed to the program" % (word, request.file))
     program = c_programs.compiled(say, request.file, request.is_proved)
     both = [] if {"--synchronous", "--both", "--each", "--replay"} & set(request.shown) else ["--both"]
     return [short(explorer.taken(say)), *request.shown, "-n", str(request.ranks or 2), *both, short(program), *request.words]
