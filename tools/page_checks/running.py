@@ -84,8 +84,11 @@ class Runner:
         bin_folder.mkdir()
         for name in ("rank_main", "mpisim", "mpidraw", "mpiexplore", "mpirun"):
             (bin_folder / name).symlink_to(self.programs[name])
-        (bin_folder / "mpiexec").write_text(LAUNCHER % (shlex.quote(str(self.programs["mpiexec"])), port))
-        (bin_folder / "mpiexec").chmod(0o755)
+        # Another process writes what is to be run: a fork of another thread would hold this one's open file, and the system then refuses
+        # to run it (ETXTBSY).
+        text = folder / ".mpiexec"
+        text.write_text(LAUNCHER % (shlex.quote(str(self.programs["mpiexec"])), port))
+        subprocess.run(["install", "-m", "755", text, bin_folder / "mpiexec"], check=True)
         for name in ("run", "examples"):
             (folder / name).symlink_to(self.top / name)
         # `run` is to take these very programs.
