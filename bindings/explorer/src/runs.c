@@ -303,7 +303,7 @@ void run_once(struct run *run, bool synchronous, enum choosing choosing) {
     if (choosing == BY_SEARCH && is_through && !search_end_run()) run->is_astray = true;
     answer_all(run->steps);
     for (int rank = 0; rank < set.size; rank++) end_process(run, rank);
-    refuse_other_program();
+    if (run->ending != LATE) refuse_other_program();
     leave_open(run);
     steps_tell_collectives(run->steps);
     if (kombazily_is_rest_told(run->ending)) steps_tell_rest(run->steps);

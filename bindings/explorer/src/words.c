@@ -14,7 +14,7 @@ static const char usage[] =
     "Runs a C program of MPI again and again, and makes the choices that MPI leaves open each time otherwise,\n"
     "until all were made or a bound is met. PROGRAM is linked with this library, best with -g.\n"
     "\n"
-    "  -n RANKS         how many ranks, 1 to 64\n"
+    "  -n RANKS         how many ranks, 1 to 64 (2)\n"
     "  --both           a second pass, in which each standard send waits for its receive, and each collective for all\n"
     "  --synchronous    that pass alone\n"
     "  --each           whether a send waits is a choice of its own: what rests on buffers is told\n"
@@ -149,6 +149,7 @@ void read_words(int count, char **words) {
     set.program = words + at;
     if (*set.program == NULL) fail(STATUS_WORDS, "a program has to stand there", "");
     find_program();
+    if (set.input != NULL && access(set.input, R_OK) != 0) fail(STATUS_WORDS, "it can't be read: ", set.input);
     if (set.size < 1 || set.size > MOST_RANKS) fail(STATUS_WORDS, "1 to 64 ranks", "");
     if (set.debugged >= set.size) fail(STATUS_WORDS, "there is no such rank to debug", "");
     if (set.debugged >= 0) set.forks = false;
