@@ -176,7 +176,7 @@ static void take_over(struct result *it, const struct run *again, char *output) 
 
 bool find_places(struct result *it, bool synchronous) {
     struct run again;
-    if (it->has_places) return true;
+    if (it->has_places) return !it->is_elsewhere;
     const bool told_places = set.places;
     set.places = true;
     force_moves(it->moves, it->move_count);
@@ -190,6 +190,7 @@ bool find_places(struct result *it, bool synchronous) {
     else free(output), free(again.choices);
     steps_free(again.steps);
     free(again.moves);
+    it->is_elsewhere = !is_same;
     return is_same;
 }
 
@@ -251,6 +252,12 @@ const char *said_of(const struct pass *pass) {
     if (pass->astray != NULL) return pass->astray;
     if (set.replay != NULL || set.followed != NULL) return "by the choices of the file";
     if (!pass->is_all) return "not every choice was tried";
+    for (int i = 0; i < result_count; i++)
+        if (results[i].is_elsewhere)
+            return "every choice that came up was tried, but the same ones led elsewhere: the program depends on "
+                   "something else";
+    for (int i = 0; i < result_count; i++)
+        if (results[i].ending == SILENT) return "every choice was tried, up to where a rank is silent";
     static char bounded[96];
     snprintf(bounded, sizeof bounded, "every choice was tried in which at most %d look%s in a row say%s no (--noes K)",
              set.noes, set.noes == 1 ? "" : "s", set.noes == 1 ? "s" : "");
@@ -264,7 +271,7 @@ static void tell_head(const struct pass *pass) {
            (unsigned long)counts.moves);
 }
 
-static void tell_result(int i, bool synchronous) {
+static void tell_result(int i) {
     struct result *it = &results[i];
     printf("result %d of %d, in %ld run%s: %s%s%s%s\n", i + 1, result_count, it->runs, it->runs == 1 ? "" : "s",
            ending_word(it->ending), it->weight == 0 ? ", nothing to tell" : "",
@@ -273,10 +280,7 @@ static void tell_result(int i, bool synchronous) {
                : "",
            it->is_odd ? " (perhaps: no one order of arrival gives this, but MPI allows it)" : "");
     fputs(it->words, stdout);
-    if (result_count > 1 && (i > 0 || it->weight > 0)) {
-        for (int k = 0; k < result_count && k < set.results; k++) find_places(&results[k], synchronous);
-        tell_parting(i);
-    }
+    if (result_count > 1 && (i > 0 || it->weight > 0)) tell_parting(i);
     if (set.shows_output || (result_count > 1 && !set.quiet)) fputs(it->output, stdout);
 }
 
@@ -289,19 +293,31 @@ static uint32_t weight_of_pass(const struct pass *pass) {
     return weight;
 }
 
+static bool needs_places(const struct result *it) {
+    return it->weight > 0 || result_count > 1 || set.out != NULL || set.html != NULL;
+}
+
+/* Those that are told, once more: the head says whether they led elsewhere, and counts the search alone. */
+static void find_first_places(bool synchronous) {
+    const struct counts explored = counts;
+    for (int i = 0; i < result_count && i < set.results && !set.counts_only; i++)
+        if (needs_places(&results[i])) (void)find_places(&results[i], synchronous);
+    counts = explored;
+}
+
 uint32_t tell_results(const struct pass *pass) {
     int told = 0;
     if (result_count > 1) qsort(results, (size_t)result_count, sizeof *results, by_weight);
+    find_first_places(pass->synchronous);
     tell_head(pass);
     for (int i = 0; i < result_count && !set.counts_only && told < set.results; i++) {
         struct result *it = &results[i];
-        bool needs_places = it->weight > 0 || result_count > 1 || set.out != NULL || set.html != NULL;
-        if (needs_places && !find_places(it, pass->synchronous))
+        if (needs_places(it) && !find_places(it, pass->synchronous))
             printf("  (the same choices led elsewhere: it depends on something else, too)\n");
         if (reads_as_before(i)) continue;
         told++;
         if (set.out != NULL) write_choices(it, i + 1, pass->synchronous);
-        tell_result(i, pass->synchronous);
+        tell_result(i);
     }
     return weight_of_pass(pass);
 }

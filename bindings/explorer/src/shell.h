@@ -119,6 +119,7 @@ struct result {
     char *words, *output, *choices;
     long runs, first;
     bool is_early, is_odd, has_places, has_mismatch;
+    bool is_elsewhere; /* the same choices, made once more, led to something else */
     uint64_t key;
     struct move *moves;
     int move_count;
