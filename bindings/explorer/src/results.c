@@ -310,6 +310,7 @@ uint32_t tell_results(const struct pass *pass) {
     if (result_count > 1) qsort(results, (size_t)result_count, sizeof *results, by_weight);
     find_first_places(pass->synchronous);
     tell_head(pass);
+    if (set.counts_only) printf("%d result%s\n", result_count, result_count == 1 ? "" : "s");
     for (int i = 0; i < result_count && !set.counts_only && told < set.results; i++) {
         struct result *it = &results[i];
         if (needs_places(it) && !find_places(it, pass->synchronous))
