@@ -401,3 +401,23 @@ void steps_tell_rest(struct steps *s) {
                 tell_left_of(s, rank, at, source);
     }
 }
+
+/* What a rank waits in vain to receive: false, it waits for something else. */
+static bool awaits_message(struct steps *s, int rank, struct engine_call *call) {
+    const struct rank *own = &s->ranks[rank];
+    if (own->state != RANK_BLOCKED || own->is_finalized || own->is_in_engine || own->ask.kind == ASK_CALL) return false;
+    const struct operation *it = own->ask.kind == ASK_PROBE ? NULL : first_open(s, rank);
+    if (own->ask.kind != ASK_PROBE && (it == NULL || it->is_send || it->plan != 0)) return false;
+    *call = it == NULL ? own->ask.call : it->call;
+    return true;
+}
+
+void steps_tell_others(struct steps *s) {
+    struct engine_call call;
+    for (int rank = 0; rank < s->options.size; rank++) {
+        if (!awaits_message(s, rank, &call)) continue;
+        const struct members *of = members_of(s, rank, call.communicator);
+        for (int source = 0; of != NULL && source < of->size; source++)
+            if (call.peer == ENGINE_ANY || call.peer == source) tell_left_of(s, rank, call.communicator, source);
+    }
+}

@@ -307,6 +307,7 @@ void run_once(struct run *run, bool synchronous, enum choosing choosing) {
     leave_open(run);
     steps_tell_collectives(run->steps);
     if (kombazily_is_rest_told(run->ending)) steps_tell_rest(run->steps);
+    if (run->ending == DEADLOCK) steps_tell_others(run->steps);
     counts.calls += steps_calls(run->steps);
     if (steps_withheld(run->steps)) counts.has_withheld = true;
 }

@@ -107,6 +107,8 @@ void steps_say_move(struct steps *s, struct move move, char *text, size_t room, 
 void steps_tell_collectives(struct steps *s);
 void steps_tell_deadlock(struct steps *s);
 void steps_tell_rest(struct steps *s);
+/* Of a deadlock: what is there of those from whom a rank waits for a message, with another tag. */
+void steps_tell_others(struct steps *s);
 void steps_note(struct steps *s, int rank, enum finding_kind kind, const char *text);
 /* In the order of ranks: how many. */
 int steps_findings(struct steps *s, const struct finding **findings);
