@@ -275,17 +275,25 @@ int steps_cycle(const struct steps *s, int ranks[MOST_RANKS]) {
     return s->cycle_length;
 }
 
-static void say_ranks(const struct steps *s, uint64_t ranks, char *into, size_t room) {
-    into[0] = '\0';
-    for (int rank = 0; rank < s->options.size; rank++)
-        if (ranks >> rank & 1) snprintf(into + strlen(into), room - strlen(into), " %d", rank);
+/* `rank 1`, or `ranks 1, 2 and 3`: how many. */
+static int say_ranks(const struct steps *s, uint64_t ranks, char *into, size_t room) {
+    int count = 0, told = 0;
+    for (int rank = 0; rank < s->options.size; rank++) count += ranks >> rank & 1;
+    snprintf(into, room, "%s", count > 1 ? "ranks" : count == 1 ? "rank" : "");
+    for (int rank = 0; rank < s->options.size; rank++) {
+        if ((ranks >> rank & 1) == 0) continue;
+        const char *before = told == 0 ? " " : told == count - 1 ? " and " : ", ";
+        snprintf(into + strlen(into), room - strlen(into), "%s%d", before, rank);
+        told++;
+    }
+    return count;
 }
 
 static void tell_collective(struct steps *s, int rank) {
     const struct rank *own = &s->ranks[rank];
     char who[300];
-    say_ranks(s, is_collective(own->ask.call.kind) ? absent_members(s, rank) : 0, who, sizeof who);
-    at_place(note(s, rank, WAITS, "rank %d waits in %s at %%0%s%s%s", rank, own->ask.name, *who ? " for rank" : "", who,
+    (void)say_ranks(s, is_collective(own->ask.call.kind) ? absent_members(s, rank) : 0, who, sizeof who);
+    at_place(note(s, rank, WAITS, "rank %d waits in %s at %%0%s%s%s", rank, own->ask.name, *who ? " for " : "", who,
                   *who ? " to enter" : ""),
              &own->place);
 }
@@ -297,11 +305,11 @@ static void tell_plan(struct steps *s, int rank, enum finding_kind kind, const s
     const struct rank *own = &s->ranks[rank];
     const struct plan *plan = plan_of(own, it->plan);
     char who[300];
-    say_ranks(s, awaited_by(s, rank, it), who, sizeof who);
+    const int count = say_ranks(s, awaited_by(s, rank, it), who, sizeof who);
     bool is_absent = behind(s, rank, plan->communicator, plan->entry) != 0;
-    struct finding *told =
-        note(s, rank, kind, "rank %d %s in %s at %%0 for rank%s to %s (%s at %%1)", rank, doing(kind), own->ask.name,
-             who, is_absent ? "enter" : "hand in its part", plan->place.name);
+    const char *what = is_absent ? "enter" : count > 1 ? "hand in their parts" : "hand in its part";
+    struct finding *told = note(s, rank, kind, "rank %d %s in %s at %%0 for %s to %s (%s at %%1)", rank, doing(kind),
+                                own->ask.name, who, what, plan->place.name);
     at_place(told, &own->place);
     at_place(told, &plan->place);
 }
