@@ -23,7 +23,11 @@ void at_place(struct finding *it, const struct place *place) {
 }
 
 void steps_note(struct steps *s, int rank, enum finding_kind kind, const char *text) {
-    note(s, rank, kind, "%s", text);
+    const struct place *last = &s->ranks[rank].place;
+    if (kind == RECORD_ENDS || last->name[0] == '\0') note(s, rank, kind, "%s", text);
+    else
+        at_place(note(s, rank, kind, "%s, %s %s at %%0", text, kind == KILLED ? "in or after" : "after", last->name),
+                 last);
 }
 
 static int in_order(const void *a, const void *b) {

@@ -109,6 +109,7 @@ void steps_tell_deadlock(struct steps *s);
 void steps_tell_rest(struct steps *s);
 /* Of a deadlock: what is there of those from whom a rank waits for a message, with another tag. */
 void steps_tell_others(struct steps *s);
+/* Told of a rank's process, with the rank's last call that came here, but for a record that is over. */
 void steps_note(struct steps *s, int rank, enum finding_kind kind, const char *text);
 /* In the order of ranks: how many. */
 int steps_findings(struct steps *s, const struct finding **findings);
