@@ -271,6 +271,15 @@ static void tell_head(const struct pass *pass) {
            (unsigned long)counts.moves);
 }
 
+/* Whether a rank's process ended by itself in a way that is told: what it printed may say why. */
+static bool has_own_end(const struct result *it) {
+    for (int i = 0; i < it->finding_count; i++) {
+        const enum finding_kind kind = it->findings[i].kind;
+        if (kind == KILLED || kind == NO_FINALIZE || kind == OTHER_STATUS) return true;
+    }
+    return false;
+}
+
 static void tell_result(int i) {
     struct result *it = &results[i];
     printf("result %d of %d, in %ld run%s: %s%s%s%s\n", i + 1, result_count, it->runs, it->runs == 1 ? "" : "s",
@@ -281,7 +290,8 @@ static void tell_result(int i) {
            it->is_odd ? " (perhaps: no one order of arrival gives this, but MPI allows it)" : "");
     fputs(it->words, stdout);
     if (result_count > 1 && (i > 0 || it->weight > 0)) tell_parting(i);
-    if (set.shows_output || (result_count > 1 && !set.quiet)) fputs(it->output, stdout);
+    const bool is_worth_it = result_count > 1 || has_own_end(it);
+    if (set.shows_output || (is_worth_it && !set.quiet)) fputs(it->output, stdout);
 }
 
 static uint32_t weight_of_pass(const struct pass *pass) {

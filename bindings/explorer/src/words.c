@@ -29,7 +29,7 @@ static const char usage[] =
     "  --html FILE      a page of all that was found\n"
     "  --go-on          an error that would end the program is told, and returned\n"
     "  --results K      so many results are told (10)\n"
-    "  --output         what the program printed is shown, also of one result\n"
+    "  --output         what the program printed is shown, also of one result in which no rank crashed or failed\n"
     "  --quiet          it isn't shown\n"
     "  --count          results are counted and not shown\n"
     "  --patience S     so long a rank may compute without a call (10)\n"
