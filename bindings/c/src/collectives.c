@@ -72,7 +72,7 @@ static int check_own_block(MPI_Comm comm, const char *call, struct items sent, s
 /* Checks that what the root sends is none of what it receives (2.3): its own block stays only by MPI_IN_PLACE. */
 static int check_apart(MPI_Comm comm, const char *call, const void *sendbuf, const void *recvbuf, struct items items) {
     if (sendbuf != recvbuf || length_of(items) == 0) return MPI_SUCCESS;
-    return raise_on(comm, call, MPI_ERR_BUFFER, "sendbuf is recvbuf: MPI_IN_PLACE says so");
+    return raise_on(comm, call, MPI_ERR_BUFFER, "sendbuf is recvbuf: one of them has to be MPI_IN_PLACE");
 }
 
 int MPI_Barrier(MPI_Comm comm) {

@@ -90,7 +90,8 @@ int check_own_places(const struct asked *asked, struct place given, struct place
 
 int check_apart_places(const struct asked *asked, const void *sendbuf, const void *recvbuf, size_t bytes) {
     if (sendbuf != recvbuf || bytes == 0) return MPI_SUCCESS;
-    return raise_on(asked->handle, asked->name, MPI_ERR_BUFFER, "sendbuf is recvbuf: MPI_IN_PLACE says so");
+    return raise_on(asked->handle, asked->name, MPI_ERR_BUFFER,
+                    "sendbuf is recvbuf: one of them has to be MPI_IN_PLACE");
 }
 
 /* ---- beginning ---- */

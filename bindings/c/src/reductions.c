@@ -39,7 +39,7 @@ static int check_buffers(MPI_Comm comm, const char *call, const void *sendbuf, v
     if (class != MPI_SUCCESS) return class;
     if (recvbuf == MPI_IN_PLACE) return raise_on(comm, call, MPI_ERR_BUFFER, "recvbuf is MPI_IN_PLACE");
     if (sendbuf == recvbuf && count > 0)
-        return raise_on(comm, call, MPI_ERR_BUFFER, "sendbuf is recvbuf: MPI_IN_PLACE says so");
+        return raise_on(comm, call, MPI_ERR_BUFFER, "sendbuf is recvbuf: sendbuf has to be MPI_IN_PLACE then");
     *row = sendbuf == MPI_IN_PLACE ? recvbuf : sendbuf;
     return MPI_SUCCESS;
 }
