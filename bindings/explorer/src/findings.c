@@ -322,7 +322,7 @@ static void tell_plan(struct steps *s, int rank, enum finding_kind kind, const s
 static void tell_request_wait(struct steps *s, int rank, enum finding_kind kind) {
     const struct rank *own = &s->ranks[rank];
     const struct operation *it = first_open(s, rank);
-    bool is_one = own->ask.kind == ASK_WAIT;
+    bool is_one = own->ask.kind == ASK_WAIT || own->ask.count == 1;
     if (it == NULL) {
         at_place(note(s, rank, kind, "rank %d %s in %s at %%0", rank, doing(kind), own->ask.name), &own->place);
         return;
