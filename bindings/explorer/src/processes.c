@@ -184,8 +184,8 @@ static void copy_mould(int rank, int end) {
     char *text = output_of(rank, &length);
     fwrite(text, 1, length, stderr);
     fail(STATUS_START, set.program[0],
-         ": a rank ended before MPI_Init: it is no program of MPI, or it isn't linked with this library (by its "
-         "mpicc)");
+         ": a rank ended before MPI_Init: it is no program of MPI, isn't linked with this library (by its mpicc), or "
+         "ended by itself");
 }
 
 void start_rank(int rank) {

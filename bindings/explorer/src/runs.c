@@ -277,8 +277,8 @@ static void refuse_other_program(void) {
         free(text);
     }
     fail(STATUS_START, set.program[0],
-         ": no rank called MPI_Init, so there is nothing to check: it is no program of MPI, or it isn't linked with "
-         "this library (by its mpicc)");
+         ": no rank called MPI_Init, so there is nothing to check: it is no program of MPI, isn't linked with this "
+         "library (by its mpicc), or ended before");
 }
 
 /* Where a record is over, it isn't known what its rank would do for those that wait; but those of a cycle wait for each
