@@ -229,13 +229,13 @@ static int by_weight(const void *a, const void *b) {
     return kombazily_result_is_before(x->weight, (uint64_t)x->first, y->weight, (uint64_t)y->first) ? -1 : 1;
 }
 
-/* Whether a result that was told before reads the same. */
-static bool reads_as_before(int own) {
-    for (int i = 0; i < own; i++)
-        if (results[i].ending == results[own].ending && strcmp(results[i].words, results[own].words) == 0 &&
-            strcmp(results[i].output, results[own].output) == 0)
-            return true;
-    return false;
+/* The place of the result, among so many, that reads as this one does; -1: none. */
+static int reads_as(const struct result *it, int among) {
+    for (int i = 0; i < among; i++)
+        if (results[i].has_places && it->has_places && results[i].ending == it->ending &&
+            strcmp(results[i].words, it->words) == 0 && strcmp(results[i].output, it->output) == 0)
+            return i;
+    return -1;
 }
 
 static void tell_parting(int own) {
@@ -307,26 +307,37 @@ static bool needs_places(const struct result *it) {
     return it->weight > 0 || result_count > 1 || set.out != NULL || set.html != NULL;
 }
 
-/* Those that are told, once more: the head says whether they led elsewhere, and counts the search alone. */
-static void find_first_places(bool synchronous) {
+/* Results are run once more, for their lines, and those that read the same are one. Whether the program went elsewhere
+ * stands in the head, which counts the search alone. */
+static void merge_results(bool synchronous) {
     const struct counts explored = counts;
-    for (int i = 0; i < result_count && i < set.results && !set.counts_only; i++)
-        if (needs_places(&results[i])) (void)find_places(&results[i], synchronous);
+    int kept = 0;
+    for (int i = 0; i < result_count; i++) {
+        struct result *it = &results[i];
+        if ((kept < set.results || set.counts_only) && needs_places(it)) (void)find_places(it, synchronous);
+        const int same = reads_as(it, kept);
+        if (same < 0) {
+            results[kept++] = *it;
+            continue;
+        }
+        results[same].runs += it->runs;
+        results[same].is_early &= it->is_early;
+        results[same].is_odd &= it->is_odd;
+        results[same].is_elsewhere |= it->is_elsewhere;
+        free_result(it);
+    }
+    result_count = kept;
     counts = explored;
 }
 
 uint32_t tell_results(const struct pass *pass) {
-    int told = 0;
     if (result_count > 1) qsort(results, (size_t)result_count, sizeof *results, by_weight);
-    find_first_places(pass->synchronous);
+    merge_results(pass->synchronous);
     tell_head(pass);
     if (set.counts_only) printf("%d result%s\n", result_count, result_count == 1 ? "" : "s");
-    for (int i = 0; i < result_count && !set.counts_only && told < set.results; i++) {
+    for (int i = 0; i < result_count && !set.counts_only && i < set.results; i++) {
         struct result *it = &results[i];
-        if (needs_places(it) && !find_places(it, pass->synchronous))
-            printf("  (the same choices led elsewhere: it depends on something else, too)\n");
-        if (reads_as_before(i)) continue;
-        told++;
+        if (it->is_elsewhere) printf("  (the same choices led elsewhere: it depends on something else, too)\n");
         if (set.out != NULL) write_choices(it, i + 1, pass->synchronous);
         tell_result(i);
     }
