@@ -109,11 +109,20 @@ static void say_hint(const uint32_t *passes, size_t count) {
         puts("--both looks for what hangs where sends aren't buffered, too");
 }
 
+/* What is asked for in files is refused before the first run where it can't be written. */
+static void open_files(void) {
+    if (set.out != NULL && mkdir(set.out, 0777) != 0 && access(set.out, W_OK | X_OK) != 0)
+        fail(STATUS_WORDS, "nothing can be written there: ", set.out);
+    FILE *page = set.html == NULL ? NULL : fopen(set.html, "a");
+    if (set.html != NULL && page == NULL) fail(STATUS_WORDS, "it can't be written: ", set.html);
+    if (page != NULL) fclose(page);
+}
+
 int main(int count, char **words) {
     read_words(count, words);
     setvbuf(stdout, NULL, _IOLBF, 0);
     signal(SIGPIPE, SIG_IGN);
-    if (set.out != NULL) mkdir(set.out, 0777);
+    open_files();
     uint32_t passes[2];
     size_t pass_count = 0;
     passes[pass_count++] = make_pass(set.synchronous);
