@@ -198,6 +198,9 @@ typedef struct MPI_Status {
 #define MPI_BXOR ((MPI_Op)0x1000000a)
 #define MPI_MINLOC ((MPI_Op)0x1000000b)
 #define MPI_MAXLOC ((MPI_Op)0x1000000c)
+/* Of windows alone (11.3.4). */
+#define MPI_REPLACE ((MPI_Op)0x1000000d)
+#define MPI_NO_OP ((MPI_Op)0x1000000e)
 
 /* Error handlers (8.3). */
 #define MPI_ERRHANDLER_NULL ((MPI_Errhandler)0)

@@ -28,6 +28,8 @@ static struct operation predefined[] = {
     PREDEFINED(BXOR),
     [OPERATION_MINLOC] = {.number = OPERATION_MINLOC, .commutes = true, .uses = 1, .name = "MPI_MINLOC"},
     [OPERATION_MAXLOC] = {.number = OPERATION_MAXLOC, .commutes = true, .uses = 1, .name = "MPI_MAXLOC"},
+    [OPERATION_REPLACE] = {.number = OPERATION_REPLACE, .uses = 1, .name = "MPI_REPLACE"},
+    [OPERATION_NO_OP] = {.number = OPERATION_NO_OP, .uses = 1, .name = "MPI_NO_OP"},
 };
 enum { PREDEFINED_COUNT = sizeof predefined / sizeof *predefined };
 
@@ -65,6 +67,8 @@ int check_operation(MPI_Comm comm, const char *call, MPI_Op op, const struct dat
     *found = operation_at(op);
     if (*found == NULL) return raise_on(comm, call, MPI_ERR_OP, "no such operation");
     if (!is_predefined(*found)) return MPI_SUCCESS;
+    if ((*found)->number >= OPERATION_REPLACE)
+        return raise_on(comm, call, MPI_ERR_OP, "%s is for windows alone", (*found)->name);
     if (!type->is_predefined)
         return raise_on(comm, call, MPI_ERR_OP, "%s isn't defined on a derived type", (*found)->name);
     bool is_pairs = (*found)->number > ENGINE_BXOR;

@@ -9,8 +9,9 @@
 
 #include <stdbool.h>
 
-/* The predefined operations that the engine hasn't, behind those that it has (5.9.4). */
-enum { OPERATION_MINLOC = ENGINE_BXOR + 1, OPERATION_MAXLOC };
+/* The predefined operations that the engine hasn't, behind those that it has (5.9.4). The last two are those of windows
+ * (11.3.4), by which nothing is reduced. */
+enum { OPERATION_MINLOC = ENGINE_BXOR + 1, OPERATION_MAXLOC, OPERATION_REPLACE, OPERATION_NO_OP };
 
 /* An operation: a predefined one, or a function of the program. */
 struct operation {

@@ -16,6 +16,8 @@ static void check_windows(void) {
     CHECK(is_unsupported(MPI_Win_allocate(8, 1, MPI_INFO_NULL, MPI_COMM_WORLD, &base, &win)));
     CHECK(is_unsupported(MPI_Win_fence(MPI_MODE_NOSTORE | MPI_MODE_NOPUT, MPI_WIN_NULL)));
     CHECK(is_unsupported(MPI_Put(&number, 1, MPI_INT, 0, 0, 1, MPI_INT, MPI_WIN_NULL)));
+    CHECK(is_unsupported(MPI_Accumulate(&number, 1, MPI_INT, 0, 0, 1, MPI_INT, MPI_REPLACE, MPI_WIN_NULL)));
+    CHECK(is_unsupported(MPI_Fetch_and_op(&number, &flag, MPI_INT, 0, 0, MPI_NO_OP, MPI_WIN_NULL)));
     CHECK(is_unsupported(MPI_Rget(&number, 1, MPI_INT, 0, 0, 1, MPI_INT, MPI_WIN_NULL, &request)));
     CHECK(request == MPI_REQUEST_NULL);
     CHECK(is_unsupported(MPI_Win_get_attr(MPI_WIN_NULL, MPI_WIN_BASE, &base, &flag)));

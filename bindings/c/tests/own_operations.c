@@ -69,12 +69,27 @@ static void handles(void) {
     CHECK(class_of(MPI_Op_free(&op)) == MPI_ERR_OP);
     op = MPI_MAX;
     CHECK(class_of(MPI_Op_free(&op)) == MPI_ERR_OP && op == MPI_MAX);
+    op = MPI_REPLACE;
+    CHECK(class_of(MPI_Op_free(&op)) == MPI_ERR_OP && op == MPI_REPLACE);
     MPI_Op_create(then, 1, &op);
     CHECK(MPI_Op_commutative(op, &commutes) == MPI_SUCCESS && commutes == 1);
     CHECK(op != stale);
     CHECK(MPI_Op_f2c(MPI_Op_c2f(op)) == op && MPI_Op_f2c(MPI_Op_c2f(MPI_MAXLOC)) == MPI_MAXLOC);
     CHECK(MPI_Op_f2c(MPI_Op_c2f(MPI_OP_NULL)) == MPI_OP_NULL);
     MPI_Op_free(&op);
+}
+
+/* Those of windows reduce nothing (11.3.4). */
+static void of_windows(void) {
+    const MPI_Op both[] = {MPI_REPLACE, MPI_NO_OP};
+    int own = 1, all = 2;
+    for (int at = 0; at < 2; at++) {
+        CHECK(class_of(MPI_Allreduce(&own, &all, 1, MPI_INT, both[at], MPI_COMM_WORLD)) == MPI_ERR_OP);
+        CHECK(class_of(MPI_Scan(&own, &all, 1, MPI_INT, both[at], MPI_COMM_WORLD)) == MPI_ERR_OP);
+        CHECK(class_of(MPI_Reduce_local(&own, &all, 1, MPI_INT, both[at])) == MPI_ERR_OP && all == 2);
+        CHECK(MPI_Op_f2c(MPI_Op_c2f(both[at])) == both[at] && both[at] != MPI_OP_NULL);
+    }
+    CHECK(MPI_REPLACE != MPI_NO_OP);
 }
 
 /* As reductions do it: NaN, -0, sums that wrap. */
@@ -108,6 +123,7 @@ int main(int argc, char **argv) {
     CHECK(test_size == 1 || calls > 0);
     MPI_Type_free(&pair);
     handles();
+    of_windows();
     local();
     return test_end();
 }
