@@ -44,7 +44,8 @@ int check_type(MPI_Comm comm, const char *call, MPI_Datatype type, struct dataty
 }
 
 int check_buffer(MPI_Comm comm, const char *call, const void *buf, int count, const struct datatype *type) {
-    if (buf != NULL || count == 0 || type->layout.numbers.size == 0) return MPI_SUCCESS;
+    if ((buf != NULL && buf != MPI_IN_PLACE) || count == 0 || type->layout.numbers.size == 0) return MPI_SUCCESS;
+    if (buf == MPI_IN_PLACE) return raise_on(comm, call, MPI_ERR_BUFFER, "MPI_IN_PLACE can't stand here");
     /* MPI_BOTTOM is NULL: a type may have addresses for its displacements (4.1.5). The first page is no process's. */
     if (type->layout.numbers.true_lower >= 4096) return MPI_SUCCESS;
     return raise_on(comm, call, MPI_ERR_BUFFER, "the buffer of %d items is NULL", count);

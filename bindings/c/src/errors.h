@@ -34,7 +34,7 @@ void check_running(const char *call);
 int check_comm(MPI_Comm comm, const char *call, struct communicator **found);
 int check_count(MPI_Comm comm, const char *call, int count);
 int check_type(MPI_Comm comm, const char *call, MPI_Datatype type, struct datatype **found);
-/* An address may be NULL where there are no data. */
+/* An address may be NULL or MPI_IN_PLACE where there are no data. */
 int check_buffer(MPI_Comm comm, const char *call, const void *buf, int count, const struct datatype *type);
 /* A rank of the communicator or MPI_PROC_NULL; a source may be MPI_ANY_SOURCE, too. */
 int check_target(MPI_Comm comm, const char *call, const struct communicator *in, int rank);

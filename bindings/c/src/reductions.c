@@ -35,7 +35,7 @@ static int check_reduction(MPI_Comm comm, const char *call, int count, MPI_Datat
 static int check_buffers(MPI_Comm comm, const char *call, const void *sendbuf, void *recvbuf, int count,
                          const struct datatype *type, const void **row) {
     int class = check_buffer(comm, call, recvbuf, count, type);
-    if (class == MPI_SUCCESS) class = check_buffer(comm, call, sendbuf, count, type);
+    if (class == MPI_SUCCESS && sendbuf != MPI_IN_PLACE) class = check_buffer(comm, call, sendbuf, count, type);
     if (class != MPI_SUCCESS) return class;
     if (recvbuf == MPI_IN_PLACE) return raise_on(comm, call, MPI_ERR_BUFFER, "recvbuf is MPI_IN_PLACE");
     if (sendbuf == recvbuf && count > 0)
@@ -68,8 +68,8 @@ int MPI_Reduce(const void *sendbuf, void *recvbuf, int count, MPI_Datatype datat
     if (of.comm->rank == root) {
         class = check_buffers(comm, call, sendbuf, recvbuf, count, of.type, &row);
     } else {
-        class = check_buffer(comm, call, sendbuf, count, of.type);
         if (sendbuf == MPI_IN_PLACE) class = raise_on(comm, call, MPI_ERR_BUFFER, "MPI_IN_PLACE is the root's alone");
+        else class = check_buffer(comm, call, sendbuf, count, of.type);
     }
     if (class != MPI_SUCCESS) return class;
     uint32_t number = is_folded_here(of.type) ? fold_rows(rows_of(of, root), of.operation, row, of.length, recvbuf)

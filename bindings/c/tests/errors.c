@@ -25,6 +25,7 @@ static void check_sends(void) {
     ANSWERS(MPI_Isend(&number, 1, MPI_DATATYPE_NULL, 0, 0, world, &request), MPI_ERR_TYPE);
     ANSWERS(MPI_Issend(&number, 1, MPI_INT, 0, 0, MPI_COMM_NULL, &request), MPI_ERR_COMM);
     ANSWERS(MPI_Send(NULL, 1, MPI_INT, 0, 0, world), MPI_ERR_BUFFER);
+    ANSWERS_HERE(MPI_Send(MPI_IN_PLACE, 1, MPI_INT, 0, 0, world), MPI_ERR_BUFFER);
 }
 
 static void check_receives(void) {
@@ -36,6 +37,7 @@ static void check_receives(void) {
     ANSWERS(MPI_Irecv(&number, -3, MPI_INT, 0, 0, world, &request), MPI_ERR_COUNT);
     ANSWERS(MPI_Irecv(&number, 1, MPI_DATATYPE_NULL, 0, 0, world, &request), MPI_ERR_TYPE);
     ANSWERS(MPI_Recv(&number, 1, MPI_INT, 0, 0, MPI_COMM_NULL, &status), MPI_ERR_COMM);
+    ANSWERS_HERE(MPI_Irecv(MPI_IN_PLACE, 1, MPI_INT, 0, 0, world, &request), MPI_ERR_BUFFER);
     ANSWERS(MPI_Probe(test_size, 0, world, &status), MPI_ERR_RANK);
     ANSWERS(MPI_Iprobe(0, -9, world, &flag, &status), MPI_ERR_TAG);
 }
@@ -54,6 +56,19 @@ static void check_types(void) {
     CHECK(basic == MPI_INT);
 }
 
+/* MPI_IN_PLACE stands where 5 allows it, and is no address elsewhere. */
+static void check_in_place(int *all) {
+    MPI_Comm self = MPI_COMM_SELF;
+    int position = 0;
+    ANSWERS_HERE(MPI_Bcast(MPI_IN_PLACE, 1, MPI_INT, 0, self), MPI_ERR_BUFFER);
+    ANSWERS_HERE(MPI_Gather(all, 1, MPI_INT, MPI_IN_PLACE, 1, MPI_INT, 0, self), MPI_ERR_BUFFER);
+    ANSWERS_HERE(MPI_Scatter(MPI_IN_PLACE, 1, MPI_INT, all, 1, MPI_INT, 0, self), MPI_ERR_BUFFER);
+    ANSWERS_HERE(MPI_Reduce(all, MPI_IN_PLACE, 1, MPI_INT, MPI_SUM, 0, self), MPI_ERR_BUFFER);
+    ANSWERS_HERE(MPI_Allreduce(MPI_IN_PLACE, MPI_IN_PLACE, 1, MPI_INT, MPI_SUM, self), MPI_ERR_BUFFER);
+    ANSWERS_HERE(MPI_Pack(MPI_IN_PLACE, 1, MPI_INT, all, (int)sizeof(int), &position, self), MPI_ERR_BUFFER);
+    ANSWERS_HERE(MPI_Reduce_local(MPI_IN_PLACE, all, 1, MPI_INT, MPI_SUM), MPI_ERR_BUFFER);
+}
+
 static void check_collectives(void) {
     int all[64];
     ANSWERS(MPI_Bcast(&number, 1, MPI_INT, test_size, MPI_COMM_WORLD), MPI_ERR_ROOT);
@@ -70,6 +85,7 @@ static void check_collectives(void) {
     ANSWERS_HERE(MPI_Gather(all, 1, MPI_INT, all, 1, MPI_INT, 0, MPI_COMM_SELF), MPI_ERR_BUFFER);
     ANSWERS_HERE(MPI_Scatter(all, 1, MPI_INT, all, 1, MPI_INT, 0, MPI_COMM_SELF), MPI_ERR_BUFFER);
     CHECK(MPI_Gather(all, 0, MPI_INT, all, 0, MPI_INT, 0, MPI_COMM_SELF) == MPI_SUCCESS);
+    check_in_place(all);
     MPI_Comm_set_errhandler(MPI_COMM_SELF, MPI_ERRORS_ARE_FATAL);
 }
 
