@@ -23,6 +23,13 @@ _Noreturn void refuse_start(int status, const char *cause, const char *detail) {
     end_job(status);
 }
 
+/* Ends a process that is told its place wrongly: which rank it is isn't known. */
+static _Noreturn void refuse_place(const char *fault) {
+    fflush(stdout);
+    fprintf(stderr, "MPI_Init: " TOLD_WRONGLY "%s\n", fault);
+    end_job(STATUS_PLACE);
+}
+
 /* ---- by words and variables ---- */
 
 int rank_in_environment(void) {
@@ -134,7 +141,7 @@ static _Noreturn void refuse_way(uint32_t fault) {
         [FAULT_SLURM] = "SLURM started several tasks, and speaks no PMI to them",
         [FAULT_OPENMPI] = "Open MPI's launcher started several processes",
         [FAULT_PMIX] = "the launcher that started it speaks PMIx alone"};
-    if (fault < FAULT_SLURM) refuse_start(STATUS_PLACE, TOLD_WRONGLY, faults[fault]);
+    if (fault < FAULT_SLURM) refuse_place(faults[fault]);
     fflush(stdout);
     fprintf(stderr,
             "MPI_Init: %s, so this would be a job of one rank: start it by srun --mpi=pmi2, by mpiexec.hydra or by "
@@ -168,7 +175,7 @@ void find_place(int *argc, char ***argv, struct addresses *job) {
     if (way.kind == WAY_REFUSED) refuse_way(way.fault);
     if (way.kind == WAY_LAUNCHER) ask_launcher(&way, job);
     if (way.kind == WAY_VARIABLES || is_alone) source = place_in_environment(getenv, &place, &fault);
-    if (source == PLACE_FAULTY) refuse_start(STATUS_PLACE, TOLD_WRONGLY, fault);
+    if (source == PLACE_FAULTY) refuse_place(fault);
     if (source == PLACE_TOLD) take_place(&place, job);
     process.frame = frame_of(job);
 }
