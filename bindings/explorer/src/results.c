@@ -261,7 +261,10 @@ const char *said_of(const struct pass *pass) {
     static char bounded[96];
     snprintf(bounded, sizeof bounded, "every choice was tried in which at most %d look%s in a row say%s no (--noes K)",
              set.noes, set.noes == 1 ? "" : "s", set.noes == 1 ? "s" : "");
-    return counts.has_withheld ? bounded : "every choice was tried";
+    const char *said = counts.has_withheld ? bounded : "every choice was tried";
+    static char but[192];
+    snprintf(but, sizeof but, "%s, but for whether a message or the cancel of its receive comes first", said);
+    return counts.has_cancelled ? but : said;
 }
 
 static void tell_head(const struct pass *pass) {

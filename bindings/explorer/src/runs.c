@@ -310,4 +310,5 @@ void run_once(struct run *run, bool synchronous, enum choosing choosing) {
     if (run->ending == DEADLOCK) steps_tell_others(run->steps);
     counts.calls += steps_calls(run->steps);
     if (steps_withheld(run->steps)) counts.has_withheld = true;
+    if (steps_cancelled(run->steps)) counts.has_cancelled = true;
 }

@@ -85,7 +85,8 @@ struct run {
 };
 struct counts {
     uint64_t asks, moves, calls;
-    bool has_withheld; /* a look of some run wasn't let say no (--noes) */
+    bool has_withheld;  /* a look of some run wasn't let say no (--noes) */
+    bool has_cancelled; /* some run left to chance whether a message or the cancel of its receive came first */
 };
 extern struct counts counts;
 

@@ -283,6 +283,12 @@ uint64_t steps_calls(const struct steps *s) { return s->calls; }
 
 bool steps_withheld(const struct steps *s) { return s->has_withheld; }
 
+bool steps_cancelled(const struct steps *s) {
+    for (int rank = 0; rank < s->options.size; rank++)
+        if (s->ranks[rank].has_cancelled) return true;
+    return false;
+}
+
 enum ending steps_ending(const struct steps *s) {
     bool has_ended[MOST_RANKS] = {false};
     for (int rank = 0; rank < s->options.size; rank++) has_ended[rank] = s->ranks[rank].state == RANK_ENDED;

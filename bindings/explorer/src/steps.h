@@ -88,6 +88,8 @@ bool steps_has_finalized(const struct steps *s, int rank);
 uint64_t steps_calls(const struct steps *s);
 /* Whether a look was kept from saying no, since as many in a row had said so as may. */
 bool steps_withheld(const struct steps *s);
+/* Whether a receive was cancelled to which a message might have come first. */
+bool steps_cancelled(const struct steps *s);
 
 /* ---- what may come next ---- */
 
