@@ -1,5 +1,9 @@
 //! A rank by itself.
 
+ghost use Rattle.std.specs.Prelude.{◌≡◌, [], IfOk, IsTrue, length};
+ghost use Rattle.event_loop.specs.Turns.{is_ready};
+ghost use Rattle.lone_ranks.specs.LoneStates.{OpensAs, standing_of};
+
 use crate::frames::{SentFrame, acknowledgement_of, header_of_frame};
 use alike::{Alike, are_alike};
 use datagram::{Bytes, Header};
@@ -9,6 +13,7 @@ use replies::reply_of;
 use script_files::parse;
 use script_runner::ScriptRunner;
 use std::alloc::{AllocError, Global};
+use std::marker::Model;
 use std::mem;
 use stepped_plays::PlayError;
 use vocabulary::{Endpoint, MessageLimit, replace};
@@ -16,23 +21,12 @@ use vocabulary::{Endpoint, MessageLimit, replace};
 /// The number of the job in which ranks play.
 const JOB: u64 = 1;
 
-/// A call that isn't answered yet. Which one it is, the runner knows.
-#[derive(Clone, Copy, Debug, PartialEq, Eq)]
-struct AwaitedCall;
-
-impl Alike for AwaitedCall {
-    fn stands_as(&self, _other: &Self) -> bool {
-        true
-    }
-}
-
 /// A rank of a script by itself.
-#[derive(Drop)]
 pub struct LoneRank {
     alloc: Global,
     engine: Engine,
     runner: ScriptRunner,
-    state: RunnerState<AwaitedCall>,
+    state: RunnerState<()>,
     /// The lines that it printed, in order.
     lines: Vec<Bytes>,
     /// The numbers of its refused calls, in order.
@@ -41,8 +35,52 @@ pub struct LoneRank {
     sent: Vec<SentFrame>,
 }
 
+/// A drop of its own is proved here alone, and not in each crate that owns such ranks.
+impl Drop for LoneRank {
+    fn drop(self) {
+        let LoneRank {
+            alloc: _,
+            engine: _engine,
+            runner: _runner,
+            state: _state,
+            lines: _lines,
+            refused: _refused,
+            sent: _sent,
+        } = self;
+    }
+}
+
+impl Model for LoneRank {
+    ghost use Rattle.lone_ranks.specs.LoneStates.{LoneState};
+
+    ghost Value = { LoneState };
+
+    ghost view = { λ r. record {
+      engine = r.engine;
+      runner = r.runner;
+      state = r.state;
+      lines = r.lines.items;
+      refused = r.refused.items;
+      sent = r.sent.items;
+    } };
+}
+
+/// Whether both wait for the same: for nothing, told the same last; for an answer; or they have ended alike.
+fn wait_alike(one: &RunnerState<()>, other: &RunnerState<()>) -> bool
+    ensures { IsTrue result → one.now ≡ other.now }
+{
+    match (one, other) {
+        (RunnerState::Ready(told), RunnerState::Ready(other_told)) => told.stands_as(other_told),
+        (RunnerState::Blocked(()), RunnerState::Blocked(())) => true,
+        (RunnerState::Over(status, line), RunnerState::Over(other_status, other_line)) => {
+            status == other_status && line == other_line
+        }
+        _ => false,
+    }
+}
+
 /// Takes what a rank that may go on was told last. None where it may not.
-fn take_told(state: &mut RunnerState<AwaitedCall>) -> Option<Option<Reply>> {
+fn take_told(state: &mut RunnerState<()>) -> Option<Option<Reply>> {
     match mem::replace(state, RunnerState::Ready(None)) {
         RunnerState::Ready(told) => Some(told),
         other => {
@@ -53,7 +91,7 @@ fn take_told(state: &mut RunnerState<AwaitedCall>) -> Option<Option<Reply>> {
 }
 
 /// The answer of its blocked call, if it is there.
-fn hear(engine: &mut Engine, state: &mut RunnerState<AwaitedCall>) {
+fn hear(engine: &mut Engine, state: &mut RunnerState<()>) {
     let Some(completion) = engine.take_completion() else {
         return;
     };
@@ -65,12 +103,12 @@ fn hear(engine: &mut Engine, state: &mut RunnerState<AwaitedCall>) {
 fn call(
     engine: &mut Engine,
     asked: Call,
-    state: &mut RunnerState<AwaitedCall>,
+    state: &mut RunnerState<()>,
     refused: &mut Vec<u8>,
 ) -> Result<(), AllocError> {
     match engine.call(asked) {
         Reply::Blocked => {
-            replace(state, RunnerState::Blocked(AwaitedCall));
+            replace(state, RunnerState::Blocked(()));
             hear(engine, state);
             Ok(())
         }
@@ -90,7 +128,7 @@ fn call(
 fn follow(
     engine: &mut Engine,
     step: RunnerStep,
-    state: &mut RunnerState<AwaitedCall>,
+    state: &mut RunnerState<()>,
     lines: &mut Vec<Bytes>,
     refused: &mut Vec<u8>,
 ) -> Result<bool, AllocError> {
@@ -114,7 +152,7 @@ fn follow(
 fn go_on(
     engine: &mut Engine,
     runner: &mut ScriptRunner,
-    state: &mut RunnerState<AwaitedCall>,
+    state: &mut RunnerState<()>,
     lines: &mut Vec<Bytes>,
     refused: &mut Vec<u8>,
 ) -> Result<(), AllocError> {
@@ -134,7 +172,7 @@ fn go_on(
 fn hear_datagram(
     engine: &mut Engine,
     bytes: &[u8],
-    state: &mut RunnerState<AwaitedCall>,
+    state: &mut RunnerState<()>,
 ) -> Result<bool, AllocError> {
     match engine.on_datagram(bytes) {
         Ok(()) => {
@@ -151,7 +189,7 @@ fn take_datagram(
     alloc: Global,
     engine: &mut Engine,
     frame: SentFrame,
-    state: &mut RunnerState<AwaitedCall>,
+    state: &mut RunnerState<()>,
     sent: &mut Vec<SentFrame>,
 ) -> Result<(), AllocError> {
     let Some(header) = header_of_frame(frame.bytes.as_slice()) else {
@@ -168,7 +206,7 @@ fn take_datagram(
 fn take_sent(
     alloc: Global,
     engine: &mut Engine,
-    state: &mut RunnerState<AwaitedCall>,
+    state: &mut RunnerState<()>,
     sent: &mut Vec<SentFrame>,
 ) -> Result<(), AllocError> {
     for _ in 0..u64::MAX {
@@ -191,7 +229,9 @@ fn error_of(refused: Refusal) -> PlayError {
 
 impl LoneRank {
     /// This rank of so many of the script of this text, at its start.
-    pub fn new(alloc: Global, text: &[u8], rank: u16, size: u16) -> Result<LoneRank, PlayError> {
+    pub fn new(alloc: Global, text: &[u8], rank: u16, size: u16) -> Result<LoneRank, PlayError>
+        ensures { IfOk result (λ lone. OpensAs text.now rank size lone) }
+    {
         let script = parse(alloc, text)?;
         let runner = ScriptRunner::new(alloc, script, rank, 0)?;
         let endpoint = Endpoint {
@@ -222,7 +262,9 @@ impl LoneRank {
     }
 
     /// Whether it may go on: it has not ended, and no call of it waits for its answer.
-    pub fn may_go(&self) -> bool {
+    pub fn may_go(&self) -> bool
+        ensures { result ≡ is_ready self.now.state }
+    {
         matches!(self.state, RunnerState::Ready(_))
     }
 
@@ -257,26 +299,35 @@ impl LoneRank {
     }
 
     /// The frames that it has sent since they were taken out last, in order.
-    pub fn take_frames(&mut self) -> Vec<SentFrame> {
+    pub fn take_frames(&mut self) -> Vec<SentFrame>
+        ensures all { result.items ≡ self.old.sent }
+        ensures rest { self.new ≡ record self.old { sent = [] } }
+    {
         mem::replace(&mut self.sent, Vec::new(self.alloc))
     }
 
     /// How many lines of its script are left to it.
-    pub fn lines_left(&self) -> usize {
+    pub fn lines_left(&self) -> usize
+        ensures { result ≡ length self.now.runner.lines }
+    {
         self.runner.lines_left()
     }
 
     /// The lines that it printed, in order.
-    pub fn lines(&self) -> &[Bytes] {
+    pub fn lines(&self) -> &[Bytes]
+        ensures { result.now ≡ self.now.lines }
+    {
         self.lines.as_slice()
     }
 
     /// Whether both stand alike, but for what wasn't taken out: their engines, what their scripts do next and what
     /// their names stand for, what they wait for, what they have printed, and which of their calls were refused.
-    pub fn stands_as(&self, other: &LoneRank) -> bool {
+    pub fn stands_as(&self, other: &LoneRank) -> bool
+        ensures { IsTrue result → standing_of self.now ≡ standing_of other.now }
+    {
         self.engine.stands_as(&other.engine)
             && self.runner.stands_as(&other.runner)
-            && self.state.stands_as(&other.state)
+            && wait_alike(&self.state, &other.state)
             && are_alike(self.lines.as_slice(), other.lines.as_slice())
             && self.refused.as_slice() == other.refused.as_slice()
     }
