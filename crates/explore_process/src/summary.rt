@@ -37,6 +37,17 @@ fn add_plays(alloc: Global, page: &mut Vec<u8>, explored: &Explored) -> Result<(
     }
 }
 
+/// Adds that each state was visited, where it was.
+fn add_visited(alloc: Global, page: &mut Vec<u8>, explored: &Explored) -> Result<(), AllocError> {
+    let Some(states) = explored.visited else {
+        return Ok(());
+    };
+    let text = format!(in alloc;
+        "No end is left out: each of the {states} states that the ranks can come to together was visited.\n"
+    )?;
+    add(page, text.as_str())
+}
+
 fn add_head(
     alloc: Global,
     page: &mut Vec<u8>,
@@ -48,6 +59,7 @@ fn add_head(
     let front = format!(in alloc; "{size} rank{ranks}, {plays} play{many}: ")?;
     add(page, front.as_str())?;
     add_plays(alloc, page, explored)?;
+    add_visited(alloc, page, explored)?;
     if explored.strict {
         add(
             page,

@@ -43,6 +43,8 @@ pub struct Settings<'a> {
     pub results: u64,
     /// Whether only what can go wrong is searched for, and not each result.
     pub findings: bool,
+    /// How many states of all ranks together are visited at most, where not only findings are searched for.
+    pub states: u64,
     /// How sends are played.
     pub sends: Sends,
     /// Of which result the events are printed, and nothing else; none: the report is printed.
@@ -62,6 +64,7 @@ impl Settings<'_> {
             seed: self.seed,
             results: self.results,
             findings: self.findings,
+            states: self.states as usize,
         }
     }
 }
@@ -105,7 +108,16 @@ fn with_search<'a>(command: Command<'a>, alloc: Global) -> Result<Command<'a>, A
         "From what random choices begin; the same number gives the same",
     )
     .default_value("1");
-    command.arg(size)?.arg(most)?.arg(seed)
+    let states = number_option(
+        alloc,
+        "states",
+        "K",
+        0,
+        1_000_000_000,
+        "How many states that the ranks can come to together are visited at most, so that no end is left out",
+    )
+    .default_value("20000");
+    command.arg(size)?.arg(most)?.arg(seed)?.arg(states)
 }
 
 /// The options that say which results are told.
@@ -156,7 +168,7 @@ fn with_sends<'a>(command: Command<'a>, alloc: Global) -> Result<Command<'a>, Al
     command.arg(synchronous)?.arg(both)?.arg(findings)
 }
 
-/// `mpiexplore -n N [--most K] [--seed S] [--results K] [--findings] [--synchronous|--both] [--events R]
+/// `mpiexplore -n N [--most K] [--seed S] [--states K] [--results K] [--findings] [--synchronous|--both] [--events R]
 /// [--out FOLDER] SCRIPT`
 pub fn explore_program<'a>(alloc: Global) -> Result<Command<'a>, AllocError> {
     let command = Command::new(alloc, "mpiexplore")
@@ -214,6 +226,7 @@ pub fn settings_in<'a>(matches: &ArgMatches<'a>) -> Option<Settings<'a>> {
         seed: number(matches, "seed", u64::MAX)?,
         results: number(matches, "results", 1_000_000_000)?,
         findings: matches.get_flag("findings"),
+        states: number(matches, "states", 1_000_000_000)?,
         sends: sends_in(matches),
         events,
         folder: matches.get_str("out"),
