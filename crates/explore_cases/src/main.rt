@@ -53,7 +53,7 @@ fn explored_of(
         seed: 1,
         results: 4,
         findings: manner == Manner::Findings,
-        states: 20_000,
+        states: 50_000,
     };
     explore(alloc, script, extent, &mut Silent {}).ok()
 }

@@ -2,6 +2,7 @@
 
 use crate::exploring::{Explored, ToldResult};
 use play_findings::Verdict;
+use schedule_search::Visited;
 use std::alloc::{AllocError, Global};
 
 /// Adds text.
@@ -37,15 +38,21 @@ fn add_plays(alloc: Global, page: &mut Vec<u8>, explored: &Explored) -> Result<(
     }
 }
 
-/// Adds that each state was visited, where it was.
+/// Adds that each state was visited, or wasn't, though no choice was left.
 fn add_visited(alloc: Global, page: &mut Vec<u8>, explored: &Explored) -> Result<(), AllocError> {
-    let Some(states) = explored.visited else {
-        return Ok(());
-    };
-    let text = format!(in alloc;
-        "No end is left out: each of the {states} states that the ranks can come to together was visited.\n"
-    )?;
-    add(page, text.as_str())
+    match explored.visited {
+        Visited::All(states) => {
+            let text = format!(in alloc;
+                "No end is left out: each of the {states} states that the ranks can come to together was visited.\n"
+            )?;
+            add(page, text.as_str())
+        }
+        Visited::NotAll if explored.tried_all => add(
+            page,
+            "That no end is left out is tested, and not proved: not each state was visited (--states K visits more).\n",
+        ),
+        _ => Ok(()),
+    }
 }
 
 fn add_head(

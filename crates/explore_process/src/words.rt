@@ -116,7 +116,7 @@ fn with_search<'a>(command: Command<'a>, alloc: Global) -> Result<Command<'a>, A
         1_000_000_000,
         "How many states that the ranks can come to together are visited at most, so that no end is left out",
     )
-    .default_value("20000");
+    .default_value("50000");
     command.arg(size)?.arg(most)?.arg(seed)?.arg(states)
 }
 
