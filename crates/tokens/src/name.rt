@@ -17,9 +17,16 @@ const LONGEST: usize = 16;
 
 /// A name that a line gives a buffer, a request or a communicator: a lower-case letter and then at most 15 lower-case
 /// letters or digits, which stand in the value itself. Contracts see it as the list of its bytes.
-#[derive(Drop)]
 pub struct Name {
     bytes: SmallVec<u8, LONGEST>,
+}
+
+/// A drop of its own is proved here alone, and not in each crate above.
+impl Drop for Name {
+    fn drop(self) {
+        let Name { bytes } = self;
+        drop(bytes);
+    }
 }
 
 impl Model for Name {

@@ -46,9 +46,16 @@ impl Token {
 }
 
 /// A list of words, in order.
-#[derive(Drop)]
 pub struct Tokens {
     items: Vec<Token>,
+}
+
+/// A drop of its own is proved here alone, and not in each crate above.
+impl Drop for Tokens {
+    fn drop(self) {
+        let Tokens { items } = self;
+        drop(items);
+    }
 }
 
 impl Model for Tokens {
