@@ -16,8 +16,9 @@ fn are_numbered(lines: &mut RankLines, numbers: &[usize]) -> bool {
 
 /// The number of the line, which is dropped.
 fn number_of(line: Option<RankLine>) -> Option<usize> {
-    let RankLine { number, statement } = line?;
-    drop(statement);
+    let line = line?;
+    let number = line.number;
+    drop(line);
     Some(number)
 }
 

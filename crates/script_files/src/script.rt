@@ -9,6 +9,7 @@ use statements::{Action, Receiving, Sending};
 use std::alloc::{AllocError, AllocFailed, Global};
 use std::collections::VecDeque;
 use std::marker::Model;
+use std::mem;
 use tokens::{Name, Tokens};
 
 /// What a line of a script asks a rank to do.
@@ -52,7 +53,6 @@ pub struct ScriptLine {
 }
 
 /// A line that is for one rank.
-#[derive(Drop)]
 pub struct RankLine {
     /// The number of the line in the script; the first line is 1, and skipped ones count.
     pub number: usize,
@@ -60,10 +60,28 @@ pub struct RankLine {
     pub statement: ScriptStatement,
 }
 
+/// A drop of its own is proved here alone, and not in each crate above.
+impl Drop for RankLine {
+    fn drop(self) {
+        let RankLine {
+            number: _,
+            statement,
+        } = self;
+        drop(statement);
+    }
+}
+
 /// A script, read whole. Contracts see it as the list of its lines that aren't skipped.
-#[derive(Drop)]
 pub struct Script {
     lines: Vec<ScriptLine>,
+}
+
+/// A drop of its own is proved here alone, and not in each crate above.
+impl Drop for Script {
+    fn drop(self) {
+        let Script { lines } = self;
+        drop(lines);
+    }
 }
 
 impl Model for Script {
@@ -109,7 +127,10 @@ impl Script {
     ) -> Result<RankLines, AllocError>
         ensures { IfOk result (λ lines. lines ≡ lines_for rank incarnation self) }
     {
-        lines_among(alloc, rank, incarnation, self.lines)
+        let mut script = self;
+        let lines = mem::replace(&mut script.lines, Vec::new(alloc));
+        drop(script);
+        lines_among(alloc, rank, incarnation, lines)
     }
 }
 
@@ -131,9 +152,16 @@ fn lines_among(
 }
 
 /// The lines for one rank that are left, in order. Contracts see them as a list.
-#[derive(Drop)]
 pub struct RankLines {
     lines: VecDeque<RankLine>,
+}
+
+/// A drop of its own is proved here alone, and not in each crate above.
+impl Drop for RankLines {
+    fn drop(self) {
+        let RankLines { lines } = self;
+        drop(lines);
+    }
 }
 
 impl Model for RankLines {
