@@ -36,7 +36,10 @@ pub(crate) fn asked_by(call: Option<Call>, pending: Pending) -> Option<NextStep>
 {
     match call {
         Some(call) => Some(NextStep::calling(call, pending)),
-        None => None,
+        None => {
+            drop(pending);
+            None
+        }
     }
 }
 
@@ -465,12 +468,20 @@ impl Names {
     {
         match action {
             Action::Buffer(line) => self.set_line(line),
-            Action::Layout(line) => self.set_layout_line(&line),
+            Action::Layout(line) => {
+                let next = self.set_layout_line(&line);
+                drop(line);
+                next
+            }
             Action::Isend(name, sending) => {
-                self.send(Mode::Standard, Pending::Starting(name, None), &sending)
+                let next = self.send(Mode::Standard, Pending::Starting(name, None), &sending);
+                drop(sending);
+                next
             }
             Action::Issend(name, sending) => {
-                self.send(Mode::Synchronous, Pending::Starting(name, None), &sending)
+                let next = self.send(Mode::Synchronous, Pending::Starting(name, None), &sending);
+                drop(sending);
+                next
             }
             Action::Irecv(name, receiving) => self.receive(name, receiving),
             Action::Iprobe(probing) => Ok(self.look(&probing)),

@@ -59,7 +59,11 @@ impl Names {
     {
         match self.place_named(communicator) {
             Some(comm) => Some(NextStep::calling(Call::Enter(comm, entry), pending)),
-            None => None,
+            None => {
+                drop(entry);
+                drop(pending);
+                None
+            }
         }
     }
 
@@ -103,38 +107,66 @@ impl Names {
     pub(crate) fn gather(&self, said: Gathering) -> Result<Option<NextStep>, AllocError>
         ensures { IfOk result (λ next. gathers said self.now ≡ (next, self.now)) }
     {
-        let is_root = self.is_root(&said.communicator, said.root);
-        let lent = self.is_lent_at_root(is_root, &said.into);
-        let Some((comm, block)) = self.block_for(&said.communicator, lent, &said.buffer)? else {
+        let Gathering {
+            communicator,
+            root,
+            buffer,
+            into,
+        } = said;
+        let is_root = self.is_root(&communicator, root);
+        let lent = self.is_lent_at_root(is_root, &into);
+        let found = self.block_for(&communicator, lent, &buffer);
+        drop(communicator);
+        drop(buffer);
+        let Some((comm, block)) = found? else {
             return Ok(None);
         };
-        let entry = gather_of(said.root, block);
-        Ok(self.hand_in_to(comm, Some(said.into), entry))
+        let entry = gather_of(root, block);
+        Ok(self.hand_in_to(comm, Some(into), entry))
     }
 
     /// `reduce`
     pub(crate) fn reduce(&self, said: Reducing) -> Result<Option<NextStep>, AllocError>
         ensures { IfOk result (λ next. reduces said self.now ≡ (next, self.now)) }
     {
-        let is_root = self.is_root(&said.communicator, said.root);
-        let lent = self.is_lent_at_root(is_root, &said.into);
-        let Some((comm, block)) = self.block_for(&said.communicator, lent, &said.buffer)? else {
+        let Reducing {
+            communicator,
+            operation,
+            root,
+            buffer,
+            into,
+        } = said;
+        let is_root = self.is_root(&communicator, root);
+        let lent = self.is_lent_at_root(is_root, &into);
+        let found = self.block_for(&communicator, lent, &buffer);
+        drop(communicator);
+        drop(buffer);
+        let Some((comm, block)) = found? else {
             return Ok(None);
         };
-        let entry = reduction_of(said.operation, said.root, block);
-        Ok(self.hand_in_to(comm, Some(said.into), entry))
+        let entry = reduction_of(operation, root, block);
+        Ok(self.hand_in_to(comm, Some(into), entry))
     }
 
     /// `allreduce`
     pub(crate) fn reduce_to_all(&self, said: ReducingToAll) -> Result<Option<NextStep>, AllocError>
         ensures { IfOk result (λ next. reduces_to_all said self.now ≡ (next, self.now)) }
     {
-        let lent = self.is_lent(&said.into);
-        let Some((comm, block)) = self.block_for(&said.communicator, lent, &said.buffer)? else {
+        let ReducingToAll {
+            communicator,
+            operation,
+            buffer,
+            into,
+        } = said;
+        let lent = self.is_lent(&into);
+        let found = self.block_for(&communicator, lent, &buffer);
+        drop(communicator);
+        drop(buffer);
+        let Some((comm, block)) = found? else {
             return Ok(None);
         };
-        let entry = reduction_to_all_of(said.operation, block);
-        Ok(self.hand_in_to(comm, Some(said.into), entry))
+        let entry = reduction_to_all_of(operation, block);
+        Ok(self.hand_in_to(comm, Some(into), entry))
     }
 
     /// What a scatter hands in: at the root a buffer that is here, elsewhere nothing.

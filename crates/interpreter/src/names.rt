@@ -14,7 +14,6 @@ use std::marker::Model;
 use vocabulary::Status;
 
 /// What the names of a rank stand for. Each kind of thing has its own.
-#[derive(Drop)]
 pub struct Names {
     pub(crate) alloc: Global,
     /// The rank in world; none where world has no such rank.
@@ -25,6 +24,27 @@ pub struct Names {
     pub(crate) messages: Table<NamedMessage>,
     pub(crate) communicators: Table<Option<NamedCommunicator>>,
     pub(crate) last: Status,
+}
+
+/// A drop of its own is proved here alone, and not in each crate above.
+impl Drop for Names {
+    fn drop(self) {
+        let Names {
+            alloc: _,
+            rank: _,
+            buffers,
+            layouts,
+            requests,
+            messages,
+            communicators,
+            last: _,
+        } = self;
+        drop(buffers);
+        drop(layouts);
+        drop(requests);
+        drop(messages);
+        drop(communicators);
+    }
 }
 
 impl Model for Names {
