@@ -17,10 +17,18 @@ use std::alloc::{AllocError, Global};
 use std::marker::Model;
 
 /// A rank that runs a script: the lines that are left, what its names stand for, and what it waits for.
-#[derive(Drop)]
 pub struct ScriptRunner {
     lines: RankLines,
     rank: ScriptRank,
+}
+
+/// A drop of its own is proved here alone, and not in each crate above.
+impl Drop for ScriptRunner {
+    fn drop(self) {
+        let ScriptRunner { lines, rank } = self;
+        drop(lines);
+        drop(rank);
+    }
 }
 
 impl Model for ScriptRunner {

@@ -19,15 +19,28 @@ use script_files::{RankLine, ScriptStatement};
 use statements::Name;
 use std::alloc::{AllocError, Global};
 use std::marker::Model;
+use std::mem;
 use vocabulary::replace;
 
 /// A rank that runs a script: what its names stand for, and what the answer to its last call is for, while it isn't
 /// here.
-#[derive(Drop)]
 pub struct ScriptRank {
     alloc: Global,
     names: Names,
     pending: Option<Pending>,
+}
+
+/// A drop of its own is proved here alone, and not in each crate above.
+impl Drop for ScriptRank {
+    fn drop(self) {
+        let ScriptRank {
+            alloc: _,
+            names,
+            pending,
+        } = self;
+        drop(names);
+        drop(pending);
+    }
 }
 
 impl Model for ScriptRank {
@@ -170,7 +183,10 @@ impl ScriptRank {
     pub fn act(&mut self, line: RankLine) -> Result<Option<RunnerStep>, AllocError>
         ensures { IfOk result (λ step. acts line self.old ≡ (step, self.new)) }
     {
-        let RankLine { number, statement } = line;
+        let mut line = line;
+        let number = line.number;
+        let statement = mem::replace(&mut line.statement, ScriptStatement::Fail);
+        drop(line);
         self.state(number, statement)
     }
 
