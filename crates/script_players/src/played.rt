@@ -21,12 +21,27 @@ use world::{Event, Failed, HistoryEntry, World, WorldRefusal};
 
 /// A rank that plays in a world: its runner, what that waits for, what it printed, and the numbers of its refused
 /// calls.
-#[derive(Drop)]
 pub struct Played {
     runner: ScriptRunner,
     state: RunnerState<Call>,
     lines: Vec<Bytes>,
     refused: Vec<u8>,
+}
+
+/// A drop of its own is proved here alone, and not in each crate above.
+impl Drop for Played {
+    fn drop(self) {
+        let Played {
+            runner,
+            state,
+            lines,
+            refused,
+        } = self;
+        drop(runner);
+        drop(state);
+        drop(lines);
+        drop(refused);
+    }
 }
 
 impl Model for Played {
@@ -69,14 +84,16 @@ fn state_by(
 ) -> Result<RunnerState<Call>, AllocError>
     ensures { IfOk result (λ state. state ≡ state_by call.now told completion.now) }
 {
-    match (completion, told) {
-        (Some(completion), told) => {
-            drop(told);
-            Ok(RunnerState::Ready(Some(completion_as_reply(alloc, completion)?)))
-        }
-        (None, Some(Reply::Blocked)) => Ok(RunnerState::Blocked(call.try_clone(alloc)?)),
-        (None, told) => Ok(RunnerState::Ready(told)),
+    if let Some(completion) = completion {
+        drop(told);
+        let told = completion_as_reply(alloc, completion)?;
+        return Ok(RunnerState::Ready(Some(told)));
     }
+    if matches!(&told, Some(Reply::Blocked)) {
+        drop(told);
+        return Ok(RunnerState::Blocked(call.try_clone(alloc)?));
+    }
+    Ok(RunnerState::Ready(told))
 }
 
 /// What a rank waits for once the call of this entry was taken, and it is told this of it.
@@ -112,9 +129,17 @@ fn hand_back(
     } = failed;
     match (why, event) {
         (WorldRefusal::Engine(why), Event::Call(_, call)) => {
-            refused.push(why.number())?;
-            replace(state, RunnerState::Ready(Some(Reply::Refused(why, call))));
-            Ok(())
+            let noted = refused.push(why.number());
+            match noted {
+                Ok(()) => {
+                    replace(state, RunnerState::Ready(Some(Reply::Refused(why, call))));
+                    Ok(())
+                }
+                Err(_) => {
+                    drop(call);
+                    Err(AllocError)
+                }
+            }
         }
         (_, event) => {
             drop(event);
