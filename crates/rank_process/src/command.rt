@@ -153,13 +153,19 @@ fn open<R: Net + Env + Wait + Print + Eprint + AllocGlobal + Clock>(
                 Ok(trips) => {
                     let near = told.settings.hosts.is_none();
                     let mut udp = RankTransport::new(rt.alloc(), wire, first, trips, near);
-                    meet(rt, told, rank, &mut udp)
+                    let status = meet(rt, told, rank, &mut udp);
+                    drop(udp);
+                    status
                 }
-                Err(_) => ExitStatus::OutOfMemory,
+                Err(_) => {
+                    drop(wire);
+                    ExitStatus::OutOfMemory
+                }
             }
         }
         Err(error) => {
             let status = status_of(&error);
+            drop(error);
             if let ExitStatus::TransportFailed = status {
                 tell_port(rt, told.settings);
             }

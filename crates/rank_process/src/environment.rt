@@ -18,7 +18,6 @@ fn text_of(value: &Option<String>) -> Option<&str> {
 }
 
 /// The values of the variables that tell the rank its place, where they are there.
-#[derive(Drop)]
 pub(crate) struct FoundTexts {
     rank: Option<String>,
     size: Option<String>,
@@ -27,6 +26,28 @@ pub(crate) struct FoundTexts {
     base_port: Option<String>,
     patience: Option<String>,
     hosts: Option<String>,
+}
+
+/// A drop of its own is one step where they are dropped.
+impl Drop for FoundTexts {
+    fn drop(self) {
+        let FoundTexts {
+            rank,
+            size,
+            incarnation,
+            job,
+            base_port,
+            patience,
+            hosts,
+        } = self;
+        drop(rank);
+        drop(size);
+        drop(incarnation);
+        drop(job);
+        drop(base_port);
+        drop(patience);
+        drop(hosts);
+    }
 }
 
 impl FoundTexts {
