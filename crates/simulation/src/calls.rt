@@ -120,7 +120,10 @@ fn on_question<W: Write>(
         (made_in world.now stepped pending names.old).0.told) }
 {
     let heard = hear_reply(names, world, stepped, pending)?;
-    print_heard(&heard, out)?;
+    if let Err(e) = print_heard(&heard, out) {
+        drop(heard);
+        return Err(e);
+    }
     Ok(next_of(heard))
 }
 
