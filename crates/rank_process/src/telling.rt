@@ -166,10 +166,14 @@ impl<'a> ErrorReport<'a> {
 
     /// Why the runner of the script can't follow its line of this number.
     fn stopped_line(&self, alloc: Global, runner: &ScriptRunner, number: usize) -> Option<Vec<u8>> {
+        let (line, speaker) = (self.line(alloc, number)?, self.speaker(alloc)?);
         let reached = line_of_number(self.rank_lines(alloc)?, number)?;
-        let fault = runner.lack_of(alloc, &reached.statement).ok()??;
-        let line = self.line(alloc, number)?;
-        explanation(alloc, self.speaker(alloc)?.as_bytes(), &fault, line).ok()
+        let lack = runner.lack_of(alloc, &reached.statement);
+        drop(reached);
+        let fault = lack.ok()??;
+        let told = explanation(alloc, speaker.as_bytes(), &fault, line);
+        drop(fault);
+        told.ok()
     }
 
     /// The number of the line that the rank took last.

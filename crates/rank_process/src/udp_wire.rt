@@ -54,6 +54,14 @@ fn unless_transient(error: &io::Error) -> Result<(), WireFault> {
     Err(WireFault)
 }
 
+/// What tells that something came to this socket.
+fn poll_over<R: Net>(rt: &R, socket: &mut UdpSocket) -> io::Result<Poll> {
+    let poll = Poll::new(rt)?;
+    poll.registry()
+        .register(socket, Token(0), Interest::READABLE)?;
+    Ok(poll)
+}
+
 impl<'a, R: Print + Clock> UdpWire<'a, R> {
     /// The socket of this rank, at its own address and port. Fails where they can't be used, or where the system or
     /// memory is wanting.
@@ -70,10 +78,8 @@ impl<'a, R: Print + Clock> UdpWire<'a, R> {
             return Err(io::Error::from(ErrorKind::AddrNotAvailable));
         };
         let mut socket = UdpSocket::bind(rt, SocketAddr::V4(own))?;
-        let poll = Poll::new(rt)?;
+        let poll = poll_over(rt, &mut socket)?;
         let events = Events::with_capacity(alloc, 4)?;
-        poll.registry()
-            .register(&mut socket, Token(0), Interest::READABLE)?;
         let stop = StopInput::new(rt);
         if let Some(fd) = stop.descriptor() {
             let _ = poll
