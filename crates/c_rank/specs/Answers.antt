@@ -150,9 +150,13 @@ told_by_fact (facts.Compares comparison) = plain (fact_answer (comparison_number
 abbrev pub found : (kind : ℕ) → Status → Option BasicType → AnswerRecord
 found kind status basic = record (with_status (answer_of_kind kind) status) { basic = code_told basic }
 
+-- a request was started
+abbrev pub started_answer : Request → AnswerRecord
+started_answer request = record (answer_of_kind 1) { request = request_told request }
+
 -- what is told of a reply, and of the message that a probe found by this type
 abbrev pub told_by : Reply → Option BasicType → Told
-told_by (replies.Started request) basic = plain (record (answer_of_kind 1) { request = request_told request })
+told_by (replies.Started request) basic = plain (started_answer request)
 told_by (replies.Done answer) basic = told_by_answer answer
 told_by replies.Pending basic = plain (answer_of_kind 3)
 told_by replies.Accepted basic = plain (answer_of_kind 4)

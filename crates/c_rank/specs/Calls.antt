@@ -68,6 +68,10 @@ abbrev pub AnswersAs : Result Meant ℕ → RankState → AnswerRecord → RankS
 AnswersAs (Ok m) old a new = AnswersMeant m old a new
 AnswersAs (Err n) old a new = (a ≡ refusal n) × (new ≡ old)
 
+-- a call that this may mean is answered so; or memory was wanting for its elements, and nothing changed
+abbrev pub AnswersOrLacks : Result Meant ℕ → RankState → AnswerRecord → RankState → Type 0
+AnswersOrLacks m old a new = AnswersAs m old a new ⊎ ((a ≡ refusal 14) × (new ≡ old))
+
 -- a call is answered so; or it hands elements in or has room for some, memory was wanting for them, and nothing changed
 abbrev pub Answers : RankState → CallRecord → List ℕ → AnswerRecord → RankState → Type 0
 Answers old r bytes a new =

@@ -19,6 +19,7 @@ use Rattle.collective_messages.specs.declared.entry.Entry.TheVariants as entries
 use Rattle.communicators.specs.declared.question.Question.{Question}
 use Rattle.communicators.specs.declared.question.Question.TheVariants as questions
 use Rattle.point_to_point_calls.specs.declared.call.Probe.{Probe}
+use Rattle.engine_calls.specs.declared.call.Call.{Call}
 use Rattle.engine_calls.specs.declared.call.Call.TheVariants as calls
 use Rattle.c_rank.specs.declared.call_kind.CallKind.{CallKind}
 use Rattle.c_rank.specs.declared.call_kind.CallKind.TheVariants as kinds
@@ -110,26 +111,32 @@ abbrev pub call_with : (Contents → Result Meant ℕ) → Result Contents ℕ �
 call_with f (Ok c) = f c
 call_with f (Err n) = Err n
 
-abbrev pub send_meant : Mode → CallRecord → List ℕ → Result Meant ℕ
-send_meant mode r bytes =
-    call_with
-    (λ c. Ok (meant.Call (calls.Isend (record {
+-- the send of these elements
+abbrev pub send_of : Mode → CallRecord → Contents → Call
+send_of mode r c =
+    calls.Isend (record {
       mode = mode;
       comm = communicator_at r.communicator;
       target = peer_at r.peer;
       tag = tag_at r.tag;
       from = record { buffer = c; places = All };
-    })))) (elements_handed r.basic bytes)
+    })
 
-abbrev pub receive_meant : CallRecord → Result Meant ℕ
-receive_meant r =
-    call_with
-    (λ c. Ok (meant.Call (calls.Irecv (record {
+abbrev pub send_meant : Mode → CallRecord → List ℕ → Result Meant ℕ
+send_meant mode r bytes = call_with (λ c. Ok (meant.Call (send_of mode r c))) (elements_handed r.basic bytes)
+
+-- the receive that has this room
+abbrev pub receive_of : CallRecord → Contents → Call
+receive_of r c =
+    calls.Irecv (record {
       comm = communicator_at r.communicator;
       source = peer_at r.peer;
       tag = tag_at r.tag;
       into = record { buffer = c; places = All };
-    })))) (room_asked r.basic r.count)
+    })
+
+abbrev pub receive_meant : CallRecord → Result Meant ℕ
+receive_meant r = call_with (λ c. Ok (meant.Call (receive_of r c))) (room_asked r.basic r.count)
 
 abbrev pub message_meant : CallRecord → Result Meant ℕ
 message_meant r =

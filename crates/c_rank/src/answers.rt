@@ -4,7 +4,7 @@ ghost use Rattle.std.specs.Prelude.{◌≡◌, IfOk, OnErr};
 ghost use Rattle.c_rank.specs.Answers.{BringsRanks, IsTold, TellsRanks};
 ghost use Rattle.c_rank.specs.Answers.{answer_of_kind, code_told, communicator_number, comparison_number, done};
 ghost use Rattle.c_rank.specs.Answers.{fact_answer, found, left, message_told, peer_number, plain, rank_elements};
-ghost use Rattle.c_rank.specs.Answers.{refusal, request_told, tag_number, told_by, told_by_answer, told_by_completion};
+ghost use Rattle.c_rank.specs.Answers.{refusal, request_told, started_answer, tag_number, told_by, told_by_answer, told_by_completion};
 ghost use Rattle.c_rank.specs.Answers.{told_by_ending, told_by_fact, told_by_outcome, told_by_ranks, with_data};
 ghost use Rattle.c_rank.specs.Answers.{with_status};
 
@@ -247,7 +247,7 @@ fn told_by_outcome(outcome: Outcome) -> Told
 }
 
 /// What is told of what a completing call answers. C's calls complete one request.
-fn told_by_answer(answer: Answer) -> Told
+pub(crate) fn told_by_answer(answer: Answer) -> Told
     ensures { result ≡ told_by_answer answer }
 {
     match answer {
@@ -344,6 +344,16 @@ fn found(kind: u32, status: Status, basic: Option<BasicType>) -> AnswerRecord
     }
 }
 
+/// A request was started.
+pub(crate) fn started_answer(request: Request) -> AnswerRecord
+    ensures { result ≡ started_answer request }
+{
+    AnswerRecord {
+        request: request_told(request),
+        ..answer_of_kind(STARTED)
+    }
+}
+
 /// What is told of a reply; of a message that a probe found, this is the basic type. The only error is want of memory,
 /// where members are to be told (14).
 pub fn reply_told(alloc: Global, reply: Reply, basic: Option<BasicType>) -> Result<Told, u8>
@@ -351,10 +361,7 @@ pub fn reply_told(alloc: Global, reply: Reply, basic: Option<BasicType>) -> Resu
     ensures ranks { OnErr result (TellsRanks reply) }
 {
     match reply {
-        Reply::Started(request) => Ok(plain(AnswerRecord {
-            request: request_told(request),
-            ..answer_of_kind(STARTED)
-        })),
+        Reply::Started(request) => Ok(plain(started_answer(request))),
         Reply::Done(answer) => Ok(told_by_answer(answer)),
         Reply::Pending => Ok(plain(answer_of_kind(PENDING))),
         Reply::Accepted => Ok(plain(answer_of_kind(ACCEPTED))),

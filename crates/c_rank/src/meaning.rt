@@ -5,8 +5,8 @@ ghost use Rattle.c_rank.specs.Kinds.{has_elements, kind_at};
 ghost use Rattle.c_rank.specs.Meanings.{IsMeant, IsMeantBy, allreduce_meant, as_block, asking, block_handed, block_told};
 ghost use Rattle.c_rank.specs.Meanings.{broadcast_meant, choice_at, communicator_at, elements_handed, entering};
 ghost use Rattle.c_rank.specs.Meanings.{gather_meant, meaning, meaning_by, message_meant, peer_at, probe_at};
-ghost use Rattle.c_rank.specs.Meanings.{receive_meant, reduce_meant, reduction, reduction_to_all, request_at};
-ghost use Rattle.c_rank.specs.Meanings.{request_named, room_asked, rooted_told, scatter_meant, scattered, send_meant};
+ghost use Rattle.c_rank.specs.Meanings.{receive_meant, receive_of, reduce_meant, reduction, reduction_to_all, request_at};
+ghost use Rattle.c_rank.specs.Meanings.{request_named, room_asked, rooted_told, scatter_meant, scattered, send_meant, send_of};
 ghost use Rattle.c_rank.specs.Meanings.{tag_at};
 ghost use Rattle.vocabulary.specs.BasicTypes.{type_at};
 ghost use Rattle.vocabulary.specs.Operations.{operation_at};
@@ -87,7 +87,7 @@ fn request_of(named: RequestRecord) -> Request
     }
 }
 
-fn request_named(named: RequestRecord) -> Option<Request>
+pub(crate) fn request_named(named: RequestRecord) -> Option<Request>
     ensures { result ≡ request_named named }
 {
     if named.key == NULL_KEY {
@@ -136,7 +136,7 @@ fn operation_of(code: u32) -> Option<Operation>
 }
 
 /// The elements that the data are: 2 where the code names no type, 1 where the last one isn't whole, 14.
-fn elements_handed(alloc: Global, code: u32, bytes: &[u8]) -> Result<Buffer, u8>
+pub(crate) fn elements_handed(alloc: Global, code: u32, bytes: &[u8]) -> Result<Buffer, u8>
     ensures { IsMeant (elements_handed code bytes.now) result }
 {
     let Some(basic) = basic_of(code) else {
@@ -152,7 +152,7 @@ fn elements_handed(alloc: Global, code: u32, bytes: &[u8]) -> Result<Buffer, u8>
 }
 
 /// Room for so many elements: 2 where the code names no type, 14.
-fn room_asked(alloc: Global, code: u32, count: u64) -> Result<Buffer, u8>
+pub(crate) fn room_asked(alloc: Global, code: u32, count: u64) -> Result<Buffer, u8>
     ensures { IsMeant (room_asked code count) result }
 {
     let Some(basic) = basic_of(code) else {
@@ -200,20 +200,39 @@ fn block_told(alloc: Global, asked: &CallRecord, bytes: &[u8]) -> Result<Block, 
     }
 }
 
+/// The send of these elements.
+pub(crate) fn send_of(mode: Mode, asked: &CallRecord, elements: Buffer) -> Call
+    ensures { result ≡ send_of mode asked.now elements }
+{
+    Call::Isend(Send {
+        mode,
+        comm: communicator_of(asked.communicator),
+        target: source_of(asked.peer),
+        tag: tag_of(asked.tag),
+        from: Region::whole(elements),
+    })
+}
+
 /// A send.
 fn send_meant(alloc: Global, mode: Mode, asked: &CallRecord, bytes: &[u8]) -> Result<Meant, u8>
     ensures { IsMeant (send_meant mode asked.now bytes.now) result }
 {
     match elements_handed(alloc, asked.basic, bytes) {
-        Ok(buffer) => Ok(Meant::Call(Call::Isend(Send {
-            mode,
-            comm: communicator_of(asked.communicator),
-            target: source_of(asked.peer),
-            tag: tag_of(asked.tag),
-            from: Region::whole(buffer),
-        }))),
+        Ok(elements) => Ok(Meant::Call(send_of(mode, asked, elements))),
         Err(number) => Err(number),
     }
+}
+
+/// The receive that has this room.
+pub(crate) fn receive_of(asked: &CallRecord, room: Buffer) -> Call
+    ensures { result ≡ receive_of asked.now room }
+{
+    Call::Irecv(Receive {
+        comm: communicator_of(asked.communicator),
+        source: source_of(asked.peer),
+        tag: tag_of(asked.tag),
+        into: Region::whole(room),
+    })
 }
 
 /// A receive.
@@ -221,12 +240,7 @@ fn receive_meant(alloc: Global, asked: &CallRecord) -> Result<Meant, u8>
     ensures { IsMeant (receive_meant asked.now) result }
 {
     match room_asked(alloc, asked.basic, asked.count) {
-        Ok(buffer) => Ok(Meant::Call(Call::Irecv(Receive {
-            comm: communicator_of(asked.communicator),
-            source: source_of(asked.peer),
-            tag: tag_of(asked.tag),
-            into: Region::whole(buffer),
-        }))),
+        Ok(room) => Ok(Meant::Call(receive_of(asked, room))),
         Err(number) => Err(number),
     }
 }

@@ -9,7 +9,8 @@ ghost use Rattle.point_to_point_calls.specs.declared.refusal.Refusal.{Refusal};
 ghost use Rattle.requests.specs.Table.{finished_at};
 ghost use Rattle.sessions.specs.Peers.{IsIdlePeer};
 ghost use Rattle.c_rank.specs.Clocks.{after_all, going, told_waits, trips_behind, waits_in};
-ghost use Rattle.c_rank.specs.Calls.{Answers, AnswersMeant, Tells, TellsReply, look_told, type_out};
+ghost use Rattle.c_rank.specs.Calls.{Answers, AnswersMeant, AnswersOrLacks, Tells, TellsReply, look_told, type_out};
+ghost use Rattle.c_rank.specs.Meanings.{receive_meant, send_meant};
 ghost use Rattle.c_rank.specs.OutgoingDatagrams.{HandsFirst, HandsNext, KeepsBack, KeepsRest, StaysSo, pending};
 ghost use Rattle.c_rank.specs.State.{AreLimits, HasNoLimits, IsNoLimit, IsNoPlace, IsOpening, IsSameTime, TellsTime, Ticks};
 ghost use Rattle.c_rank.specs.State.{number_of_result, place_said};
@@ -17,13 +18,19 @@ ghost use Rattle.c_rank.specs.AnswerCopies.{Takes, TakesOf};
 ghost use Rattle.vocabulary.specs.MessageLimits.{limit_of};
 ghost use Rattle.c_rank.specs.declared.meaning.Meant.TheVariants as meant;
 
-use crate::answers::{Told, answer_of_kind, fact_answer, refusal, reply_told, told_by_completion};
+use crate::answers::{
+    Told, answer_of_kind, fact_answer, refusal, reply_told, started_answer, told_by_answer,
+    told_by_completion,
+};
+use crate::call_kind::CallKind;
 use crate::elements::turn_elements;
-use crate::meaning::{Meant, meaning_of};
+use crate::meaning::{
+    Meant, elements_handed, meaning_of, receive_of, request_named, room_asked, send_of,
+};
 use crate::records::{AnswerRecord, CallRecord, PlaceRecord};
 use datagram::{Bytes, GREATEST_DATAGRAM};
 use datatypes::WholeBuffer;
-use engine::{Call, Engine, Place, Probe, Refusal, Reply, Request};
+use engine::{Call, Engine, Mode, Place, Probe, Refusal, Reply, Request};
 use outgoing_datagrams::{OutgoingRecord, Sending};
 use round_trips::RoundTrips;
 use std::alloc::Global;
@@ -209,6 +216,9 @@ impl Rank {
     }
 
     /// What is told of a reply, and of a message that a probe found by this type.
+    // It stands apart from what most calls are answered with, since a function pays at its entry for the locals of all
+    // its cases.
+    #[inline(never)]
     fn tell_reply(&mut self, reply: Reply, basic: Option<BasicType>) -> AnswerRecord
         ensures tells { TellsReply self.old reply basic result self.new }
         ensures engine { self.new.engine ≡ self.old.engine }
@@ -217,6 +227,23 @@ impl Rank {
         match reply_told(self.alloc, reply, basic) {
             Ok(told) => self.tell(told),
             Err(number) => refusal(number),
+        }
+    }
+
+    /// What is told of the reply to a call that finds no message by its type.
+    fn tell_plain(&mut self, reply: Reply) -> AnswerRecord
+        ensures tells { TellsReply self.old reply (type_out self.old.engine reply) result self.new }
+        ensures engine { self.new.engine ≡ self.old.engine }
+        ensures times { IsSameTime self.old self.new }
+    {
+        match reply {
+            Reply::Started(request) => started_answer(request),
+            Reply::Pending => answer_of_kind(PENDING),
+            Reply::Done(answer) => self.tell(told_by_answer(answer)),
+            other => {
+                let basic = self.type_taken_out(&other);
+                self.tell_reply(other, basic)
+            }
         }
     }
 
@@ -243,8 +270,40 @@ impl Rank {
         ensures times { IsSameTime self.old self.new }
     {
         let reply = self.engine.call(call);
-        let basic = self.type_taken_out(&reply);
-        self.tell_reply(reply, basic)
+        self.tell_plain(reply)
+    }
+
+    /// The engine's answer to a send.
+    #[inline(never)]
+    fn send(&mut self, mode: Mode, asked: &CallRecord, bytes: &[u8]) -> AnswerRecord
+        ensures answers { AnswersOrLacks (send_meant mode asked.now bytes.now) self.old result self.new }
+        ensures times { IsSameTime self.old self.new }
+    {
+        match elements_handed(self.alloc, asked.basic, bytes) {
+            Ok(elements) => self.answer(send_of(mode, asked, elements)),
+            Err(number) => refusal(number),
+        }
+    }
+
+    /// The engine's answer to a receive.
+    #[inline(never)]
+    fn receive(&mut self, asked: &CallRecord) -> AnswerRecord
+        ensures answers { AnswersOrLacks (receive_meant asked.now) self.old result self.new }
+        ensures times { IsSameTime self.old self.new }
+    {
+        match room_asked(self.alloc, asked.basic, asked.count) {
+            Ok(room) => self.answer(receive_of(asked, room)),
+            Err(number) => refusal(number),
+        }
+    }
+
+    /// The engine's answer to a test.
+    #[inline(never)]
+    fn test(&mut self, request: Option<Request>) -> AnswerRecord
+        ensures answers { AnswersMeant (meant.Call (calls.Test request)) self.old result self.new }
+        ensures times { IsSameTime self.old self.new }
+    {
+        self.answer(Call::Test(request))
     }
 
     /// The engine's answer to a probe.
@@ -279,8 +338,10 @@ impl Rank {
         }
     }
 
-    /// Answers the call that the numbers mean, and the data.
-    pub fn call(&mut self, asked: &CallRecord, bytes: &[u8]) -> AnswerRecord
+    /// The same of any call.
+    // It stands apart, since a function pays at its entry for the locals of all its cases.
+    #[inline(never)]
+    fn call_meant(&mut self, asked: &CallRecord, bytes: &[u8]) -> AnswerRecord
         ensures answers { Answers self.old asked.now bytes.now result self.new }
         ensures times { IsSameTime self.old self.new }
     {
@@ -290,6 +351,19 @@ impl Rank {
             Ok(Meant::Look(request)) => self.look(request),
             Ok(Meant::Finish) => self.finish(),
             Err(number) => refusal(number),
+        }
+    }
+
+    /// Answers the call that the numbers mean, and the data.
+    pub fn call(&mut self, asked: &CallRecord, bytes: &[u8]) -> AnswerRecord
+        ensures answers { Answers self.old asked.now bytes.now result self.new }
+        ensures times { IsSameTime self.old self.new }
+    {
+        match CallKind::from_number(asked.kind) {
+            Some(CallKind::Isend) => self.send(Mode::Standard, asked, bytes),
+            Some(CallKind::Irecv) => self.receive(asked),
+            Some(CallKind::Test) => self.test(request_named(asked.request)),
+            _ => self.call_meant(asked, bytes),
         }
     }
 
@@ -367,8 +441,8 @@ impl Rank {
         }
     }
 
-    /// Hands out what goes next, but for what is kept back.
-    fn hand_out(&mut self, most: u32, outgoing: &mut OutgoingRecord, into: &mut [u8]) -> usize
+    /// Hands out what goes next, but for what is kept back, where something may go.
+    fn hand_pending(&mut self, most: u32, outgoing: &mut OutgoingRecord, into: &mut [u8]) -> usize
         requires { 40 ≤ length into.old }
         ensures went { HandsFirst self.old most result outgoing.new into.old into.new self.new }
         ensures stays { StaysSo self.old outgoing.new self.new }
@@ -380,6 +454,21 @@ impl Rank {
         }
         self.refill();
         self.sending.hand_out(most, outgoing, into)
+    }
+
+    /// Hands out what goes next, but for what is kept back.
+    fn hand_out(&mut self, most: u32, outgoing: &mut OutgoingRecord, into: &mut [u8]) -> usize
+        requires { 40 ≤ length into.old }
+        ensures went { HandsFirst self.old most result outgoing.new into.old into.new self.new }
+        ensures stays { StaysSo self.old outgoing.new self.new }
+    {
+        // Mostly there is nothing, and to look is cheaper than to hand nothing out.
+        if self.sending.is_through() && self.engine.is_through() {
+            outgoing.count = 0;
+            outgoing.each = 0;
+            return 0;
+        }
+        self.hand_pending(most, outgoing, into)
     }
 
     /// Hands out what goes next, and what is kept back where nothing else goes.

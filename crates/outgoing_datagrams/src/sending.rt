@@ -12,7 +12,7 @@ use crate::record::OutgoingRecord;
 use crate::run::{Run, put_behind, put_run};
 use datagram::{ACK_BYTES, Bytes};
 use delayed_acknowledgements::{
-    Acknowledgement, Delay, DelayedAcknowledgement, delayed_of, is_urgent, sent_before,
+    Acknowledgement, Delay, DelayedAcknowledgement, covers, delayed_of, is_urgent,
 };
 use std::alloc::Global;
 use std::marker::Model;
@@ -196,9 +196,11 @@ impl Sending {
         ensures stays { result ≡ None → (self.new ≡ self.old) × IfSome self.old.kept (λ k. IsAcknowledgement k ×
             Covers next.said k.said) }
     {
-        let former = sent_before(self.kept, next)?;
-        self.kept = None;
-        Some(former)
+        // A look is cheaper than a move.
+        match &self.kept {
+            Some(former) if !covers(next.said, former.said) => self.kept.take(),
+            _ => None,
+        }
     }
 
     /// Passes what is next.
@@ -318,6 +320,9 @@ impl Sending {
         outgoing.count = 0;
         outgoing.each = 0;
         if !kept_too && self.time < self.kept_until() {
+            return 0;
+        }
+        if self.kept.is_none() {
             return 0;
         }
         match self.take_kept() {

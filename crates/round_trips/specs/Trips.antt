@@ -1,6 +1,6 @@
 -- What datagrams that go out and come tell of round trips.
 use Rattle.std.specs.Prelude.{ℕ, ◌+◌, ◌-◌, ◌*◌, ◌/◌, ◌%◌, ◌^◌, min, max, ◌==◌, nat_le, nat_lt, count_ones, ◌&&◌, ◌||◌, Bool}
-use Rattle.std.specs.Prelude.{true, false, if◌then◌else◌, List, slice_get, slice_set, replicate, Option, Some, None}
+use Rattle.std.specs.Prelude.{true, false, if◌then◌else◌, List, length, slice_index, slice_get, slice_set, replicate, Option, Some, None}
 use Rattle.std.specs.Prelude.{is_none, Result, Ok, Err}
 use Rattle.std.specs.Int.{leading_zeros, w64}
 use Rattle.datagram.specs.declared.datagram.Header.{Header}
@@ -194,6 +194,10 @@ measured_wait (Some t) = if is_none t.estimate then None else Some (wait_now t)
 abbrev pub troubled_wait : Option RoundTrip → Option ℕ
 troubled_wait None = None
 troubled_wait (Some t) = if is_troubled t then Some (wait_now t) else None
+
+-- bytes may spell a datagram of the kind that has this code
+abbrev pub may_be : List ℕ → (code : ℕ) → Bool
+may_be bytes code = nat_lt 5 (length bytes) && slice_index bytes 5 == code
 
 -- a datagram goes out: a frame alone tells something
 abbrev pub sent_with : List RoundTrip → Header → BodyText → (now : ℕ) → List RoundTrip

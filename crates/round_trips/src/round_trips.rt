@@ -4,7 +4,7 @@ ghost use Rattle.std.specs.Prelude.{◌≡◌, ◌≤◌, slice_get, IfOk, Some}
 ghost use Rattle.std.specs.Option.{option_map};
 ghost use Rattle.datagram.specs.ByteMeanings.{datagram_of};
 ghost use Rattle.round_trips.specs.Trips.{after_acknowledgement, after_came, after_frame, after_sent, changed, goes_to};
-ghost use Rattle.round_trips.specs.Trips.{may_go, measured_wait, near, troubled_wait, unknown};
+ghost use Rattle.round_trips.specs.Trips.{may_be, may_go, measured_wait, near, troubled_wait, unknown};
 ghost use Rattle.round_trips.specs.Trips.{wait_now};
 
 use crate::estimate::Estimate;
@@ -27,6 +27,21 @@ impl Model for RoundTrips {
     ghost Value = { List RoundTrip };
 
     ghost view = { λ r. r.trips.items };
+}
+
+/// The place of the byte that says what a datagram is for.
+const KIND: usize = 5;
+
+/// What it says of a frame, and of an acknowledgement.
+const FRAME: u8 = 1;
+
+const ACKNOWLEDGEMENT: u8 = 2;
+
+/// Whether the bytes may spell a datagram of this kind: to look at the byte that says so is far cheaper than to read all.
+fn may_be(bytes: &[u8], kind: u8) -> bool
+    ensures { result ≡ may_be bytes.now kind }
+{
+    bytes.len() > KIND && bytes[KIND] == kind
 }
 
 impl RoundTrips {
@@ -73,6 +88,9 @@ impl RoundTrips {
     pub fn on_sent(&mut self, bytes: &[u8], now: u64)
         ensures { self.new ≡ after_sent self.old (datagram_of bytes.now) now }
     {
+        if !may_be(bytes, FRAME) {
+            return;
+        }
         if let Ok(
             Datagram {
                 header,
@@ -94,6 +112,9 @@ impl RoundTrips {
     pub fn on_came(&mut self, bytes: &[u8], now: u64)
         ensures { self.new ≡ after_came self.old (datagram_of bytes.now) now }
     {
+        if !may_be(bytes, ACKNOWLEDGEMENT) {
+            return;
+        }
         if let Ok(
             Datagram {
                 header,
@@ -126,6 +147,9 @@ impl RoundTrips {
     pub fn may_go(&self, bytes: &[u8]) -> bool
         ensures { result ≡ may_go self.now (datagram_of bytes.now) }
     {
+        if !may_be(bytes, FRAME) {
+            return true;
+        }
         match read_form(bytes) {
             Ok(
                 Datagram {

@@ -2,8 +2,8 @@ use Rattle.std.proofs.Common.{refl, sym, ap, ◌∙◌, arith}
 use mathlib.Core.Bool.{false≢true}
 use Rattle.c_rank.proofs.HandingSteps.{emitted, fits_more, hands_after, hands_again, none_emitted, none_goes, none_goes_again, too_long_more}
 use Rattle.c_rank.specs.Clocks.{going}
-use Rattle.c_rank.proofs.rank.Rank.hand_out.Goals.{then-outgoing-gt0-via-then-outgoing-gt0, then-outgoing-gt0-via-else-outgoing-gt0+then-not-is_through}
-use Rattle.c_rank.proofs.rank.Rank.hand_out.Goals as goal
+use Rattle.c_rank.proofs.rank.Rank.hand_pending.Goals.{then-outgoing-gt0-via-then-outgoing-gt0, then-outgoing-gt0-via-else-outgoing-gt0+then-not-is_through}
+use Rattle.c_rank.proofs.rank.Rank.hand_pending.Goals as goal
 
 pub returns-then-outgoing-gt0-clause-went : goal.returns-then-outgoing-gt0-clause-went
 returns-then-outgoing-gt0-clause-went c =
