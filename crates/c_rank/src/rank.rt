@@ -203,6 +203,7 @@ impl Rank {
     }
 
     /// What is told, whose data take the place of what was there.
+    #[inline(always)]
     fn tell(&mut self, told: Told) -> AnswerRecord
         ensures tells { Tells self.old told result self.new }
         ensures engine { self.new.engine ≡ self.old.engine }
@@ -231,6 +232,7 @@ impl Rank {
     }
 
     /// What is told of the reply to a call that finds no message by its type.
+    #[inline(always)]
     fn tell_plain(&mut self, reply: Reply) -> AnswerRecord
         ensures tells { TellsReply self.old reply (type_out self.old.engine reply) result self.new }
         ensures engine { self.new.engine ≡ self.old.engine }
@@ -265,6 +267,7 @@ impl Rank {
     }
 
     /// The engine's answer to a call.
+    #[inline(always)]
     fn answer(&mut self, call: Call) -> AnswerRecord
         ensures answers { AnswersMeant (meant.Call call) self.old result self.new }
         ensures times { IsSameTime self.old self.new }

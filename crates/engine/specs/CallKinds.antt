@@ -2,12 +2,12 @@
 use Rattle.engine_calls.specs.declared.call.Call.{Call}
 use Rattle.engine_calls.specs.declared.call.Call.TheVariants as calls
 
--- neither a send, a receive nor a wait for one request
+-- neither a send, a receive nor a wait for one request or a test of one
 abbrev pub IsOther : Call → Type 0
 IsOther (calls.Isend send) = ⊥
 IsOther (calls.Irecv receive) = ⊥
 IsOther (calls.Wait request) = ⊥
-IsOther (calls.Test request) = Unit {0}
+IsOther (calls.Test request) = ⊥
 IsOther (calls.Waitany list) = Unit {0}
 IsOther (calls.Waitall list) = Unit {0}
 IsOther (calls.Cancel request) = Unit {0}

@@ -14,6 +14,9 @@ use requests::{Region, Request, RequestList};
 
 impl Engine {
     /// Answers a send.
+    // It stands apart, as each call that is made most: `call` then is a choice alone, which costs nothing where it is
+    // known which call is made.
+    #[inline(never)]
     fn isend(&mut self, send: Send) -> Reply
         ensures { CoreGives self.old (calls.Isend send) result self.new }
     {
@@ -26,6 +29,7 @@ impl Engine {
     }
 
     /// Answers a receive.
+    #[inline(never)]
     fn irecv(&mut self, receive: Receive) -> Reply
         ensures { CoreGives self.old (calls.Irecv receive) result self.new }
     {
@@ -65,6 +69,7 @@ impl Engine {
     }
 
     /// Answers a wait for a request.
+    #[inline(never)]
     fn wait(&mut self, request: Option<Request>) -> Reply
         ensures { CoreGives self.old (calls.Wait request) result self.new }
     {
@@ -72,6 +77,7 @@ impl Engine {
     }
 
     /// Answers a test of a request.
+    #[inline(never)]
     fn test(&mut self, request: Option<Request>) -> Reply
         ensures { CoreGives self.old (calls.Test request) result self.new }
     {
@@ -104,7 +110,7 @@ impl Engine {
         cancel(&mut self.parts.core, &self.parts.communicators, request)
     }
 
-    /// Answers a call that is neither a send, a receive nor a wait for one request.
+    /// Answers a call that is neither a send, a receive nor a wait for one request or a test of one.
     // These stand apart, since a function pays at its entry for the locals of all its cases.
     #[inline(never)]
     #[tactic(auto, using(engine_calls::proofs::Laws::core_leaves, engine_calls::proofs::Laws::core_few, engine_calls::proofs::Laws::core_placed, engine_calls::proofs::Laws::core_stays))]
@@ -119,7 +125,6 @@ impl Engine {
         // The place shows that the job has a rank at least.
         let _place = self.parts.sessions.place();
         match call {
-            Call::Test(request) => self.test(request),
             Call::Waitany(list) => self.waitany(list),
             Call::Waitall(list) => self.waitall(list),
             Call::Cancel(request) => self.cancel(request),
@@ -157,6 +162,7 @@ impl Engine {
     /// to the own rank emits nothing. A probe tells what such a receive would take now and changes nothing (3.8.1); a
     /// matching probe takes that message out, so that no receive finds it (3.8.2), and tells its sender nothing. The
     /// receive of that message answers its sender, and is over where its data are there, or is waited for (3.8.3).
+    #[inline(always)]
     #[tactic(auto, using(engine_calls::proofs::Laws::core_leaves, engine_calls::proofs::Laws::core_few, engine_calls::proofs::Laws::core_placed, engine_calls::proofs::Laws::core_stays))]
     pub fn call(&mut self, call: Call) -> Reply
         ensures exact { CallGives self.old call result self.new }
@@ -171,6 +177,7 @@ impl Engine {
             Call::Isend(send) => self.isend(send),
             Call::Irecv(receive) => self.irecv(receive),
             Call::Wait(request) => self.wait(request),
+            Call::Test(request) => self.test(request),
             other => self.answer_other(other),
         }
     }

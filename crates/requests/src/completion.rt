@@ -106,6 +106,8 @@ impl Requests {
 
     /// What a completing call answers, and its requests are used up; or, where it isn't ready, what it waits for, and
     /// nothing changes (MPI 3.1, 3.7.3 and 3.7.5). It takes no memory.
+    // Mostly its caller knows which of these it is.
+    #[inline(always)]
     pub fn complete(&mut self, awaited: Awaited) -> Result<Answer, Awaited>
         ensures { Completes self.old awaited result self.new }
     {
@@ -121,6 +123,7 @@ impl Requests {
     }
 
     /// Ends the first request of the list that is finished.
+    #[inline(never)]
     fn complete_any(&mut self, requests: RequestList) -> Result<Answer, Awaited>
         ensures { Completes self.old (Awaited.AnyOf requests) result self.new }
     {
@@ -137,6 +140,7 @@ impl Requests {
     }
 
     /// Ends all requests of the list, once each is finished.
+    #[inline(never)]
     fn complete_all(&mut self, all: AwaitedAll) -> Result<Answer, Awaited>
         ensures { Completes self.old (Awaited.AllOf all) result self.new }
     {
