@@ -76,6 +76,7 @@ impl Drafts {
     }
 
     /// Spells a short datagram: on the draft, from which it is copied.
+    #[inline(always)]
     fn spell_short(&mut self, datagram: &Datagram) -> Result<Bytes, DatagramRefusal>
         requires body { BodyFits (content_text datagram.now.content) }
         requires sequence { SequenceFits datagram.now.header.sequence (content_text datagram.now.content) }
@@ -113,6 +114,7 @@ impl Drafts {
     /// The bytes that spell a datagram, for which `write` asks the same. The only refusal is want of memory. A short
     /// one, which is an acknowledgement, a reset, or a frame of at most 32 bytes, takes no memory once the first one
     /// was spelled; a long one takes none where that of one as long was kept and has no other owner any more.
+    #[inline(always)]
     pub fn spell(&mut self, datagram: &Datagram) -> Result<Bytes, DatagramRefusal>
         requires body { BodyFits (content_text datagram.now.content) }
         requires sequence { SequenceFits datagram.now.header.sequence (content_text datagram.now.content) }
