@@ -1,7 +1,11 @@
-//! The search over rows of moves, beside a search that keeps every state and knows no rule.
+//! Searches beside searches that keep every state and know no rule: over rows of moves, and over the states of ranks.
 #![tactic(auto)]
 
 #[cfg(test)]
+mod message_worlds;
+#[cfg(test)]
 mod search_tests;
+#[cfg(test)]
+mod visit_tests;
 #[cfg(test)]
 mod worlds;

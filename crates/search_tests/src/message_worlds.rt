@@ -89,7 +89,9 @@ impl Ranks {
         match happening {
             Happening::Goes => *self.goes.get(state)?,
             Happening::Comes(frame) => {
-                *self.comes.get(state.wrapping_mul(FRAMES).wrapping_add(frame))?
+                *self
+                    .comes
+                    .get(state.wrapping_mul(FRAMES).wrapping_add(frame))?
             }
         }
     }
