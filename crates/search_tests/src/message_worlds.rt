@@ -36,7 +36,7 @@ pub(crate) struct Ranks {
 }
 
 fn below(random: &mut Xoshiro256PlusPlus, most: u64) -> usize {
-    (random.next_u64() % most) as usize
+    random.next_u64().checked_rem(most).unwrap_or(0) as usize
 }
 
 fn drawn_sent(random: &mut Xoshiro256PlusPlus) -> Option<Sent> {
@@ -51,12 +51,12 @@ fn drawn_sent(random: &mut Xoshiro256PlusPlus) -> Option<Sent> {
 
 /// What comes in this of the states of a rank: a later one, or nothing can happen.
 fn drawn_came(random: &mut Xoshiro256PlusPlus, rank: usize, step: usize) -> Option<Came> {
-    if step + 1 >= STATES || below(random, 4) == 0 {
+    if step.wrapping_add(1) >= STATES || below(random, 4) == 0 {
         return None;
     }
-    let more = below(random, 2).min(STATES - 2 - step);
+    let next = step.wrapping_add(1).wrapping_add(below(random, 2));
     Some(Came {
-        state: rank * STATES + step + 1 + more,
+        state: opening(rank).wrapping_add(next.min(STATES - 1)),
         sent: drawn_sent(random),
     })
 }
