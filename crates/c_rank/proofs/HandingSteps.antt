@@ -20,8 +20,11 @@ use Rattle.outgoing_datagrams.specs.Runs.{Stands}
 use Rattle.outgoing_datagrams.specs.declared.record.OutgoingRecord.{OutgoingRecord}
 use Rattle.outgoing_datagrams.proofs.HandedSteps.{hands_joined}
 use Rattle.round_trips.specs.declared.round_trip.RoundTrip.{RoundTrip}
+use Rattle.congestion_windows.specs.Flights.{WindowsState}
 use Rattle.c_rank.specs.Clocks.{after_all, going}
-use Rattle.c_rank.specs.OutgoingDatagrams.{HandsFirst, KeepsRest, StaysSo, TakesOver, pending, trips_begun}
+use Rattle.c_rank.specs.Windows.{admitted, offered}
+use Rattle.c_rank.specs.OutgoingDatagrams.{HandsFirst, KeepsRest, StaysSo, TakesOver, emitted, pending, trips_begun}
+use Rattle.c_rank.specs.OutgoingDatagrams.{windows_offered}
 use Rattle.engine.specs.Places.{place_fault}
 use Rattle.incarnation.specs.declared.place.Place.{Place}
 use Rattle.point_to_point_calls.specs.Refusals.{IsRefusal}
@@ -70,37 +73,62 @@ pub nothing_stands : (went : List Parcel) (o : OutgoingRecord) (len : ℕ) (old 
     o.count ≡ 0 → new ≡ old
 nothing_stands went o len old new s none = nothing_put went o len old new s (none_went went o len old new s none)
 
--- what pends of what was emitted
-abbrev pub emitted : RankState → List Parcel
-emitted r = going r.trips r.engine.sessions.out
+-- nothing goes of nothing
+none_admitted : (w : Option WindowsState) → admitted w [] ≡ []
+none_admitted None = refl
+none_admitted (Some w) = refl
 
 pub none_emitted : (r : RankState) → r.engine.sessions.out ≡ [] → emitted r ≡ []
-none_emitted r none = ap (λ (l : List Parcel). going r.trips l) none
+none_emitted r none =
+    ap (λ (l : List Parcel). admitted r.windows (going r.trips l)) none ∙ none_admitted r.windows
 
--- the same is emitted where engine and round trips are the same
-same_emitted : (b c : RankState) → c.engine ≡ b.engine → c.trips ≡ b.trips → emitted b ≡ emitted c
-same_emitted b c engine trips =
-    ap (λ (e : EngineState). going b.trips e.sessions.out) (sym engine)
-    ∙ ap (λ (t : List RoundTrip). going t c.engine.sessions.out) (sym trips)
+-- the same goes where engine, round trips and windows are the same
+same_emitted : (b c : RankState) → c.engine ≡ b.engine → c.trips ≡ b.trips → c.windows ≡ b.windows →
+    emitted b ≡ emitted c
+same_emitted b c engine trips windows =
+    ap (λ (e : EngineState). admitted b.windows (going b.trips e.sessions.out)) (sym engine)
+    ∙ ap (λ (t : List RoundTrip). admitted b.windows (going t c.engine.sessions.out)) (sym trips)
+    ∙ ap (λ (w : Option WindowsState). admitted w (going c.trips c.engine.sessions.out)) (sym windows)
 
 -- where all was taken over no round trip begins
 none_begun : (a b : RankState) → b.engine ≡ without_out a.engine → trips_begun b ≡ b.trips
 none_begun a b engine =
-    ap (λ (e : EngineState). after_all b.trips (going b.trips e.sessions.out) (b.sending.time / 1000)) engine
+    ap (λ (l : List Parcel). after_all b.trips l (b.sending.time / 1000))
+    (none_emitted b (ap (λ (e : EngineState). e.sessions.out) engine))
+
+-- nor is anything offered
+nothing_offered : (w : Option WindowsState) → offered w [] ≡ w
+nothing_offered None = refl
+nothing_offered (Some w) = refl
+
+none_offered : (a b : RankState) → b.engine ≡ without_out a.engine → windows_offered b ≡ b.windows
+none_offered a b engine =
+    ap (λ (e : EngineState). offered b.windows (going b.trips e.sessions.out)) engine ∙ nothing_offered b.windows
 
 -- the same round trips begin
-same_begun : (a b : RankState) → b.engine ≡ a.engine → b.trips ≡ a.trips → b.sending.time ≡ a.sending.time →
-    trips_begun b ≡ trips_begun a
-same_begun a b engine trips time =
-    ap (λ (e : EngineState). after_all b.trips (going b.trips e.sessions.out) (b.sending.time / 1000)) engine
-    ∙ ap (λ (t : List RoundTrip). after_all t (going t a.engine.sessions.out) (b.sending.time / 1000)) trips
-    ∙ ap (λ (n : ℕ). after_all a.trips (going a.trips a.engine.sessions.out) (n / 1000)) time
+same_begun : (a b : RankState) → b.engine ≡ a.engine → b.trips ≡ a.trips → b.windows ≡ a.windows →
+    b.sending.time ≡ a.sending.time → trips_begun b ≡ trips_begun a
+same_begun a b engine trips windows time =
+    ap (λ (l : List Parcel). after_all b.trips l (b.sending.time / 1000))
+    (sym (same_emitted a b engine trips windows))
+    ∙ ap (λ (t : List RoundTrip). after_all t (emitted a) (b.sending.time / 1000)) trips
+    ∙ ap (λ (n : ℕ). after_all a.trips (emitted a) (n / 1000)) time
+
+-- the same is offered
+same_offered : (a b : RankState) → b.engine ≡ a.engine → b.trips ≡ a.trips → b.windows ≡ a.windows →
+    windows_offered b ≡ windows_offered a
+same_offered a b engine trips windows =
+    ap (λ (e : EngineState). offered b.windows (going b.trips e.sessions.out)) engine
+    ∙ ap (λ (t : List RoundTrip). offered b.windows (going t a.engine.sessions.out)) trips
+    ∙ ap (λ (w : Option WindowsState). offered w (going a.trips a.engine.sessions.out)) windows
 
 taken_over : (a b c : RankState) → TakesOver a b → b.sending.time ≡ a.sending.time → TakesOver b c → TakesOver a c
-taken_over a b c (inl p) time (inl q) = inl (q.0 ∙ p.0, q.1 ∙ p.1)
-taken_over a b c (inl p) time (inr q) = inr (q.0 ∙ ap without_out p.0, q.1 ∙ same_begun a b p.0 p.1 time)
-taken_over a b c (inr p) time (inl q) = inr (q.0 ∙ p.0, q.1 ∙ p.1)
-taken_over a b c (inr p) time (inr q) = inr (q.0 ∙ ap without_out p.0, q.1 ∙ none_begun a b p.0 ∙ p.1)
+taken_over a b c (inl p) time (inl q) = inl (q.0 ∙ p.0, q.1 ∙ p.1, q.2 ∙ p.2)
+taken_over a b c (inl p) time (inr q) =
+    inr (q.0 ∙ ap without_out p.0, q.1 ∙ same_begun a b p.0 p.1 p.2 time, q.2 ∙ same_offered a b p.0 p.1 p.2)
+taken_over a b c (inr p) time (inl q) = inr (q.0 ∙ p.0, q.1 ∙ p.1, q.2 ∙ p.2)
+taken_over a b c (inr p) time (inr q) =
+    inr (q.0 ∙ ap without_out p.0, q.1 ∙ none_begun a b p.0 ∙ p.1, q.2 ∙ none_offered a b p.0 ∙ p.2)
 
 pub rest_joined : (a b c : RankState) → KeepsRest a b → KeepsRest b c → KeepsRest a c
 rest_joined a b c p q =
@@ -117,19 +145,19 @@ hands_from a b c went same kept p =
 -- its sending handed out, behind what it was refilled with
 pub hands_first : (a b c : RankState) (most len : ℕ) (o : OutgoingRecord) (old new : List ℕ) →
     pending b ≡ pending a → b.sending.kept ≡ a.sending.kept → KeepsRest a b →
-    HandsOut b.sending most len o old new c.sending → c.engine ≡ b.engine → c.trips ≡ b.trips → c.received ≡ b.received →
+    HandsOut b.sending most len o old new c.sending → c.engine ≡ b.engine → c.trips ≡ b.trips → c.windows ≡ b.windows → c.received ≡ b.received →
     c.told ≡ b.told →
     (o.count ≡ 0 → NoneFits (pending c) (length old)) → HandsFirst a most len o old new c
-hands_first a b c most len o old new same kept rest h engine trips received told none = record {
+hands_first a b c most len o old new same kept rest h engine trips windows received told none = record {
   went = h.went;
   hands = hands_from a b c h.went same kept
       (subst (λ (l : List Parcel). HandsOn b.sending.kept (pending b) h.went c.sending.kept (c.sending.waiting ++ l))
-      (same_emitted b c engine trips)
+      (same_emitted b c engine trips windows)
       (hands_more b.sending.kept c.sending.kept b.sending.waiting c.sending.waiting h.went (emitted b) h.hands));
   stands = h.stands;
   few = h.few;
   none = none;
-  rest = rest_joined a b c rest (inl (engine, trips), received, told, h.time);
+  rest = rest_joined a b c rest (inl (engine, trips, windows), received, told, h.time);
 }
 
 -- what is handed out behind nothing
@@ -152,27 +180,27 @@ hands_second a b c most len more o p old mid new f none s =
 -- the same, of a rank that is told as what it was refilled to
 pub hands_after : (a r b c : RankState) (most len : ℕ) (o : OutgoingRecord) (old new : List ℕ) → b ≡ r →
     pending r ≡ pending a → r.sending.kept ≡ a.sending.kept → KeepsRest a r →
-    HandsOut b.sending most len o old new c.sending → c.engine ≡ b.engine → c.trips ≡ b.trips → c.received ≡ b.received →
+    HandsOut b.sending most len o old new c.sending → c.engine ≡ b.engine → c.trips ≡ b.trips → c.windows ≡ b.windows → c.received ≡ b.received →
     c.told ≡ b.told →
     (o.count ≡ 0 → NoneFits (pending c) (length old)) → HandsFirst a most len o old new c
-hands_after a r b c most len o old new is same kept rest h engine trips received told none =
+hands_after a r b c most len o old new is same kept rest h engine trips windows received told none =
     hands_first a b c most len o old new (subst (λ (s : RankState). pending s ≡ pending a) (sym is) same)
     (subst (λ (s : RankState). s.sending.kept ≡ a.sending.kept) (sym is) kept)
-    (subst (λ (s : RankState). KeepsRest a s) (sym is) rest) h engine trips received told none
+    (subst (λ (s : RankState). KeepsRest a s) (sym is) rest) h engine trips windows received told none
 
 -- what is handed out behind nothing, once it was refilled a second time
 pub hands_again : (a r b s c : RankState) (most len more : ℕ) (o p : OutgoingRecord) (old mid new : List ℕ) → b ≡ r →
     pending r ≡ pending a → r.sending.kept ≡ a.sending.kept → KeepsRest a r →
-    HandsOut b.sending most len o old mid s.sending → s.engine ≡ b.engine → s.trips ≡ b.trips →
+    HandsOut b.sending most len o old mid s.sending → s.engine ≡ b.engine → s.trips ≡ b.trips → s.windows ≡ b.windows →
     s.received ≡ b.received → s.told ≡ b.told → o.count ≡ 0 → HandsFirst s most more p mid new c → HandsFirst a most more p old new c
-hands_again a r b s c most len more o p old mid new is same kept rest h engine trips received told none f =
+hands_again a r b s c most len more o p old mid new is same kept rest h engine trips windows received told none f =
     let went : h.went ≡ [] = none_went h.went o len old mid h.stands none in
     let put : mid ≡ old = nothing_stands h.went o len old mid h.stands none in
     let first : HandsOn a.sending.kept (pending a) h.went s.sending.kept (pending s) =
     hands_from a b s h.went (subst (λ (x : RankState). pending x ≡ pending a) (sym is) same)
     (subst (λ (x : RankState). x.sending.kept ≡ a.sending.kept) (sym is) kept)
     (subst (λ (l : List Parcel). HandsOn b.sending.kept (pending b) h.went s.sending.kept (s.sending.waiting ++ l))
-    (same_emitted b s engine trips)
+    (same_emitted b s engine trips windows)
     (hands_more b.sending.kept s.sending.kept b.sending.waiting s.sending.waiting h.went (emitted b) h.hands))
     in
     record {
@@ -184,7 +212,7 @@ hands_again a r b s c most len more o p old mid new is same kept rest h engine t
       few = f.few;
       none = λ e. subst (λ (l : List ℕ). NoneFits (pending c) (length l)) put (f.none e);
       rest = rest_joined a s c (rest_joined a b s (subst (λ (x : RankState). KeepsRest a x) (sym is) rest)
-          (inl (engine, trips), received, told, h.time)) f.rest;
+          (inl (engine, trips, windows), received, told, h.time)) f.rest;
     }
 
 few_of : (t : Bool) (k : Option DelayedAcknowledgement) (most : ℕ) → length (if t then kept_in k else []) ≤ max most 1
@@ -196,13 +224,13 @@ few_of false k most = omega arith
 -- what was kept back goes where nothing else did
 pub kept_first : (a s b c : RankState) (most len more : ℕ) (kept_too : Bool) (o p : OutgoingRecord)
     (old mid new : List ℕ) → HandsFirst a most len o old mid s → o.count ≡ 0 → b ≡ s →
-    HandsOutKept b.sending kept_too more p mid new c.sending → c.engine ≡ b.engine → c.trips ≡ b.trips →
+    HandsOutKept b.sending kept_too more p mid new c.sending → c.engine ≡ b.engine → c.trips ≡ b.trips → c.windows ≡ b.windows →
     c.received ≡ b.received → c.told ≡ b.told → HandsFirst a most more p old new c
-kept_first a s b c most len more kept_too o p old mid new f none is h engine trips received told =
+kept_first a s b c most len more kept_too o p old mid new f none is h engine trips windows received told =
     let went : f.went ≡ [] = none_went f.went o len old mid f.stands none in
     let put : mid ≡ old = nothing_stands f.went o len old mid f.stands none in
     let gone : List Parcel = kept_going kept_too b.sending in
-    let out : emitted b ≡ emitted c = same_emitted b c engine trips in
+    let out : emitted b ≡ emitted c = same_emitted b c engine trips windows in
     let second : HandsOn s.sending.kept (pending s) gone c.sending.kept (pending c) =
     subst (λ (x : RankState). HandsOn x.sending.kept (pending x) gone c.sending.kept (pending c)) is
     (subst (λ (l : List Parcel). HandsOn b.sending.kept (pending b) gone c.sending.kept (c.sending.waiting ++ l)) out
@@ -220,7 +248,7 @@ kept_first a s b c most len more kept_too o p old mid new f none is h engine tri
       few = few_of (kept_too || not (nat_lt b.sending.time (late_at b.sending.kept b.sending.since))) b.sending.kept most;
       none = λ e. subst (λ (l : List Parcel). NoneFits l (length old)) left (f.none none);
       rest = rest_joined a s c f.rest
-          (subst (λ (x : RankState). KeepsRest x c) is (inl (engine, trips), received, told, h.time));
+          (subst (λ (x : RankState). KeepsRest x c) is (inl (engine, trips, windows), received, told, h.time));
     }
 
 front_empty : (xs ys : List Parcel) → xs ++ ys ≡ [] → xs ≡ []

@@ -3,3 +3,4 @@ pub mod HandingSteps
 pub mod AnswerLaws
 pub mod MeaningSteps
 pub mod ClockSteps
+pub mod WindowSteps

@@ -4,6 +4,7 @@ pub mod OutgoingDatagrams
 pub mod Meanings
 pub mod Answers
 pub mod Clocks
+pub mod Windows
 pub mod State
 pub mod Calls
 pub mod AnswerCopies

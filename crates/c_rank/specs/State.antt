@@ -9,9 +9,11 @@ use Rattle.point_to_point_calls.specs.declared.refusal.Refusal.{Refusal}
 use Rattle.vocabulary.specs.MessageLimits.{frame_limit_of, limit_of}
 use Rattle.vocabulary.specs.declared.message_limit.MessageLimit.{MessageLimit}
 use Rattle.outgoing_datagrams.specs.HandedDatagrams.{SendingState}
+use Rattle.congestion_windows.specs.Flights.{WindowsState}
 use Rattle.round_trips.specs.Trips.{near}
 use Rattle.round_trips.specs.declared.round_trip.RoundTrip.{RoundTrip}
 use Rattle.c_rank.specs.Clocks.{told_waits, waits_in}
+use Rattle.c_rank.specs.Windows.{opened}
 use Rattle.c_rank.specs.declared.rank.ReceivedData.{ReceivedData}
 use Rattle.c_rank.specs.declared.records.PlaceRecord.{PlaceRecord}
 
@@ -23,6 +25,8 @@ pub record RankState : Type 0 where
   pub sending : SendingState
   -- what is known of round trips
   pub trips : List RoundTrip
+  -- what is on its way to each rank, and how much may be, where that is bounded
+  pub windows : Option WindowsState
   -- the millisecond that the engine was told last
   pub told : ℕ
 
@@ -55,7 +59,7 @@ place_said p limit = record {
 }
 
 -- a rank at its start: its engine is at its start, no data are there, nothing is to be sent, round trips are thought to
--- take no time, and its clock is at 0
+-- take no time, nothing is on its way, and its clock is at 0
 pub record IsOpening (p : PlaceRecord) (r : RankState) : Type 0 where
   pub limit : MessageLimit
   pub limits : AreLimits p limit
@@ -64,6 +68,7 @@ pub record IsOpening (p : PlaceRecord) (r : RankState) : Type 0 where
   pub waiting : r.sending.waiting ≡ []
   pub kept : r.sending.kept ≡ None
   pub trips : r.trips ≡ near p.size
+  pub windows : r.windows ≡ opened p
   pub told : r.told ≡ 0
 
 -- the numbers by which it is told how an event of the engine went: 0, or that of the refusal
@@ -80,9 +85,10 @@ IsNoPlace p n =
 
 -- ---- its clock
 
--- what goes out, what is known of round trips and the time that the engine was told are the same
+-- what goes out, what is known of round trips, what is on its way and the time that the engine was told are the same
 abbrev pub IsSameTime : RankState → RankState → Type 0
-IsSameTime old new = (new.sending ≡ old.sending) × (new.trips ≡ old.trips) × (new.told ≡ old.told)
+IsSameTime old new =
+    (new.sending ≡ old.sending) × (new.trips ≡ old.trips) × (new.windows ≡ old.windows) × (new.told ≡ old.told)
 
 -- the millisecond that the engine was told last, behind a tick that went so
 abbrev pub told_behind : Result (Unit {0}) Refusal → (before millisecond : ℕ) → ℕ
@@ -107,4 +113,5 @@ Ticks old now n new =
     EngineTicks (now / 1000000 == old.told) old (now / 1000000) n new
     × (new.received ≡ old.received)
     × (new.trips ≡ old.trips)
+    × (new.windows ≡ old.windows)
     × (new.sending ≡ record old.sending { time = now })

@@ -9,13 +9,16 @@
 mod answers;
 mod call_kind;
 mod elements;
+mod laws;
 mod meaning;
 mod rank;
 mod records;
+mod windows;
 
 pub use answers::{Told, refusal, reply_told, told_by_completion};
 pub use call_kind::CallKind;
 pub use elements::{elements_in, turn_elements};
+pub use laws::nothing_is_deferred_without_windows;
 pub use meaning::{Meant, meaning_of};
 pub use outgoing_datagrams::OutgoingRecord;
 pub use rank::{Rank, ReceivedData};

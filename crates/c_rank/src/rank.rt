@@ -11,9 +11,11 @@ ghost use Rattle.sessions.specs.Peers.{IsIdlePeer};
 ghost use Rattle.c_rank.specs.Clocks.{after_all, going, told_waits, trips_behind, waits_in};
 ghost use Rattle.c_rank.specs.Calls.{Answers, AnswersMeant, AnswersOrLacks, Tells, TellsReply, look_told, type_out};
 ghost use Rattle.c_rank.specs.Meanings.{receive_meant, send_meant};
-ghost use Rattle.c_rank.specs.OutgoingDatagrams.{HandsFirst, HandsNext, KeepsBack, KeepsRest, StaysSo, pending};
+ghost use Rattle.c_rank.specs.OutgoingDatagrams.{AsksEngine, HandsFirst, HandsNext, KeepsBack, KeepsRest, MayAsk, Releases};
+ghost use Rattle.c_rank.specs.OutgoingDatagrams.{StaysSo, after_taking, pending};
 ghost use Rattle.c_rank.specs.State.{AreLimits, HasNoLimits, IsNoLimit, IsNoPlace, IsOpening, IsSameTime, TellsTime, Ticks};
 ghost use Rattle.c_rank.specs.State.{number_of_result, place_said};
+ghost use Rattle.c_rank.specs.Windows.{sifted, windows_behind, windows_sifted};
 ghost use Rattle.c_rank.specs.AnswerCopies.{Takes, TakesOf};
 ghost use Rattle.vocabulary.specs.MessageLimits.{limit_of};
 ghost use Rattle.c_rank.specs.declared.meaning.Meant.TheVariants as meant;
@@ -28,6 +30,8 @@ use crate::meaning::{
     Meant, elements_handed, meaning_of, receive_of, request_named, room_asked, send_of,
 };
 use crate::records::{AnswerRecord, CallRecord, PlaceRecord};
+use crate::windows;
+use congestion_windows::CongestionWindows;
 use datagram::{Bytes, GREATEST_DATAGRAM};
 use datatypes::WholeBuffer;
 use engine::{Call, Engine, Mode, Place, Probe, Refusal, Reply, Request};
@@ -70,6 +74,8 @@ pub struct Rank {
     sending: Sending,
     /// What is known of round trips.
     trips: RoundTrips,
+    /// What is on its way to each rank, where that is bounded.
+    windows: Option<CongestionWindows>,
     /// The millisecond that the engine was told last.
     told: u64,
 }
@@ -79,7 +85,14 @@ impl Model for Rank {
 
     ghost Value = { RankState };
 
-    ghost view = { λ r. record { engine = r.engine; received = r.received; sending = r.sending; trips = r.trips; told = r.told } };
+    ghost view = { λ r. record {
+      engine = r.engine;
+      received = r.received;
+      sending = r.sending;
+      trips = r.trips;
+      windows = r.windows;
+      told = r.told;
+    } };
 }
 
 impl ReceivedData {
@@ -165,6 +178,25 @@ fn hold_back(trips: &RoundTrips, emitted: &mut Vec<(u16, Bytes)>)
     emitted.retain(|datagram| trips.may_go(datagram.1.as_slice()));
 }
 
+/// Drops what isn't to go of what the engine emitted: by itself, or since it was asked for what is deferred.
+#[inline(always)]
+fn sift(
+    trips: &RoundTrips,
+    windows: &mut Option<CongestionWindows>,
+    is_asked: bool,
+    emitted: &mut Vec<(u16, Bytes)>,
+)
+    ensures windows { windows.new ≡ windows_sifted is_asked trips.now windows.old emitted.old.items }
+    ensures emitted { emitted.new.items ≡ sifted is_asked trips.now windows.old emitted.old.items }
+{
+    if is_asked {
+        windows::admit_released(windows, emitted);
+    } else {
+        hold_back(trips, emitted);
+        windows::admit(windows, emitted);
+    }
+}
+
 /// These datagrams go out, at this time in microseconds.
 fn note_all(trips: &mut RoundTrips, list: &[(u16, Bytes)], now: u64)
     ensures { trips.new ≡ after_all trips.old list.now now }
@@ -181,21 +213,25 @@ impl Rank {
         ensures opening { IfOk result (IsOpening place.now) }
         ensures refused { IfErr result (IsNoPlace place.now) }
     {
-        let place = match place_of(place) {
-            Ok(place) => place,
+        let own = match place_of(place) {
+            Ok(own) => own,
             Err(number) => return Err(number),
         };
-        let engine = match Engine::new(alloc, place) {
+        let engine = match Engine::new(alloc, own) {
             Ok(engine) => engine,
             Err(refused) => return Err(refused.number()),
         };
-        match RoundTrips::near(alloc, place.size) {
-            Ok(trips) => Ok(Rank {
+        let Ok(trips) = RoundTrips::near(alloc, own.size) else {
+            return Err(Refusal::OutOfMemory.number());
+        };
+        match windows::opened(alloc, place) {
+            Ok(windows) => Ok(Rank {
                 alloc,
                 engine,
                 received: None,
                 sending: Sending::new(alloc),
                 trips,
+                windows,
                 told: 0,
             }),
             Err(_) => Err(Refusal::OutOfMemory.number()),
@@ -380,11 +416,13 @@ impl Rank {
         }
     }
 
-    /// Takes a datagram in: 0, or the number of the refusal. One that the engine takes tells of round trips.
+    /// Takes a datagram in: 0, or the number of the refusal. One that the engine takes tells of round trips, and of what
+    /// is on its way.
     pub fn on_datagram(&mut self, bytes: &[u8]) -> u8
         ensures takes { (gone : Result (Unit {0}) Refusal) ×
             (DatagramGives self.old.engine bytes.now gone self.new.engine × (result ≡ number_of_result gone)
-            × (self.new.trips ≡ trips_behind gone self.old.trips bytes.now (self.old.sending.time / 1000))) }
+            × (self.new.trips ≡ trips_behind gone self.old.trips bytes.now (self.old.sending.time / 1000))
+            × (self.new.windows ≡ windows_behind gone self.old.windows bytes.now)) }
         ensures received { self.new.received ≡ self.old.received }
         ensures sending { self.new.sending ≡ self.old.sending }
         ensures told { self.new.told ≡ self.old.told }
@@ -392,6 +430,7 @@ impl Rank {
         let gone = self.engine.on_datagram(bytes);
         if gone.is_ok() {
             self.trips.on_came(bytes, self.sending.micros());
+            windows::note_came(&mut self.windows, bytes);
         }
         number_of(gone)
     }
@@ -402,6 +441,7 @@ impl Rank {
         ensures received { self.new.received ≡ self.old.received }
         ensures sending { self.new.sending ≡ self.old.sending }
         ensures trips { self.new.trips ≡ self.old.trips }
+        ensures windows { self.new.windows ≡ self.old.windows }
     {
         tell_waits(&mut self.engine, &self.trips);
         match self.engine.tick(millisecond) {
@@ -426,8 +466,19 @@ impl Rank {
         self.tell_time(millisecond)
     }
 
+    /// What is to go of what the engine emitted waits from now on, in place of what waited. Round trips begin with it.
+    fn take_emitted(&mut self, is_asked: bool)
+        ensures { self.new ≡ after_taking is_asked self.old }
+    {
+        let mut emitted = self.engine.take_out();
+        sift(&self.trips, &mut self.windows, is_asked, &mut emitted);
+        note_all(&mut self.trips, &emitted, self.sending.micros());
+        let former = self.sending.refill(emitted);
+        self.engine.give_back(former);
+    }
+
     /// Where all was handed out, what the engine emitted since waits from now on, but for frames that may not go again
-    /// now. Round trips begin with it.
+    /// now, and for those that have no room in their windows.
     fn refill(&mut self)
         ensures pending { pending self.new ≡ pending self.old }
         ensures kept { self.new.sending.kept ≡ self.old.sending.kept }
@@ -436,11 +487,7 @@ impl Rank {
         ensures rest { KeepsRest self.old self.new }
     {
         if self.sending.is_through() && !self.engine.is_through() {
-            let mut emitted = self.engine.take_out();
-            hold_back(&self.trips, &mut emitted);
-            note_all(&mut self.trips, &emitted, self.sending.micros());
-            let former = self.sending.refill(emitted);
-            self.engine.give_back(former);
+            self.take_emitted(false);
         }
     }
 
@@ -494,6 +541,34 @@ impl Rank {
         self.sending.hand_out_kept(kept_too, outgoing, into)
     }
 
+    /// Whether acknowledgements made room for frames that are deferred, and all is handed out that was emitted.
+    fn may_ask(&self) -> bool
+        ensures { IsTrue result ↔ MayAsk self.now }
+    {
+        windows::asks(&self.windows) && self.sending.is_through() && self.engine.is_through()
+    }
+
+    /// The engine, which keeps each frame until it is acknowledged, emits those again for which there may be room.
+    fn ask_engine(&mut self) -> Result<(), Refusal>
+        ensures { AsksEngine self.old result self.new }
+    {
+        windows::ask(&mut self.engine, &self.windows);
+        self.engine.tick(self.told)
+    }
+
+    /// Where acknowledgements made room for frames that are deferred, those wait from now on that have room.
+    fn release(&mut self)
+        ensures { Releases self.old self.new }
+    {
+        if !self.may_ask() {
+            return;
+        }
+        match self.ask_engine() {
+            Ok(()) => self.take_emitted(true),
+            Err(_) => {}
+        }
+    }
+
     /// Hands out what goes next: at most `most` datagrams, or one, which stand one behind the other in the slice. Answers
     /// how many bytes they are. Nothing goes where the slice may be too short for a datagram of some job.
     pub fn next(
@@ -509,6 +584,7 @@ impl Rank {
         if into.len() < GREATEST_DATAGRAM {
             return 0;
         }
+        self.release();
         let len = self.hand_out_all(most, kept_too, outgoing, into);
         outgoing.kept_until = self.sending.kept_until();
         len

@@ -31,6 +31,9 @@ pub struct PlaceRecord {
     pub incarnation: u16,
     /// The most bytes of data of a frame.
     pub frame_limit: u32,
+    /// How many bytes that came the socket of a rank keeps: what is on its way to each is bounded by that, and has a
+    /// congestion window. 0: neither.
+    pub room: u32,
 }
 
 /// What is asked of a rank. Each kind reads some of the fields.

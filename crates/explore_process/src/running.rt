@@ -112,6 +112,25 @@ fn print_found<R: Files + Print + Eprint + AllocGlobal>(
     }
 }
 
+/// Tells where the folder of `--out` isn't there, before anything is explored: none is made.
+fn need_folder<R: Files + Eprint>(rt: &R, settings: &Settings<'_>) -> Result<(), u8> {
+    let Some(folder) = settings.folder else {
+        return Ok(());
+    };
+    match fs::metadata(rt, folder) {
+        Ok(found) if found.is_dir() => Ok(()),
+        _ => {
+            tell_file(
+                rt,
+                59,
+                folder,
+                "written: --out needs a folder that is there",
+            );
+            Err(OUTPUT)
+        }
+    }
+}
+
 fn read_text<R: Files + Eprint + AllocGlobal>(
     rt: &R,
     settings: &Settings<'_>,
@@ -183,6 +202,7 @@ fn run_settings<R: Files + Print + Eprint + AllocGlobal + Clock>(
     tells: bool,
 ) -> Result<u8, u8> {
     let text = read_text(rt, settings)?;
+    need_folder(rt, settings)?;
     let script = if settings.sends == Sends::Synchronous {
         match PlayedText::with_synchronous_sends(rt.alloc(), &text) {
             Ok(script) => script,

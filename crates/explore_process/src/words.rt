@@ -182,7 +182,7 @@ pub fn explore_program<'a>(alloc: Global) -> Result<Command<'a>, AllocError> {
         .value_name("FOLDER")
         .action(ArgAction::Set)
         .help(
-            "Write each result into this folder, as a file of events, result1.txt and so on, and as a picture, result1.svg",
+            "Write each result into this folder, which has to be there, as a file of events, result1.txt and so on, and as a picture, result1.svg",
         );
     let file = Arg::new(alloc, "SCRIPT")
         .required(true)

@@ -1,5 +1,5 @@
 //! All ranks of a job in one world, told by records of numbers: what one of them is asked is a step of the world, and
-//! what they send comes at once, each datagram once and in order.
+//! what they send comes when they are told so, each datagram once and in order. Nothing past is kept.
 #![tactic(auto)]
 
 mod part;

@@ -1,23 +1,22 @@
-//! The ranks of a world.
+//! The ranks of a job.
 
-ghost use Rattle.std.specs.Prelude.{◌≡◌, ◌⊎◌, [], IfOk, IsTrue};
+ghost use Rattle.std.specs.Prelude.{◌≡◌, ◌⊎◌, [], IfErr, IfOk, IsFalse, IsTrue, OnOk};
 ghost use Rattle.c_rank.specs.Meanings.{meaning};
-ghost use Rattle.world.specs.EventByEvent.{HasRun};
-ghost use Rattle.world.specs.Headline.{IsRunOfMachine};
+ghost use Rattle.world.specs.RunningSteps.{HasComeBy, opening_running};
 ghost use Rattle.link_truth.specs.Quiet.{AreQuiet};
 ghost use Rattle.observation.specs.Sessions.{sessions_in};
 ghost use Rattle.engine_calls.specs.declared.call.Call.TheVariants as calls;
-ghost use Rattle.joined_ranks.specs.Goings.{GoesOnAlone, IsCallMeant, IsCallOf, IsStepOf};
+ghost use Rattle.joined_ranks.specs.Goings.{GoesOnAlone, IsCallMeant, IsCallOf, IsStepOf, IsToldOf, LeavesAs, ended_or};
+ghost use Rattle.joined_ranks.specs.Goings.{number_told};
 
 use crate::part::RankPart;
 use c_rank::{AnswerRecord, CallRecord, Meant, Told, meaning_of, refusal, reply_told};
-use datatypes::Buffer;
 use engine::{Call, Probe, Reply, Request};
-use replies::{completion_as_reply, reply_copied};
-use std::alloc::{AllocError, Global};
+use replies::reply_of;
+use std::alloc::Global;
 use std::default::Default;
 use vocabulary::{BasicType, MessageLimit};
-use world::{Event, World, WorldRefusal};
+use world::{Answered, Came, RunningWorld, WorldRefusal};
 
 /// The kinds of answers that no reply of an engine brings.
 const PENDING: u32 = 3;
@@ -33,115 +32,84 @@ const NO_SUCH_RANK: u8 = 5;
 /// The number of a look at a request that there isn't.
 const NO_SUCH_REQUEST: u8 = 6;
 
-/// All ranks of a job, in one world.
+/// All ranks of a job, in one world, of which nothing past is kept.
 #[derive(Drop)]
 pub struct JoinedRanks {
     alloc: Global,
     /// The world.
-    pub world: World,
-    /// So many datagrams were delivered: all that have a lower number, each once.
-    delivered: usize,
+    pub world: RunningWorld,
     parts: Vec<RankPart>,
 }
 
 /// The number of a refusal of the world.
-fn number_of(refused: WorldRefusal) -> u8 {
+fn number_of(refused: WorldRefusal) -> u8
+    ensures { result ≡ number_told refused }
+{
     match refused {
         WorldRefusal::Engine(refused) => refused.number(),
         _ => NO_SUCH_RANK,
     }
 }
 
-/// Keeps the answer of a call of a rank that was blocked, which the entry of this place in the history has.
-fn keep_ended(
-    alloc: Global,
-    world: &World,
-    parts: &mut Vec<RankPart>,
-    rank: u16,
-    place: usize,
-) -> Result<(), AllocError> {
-    let Some(entry) = world.history().get(place) else {
-        return Ok(());
+/// Keeps the answer of a call of a rank that was blocked, if the datagram that came to it made one ready.
+fn keep_ended(parts: &mut Vec<RankPart>, came: Came) {
+    let Came { rank, completion } = came;
+    let Some(completion) = completion else {
+        return;
     };
-    let Some(completion) = &entry.completion else {
-        return Ok(());
-    };
-    let reply = completion_as_reply(alloc, completion)?;
+    let reply = reply_of(completion);
     match parts.get_mut(rank as usize) {
         Some(part) => drop(part.ended.replace(reply)),
         None => drop(reply),
     }
-    Ok(())
 }
 
-/// What the entry of this place answered, or what ended its call at once.
-fn reply_at(alloc: Global, world: &World, place: usize) -> Result<Reply, AllocError> {
-    let Some(entry) = world.history().get(place) else {
-        return Ok(Reply::Pending);
-    };
-    if let Some(completion) = &entry.completion {
-        return completion_as_reply(alloc, completion);
-    }
-    match &entry.reply {
-        Some(reply) => reply_copied(alloc, reply),
-        None => Ok(Reply::Pending),
-    }
-}
-
-/// A call of the engine, at its rank: what it answered, or the number of its refusal.
-fn step(alloc: Global, world: &mut World, rank: u16, call: Call) -> Result<Reply, u8>
-    ensures { IsStepOf rank call world.old world.new }
+/// What a call was answered at once, or what ended it at once.
+fn reply_in(answered: Answered) -> Reply
+    ensures { result ≡ ended_or answered.completion answered.reply }
 {
-    match world.step(Event::Call(rank, call)) {
-        Ok(stepped) => match reply_at(alloc, world, stepped.place) {
-            Ok(reply) => Ok(reply),
-            Err(_) => Err(OUT_OF_MEMORY),
-        },
-        Err(failed) => Err(number_of(failed.refused)),
+    let Answered { reply, completion } = answered;
+    match (completion, reply) {
+        (Some(completion), _) => reply_of(completion),
+        (None, Some(reply)) => reply,
+        (None, None) => Reply::Pending,
     }
 }
 
-/// Delivers the next datagram that wasn't delivered yet. Answers whether there was one.
-fn deliver_next(
-    alloc: Global,
-    world: &mut World,
-    delivered: &mut usize,
-    parts: &mut Vec<RankPart>,
-) -> Result<bool, AllocError>
-    ensures { GoesOnAlone world.old world.new }
+/// The oldest datagram that is on its way comes. Answers whether there was one, or why it couldn't come.
+fn deliver_next(world: &mut RunningWorld, parts: &mut Vec<RankPart>) -> Result<bool, u8>
+    ensures alone { GoesOnAlone world.old world.new }
+    ensures all { IfOk result (λ comes. IsFalse comes → world.new.waiting ≡ []) }
+    ensures refused { IfErr result (λ number. (number ≡ 14) ⊎ (number ≡ 5)) }
 {
-    let number = *delivered;
-    let Some((rank, _)) = world.datagram(number) else {
-        return Ok(false);
-    };
-    *delivered = number.saturating_add(1);
-    match world.step(Event::Deliver(number)) {
-        Ok(stepped) => keep_ended(alloc, world, parts, rank, stepped.place)?,
-        Err(failed) => drop(failed),
+    match world.deliver_next() {
+        Ok(None) => Ok(false),
+        Ok(Some(came)) => {
+            keep_ended(parts, came);
+            Ok(true)
+        }
+        Err(refused) => Err(number_of(refused)),
     }
-    Ok(true)
 }
 
-/// Delivers all that was sent, and what is sent for it, until nothing more is.
+/// All that was sent comes, and what is sent for it, until nothing more is.
 #[tactic(auto, using(crate::proofs::Alone::stays_alone))]
-fn deliver_all(
-    alloc: Global,
-    world: &mut World,
-    delivered: &mut usize,
-    parts: &mut Vec<RankPart>,
-) -> Result<(), AllocError>
-    ensures { GoesOnAlone world.old world.new }
+fn deliver_all(world: &mut RunningWorld, parts: &mut Vec<RankPart>) -> Result<(), u8>
+    ensures alone { GoesOnAlone world.old world.new }
+    ensures all { OnOk result (world.new.waiting ≡ []) }
+    ensures refused { IfErr result (λ number. (number ≡ 14) ⊎ (number ≡ 5)) }
 {
     for _ in 0..u64::MAX {
-        if !deliver_next(alloc, world, delivered, parts)? {
+        if !deliver_next(world, parts)? {
             return Ok(());
         }
     }
-    Ok(())
+    // So many don't come while a machine stands.
+    Err(OUT_OF_MEMORY)
 }
 
 /// The basic type of the message that a matching probe took out, if it did.
-fn type_taken_out(world: &World, rank: u16, reply: &Reply) -> Option<BasicType> {
+fn type_taken_out(world: &RunningWorld, rank: u16, reply: &Reply) -> Option<BasicType> {
     match reply {
         Reply::Matched(Some((Some(message), _))) => world.engine(rank)?.type_of_message(*message),
         _ => None,
@@ -149,12 +117,12 @@ fn type_taken_out(world: &World, rank: u16, reply: &Reply) -> Option<BasicType> 
 }
 
 /// The basic type of the message that such a probe finds, if it finds one.
-fn type_probed(world: &World, rank: u16, probe: Probe) -> Option<BasicType> {
+fn type_probed(world: &RunningWorld, rank: u16, probe: Probe) -> Option<BasicType> {
     world.engine(rank)?.type_of_probed(probe)
 }
 
 /// Whether a request of a rank is finished.
-fn look(world: &World, rank: u16, request: Request) -> AnswerRecord {
+fn look(world: &RunningWorld, rank: u16, request: Request) -> AnswerRecord {
     let finished = match world.engine(rank) {
         Some(engine) => engine.is_finished(request),
         None => None,
@@ -176,7 +144,9 @@ fn tell(
     rank: u16,
     reply: Reply,
     basic: Option<BasicType>,
-) -> AnswerRecord {
+) -> AnswerRecord
+    ensures { IsToldOf reply result }
+{
     match reply_told(alloc, reply, basic) {
         Ok(told) => {
             let Told { answer, received } = told;
@@ -191,11 +161,13 @@ fn tell(
 
 impl JoinedRanks {
     /// So many ranks, at their start. Refused with 13 where there is no world of so many, and with 14. The run of the
-    /// machine that the world has come by is that of no event.
+    /// machine that they have come by is that of no event.
     pub fn new(alloc: Global, size: u16, limit: MessageLimit) -> Result<JoinedRanks, u8>
-        ensures { IfOk result (λ ranks. HasRun ranks.world []) }
+        ensures opening { IfOk result (λ ranks. ranks.world ≡ opening_running limit size) }
+        ensures run { IfOk result (λ ranks. HasComeBy ranks.world []) }
+        ensures refused { IfErr result (λ number. (number ≡ 13) ⊎ (number ≡ 14)) }
     {
-        let world = match World::with_limit(alloc, size, limit) {
+        let world = match RunningWorld::with_limit(alloc, size, limit) {
             Ok(world) => world,
             Err(refused) => return Err(number_of(refused)),
         };
@@ -212,32 +184,33 @@ impl JoinedRanks {
         Ok(JoinedRanks {
             alloc,
             world,
-            delivered: 0,
             parts,
         })
     }
 
     fn answer(&mut self, rank: u16, call: Call) -> AnswerRecord
-        ensures { IsStepOf rank call self.old.world self.new.world }
+        ensures { IsStepOf rank call self.old.world result self.new.world }
     {
-        match step(self.alloc, &mut self.world, rank, call) {
-            Ok(reply) => {
+        match self.world.call(rank, call) {
+            Ok(answered) => {
+                let reply = reply_in(answered);
                 let basic = type_taken_out(&self.world, rank, &reply);
                 tell(self.alloc, &mut self.parts, rank, reply, basic)
             }
-            Err(number) => refusal(number),
+            Err(refused) => refusal(number_of(refused)),
         }
     }
 
     fn answer_probe(&mut self, rank: u16, probe: Probe) -> AnswerRecord
-        ensures { IsStepOf rank (calls.Iprobe probe) self.old.world self.new.world }
+        ensures { IsStepOf rank (calls.Iprobe probe) self.old.world result self.new.world }
     {
-        match step(self.alloc, &mut self.world, rank, Call::Iprobe(probe)) {
-            Ok(reply) => {
+        match self.world.call(rank, Call::Iprobe(probe)) {
+            Ok(answered) => {
+                let reply = reply_in(answered);
                 let basic = type_probed(&self.world, rank, probe);
                 tell(self.alloc, &mut self.parts, rank, reply, basic)
             }
-            Err(number) => refusal(number),
+            Err(refused) => refusal(number_of(refused)),
         }
     }
 
@@ -258,12 +231,12 @@ impl JoinedRanks {
     }
 
     /// Answers the call of a rank that the numbers mean, and the data. What they mean is one step of the world, a call
-    /// of this rank's engine, and goes on from its run of the machine by one event of this call. A look and the
-    /// question for the end of a blocked call leave the world as it is; so do numbers that mean nothing, and a call for
-    /// whose data memory is wanting.
+    /// of this rank's engine, goes on from its run of the machine by one event of this call, and is told as the engine
+    /// answers it. A look and the question for the end of a blocked call leave the world as it is; so do numbers that
+    /// mean nothing, and a call for whose data memory is wanting (14).
     pub fn call(&mut self, rank: u16, asked: &CallRecord, bytes: &[u8]) -> AnswerRecord
-        ensures { IsCallOf rank (meaning asked.now bytes.now) self.old.world self.new.world
-            ⊎ (self.new.world ≡ self.old.world) }
+        ensures { IsCallOf rank (meaning asked.now bytes.now) self.old.world result self.new.world
+            ⊎ LeavesAs self.old.world result self.new.world }
     {
         match meaning_of(self.alloc, asked, bytes) {
             Ok(Meant::Call(call)) => self.answer(rank, call),
@@ -274,19 +247,17 @@ impl JoinedRanks {
         }
     }
 
-    /// Delivers all that was sent, each datagram once and in the order of their numbers, until nothing more is sent.
-    /// The world goes on from its run of the machine by events in which nobody calls. Answers whether it is quiet then:
-    /// no session between ranks that know each other holds a frame. Fails for want of memory alone.
-    pub fn settle(&mut self) -> Result<bool, AllocError>
+    /// All that was sent comes, each datagram once and in the order in which they were sent, until nothing more is sent.
+    /// The ranks go on from their run of the machine by events in which nobody calls. Answers whether they are quiet
+    /// then: no session between ranks that know each other holds a frame. Fails with 14 for want of memory, and with 5
+    /// where a datagram is for a rank that there isn't; what hasn't come is on its way still.
+    pub fn settle(&mut self) -> Result<bool, u8>
         ensures world { GoesOnAlone self.old.world self.new.world }
+        ensures all { OnOk result (self.new.world.waiting ≡ []) }
         ensures quiet { IfOk result (λ is_quiet. IsTrue is_quiet → AreQuiet (sessions_in self.new.world.engines)) }
+        ensures refused { IfErr result (λ number. (number ≡ 14) ⊎ (number ≡ 5)) }
     {
-        deliver_all(
-            self.alloc,
-            &mut self.world,
-            &mut self.delivered,
-            &mut self.parts,
-        )?;
+        deliver_all(&mut self.world, &mut self.parts)?;
         Ok(self.world.is_quiet())
     }
 

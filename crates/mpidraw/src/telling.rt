@@ -1,5 +1,6 @@
 //! What the program says on standard error.
 
+use file_kinds::is_script;
 use line_diagnostics::{LineFault, event_fault, explanation, line_at, script_fault};
 use script_judgement::hint_of;
 use std::alloc::Global;
@@ -94,7 +95,11 @@ pub fn faulty_events(
     number: usize,
     fault: Option<LineFault>,
 ) -> u8 {
-    faulty(rt, number, told_of_event(rt.alloc(), text, number, fault))
+    let status = faulty(rt, number, told_of_event(rt.alloc(), text, number, fault));
+    if is_script(rt.alloc(), text, number) {
+        let _told = eprintln!(rt; "mpidraw: a script has such lines: --ranks N draws a play of it");
+    }
+    status
 }
 
 /// Says at which line a script is faulty, and why, and answers the status.

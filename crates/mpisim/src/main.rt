@@ -7,6 +7,7 @@
 //! a file of such a name is named with its folder, as ./--help.
 #![tactic(auto)]
 
+use file_kinds::is_script;
 use line_diagnostics::{LineFault, event_fault, explanation, line_at};
 use simulation::{SimulateError, Stopped, simulate_or_tell};
 use std::alloc::Global;
@@ -22,6 +23,10 @@ usage: mpisim FILE
        mpisim --help, mpisim --version
   FILE  a file of events: its first line is `world N`, N from 1 to 1024, and each other line is what a rank does, `deliver D`,
         `tick R NOW`, `restart R` or `stray R HEX`. What each line answers is printed.";
+
+/// What is told of a file that is a script.
+const SCRIPT: &str =
+    "mpisim: a script has such lines, and N ranks run it: mpirun -n N rank_main FILE";
 
 /// Which program it is.
 const VERSION: &str = "mpisim (Kombazily) 0.1.0";
@@ -88,6 +93,9 @@ fn tell_fault(
         if let Ok(told) = str::from_utf8(&line) {
             let _told = eprintln!(rt; "{told}");
         }
+    }
+    if is_script(rt.alloc(), text, number) {
+        let _told = eprintln!(rt; "{SCRIPT}");
     }
     status
 }

@@ -10,6 +10,10 @@ use std::fmt;
 pub enum StartFault {
     /// There is no such file, or the folder isn't there in which it is to start.
     NoSuchFile,
+    /// The file is there, and what its first line, or its header, names as its interpreter isn't.
+    NoInterpreter,
+    /// There is no such file in `PATH`, and one of its name in the folder in which it is to start.
+    OutsidePath,
     /// The file may not be run.
     MayNotRun,
     /// It is a folder.
@@ -29,7 +33,8 @@ pub enum StartFault {
 }
 
 impl StartFault {
-    /// The reason that an error of the system stands for (`errno`, where that is below 256; 21 for a folder).
+    /// The reason that an error of the system stands for (`errno`, where that is below 200; 21 for a folder), or one of
+    /// those that the launcher itself found.
     pub fn of_number(number: u8) -> StartFault
         ensures { result ≡ fault_of number }
     {
@@ -42,6 +47,8 @@ impl StartFault {
             23 | 24 => StartFault::TooManyFiles,
             12 => StartFault::NoMemory,
             7 => StartFault::TooLong,
+            200 => StartFault::NoInterpreter,
+            201 => StartFault::OutsidePath,
             _ => StartFault::Other,
         }
     }
@@ -59,6 +66,8 @@ impl StartFault {
             StartFault::TooManyFiles => 24,
             StartFault::NoMemory => 12,
             StartFault::TooLong => 7,
+            StartFault::NoInterpreter => 200,
+            StartFault::OutsidePath => 201,
             StartFault::Other => 0,
         }
     }
@@ -74,6 +83,9 @@ impl fmt::Display for StartFault {
     fn fmt<W: fmt::Write>(&self, f: &mut fmt::Formatter<W>) -> fmt::Result {
         f.write_str(match self {
             StartFault::NoSuchFile => " (no such file or folder)",
+            StartFault::NoInterpreter => " (the file is there, its interpreter isn't)",
+            StartFault::OutsidePath =>
+                " (no such file or folder; with ./ in front the one here is taken)",
             StartFault::MayNotRun => " (it may not be run)",
             StartFault::Folder => " (it is a folder)",
             StartFault::NoProgram => " (it is no program)",

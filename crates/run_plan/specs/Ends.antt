@@ -1,5 +1,5 @@
 -- The statuses of ranks, and what is told of their ends.
-use Rattle.std.specs.Prelude.{ℕ, ◌+◌, Bool, true, false, min, nat_le, List, [], codes, Option, Some, None}
+use Rattle.std.specs.Prelude.{ℕ, ◌+◌, ◌==◌, Bool, true, false, min, nat_le, List, [], codes, Option, Some, None}
 use Rattle.std.specs.Prelude.{if◌then◌else◌}
 use Rattle.launch_decisions.specs.declared.failure.Failure.{Failure}
 use Rattle.launch_keeper.specs.declared.ending.ProgramEnding.{ProgramEnding}
@@ -38,6 +38,26 @@ job_status None is_interrupted is_late = status_without is_interrupted is_late
 abbrev pub is_over_time : Option ℕ → ℕ → Bool
 is_over_time None seconds = false
 is_over_time (Some limit) seconds = nat_le limit seconds
+
+-- what a signal is called, as Linux numbers them: SIGILL 4, SIGABRT 6, SIGBUS 7, SIGFPE 8, SIGKILL 9, SIGSEGV 11, SIGTERM
+-- 15
+abbrev pub signal_name : ℕ → List ℕ
+signal_name signal =
+    if signal == 4 then codes " (illegal instruction)"
+    else (if signal == 6 then codes " (aborted)"
+    else (if signal == 7 then codes " (bus error)"
+    else (if signal == 8 then codes " (arithmetic error)"
+    else (if signal == 9 then codes " (killed)"
+    else (if signal == 11 then codes " (segmentation fault)"
+    else (if signal == 15 then codes " (terminated)"
+    else []))))))
+
+-- the same of the one that ended a program, if one did
+abbrev pub signal_text : ProgramEnding → List ℕ
+signal_text endings.NotStarted = []
+signal_text endings.WithoutStatus = []
+signal_text (endings.Signal signal) = signal_name signal
+signal_text (endings.Status status) = []
 
 -- a failure ends the others where some run, unless they are to go on
 abbrev pub consequence_of : (keeps_going others_run : Bool) → Consequence

@@ -21,5 +21,6 @@ pub use ports::{BLOCK, FIRST_PORT, PORT_BLOCKS, block_port, blocks_for, has_bloc
 pub use reading::{RunRequest, request_of};
 pub use sets::plan_words;
 pub use status::{
-    Consequence, ConsequenceText, consequence_of, is_over_time, job_status, rank_ending, run_status,
+    Consequence, ConsequenceText, SignalText, consequence_of, is_over_time, job_status,
+    rank_ending, run_status,
 };

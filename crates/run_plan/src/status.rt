@@ -65,6 +65,34 @@ pub fn is_over_time(limit: Option<u32>, seconds: u64) -> bool
     }
 }
 
+/// What the signal is called that ended a program, in brackets behind a blank: those that crash one, and those by which
+/// others end it; nothing for all others, and where none ended it.
+#[derive(Clone, Copy)]
+pub struct SignalText {
+    /// How the program ended.
+    pub ending: ProgramEnding,
+}
+
+impl fmt::Display for SignalText {
+    ghost use Rattle.std.specs.Prelude.{Some};
+    ghost use Rattle.run_plan.specs.Ends.{signal_text};
+
+    ghost output = { λ s. Some (signal_text s.ending) };
+
+    fn fmt<W: fmt::Write>(&self, f: &mut fmt::Formatter<W>) -> fmt::Result {
+        f.write_str(match self.ending {
+            ProgramEnding::Signal(4) => " (illegal instruction)",
+            ProgramEnding::Signal(6) => " (aborted)",
+            ProgramEnding::Signal(7) => " (bus error)",
+            ProgramEnding::Signal(8) => " (arithmetic error)",
+            ProgramEnding::Signal(9) => " (killed)",
+            ProgramEnding::Signal(11) => " (segmentation fault)",
+            ProgramEnding::Signal(15) => " (terminated)",
+            _ => "",
+        })
+    }
+}
+
 /// What a rank's failure does to the others.
 #[derive(Clone, Copy, Debug, PartialEq, Eq)]
 pub enum Consequence {

@@ -5,13 +5,13 @@ use crate::front::{LAUNCH, LED, run_front};
 use crate::job::{FAILED, Job};
 use crate::job_hosts::{JobHosts, hosts_by};
 use crate::keeper::{KEEPER, run_keeper};
-use crate::own_words::{REFUSED, own_words_of, tell_fault};
+use crate::own_words::{MOST_RANKS, REFUSED, own_words_of, tell_fault};
 use crate::setup::{Setup, UNASKED, tell_as_own};
 use crate::wish::Front;
-use launch_diagnostics::explain;
+use launch_diagnostics::{Explanation, explain};
 use launch_keeper::{Word, Words};
-use launch_plan::Plan;
 use launch_plan::planning::plan;
+use launch_plan::{LaunchRefusal, Plan};
 use numerals::number_between;
 use process_commands::{ClosedStreams, open_closed_streams, text_of};
 use rank_environment::frame_in;
@@ -57,21 +57,57 @@ fn planned_words(
     Ok(plan_words(rt.alloc(), job, base_port, restarts, options.patience, sets)?)
 }
 
-/// The plan of a request, at these ports; tells why there is none.
+/// Tells which limit the sets behind a request exceed from this port of rank 0 on: that of ranks or that of ports.
+fn tell_over_limit<R: Eprint + AllocGlobal>(
+    rt: &R,
+    words: &[Word],
+    request: &RunRequest,
+    base_port: u16,
+) {
+    let from_first_port = match planned_words(rt, words, request, 1, 1) {
+        Ok(words) => plan(rt.alloc(), words.as_slice(), None).ok(),
+        Err(_) => return,
+    };
+    let _ = match from_first_port {
+        Some(plan) => {
+            let size = plan.size();
+            eprintln!(rt;
+                "mpirun: {size} ranks from -baseport {base_port} on would need a port above 65535"
+            )
+        }
+        None => eprintln!(rt; "mpirun: more than {MOST_RANKS} ranks"),
+    };
+}
+
+/// What is told of refused words, with the last word that the user typed as the one behind which something is missing.
+fn behind_typed<'a>(told: Explanation<'a>, typed: &'a [Word]) -> Explanation<'a> {
+    match (told, typed.last()) {
+        (Explanation::Missing(_, due), Some(last)) => Explanation::Missing(last.as_bytes(), due),
+        (told, _) => told,
+    }
+}
+
+/// The plan of a request, at these ports; tells why there is none, by the words that the user typed.
 fn planned<R: Eprint + AllocGlobal>(
     rt: &R,
+    typed: &[Word],
     words: &[Word],
     request: &RunRequest,
     job: u64,
     base_port: u16,
 ) -> Result<Plan, u8> {
-    let Ok(words) = planned_words(rt, words, request, job, base_port) else {
+    let Ok(planned) = planned_words(rt, words, request, job, base_port) else {
         return Err(FAILED);
     };
-    match plan(rt.alloc(), words.as_slice(), None) {
+    match plan(rt.alloc(), planned.as_slice(), None) {
         Ok(plan) => Ok(plan),
+        Err(LaunchRefusal::OverLimit) => {
+            tell_over_limit(rt, words, request, base_port);
+            Err(REFUSED)
+        }
         Err(_) => {
-            if let Some(told) = explain(rt.alloc(), words.as_slice(), None) {
+            if let Some(told) = explain(rt.alloc(), planned.as_slice(), None) {
+                let told = behind_typed(told, typed);
                 if let Ok(line) = format!(in rt.alloc(); "{told}") {
                     tell_as_own(rt, line.as_str());
                 }
@@ -201,7 +237,15 @@ fn follow_on_hosts<
         return Ok(REFUSED);
     }
     let itself = env::current_exe(rt)?;
-    let folder = env::current_dir(rt)?;
+    let folder = match env::current_dir(rt) {
+        Ok(folder) => folder,
+        Err(error) => {
+            let _ = eprintln!(rt;
+                "mpirun: the folder in which it was started can't be found: {error}"
+            );
+            return Ok(FAILED);
+        }
+    };
     let told = env::var(rt, UNASKED).ok();
     let unasked = told.as_ref().map(|text| text.as_str());
     let setup = Setup {
@@ -233,6 +277,7 @@ fn launch<
     let judged = match planned(
         rt,
         words,
+        words,
         request,
         job,
         request.options.base_port.unwrap_or(1),
@@ -241,7 +286,7 @@ fn launch<
         Err(status) => return Ok(status),
     };
     let (base_port, _claim) = ports_for(rt, request, judged.size())?;
-    let plan = match planned(rt, words, request, job, base_port) {
+    let plan = match planned(rt, words, words, request, job, base_port) {
         Ok(plan) => plan,
         Err(status) => return Ok(status),
     };
@@ -307,7 +352,7 @@ fn judged<R: Net + Env + Files + Print + Eprint + AllocGlobal + Threads>(
     };
     let _options = with_own_frame(rt, request.options)?;
     let base_port = request.options.base_port.unwrap_or(1);
-    let _plan = planned(rt, own.as_slice(), &request, 1, base_port)?;
+    let _plan = planned(rt, words, own.as_slice(), &request, 1, base_port)?;
     Ok((own, request))
 }
 

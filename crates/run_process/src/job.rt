@@ -8,25 +8,26 @@ use crate::printing::{Printer, Stream, asked};
 use crate::rank::Rank;
 use crate::setup::Setup;
 use crate::shell::terminate;
+use crate::sought::{Sought, fault_of};
 use crate::waits::cycle_text;
 use crate::wish::Wish;
 use launch_decisions::{Failure, Next, Start, ending_of, first_failure};
-use launch_keeper::{EndingLine, LostKeeperLine, ProgramEnding, Word};
+use launch_keeper::{After, EndingLine, LostKeeperLine, ProgramEnding, Word};
 use launch_plan::Plan;
 use libc::net::poll;
 use libc::types::pollfd;
 use process_commands::StartFault;
 use rank_lines::cycle_of;
 use run_plan::{
-    Consequence, ConsequenceText, EndStep, consequence_of, end_step, is_over_time, job_status,
-    run_status,
+    Consequence, ConsequenceText, EndStep, SignalText, consequence_of, end_step, is_over_time,
+    job_status, run_status,
 };
-use std::alloc::AllocError;
+use std::alloc::{AllocError, Global};
+use std::io;
 use std::os::fd::AsRawFd;
-use std::process::{Command, OpenProcess, Processes};
+use std::process::{OpenProcess, Processes};
 use std::rt::Files;
 use std::time::{Clock, Instant};
-use std::{fs, io};
 
 /// The time between two looks at the programs, in milliseconds.
 const LOOK: i32 = 50;
@@ -90,29 +91,34 @@ pub fn milliseconds_since<R: Clock>(rt: &R, time: &Instant) -> io::Result<u64> {
     Ok(u64::try_from(time.elapsed(rt)?.as_millis()).unwrap_or(u64::MAX))
 }
 
-/// Why a program can't be started, at whose start this error came.
-pub fn fault_by(error: &io::Error) -> StartFault {
-    let number = error.raw_os_error().unwrap_or(0);
-    StartFault::of_number(u8::try_from(number).unwrap_or(0))
+/// A program's name as it is told: quotes alone where it is empty.
+fn told_name(program: &[u8]) -> &[u8] {
+    if program.is_empty() { b"''" } else { program }
 }
 
-/// Whether the program of a command is named by a folder.
-pub fn is_folder<R: Files + AllocGlobal>(rt: &R, command: &Command) -> bool {
-    let program = command.get_program();
-    let found = match command.get_current_dir() {
-        Some(folder) if !program.starts_with('/') => {
-            let folder = folder.as_os_str();
-            match format!(in rt.alloc(); "{folder}/{program}") {
-                Ok(path) => fs::metadata(rt, path.as_str()),
-                Err(_) => return false,
-            }
-        }
-        _ => fs::metadata(rt, program),
+/// The line on a program's end: its reason, where one is known, in front of what follows.
+fn told_ending(
+    alloc: Global,
+    line: &EndingLine<'_>,
+    fault: StartFault,
+    consequence: Consequence,
+) -> Result<String, AllocError> {
+    let ending = line.ending;
+    let ended = EndingLine {
+        rank: line.rank,
+        program: line.program,
+        ending,
+        after: After::End(0),
     };
-    match found {
-        Ok(found) => program.contains('/') && found.is_dir(),
-        Err(_) => false,
-    }
+    let ended = format!(in alloc; "{ended}")?;
+    let whole = format!(in alloc; "{line}")?;
+    let after = whole.as_str().strip_prefix(ended.as_str()).unwrap_or("");
+    let why = match ending {
+        ProgramEnding::NotStarted => fault,
+        _ => StartFault::Other,
+    };
+    let (signal, behind) = (SignalText { ending }, ConsequenceText { consequence });
+    format!(in alloc; "{ended}{why}{signal}{after}{behind}")
 }
 
 impl<
@@ -156,7 +162,7 @@ impl<
                 Ok(true)
             }
             Err(error) => {
-                one.fault = fault_by(&error);
+                one.fault = fault_of(&error);
                 Ok(false)
             }
         }
@@ -180,18 +186,14 @@ impl<
             return Ok(true);
         };
         let command = self.setup.command(self.rt.alloc(), rank, &one.start)?;
-        let is_folder = is_folder(self.rt, &command);
+        let sought = Sought::by(self.rt, &command);
         match self.guard.spawn(self.rt, command) {
             Ok((child, output)) => {
                 one.runs(child, output);
                 Ok(true)
             }
             Err(error) => {
-                one.fault = if is_folder {
-                    StartFault::Folder
-                } else {
-                    fault_by(&error)
-                };
+                one.fault = sought.fault(&error);
                 Ok(false)
             }
         }
@@ -267,16 +269,11 @@ impl<
         };
         let line = EndingLine {
             rank: u16::try_from(rank).unwrap_or(u16::MAX),
-            program: program.as_bytes(),
+            program: told_name(program.as_bytes()),
             ending,
             after: next.after(),
         };
-        let behind = ConsequenceText { consequence };
-        let why = match ending {
-            ProgramEnding::NotStarted => one.fault,
-            _ => StartFault::Other,
-        };
-        if let Ok(text) = format!(in self.rt.alloc(); "{line}{why}{behind}") {
+        if let Ok(text) = told_ending(self.rt.alloc(), &line, one.fault, consequence) {
             self.setup.tell(self.rt, text.as_str());
         }
     }

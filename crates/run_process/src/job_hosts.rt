@@ -176,7 +176,9 @@ fn tell_too_many<R: Eprint>(
     } else {
         "; with -oversubscribe hosts take more"
     };
-    let _ = eprintln!(rt; "mpirun: {size} ranks, and {slots} slots in {name}{behind}");
+    let ranks = if size == 1 { "rank" } else { "ranks" };
+    let places = if slots == 1 { "slot" } else { "slots" };
+    let _ = eprintln!(rt; "mpirun: {size} {ranks}, and {slots} {places} in {name}{behind}");
     REFUSED
 }
 

@@ -5,15 +5,15 @@
 ghost use Rattle.std.specs.Prelude.{◌≡◌, Some, true, is_some, IfSome, OnOk};
 
 use crate::guard::Guard;
-use crate::job::{fault_by, is_folder, milliseconds_since};
+use crate::job::milliseconds_since;
 use crate::kept_words::command_by;
 use crate::printing::{asked, is_ready, write_all};
 use crate::shell::terminate;
+use crate::sought::Sought;
 use host_keepers::{FoundWords, ReportKind, push_report, told_end, words_in};
 use launch_decisions::{ending_of, is_grace_over};
 use launch_keeper::Words;
 use libc::net::poll;
-use process_commands::StartFault;
 use std::alloc::Global;
 use std::io;
 use std::io::{ErrorKind, PipeReader, Read};
@@ -231,17 +231,13 @@ fn keep_program<R: Files + AllocGlobal + Clock + Processes<Started: OpenProcess<
     let mut command = command_by(rt.alloc(), words.as_slice())?;
     command.stdin(Stdio::null());
     command.stderr(Stdio::piped());
-    let is_folder = is_folder(rt, &command);
+    let sought = Sought::by(rt, &command);
     let (mut child, output) = match guard.spawn(rt, command) {
         Ok(started) => started,
         Err(error) => {
             guard.close();
-            let fault = if is_folder {
-                StartFault::Folder
-            } else {
-                fault_by(&error)
-            };
-            return report(rt.alloc(), ReportKind::Nothing, &[fault.number()]);
+            let number = sought.fault(&error).number();
+            return report(rt.alloc(), ReportKind::Nothing, &[number]);
         }
     };
     let id = child.id();

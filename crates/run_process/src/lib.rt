@@ -17,8 +17,10 @@ mod kept_words;
 mod own_words;
 mod printing;
 mod rank;
+mod set_files;
 mod setup;
 mod shell;
+mod sought;
 mod waits;
 mod wish;
 

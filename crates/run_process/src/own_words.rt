@@ -2,11 +2,8 @@
 
 use crate::job::FAILED;
 use crate::job_hosts::slots_by;
-use crate::setup::tell_as_own;
-use launch_diagnostics::explain;
+use crate::set_files::sets_of_file;
 use launch_keeper::{Word, Words};
-use launch_plan::planning::plan;
-use launch_plan::spelled_out;
 use process_commands::text_of;
 use run_plan::{RunFault, RunRequest, Wanted, request_of};
 use run_words::{
@@ -15,16 +12,16 @@ use run_words::{
 };
 use shown_words::Shown;
 use std::alloc::AllocError;
+use std::env;
 use std::net::Net;
 use std::rt::{Env, Files};
 use std::thread::{Threads, available_parallelism};
-use std::{env, fs};
 
 /// The status of words that are refused.
 pub const REFUSED: u8 = 2;
 
 /// The most ranks that a job has.
-const MOST_RANKS: u16 = 1_024;
+pub const MOST_RANKS: u16 = 1_024;
 
 /// What `--version` prints.
 const VERSION: &str = "mpirun (Kombazily) 0.1.0";
@@ -58,7 +55,7 @@ Options stand in front of the first program; two dashes are one. More stands in\
 docs/LAUNCHING.md.";
 
 /// The word as it is shown.
-fn shown(word: &Word) -> Shown<'_> {
+pub fn shown(word: &Word) -> Shown<'_> {
     Shown {
         word: word.as_bytes(),
     }
@@ -80,6 +77,17 @@ fn tell_word<R: Eprint + AllocGlobal>(rt: &R, word: &Word, trouble: Trouble) {
         Some(name) => eprintln!(rt; "mpirun: '{word}': {trouble}; '{dash}{name}' may be meant"),
         None => eprintln!(rt; "mpirun: '{word}': {trouble}"),
     };
+}
+
+/// Prints a text that was asked for in place of a job; tells where it can't be written. Answers the status.
+fn show<R: Print + Eprint>(rt: &R, text: &str) -> u8 {
+    match println!(rt; "{text}") {
+        Ok(()) => 0,
+        Err(error) => {
+            let _ = eprintln!(rt; "mpirun: the output can't be written: {error}");
+            FAILED
+        }
+    }
 }
 
 /// Tells that help is there. Answers the status.
@@ -111,14 +119,8 @@ fn tell_missing<R: Eprint + AllocGlobal>(rt: &R, words: &[Word]) -> u8 {
 /// Tells why words can't be followed, or what they ask for in place of a job. Answers the status.
 fn tell_trouble<R: Print + Eprint + AllocGlobal>(rt: &R, words: &[Word], fault: WordFault) -> u8 {
     match fault.trouble {
-        Trouble::Usage => {
-            let _ = println!(rt; "{PAGE}");
-            0
-        }
-        Trouble::Version => {
-            let _ = println!(rt; "{VERSION}");
-            0
-        }
+        Trouble::Usage => show(rt, PAGE),
+        Trouble::Version => show(rt, VERSION),
         Trouble::Missing => tell_missing(rt, words),
         trouble => {
             if let Some(word) = words.get(fault.place) {
@@ -138,10 +140,7 @@ fn is_help(word: &Word) -> bool {
 pub fn tell_fault<R: Print + Eprint>(rt: &R, words: &[Word], fault: RunFault) -> u8 {
     let wanted = fault.wanted;
     let _ = match words.get(fault.place) {
-        Some(word) if is_help(word) => {
-            let _ = println!(rt; "{PAGE}");
-            return 0;
-        }
+        Some(word) if is_help(word) => return show(rt, PAGE),
         Some(word) => {
             let word = shown(word);
             if wanted == Wanted::Once {
@@ -219,30 +218,6 @@ fn usual_count<R: Net + Files + Eprint + AllocGlobal + Threads>(
         Err(_) => 1,
     };
     Ok(u16::try_from(count).unwrap_or(MOST_RANKS).min(MOST_RANKS))
-}
-
-/// The sets that stand in a file; tells why there are none.
-fn sets_of_file<R: Files + Eprint + AllocGlobal>(rt: &R, name: &Word) -> Result<Words, u8> {
-    let alloc = rt.alloc();
-    let mut words = Words::new(alloc);
-    for word in ["-configfile".as_bytes(), name.as_bytes()] {
-        let copy = Word::from_slice(alloc, word).map_err(|_| FAILED)?;
-        words.push(copy).map_err(|_| FAILED)?;
-    }
-    let file = match text_of(name) {
-        Ok(text) => fs::read(rt, text).ok(),
-        Err(_) => None,
-    };
-    let file = file.as_deref();
-    if plan(alloc, words.as_slice(), file).is_err() {
-        if let Some(told) = explain(alloc, words.as_slice(), file) {
-            if let Ok(line) = format!(in alloc; "{told}") {
-                tell_as_own(rt, line.as_str());
-            }
-        }
-        return Err(REFUSED);
-    }
-    spelled_out(alloc, words.as_slice(), file).map_err(|_| FAILED)
 }
 
 /// The options of these words, and the sets of the file that they name behind them.

@@ -53,11 +53,18 @@ pub struct Setup<'a> {
     pub unasked: Option<&'a str>,
 }
 
+/// What stands in a line behind the name of the other launcher, with which it begins.
+pub fn behind_name(line: &str) -> &str {
+    match line.split_at_checked(OTHER_NAME) {
+        Some((_, behind)) => behind,
+        None => line,
+    }
+}
+
 /// Tells a line, which begins with the name of the other launcher, under this one's name.
 pub fn tell_as_own(rt: &impl Eprint, line: &str) {
-    if let Some((_, behind)) = line.split_at_checked(OTHER_NAME) {
-        let _ = eprintln!(rt; "mpirun{behind}");
-    }
+    let behind = behind_name(line);
+    let _ = eprintln!(rt; "mpirun{behind}");
 }
 
 impl<'a> Setup<'a> {

@@ -4,6 +4,7 @@ use Rattle.std.specs.Prelude.{nat_lt, is_some, min, length, take, drop, codes, s
 use Rattle.std.specs.Prelude.{unwrap_or, Option, Some, None, if◌then◌else◌}
 use Rattle.std.specs.List.{position_from}
 use Rattle.std.specs.Str.{bytes_eq}
+use Rattle.std.specs.Char.{is_ascii_digit}
 use Rattle.launch_keeper.specs.Words.{Word}
 use Rattle.run_words.specs.declared.symbol.OwnOption.{OwnOption}
 use Rattle.run_words.specs.declared.symbol.OwnOption.TheVariants.{Job, BasePort, Restart, Patience, Timeout, Frame, PerHost}
@@ -185,6 +186,10 @@ is_equals byte = byte == 61
 abbrev pub before_equals : Word → Word
 before_equals word = take (min (unwrap_or (position_from is_equals 0 word) 0) (length word)) word
 
+-- what stands in front of the first digit; nothing where there is none
+abbrev pub before_digit : Word → Word
+before_digit word = take (min (unwrap_or (position_from is_ascii_digit 0 word) 0) (length word)) word
+
 -- an option has this name, with one dash in front of it or two
 abbrev pub is_known : Word → Bool
 is_known word = is_some (known_symbol (one_dash word))
@@ -194,7 +199,7 @@ unfoldable pub unknown_symbol : Word → Symbol
 unknown_symbol word =
     if bytes_eq word (codes ":") then symbols.Separator
     else (if not (is_dashed word) then symbols.Program
-    else (if is_known (before_equals word) then symbols.Joined
+    else (if is_known (before_equals word) || is_known (before_digit word) then symbols.Joined
     else symbols.Unknown))
 
 -- a word that has a meaning, or any other word

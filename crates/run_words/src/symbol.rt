@@ -2,11 +2,12 @@
 
 ghost use Rattle.std.specs.Prelude.{◌≡◌};
 ghost use Rattle.std.specs.Str.{bytes_eq};
+ghost use Rattle.std.specs.Char.{is_ascii_digit};
 ghost use Rattle.std.specs.List.{position_from};
-ghost use Rattle.run_words.specs.Symbols.{before_equals, flag_option, host_option, idle_values, is_dashed, is_equals};
-ghost use Rattle.run_words.specs.Symbols.{is_idle_flag, is_idle_pair, is_idle_setting, is_known, is_of_set};
-ghost use Rattle.run_words.specs.Symbols.{known_symbol, number_option, one_dash, other_option, own_name, own_option};
-ghost use Rattle.run_words.specs.Symbols.{other_symbol, symbol_of, text_option, unknown_symbol, value_count};
+ghost use Rattle.run_words.specs.Symbols.{before_digit, before_equals, flag_option, host_option, idle_values, is_dashed};
+ghost use Rattle.run_words.specs.Symbols.{is_equals, is_idle_flag, is_idle_pair, is_idle_setting, is_known};
+ghost use Rattle.run_words.specs.Symbols.{is_of_set, known_symbol, number_option, one_dash, other_option, own_name};
+ghost use Rattle.run_words.specs.Symbols.{other_symbol, own_option, symbol_of, text_option, unknown_symbol, value_count};
 
 /// An option that has an effect, whatever it is called.
 #[derive(Clone, Copy, Debug, PartialEq, Eq)]
@@ -344,6 +345,22 @@ pub(crate) fn before_equals(word: &[u8]) -> &[u8]
     front
 }
 
+/// The place of the first digit.
+fn digit_place(word: &[u8]) -> Option<usize>
+    ensures { result ≡ position_from is_ascii_digit 0 word.now }
+{
+    word.iter().position(|byte| byte.is_ascii_digit())
+}
+
+/// What stands in front of the first digit; nothing where there is none.
+fn before_digit(word: &[u8]) -> &[u8]
+    ensures { result.now ≡ before_digit word.now }
+{
+    let place = digit_place(word).unwrap_or(0);
+    let (front, _) = word.split_at(place.min(word.len()));
+    front
+}
+
 /// Whether an option has this name, with one dash in front of it or two.
 pub(crate) fn is_known(word: &[u8]) -> bool
     ensures { result ≡ is_known word.now }
@@ -360,7 +377,7 @@ fn unknown_symbol(word: &[u8]) -> Symbol
         Symbol::Separator
     } else if !is_dashed(word) {
         Symbol::Program
-    } else if is_known(before_equals(word)) {
+    } else if is_known(before_equals(word)) || is_known(before_digit(word)) {
         Symbol::Joined
     } else {
         Symbol::Unknown

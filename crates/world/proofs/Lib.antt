@@ -14,3 +14,4 @@ pub mod SessionOrder
 pub mod Headlines
 pub mod OneEvent
 pub mod EventByEvent
+pub mod RunningPasts

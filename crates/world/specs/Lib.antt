@@ -8,3 +8,4 @@ pub mod Steps
 pub mod Views
 pub mod Quiet
 pub mod EventByEvent
+pub mod RunningSteps

@@ -135,7 +135,7 @@ fn refusal_of(reply: &Reply) -> Option<engine::Refusal>
 }
 
 /// The engine is called.
-fn call(alloc: Global, engine: &mut Engine, call: Call) -> Result<EngineOutput, Rejected>
+pub fn call(alloc: Global, engine: &mut Engine, call: Call) -> Result<EngineOutput, Rejected>
     requires { IsReady engine.old }
     ensures exact { CallRuns engine.old call (gave_of result) engine.new }
     ensures few { length (emitted (gave_of result)) ≤ 65 * engine.old.sessions.place.size }
@@ -153,7 +153,7 @@ fn call(alloc: Global, engine: &mut Engine, call: Call) -> Result<EngineOutput, 
 }
 
 /// Bytes come to the engine. What it emits goes out, though it refuses them.
-fn deliver(engine: &mut Engine, bytes: &[u8]) -> Result<EngineOutput, Rejected>
+pub fn deliver(engine: &mut Engine, bytes: &[u8]) -> Result<EngineOutput, Rejected>
     requires { IsReady engine.old }
     ensures exact { DatagramRuns engine.old bytes.now (gave_of result) engine.new }
     ensures few { length (emitted (gave_of result)) ≤ 65 * engine.old.sessions.place.size }

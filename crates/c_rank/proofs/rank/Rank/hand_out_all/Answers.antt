@@ -6,7 +6,7 @@ pub returns-clause-went : goal.returns-clause-went
 returns-clause-went c =
     kept_first c.args.self.now c.hand_out-len.new.self _ _ c.args.most c.hand_out-len.result c.hand_out_kept.result
     c.args.kept_too c.hand_out-len.new.outgoing c.hand_out_kept.new.outgoing _ _ _ c.hand_out-len.ensures.went
-    (omega (arith, c.if-outgoing-gt0.false)) c.self.view_is c.hand_out_kept.ensures.went refl refl refl refl
+    (omega (arith, c.if-outgoing-gt0.false)) c.self.view_is c.hand_out_kept.ensures.went refl refl refl refl refl
 
 pub returns-clause-back : goal.returns-clause-back
 returns-clause-back c =
