@@ -311,6 +311,13 @@ uint64_t device_nanoseconds(void) {
     return (uint64_t)time.tv_sec * 1000000000u + (uint64_t)time.tv_nsec;
 }
 
+uint32_t device_heard_room(void) {
+    int room = 0;
+    socklen_t len = sizeof room;
+    if (own_socket < 0 || getsockopt(own_socket, SOL_SOCKET, SO_RCVBUF, &room, &len) != 0 || room < 0) return 0;
+    return (uint32_t)room / 2; /* the system counts as much again for what it keeps beside the bytes */
+}
+
 int device_processors(void) {
     cpu_set_t set;
     if (sched_getaffinity(0, sizeof set, &set) != 0) return 1;

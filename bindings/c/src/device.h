@@ -60,6 +60,8 @@ void device_await(long spin, int milliseconds);
 uint64_t device_nanoseconds(void);
 /* Whether others were given its processor since it was asked last. */
 bool device_was_preempted(void);
+/* How many bytes of datagrams that came the system keeps for the socket, as far as it tells; 0 where there is none. */
+uint32_t device_heard_room(void);
 /* How many processors this process may use. */
 int device_processors(void);
 #endif

@@ -44,6 +44,8 @@ struct engine_place {
     uint16_t size;        /* 1 to 1,024 */
     uint16_t incarnation; /* 0 at first, one more with each restart of this rank */
     uint32_t frame_limit; /* the most bytes of data of a frame: 1,024 to 61,440, a multiple of 8; one for all ranks */
+    uint32_t room;        /* how many bytes that came the socket of a rank keeps: what is on its way to each is bounded
+                             by that, and has a congestion window; 0: neither */
 };
 
 /* A request, or a message that a matching probe took out. */

@@ -27,6 +27,7 @@ FIELD(engine_place, rank, 16, 2);
 FIELD(engine_place, size, 18, 2);
 FIELD(engine_place, incarnation, 20, 2);
 FIELD(engine_place, frame_limit, 24, 4);
+FIELD(engine_place, room, 28, 4);
 
 RECORD(engine_call, 64, 8);
 FIELD(engine_call, kind, 0, 4);

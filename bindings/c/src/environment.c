@@ -107,8 +107,8 @@ static int begin(const char *call, int *argc, char ***argv, int required) {
     if (!open_unasked())
         refuse_start(STATUS_PLACE, TOLD_WRONGLY, "KOMBAZILY_UNASKED is neither a number of bytes nor none");
     if (!has_explorer) {
-        open_engine();
         open_device();
+        open_engine();
         await_begun();
     }
     progress_open();

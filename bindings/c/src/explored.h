@@ -77,6 +77,8 @@ int explored_some(bool waits, int count, const MPI_Request list[]);
 struct explorer_entry explored_entry(struct request *request);
 /* The requests that have handles, as entries, which the caller frees. */
 struct explorer_entry *explored_left(uint32_t *count);
+/* Persistent requests that aren't active and weren't freed. */
+uint32_t count_persistent(void);
 /* Whether the program is told of the end of this one now, behind such a call. */
 bool is_told(struct request *request);
 #endif

@@ -124,6 +124,15 @@ int explored_some(bool waits, int count, const MPI_Request list[]) {
 
 /* ---- what is left ---- */
 
+uint32_t count_persistent(void) {
+    uint32_t count = 0;
+    for (int place = 0; place < request_places(); place++) {
+        const struct request *it = request_at(place);
+        count += it != NULL && it->is_inactive;
+    }
+    return count;
+}
+
 struct explorer_entry *explored_left(uint32_t *count) {
     struct explorer_entry *all = malloc((size_t)(request_places() + 1) * sizeof *all);
     if (all == NULL) explored_lose();

@@ -145,7 +145,7 @@ static void note_communicator(const struct communicator *it) {
 void explored_finalize(void) {
     struct explorer_ask ask = {.kind = ASK_FINALIZE};
     struct explorer_entry *requests = explored_left(&ask.count);
-    rest.left = (struct explorer_left){count_types(), count_messages()};
+    rest.left = (struct explorer_left){count_types(), count_messages(), count_persistent()};
     each_communicator(note_communicator);
     ask.length = sizeof rest.left + communicator_count * sizeof *rest.communicators;
     (void)explored_ask(&ask, requests, &rest, NULL);

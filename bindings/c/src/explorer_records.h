@@ -49,7 +49,7 @@ struct explorer_entry {
 enum { EXPLORER_AGAIN = 2 };
 
 /* These records as a program and its explorer know them. */
-enum { EXPLORER_VERSION = 2 };
+enum { EXPLORER_VERSION = 3 };
 
 /* A block of a collective: its bytes, and the type of the engine that they are of. */
 struct explorer_block {
@@ -60,8 +60,9 @@ enum { EXPLORER_NO_ROOT = -1, EXPLORER_OWN_OPERATION = 1000 };
 
 /* What a program leaves over at MPI_Finalize, beside requests and communicators. */
 struct explorer_left {
-    uint32_t types;    /* made and never freed */
-    uint32_t messages; /* taken out and never received */
+    uint32_t types;      /* made and never freed */
+    uint32_t messages;   /* taken out and never received */
+    uint32_t persistent; /* requests that may be started again and were never freed */
 };
 
 /* An ask. Behind it stand `frame_count` addresses of 64 bits, then `count` entries, then `length` bytes. */

@@ -27,6 +27,7 @@ struct process {
     int incarnation;
     uint64_t job;
     uint32_t frame; /* the most bytes of data of a frame, of all engines of the job */
+    bool is_apart;  /* the job is over several hosts: its ranks aren't all at one address */
     long patience;  /* milliseconds; 0: there is no time after which a rank gives up */
     int thread_level;
     _Atomic bool is_threaded; /* several threads may speak MPI at the same time */

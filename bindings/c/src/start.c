@@ -178,6 +178,7 @@ void find_place(int *argc, char ***argv, struct addresses *job) {
     if (source == PLACE_FAULTY) refuse_place(fault);
     if (source == PLACE_TOLD) take_place(&place, job);
     process.frame = frame_of(job);
+    process.is_apart = !are_together(job);
 }
 
 void keep_place_from_children(void) {

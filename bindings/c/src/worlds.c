@@ -1,6 +1,7 @@
 /* Worlds: their numbers, and where they are found. See worlds.h. */
 #include "worlds.h"
 
+#include "device.h"
 #include "internal.h"
 
 #include <stdlib.h>
@@ -110,7 +111,8 @@ uint32_t make_engine(struct world *world, int kind) {
                                        .rank = (uint16_t)world->rank,
                                        .size = (uint16_t)world->size,
                                        .incarnation = (uint16_t)process.incarnation,
-                                       .frame_limit = process.frame};
+                                       .frame_limit = process.frame,
+                                       .room = process.is_apart ? device_heard_room() : 0};
     uint32_t number = own->world != NULL ? 0 : kombazily_new(&own->rank, &place);
     if (number == 0) own->world = world;
     return number;

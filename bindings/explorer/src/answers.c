@@ -8,10 +8,7 @@ static const uint8_t no_bytes[1];
 
 void *room_for(void *old, size_t count, size_t each) {
     void *made = realloc(old, count * each > 0 ? count * each : 1);
-    if (made == NULL) {
-        fputs("kombazily: no memory\n", stderr);
-        exit(1);
-    }
+    if (made == NULL) give_up("no memory");
     return made;
 }
 

@@ -39,15 +39,9 @@ bool kombazily_choices_is_behind(struct choices *choices, uint16_t rank, uint64_
 
 /* ---- the moves at a fence, which is where no rank runs ---- */
 
-/* A new fence: no moves yet. What stands there is told next; it is decided which moves there are for it. */
+/* A new fence: no moves yet. What stands there is told next, and what messages make possible is asked of the ranks
+ * (joined_ranks.h); it is decided which moves there are for it. */
 void kombazily_choices_clear(struct choices *choices);
-/* A probe of this source found a message with this tag for a receive of the rank, its `op`-th of any source: 0, it may
- * take it, unless one that was begun before it does; 5, 14, 81. */
-uint32_t kombazily_choices_add_match(struct choices *choices, uint16_t rank, uint32_t op, uint64_t operation,
-                                     uint32_t communicator, uint32_t source, uint32_t tag);
-/* The same for a probe of the rank, the `op`-th of what it looks at: unless a receive that waits takes it. */
-uint32_t kombazily_choices_add_sight(struct choices *choices, uint16_t rank, uint32_t op, uint32_t communicator,
-                                     uint32_t source, uint32_t tag);
 /* A probe may say no, where fewer looks in a row (`noes`) have said so than may: 0; 1, it may not; 14, 81. */
 uint32_t kombazily_choices_add_no(struct choices *choices, uint16_t rank, uint32_t op, uint32_t noes, uint32_t most);
 /* A rank stands in the call for a list of an ask of this kind. So many requests aren't null, and those at these places

@@ -57,7 +57,7 @@ static void make_copy(struct steps *s, const struct members *of, uint32_t entry,
         call_rank(s, ranks[i], &copy, NULL, 0, &answers[i]);
     }
     for (int left = size; left > 0;) {
-        engines_settle(s->engines, true);
+        engines_settle(s->engines);
         for (int i = 0; i < size; i++)
             if (copies[i]->state == OP_COPYING && finish_copy(s, ranks[i], name, copies[i], &answers[i])) left--;
     }

@@ -105,14 +105,24 @@ static void tell_communicator(struct steps *s, int rank, const uint8_t *at) {
              of == NULL ? &s->ranks[rank].place : &of->made_at);
 }
 
-static void tell_types(struct steps *s, int rank, const struct explorer_left *left) {
-    at_place(note(s, rank, TYPES_LEFT, "rank %d ended with %u types never freed, at %%0", rank, left->types),
-             &s->ranks[rank].place);
+static const char *plural(uint32_t count) { return count == 1 ? "" : "s"; }
+
+/* Types and persistent requests: they are no fault, and their lines aren't known. */
+static void tell_unfreed(struct steps *s, int rank, const struct explorer_left *left) {
+    const struct place *end = &s->ranks[rank].place;
+    if (left->types > 0)
+        at_place(note(s, rank, TYPES_LEFT, "rank %d ended with %u type%s never freed, at %%0", rank, left->types,
+                      plural(left->types)),
+                 end);
+    if (left->persistent > 0)
+        at_place(note(s, rank, TYPES_LEFT, "rank %d ended with %u persistent request%s never freed, at %%0", rank,
+                      left->persistent, plural(left->persistent)),
+                 end);
 }
 
 static void tell_taken(struct steps *s, int rank, const struct explorer_left *left) {
-    at_place(note(s, rank, MESSAGES_TAKEN, "rank %d ended with %u messages taken out and never received, at %%0", rank,
-                  left->messages),
+    at_place(note(s, rank, MESSAGES_TAKEN, "rank %d ended with %u message%s taken out and never received, at %%0", rank,
+                  left->messages, plural(left->messages)),
              &s->ranks[rank].place);
 }
 
@@ -125,12 +135,12 @@ void tell_left(struct steps *s, int rank, const uint8_t *bytes) {
         memcpy(&left, bytes, sizeof left);
         communicators = (uint32_t)((own->ask.length - sizeof left) / sizeof(uint32_t));
     }
-    for (uint64_t at = 0; (kind = kombazily_leak_at(requests, communicators, left.types, left.messages, at)) != 0;
-         at++) {
+    const uint32_t unfreed = left.types > 0 ? left.types : left.persistent;
+    for (uint64_t at = 0; (kind = kombazily_leak_at(requests, communicators, unfreed, left.messages, at)) != 0; at++) {
         if (kind == REQUEST_LEFT) tell_request(s, rank, &own->entries[at]);
         else if (kind == COMMUNICATOR_LEFT)
             tell_communicator(s, rank, bytes + sizeof left + (at - requests) * sizeof(uint32_t));
-        else if (kind == TYPES_LEFT) tell_types(s, rank, &left);
+        else if (kind == TYPES_LEFT) tell_unfreed(s, rank, &left);
         else tell_taken(s, rank, &left);
     }
 }

@@ -24,10 +24,7 @@ bool begin_late(struct steps *s, int rank, int operation) {
     const struct operation *it = &own->operations[operation];
     uint32_t waits = kombazily_choices_begin(s->options.choices, (uint16_t)rank, it->at, it->call.communicator,
                                              (uint32_t)it->call.peer, (uint32_t)it->call.tag);
-    if (waits > 1) {
-        fputs("kombazily: no memory\n", stderr);
-        exit(1);
-    }
+    if (waits > 1) give_up("no memory");
     if (waits == 0) return false;
     size_t room = (size_t)own->late_room;
     own->late = one_more(own->late, (size_t)own->late_count, &room, sizeof *own->late);

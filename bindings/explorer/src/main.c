@@ -3,6 +3,7 @@
 #define _GNU_SOURCE
 #include "shell.h"
 
+#include <errno.h>
 #include <math.h>
 #include <signal.h>
 #include <stdlib.h>
@@ -24,6 +25,12 @@ _Noreturn void fail(int status, const char *cause, const char *detail) {
     exit(status);
 }
 
+void give_up(const char *why) { fail(STATUS_START, why, ""); }
+
+void need_output(void) {
+    if (fflush(stdout) != 0 || ferror(stdout) != 0) fail(STATUS_WORDS, "the output can't be written", "");
+}
+
 /* Says how far a long search is, each few seconds, where somebody may look. */
 static void say_progress(long runs, double began) {
     enum { EACH_SECONDS = 2 };
@@ -35,6 +42,35 @@ static void say_progress(long runs, double began) {
     said = now();
     fprintf(stderr, "kombazily: %ld runs in %.0f s, %d result%s so far\n", runs, said - began, result_count,
             result_count == 1 ? "" : "s");
+}
+
+volatile sig_atomic_t asked_to_stop;
+
+/* A second signal ends the program at once, but for one that comes with the first: `timeout` sends two. */
+static void ask_to_stop(int number) {
+    static const double at_once = 0.3;
+    static double first;
+    if (asked_to_stop == 0) first = now();
+    asked_to_stop = number;
+    if (now() - first < at_once) return;
+    signal(number, SIG_DFL);
+    raise(number);
+}
+
+/* How the signals are treated that ask for an end, but for those that are ignored. */
+static void treat_signals(void (*how)(int)) {
+    const int numbers[] = {SIGINT, SIGTERM, SIGHUP};
+    for (size_t i = 0; i < sizeof numbers / sizeof *numbers; i++)
+        if (signal(numbers[i], how) == SIG_IGN) signal(numbers[i], SIG_IGN);
+}
+
+/* A search is over. What is told of its results runs them once more, and a signal then ends the program. */
+static void end_search(struct pass *pass) {
+    treat_signals(SIG_DFL);
+    pass->stopped = asked_to_stop;
+    asked_to_stop = 0;
+    end_runs_at(INFINITY);
+    if (pass->stopped != 0) close_moulds();
 }
 
 /* Runs once, and counts what it came to: false, the run was cut. */
@@ -56,6 +92,7 @@ static bool run_and_note(struct pass *pass, enum choosing choosing) {
 static void explore(struct pass *pass) {
     const double began = now();
     search_open();
+    treat_signals(ask_to_stop);
     end_runs_at(began + set.seconds);
     for (;;) {
         pass->runs++;
@@ -63,14 +100,15 @@ static void explore(struct pass *pass) {
         if (pass->astray != NULL || pass->is_late) break;
         const bool is_last = !search_next();
         pass->is_all = search_tried_all();
-        if (is_last || pass->runs >= set.most || now() - began > set.seconds) break;
+        if (is_last || asked_to_stop != 0 || pass->runs >= set.most || now() - began > set.seconds) break;
         say_progress(pass->runs, began);
     }
     end_runs_at(INFINITY);
-    for (long i = 0; i < set.random && !pass->is_all && pass->astray == NULL; i++) {
+    for (long i = 0; i < set.random && !pass->is_all && pass->astray == NULL && asked_to_stop == 0; i++) {
         pass->runs++;
-        (void)run_and_note(pass, BY_CHANCE);
+        if (!run_and_note(pass, BY_CHANCE) && asked_to_stop != 0) pass->cut++;
     }
+    end_search(pass);
     pass->runs -= pass->cut;
     pass->took = now() - began;
 }
@@ -82,13 +120,18 @@ static void replay(struct pass *pass) {
     int count = read_choices(is_recorded ? set.followed : set.replay, is_recorded, &moves);
     pass->synchronous = set.synchronous;
     search_open();
+    treat_signals(ask_to_stop);
     force_moves(moves, count);
     pass->runs = 1;
     (void)run_and_note(pass, is_recorded ? BY_RECORD : BY_FILE);
+    end_search(pass);
     if (pass->astray != NULL) pass->astray = "stopped, since the choices of the file don't fit the program";
     pass->took = now() - began;
     free(moves);
 }
+
+/* The signal that ended the last pass, or 0. */
+static int stopped;
 
 /* One pass: how much it weighs. */
 static uint32_t make_pass(bool synchronous) {
@@ -97,6 +140,7 @@ static uint32_t make_pass(bool synchronous) {
     if (set.replay != NULL || set.followed != NULL) replay(&pass);
     else explore(&pass);
     uint32_t weight = tell_results(&pass);
+    stopped = pass.stopped;
     if (set.html != NULL) page_add(&pass);
     free_results();
     return weight;
@@ -109,10 +153,20 @@ static void say_hint(const uint32_t *passes, size_t count) {
         puts("--both looks for what hangs where sends aren't buffered, too");
 }
 
+/* The folder of --out is made, or is there and can be written. */
+static void open_folder(const char *name) {
+    struct stat found;
+    char why[4400];
+    if (mkdir(name, 0777) == 0) return;
+    if (errno == EEXIST) errno = stat(name, &found) == 0 && !S_ISDIR(found.st_mode) ? ENOTDIR : 0;
+    if (errno == 0 && access(name, W_OK | X_OK) == 0) return;
+    snprintf(why, sizeof why, "%s: %s", name, strerror(errno));
+    fail(STATUS_WORDS, "the folder of --out can't be made or written: ", why);
+}
+
 /* What is asked for in files is refused before the first run where it can't be written. */
 static void open_files(void) {
-    if (set.out != NULL && mkdir(set.out, 0777) != 0 && access(set.out, W_OK | X_OK) != 0)
-        fail(STATUS_WORDS, "nothing can be written there: ", set.out);
+    if (set.out != NULL) open_folder(set.out);
     FILE *page = set.html == NULL ? NULL : fopen(set.html, "a");
     if (set.html != NULL && page == NULL) fail(STATUS_WORDS, "it can't be written: ", set.html);
     if (page != NULL) fclose(page);
@@ -126,11 +180,16 @@ int main(int count, char **words) {
     uint32_t passes[2];
     size_t pass_count = 0;
     passes[pass_count++] = make_pass(set.synchronous);
-    if (set.both && !set.synchronous && set.replay == NULL && set.followed == NULL)
+    if (set.both && !set.synchronous && set.replay == NULL && set.followed == NULL && stopped == 0)
         passes[pass_count++] = make_pass(true);
-    say_hint(passes, pass_count);
+    if (stopped == 0) say_hint(passes, pass_count);
     close_moulds();
     search_close();
     if (set.html != NULL) page_write(set.html);
+    need_output();
+    if (stopped != 0) {
+        signal(stopped, SIG_DFL);
+        raise(stopped);
+    }
     return (int)kombazily_status_of_check(passes, pass_count);
 }

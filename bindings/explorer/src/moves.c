@@ -13,26 +13,19 @@ bool is_same_move(const struct move *a, const struct move *b) {
 
 /* Whether a look is kept from saying no. */
 static bool is_told(uint32_t number) {
-    if (number <= 1) return number == 1;
-    fputs("kombazily: no memory\n", stderr);
-    exit(1);
+    if (number > 1) give_up("no memory");
+    return number == 1;
 }
 
-/* Tells what probes find for receives of any source: also where a probe saw a message, since a receive of any source
- * may take another one (MPI 3.1, 3.8.1). */
-static void tell_receives(struct steps *s, int rank) {
+/* What the messages of all sources make possible of receives of any source: also where a probe saw a message, since a
+ * receive of any source may take another one (MPI 3.1, 3.8.1). */
+static void ask_receives(struct steps *s, int rank) {
     const struct rank *own = &s->ranks[rank];
     if (own->is_in_engine || own->state == RANK_ENDED || own->is_finalized) return;
     for (int i = 0; i < own->late_count; i++) {
         const struct operation *it = &own->operations[own->late[i]];
         const struct members *of = members_of(s, rank, it->call.communicator);
-        for (int source = 0; it->state == OP_WILD && of != NULL && source < of->size; source++) {
-            const struct engine_answer found = found_by(s, rank, &it->call, source);
-            if (found.kind == ENGINE_PROBED)
-                (void)is_told(kombazily_choices_add_match(s->options.choices, (uint16_t)rank, it->op, it->at,
-                                                          it->call.communicator, (uint32_t)source,
-                                                          (uint32_t)found.tag));
-        }
+        if (it->state == OP_WILD && of != NULL) engines_add_matches(s->engines, s->options.choices, rank, it, of->size);
     }
 }
 
@@ -61,13 +54,7 @@ static void tell_probe(struct steps *s, int rank) {
     const struct rank *own = &s->ranks[rank];
     const struct engine_call *call = &own->ask.call;
     const struct members *of = members_of(s, rank, call->communicator);
-    for (int source = 0; of != NULL && source < of->size; source++) {
-        if (call->peer != ENGINE_ANY && call->peer != source) continue;
-        const struct engine_answer found = found_by(s, rank, call, source);
-        if (found.kind == ENGINE_PROBED)
-            (void)is_told(kombazily_choices_add_sight(s->options.choices, (uint16_t)rank, own->ask_op,
-                                                      call->communicator, (uint32_t)source, (uint32_t)found.tag));
-    }
+    if (of != NULL) engines_add_sights(s->engines, s->options.choices, rank, own->ask_op, call, of->size);
     /* What one probe saw the next one sees again. */
     if (own->ask.is_waiting || pin_for(own, call, false) != NULL) return;
     if (is_told(kombazily_choices_add_no(s->options.choices, (uint16_t)rank, own->ask_op, (uint32_t)own->noes,
@@ -102,7 +89,7 @@ static int moves_here(struct steps *s, struct move *moves, int room) {
     kombazily_choices_clear(s->options.choices);
     for (int rank = 0; rank < s->options.size; rank++) {
         const struct rank *own = &s->ranks[rank];
-        tell_receives(s, rank);
+        ask_receives(s, rank);
         if (own->state == RANK_BLOCKED && is_list(own->ask.kind)) tell_list(s, rank);
         if (own->state == RANK_BLOCKED && own->ask.kind == ASK_PROBE) tell_probe(s, rank);
         tell_sends(s, rank);

@@ -12,10 +12,7 @@ static int32_t number_of(struct steps *s, uint64_t name) {
     int at = 0;
     while (at < s->plan_name_count && s->plan_names[at] != name) at++;
     if (at < s->plan_name_count) return at;
-    if (at == MOST_NAMES) {
-        fputs("kombazily: 4,096 communicators with collectives, and more\n", stderr);
-        exit(1);
-    }
+    if (at == MOST_NAMES) give_up("4,096 communicators with collectives, and more");
     s->plan_names = room_for(s->plan_names, (size_t)at + 1, sizeof *s->plan_names);
     s->plan_names[s->plan_name_count++] = name;
     return at;

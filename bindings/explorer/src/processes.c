@@ -170,7 +170,8 @@ static bool hand_over(int rank, int end) {
     return sendmsg(ranks[rank].mould, &message, MSG_NOSIGNAL) == (ssize_t)sizeof run;
 }
 
-/* Has the mould of a rank make a copy of itself. */
+/* Has the mould of a rank make a copy of itself. Where a signal of the terminal's ended it there is none, and the run
+ * is cut off. */
 static void copy_mould(int rank, int end) {
     int pair[2];
     if (ranks[rank].mould == 0) {
@@ -180,6 +181,8 @@ static void copy_mould(int rank, int end) {
         close(pair[1]);
     }
     if (hand_over(rank, end) && get(ranks[rank].mould, &ranks[rank].pid, sizeof ranks[rank].pid)) return;
+    ranks[rank].pid = 0;
+    if (asked_to_stop != 0) return;
     size_t length;
     char *text = output_of(rank, &length);
     fwrite(text, 1, length, stderr);
@@ -218,8 +221,8 @@ static int milliseconds(double seconds) { return (int)(seconds * 1000); }
 static bool end_copy(int rank, bool by_force) {
     struct pollfd told = {.fd = ranks[rank].mould, .events = POLLIN};
     bool by_itself = !by_force && poll(&told, 1, milliseconds(set.patience)) == 1;
-    if (!by_itself) kill(ranks[rank].pid, SIGKILL);
-    if (!get(ranks[rank].mould, &ranks[rank].status, sizeof ranks[rank].status))
+    if (!by_itself && ranks[rank].pid > 0) kill(ranks[rank].pid, SIGKILL);
+    if (!get(ranks[rank].mould, &ranks[rank].status, sizeof ranks[rank].status) && asked_to_stop == 0)
         fail(STATUS_START, "a rank's process is lost", "");
     return by_itself;
 }

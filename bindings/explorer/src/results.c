@@ -250,6 +250,7 @@ static void tell_parting(int own) {
 
 const char *said_of(const struct pass *pass) {
     if (pass->astray != NULL) return pass->astray;
+    if (pass->stopped != 0) return "stopped by a signal, before every choice was tried";
     if (set.replay != NULL || set.followed != NULL) return "by the choices of the file";
     if (!pass->is_all) return "not every choice was tried";
     for (int i = 0; i < result_count; i++)

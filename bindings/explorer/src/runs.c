@@ -115,13 +115,15 @@ static double latest = INFINITY;
 
 void end_runs_at(double time) { latest = time; }
 
+static bool is_over(void) { return now() > latest || asked_to_stop != 0; }
+
 /* Lets ranks run until each is blocked or has ended: false, one stayed silent for too long, or it is too late. */
 static bool run_ranks(struct steps *s) {
     const int patience = set.debugged >= 0 ? -1 : (int)(set.patience * 1000);
     for (;;) {
         struct pollfd sockets[MOST_RANKS];
         int who[MOST_RANKS];
-        if (now() > latest) return false;
+        if (is_over()) return false;
         answer_all(s);
         int count = running(s, sockets, who);
         if (count == 0) {
@@ -129,7 +131,9 @@ static bool run_ranks(struct steps *s) {
             if (running(s, sockets, who) == 0) return true;
             continue;
         }
-        if (poll(sockets, (nfds_t)count, patience) == 0) {
+        const int found = poll(sockets, (nfds_t)count, patience);
+        if (found < 0) continue;
+        if (found == 0) {
             tell_silent(s, who, count);
             return false;
         }
@@ -214,7 +218,7 @@ static enum ending play(struct run *run, enum choosing choosing) {
     static struct move moves[MOST_MOVES];
     struct steps *s = run->steps;
     for (int at = 0;;) {
-        if (!run_ranks(s)) return now() > latest ? LATE : SILENT;
+        if (!run_ranks(s)) return is_over() ? LATE : SILENT;
         const enum ending ending = steps_ending(s);
         if (ending != GOES_ON) return ending;
         int count = steps_moves(s, moves, MOST_MOVES);
@@ -303,6 +307,8 @@ void run_once(struct run *run, bool synchronous, enum choosing choosing) {
     if (choosing == BY_SEARCH && is_through && !search_end_run()) run->is_astray = true;
     answer_all(run->steps);
     for (int rank = 0; rank < set.size; rank++) end_process(run, rank);
+    /* A signal of the terminal's went to the ranks, too: what it did to them is no end of a run. */
+    if (asked_to_stop != 0) run->ending = LATE, run->is_astray = false;
     if (run->ending != LATE) refuse_other_program();
     leave_open(run);
     steps_tell_collectives(run->steps);

@@ -4,6 +4,8 @@
 
 #include "steps.h"
 
+#include <signal.h>
+
 enum { MOST_MOVES = 4096 };
 
 /* Statuses of the program, beside those that its runs give (verdicts.h). */
@@ -25,8 +27,12 @@ struct settings {
     char **program;
 };
 extern struct settings set;
+/* The signal that asks for the end of the search, once one has come: the run is cut off, and what was found is told. */
+extern volatile sig_atomic_t asked_to_stop;
 double now(void);
 _Noreturn void fail(int status, const char *cause, const char *detail);
+/* Fails where the standard output didn't take what was printed. */
+void need_output(void);
 
 /* ---- words.c ---- */
 
@@ -139,7 +145,8 @@ void free_results(void);
 /* Writes what the runs came to, and says how much the pass weighs. */
 struct pass {
     bool synchronous, is_all;
-    bool is_late; /* the time was over while a run lasted */
+    bool is_late; /* the time was over, or a signal came, while a run lasted */
+    int stopped;  /* the signal that ended the search, or 0 */
     const char *astray;
     long runs, cut;
     double took;

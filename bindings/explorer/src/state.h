@@ -182,15 +182,20 @@ void *room_for(void *old, size_t count, size_t each);
 /* One more place in a row of things of this size. */
 void *one_more(void *row, size_t count, size_t *room, size_t each);
 
-/* ---- engines.c: engines and the network between them ---- */
+/* ---- engines.c: the engines of all ranks ---- */
 
 struct engines *engines_new(int size);
 void engines_free(struct engines *all);
 void engines_call(struct engines *all, int rank, const struct engine_call *call, const uint8_t *bytes, size_t length,
                   struct engine_answer *answer);
 size_t engines_take(struct engines *all, int rank, uint8_t *into, size_t length);
-/* Delivers all that was sent; what is kept back too, if it is told so. */
-void engines_settle(struct engines *all, bool kept_too);
+/* What the messages of so many sources make possible at the fence: of a receive of any source, and of a probe. */
+void engines_add_matches(struct engines *all, struct choices *choices, int rank, const struct operation *receive,
+                         int sources);
+void engines_add_sights(struct engines *all, struct choices *choices, int rank, uint32_t op,
+                        const struct engine_call *probe, int sources);
+/* All that was sent comes, and what is sent for it; all engines are quiet then. */
+void engines_settle(struct engines *all);
 
 /* A call that counts, and a question. */
 void call_rank(struct steps *s, int rank, const struct engine_call *call, const uint8_t *bytes, size_t length,

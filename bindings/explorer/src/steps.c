@@ -255,23 +255,14 @@ static bool go_on(struct steps *s, int rank) {
     return answer_rank(s, rank) || has_posted;
 }
 
-static bool is_any_running(const struct steps *s) {
-    for (int rank = 0; rank < s->options.size; rank++)
-        if (s->ranks[rank].state == RANK_RUNS) return true;
-    return false;
-}
-
 void steps_progress(struct steps *s) {
-    bool kept_too = false;
-    for (;;) {
-        engines_settle(s->engines, kept_too);
-        if (s->plan_engines != NULL) engines_settle(s->plan_engines, kept_too);
-        bool has_gone_on = false;
-        if (s->has_copies) has_gone_on |= make_copies(s);
+    bool has_gone_on;
+    do {
+        engines_settle(s->engines);
+        if (s->plan_engines != NULL) engines_settle(s->plan_engines);
+        has_gone_on = s->has_copies && make_copies(s);
         for (int rank = 0; rank < s->options.size; rank++) has_gone_on |= go_on(s, rank);
-        if (!has_gone_on && (kept_too || is_any_running(s))) return;
-        kept_too = !has_gone_on;
-    }
+    } while (has_gone_on);
 }
 
 /* ---- where the ranks are ---- */

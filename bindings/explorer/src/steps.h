@@ -32,6 +32,11 @@ struct move {
 };
 bool is_same_move(const struct move *a, const struct move *b);
 
+/* Ends the explorer, since what it would tell might not be so: for want of memory, say. The shell does it. */
+_Noreturn void give_up(const char *why);
+/* The number of want of memory. */
+enum { NO_MEMORY = 14 };
+
 /* A call of the program: its name, and the addresses of where it stands, innermost first. */
 struct place {
     char name[EXPLORER_NAME];

@@ -10,7 +10,7 @@
 /* A finding of a run, by its number; 0 is none. */
 enum finding_kind {
     REQUEST_LEFT = 1,  /* a request that no call ended */
-    COMMUNICATOR_LEFT, /* a communicator, and types, that weren't freed */
+    COMMUNICATOR_LEFT, /* a communicator, and types or persistent requests, that weren't freed */
     TYPES_LEFT,
     MESSAGES_TAKEN, /* messages that were taken out and not received */
     NEVER_RECEIVED, /* a message */

@@ -23,7 +23,7 @@ static const char usage[] =
     "  --random RUNS    so many runs by chance, where the bounds were met\n"
     "  --noes K         so many looks in a row may say no though they could say yes (1)\n"
     "  --fork           each process is started once, and copied in MPI_Init for each run\n"
-    "  --out FOLDER     the choices of each result go there, as choices1.txt ..\n"
+    "  --out FOLDER     the choices of each result go there, as choices1.txt ..; it is made where it isn't there\n"
     "  --replay FILE    one run, by the choices of such a file\n"
     "  --debug RANK     this rank under gdb\n"
     "  --html FILE      a page of all that was found\n"
@@ -48,8 +48,8 @@ static const char usage[] =
     "above; that each order was tried is not claimed of it.\n"
     "\n"
     "The status is 0: nothing; 1: something is wrong or left over; 2: these words are wrong; 6: the program\n"
-    "can't be run, or is none of MPI. What it finds, misses and says falsely: docs/CHECKING.md. That no choice that\n"
-    "matters is left out is argued and tested, and not proved.\n";
+    "can't be run, or is none of MPI, or memory is wanting. What it finds, misses and says falsely:\n"
+    "docs/CHECKING.md. That no choice that matters is left out is argued and tested, and not proved.\n";
 
 /* A word, and where its number or its text goes. */
 struct word {
@@ -142,6 +142,7 @@ void read_words(int count, char **words) {
     while (words[at] != NULL && words[at][0] == '-') {
         if (strcmp(words[at], "-h") == 0 || strcmp(words[at], "--help") == 0) {
             fputs(usage, stdout);
+            need_output();
             exit(STATUS_CLEAN);
         }
         at += read_word(words + at);
@@ -150,6 +151,8 @@ void read_words(int count, char **words) {
     if (*set.program == NULL) fail(STATUS_WORDS, "a program has to stand there", "");
     find_program();
     if (set.input != NULL && access(set.input, R_OK) != 0) fail(STATUS_WORDS, "it can't be read: ", set.input);
+    if (set.synchronous && set.each)
+        fail(STATUS_WORDS, "--synchronous and --each: a send waits always, or by a choice; one of them", "");
     if (set.size < 1 || set.size > MOST_RANKS) fail(STATUS_WORDS, "1 to 64 ranks", "");
     if (set.debugged >= set.size) fail(STATUS_WORDS, "there is no such rank to debug", "");
     if (set.debugged >= 0) set.forks = false;
