@@ -147,6 +147,8 @@ class Request:
     def why_not(self, option):
         """Why this option can't stand here."""
         others = [view for view, it in SHOWING.items() if option in it]
+        if re.fullmatch(r"-np?\d+", option):
+            return "no such option: a value is a word of its own, behind its option"
         if self.view == "--explore" and option in EXPLORING_C:
             return "it stands beside '--explore' of a C program, in front of its file"
         if self.view == "--explore" and option in SHOWING["--explore"]:
@@ -376,8 +378,7 @@ def exploration_of_c(request):
 def check(words):
     """Explores a C program that is compiled."""
     if words in (["-h"], ["--help"]) and not programs.RELEASED:
-        print(explorer.usage(), end="")
-        return 0
+        return written(explorer.usage(), 0)
     try:
         named = recorded.program_of(words)
         if named and Path(named).is_file() and not os.access(named, os.X_OK):
@@ -397,15 +398,28 @@ def check(words):
     os.execv(program, [program, *words])
 
 
+def written(text, status):
+    """Writes this, and what was printed before it: the status, or that of an output that can't be written, which is told."""
+    try:
+        sys.stdout.write(text)
+        sys.stdout.flush()
+        return status
+    except OSError as why:
+        say("the output can't be written: %s" % why.strerror)
+        # Else Python tries once more when it ends.
+        os.dup2(os.open(os.devnull, os.O_WRONLY), sys.stdout.fileno())
+        return OWN_FAILURE
+
+
 def show(program, file):
     """Shows a file of events with its answers; what a fault is, and the status, the program itself tells."""
     import answered
 
     ended = subprocess.run([program, file], stdin=subprocess.DEVNULL, stdout=subprocess.PIPE)
-    if ended.stdout or not ended.returncode:
-        for it in answered.rows(program, file.read_bytes().decode("latin-1").split("\n")):
-            print(it)
-    return ended.returncode
+    if not ended.stdout and ended.returncode:
+        return ended.returncode
+    rows = answered.rows(program, file.read_bytes().decode("latin-1").split("\n"))
+    return written("".join("%s\n" % it for it in rows), ended.returncode)
 
 
 def write(chosen, file):
@@ -432,11 +446,9 @@ def usage():
 
 def main(words):
     if words[:1] in (["-h"], ["--help"], ["help"]):
-        print(usage(), end="")
-        return 0
+        return written(usage(), 0)
     if words == ["--version"]:
-        print("%s (Kombazily) %s" % (CALLED.removeprefix("./"), programs.version()))
-        return 0
+        return written("%s (Kombazily) %s\n" % (CALLED.removeprefix("./"), programs.version()), 0)
     if words[:1] == ["check"]:
         return check(words[1:])
     signal.signal(signal.SIGTERM, lambda *_: sys.exit(128 + signal.SIGTERM))
@@ -467,4 +479,4 @@ def main(words):
     os.execv(program, chosen)
 
 
-sys.exit(main(sys.argv[1:]))
+sys.exit(written("", main(sys.argv[1:])))

@@ -65,7 +65,7 @@ LEAVING = {
     "return": (16, [WITHOUT, "mpirun: rank 1 ended with status 16; the other ranks are ended"]),
     "exit": (16, [WITHOUT, "mpirun: rank 1 ended with status 16; the other ranks are ended"]),
     "seven": (7, ["mpirun: rank 1 ended with status 7; the other ranks are ended"]),
-    "abort": (134, ["mpirun: rank 1 was ended by signal 6; the other ranks are ended"]),
+    "abort": (134, ["mpirun: rank 1 was ended by signal 6 (aborted); the other ranks are ended"]),
     "MPI_Abort": (5, ["rank 1: MPI_Abort: code 5", "mpirun: rank 1 ended with status 5; the other ranks are ended"]),
 }
 # What two ranks leave undone, beside two messages of twelve that aren't told one by one.

@@ -117,21 +117,32 @@ def prove(say):
 def take_proved(say):
     """The proved engine, with the kit's piece by which it takes its memory from C."""
     with tempfile.TemporaryDirectory() as room:
-        made = Path(room) / "libengine.a"
-        shutil.copy(PROVED, made)
-        subprocess.run(["ar", "x", need_kit() / "c" / "liblibc_c.a", "heap.pic.o"], cwd=room, check=True)
-        subprocess.run(["ar", "rs", made, Path(room) / "heap.pic.o"], check=True, stderr=subprocess.DEVNULL)
-        put_engine(made, say, "libmpi.a is made of the proved engine, under a library in C")
+        put_engine(with_memory(PROVED, Path(room)), say, "libmpi.a is made of the proved engine, under a library in C")
+
+
+def with_memory(library, room):
+    """A copy of a proved static library in this folder, with the kit's piece by which it takes its memory from C: `rt lib` leaves it out."""
+    made = room / library.name
+    shutil.copy(library, made)
+    subprocess.run(["ar", "x", need_kit() / "c" / "liblibc_c.a", "heap.pic.o"], cwd=room, check=True)
+    subprocess.run(["ar", "rs", made, room / "heap.pic.o"], check=True, stderr=subprocess.DEVNULL)
+    return made
 
 
 def put_engine(made, say, what):
     """Puts an engine where the library is made of it, and says which one, unless the same one is there."""
-    OUT.mkdir(parents=True, exist_ok=True)
-    if ENGINE.is_file() and ENGINE.read_bytes() == made.read_bytes():
-        return
-    shutil.copy(made, ENGINE.with_suffix(".new"))
-    os.replace(ENGINE.with_suffix(".new"), ENGINE)
-    say(what)
+    if put_where(ENGINE, made):
+        say(what)
+
+
+def put_where(place, made):
+    """Puts a file at a place, unless the same one is there: what is made of it is then current. Returns whether it did."""
+    place.parent.mkdir(parents=True, exist_ok=True)
+    if place.is_file() and place.read_bytes() == made.read_bytes():
+        return False
+    shutil.copy(made, place.with_suffix(".new"))
+    os.replace(place.with_suffix(".new"), place)
+    return True
 
 
 @contextmanager

@@ -1,7 +1,7 @@
 """The explorer of C programs: kombazily-check, of bindings/explorer, and programs that are explored.
 
-It is made over two static libraries: the engine's, as the library for C programs is, and that of the crate c_explorer: the proved one,
-which `rt lib` leaves in crates/c_explorer/out, or one that was built of the same sources before any proof, in out/unproved.
+It is made over the static library of the crate c_explorer: the proved one, which `rt lib` leaves in crates/c_explorer/out, or one that was
+built of the same sources before any proof, in out/unproved.
 """
 
 import ast
@@ -9,6 +9,7 @@ import hashlib
 import os
 import re
 import subprocess
+import tempfile
 from pathlib import Path
 
 import c_programs
@@ -20,6 +21,8 @@ OUT = programs.TOP / "out" / "explorer"
 PROGRAM = OUT / "kombazily-check"
 CRATE = "c_explorer"
 PROVED = programs.TOP / "crates" / CRATE / "out" / ("lib%s.a" % CRATE)
+# The proved library with what takes its memory from C.
+WHOLE = OUT / ("lib%s.a" % CRATE)
 UNPROVED = programs.UNPROVED / ("lib%s.a" % CRATE)
 
 
@@ -42,12 +45,24 @@ def is_proved():
     return all(os.stat(it).st_mtime_ns < built for it in [programs.TOP / "crates.txt", *parts])
 
 
+def prove(say):
+    """Proves the library and all below it where it isn't."""
+    if is_proved():
+        return
+    say("proving what the explorer decides by")
+    made = subprocess.run([programs.TOP / "tools" / "build" / "proved_build", "--library", CRATE])
+    if made.returncode != 0 or not is_proved():
+        raise c_programs.Fault("what the explorer decides by isn't proved")
+
+
 def choices(say):
     """The library of the crate c_explorer: a given one, the proved one, or one that is built where it isn't there."""
     if given := os.environ.get("RUN_CHOICES"):
         return Path(given).absolute()
     if is_proved():
-        return PROVED
+        with c_programs.alone(OUT), tempfile.TemporaryDirectory() as room:
+            c_programs.put_where(WHOLE, c_programs.with_memory(PROVED, Path(room)))
+        return WHOLE
     programs.build_unproved(say, (), (), [("what the explorer decides by", is_built, begin_build)])
     return UNPROVED
 
@@ -58,9 +73,9 @@ def begin_build():
 
 
 def make(say, flags=None, out=OUT):
-    """Makes the explorer current, over the engine of the library for C programs, which is made first. Returns where it stands."""
+    """Makes the explorer current; the library for C programs is made first. Returns where it stands."""
     c_programs.make_library(say)
-    parts = {"OUT": out, "ENGINE": c_programs.ENGINE, "CHOICES": choices(say)}
+    parts = {"OUT": out, "CHOICES": choices(say)}
     command = ["make", "-s", "-j2", "-C", FOLDER, *("%s=%s" % (name, os.path.relpath(it, FOLDER)) for name, it in parts.items())]
     with c_programs.alone(out):
         made = subprocess.run(command + (["CFLAGS=%s" % flags] if flags else []), stdin=subprocess.DEVNULL, stdout=subprocess.PIPE,

@@ -31,18 +31,36 @@ def once(method):
     return asked
 
 
-def module():
-    """`rt` as a module. The sum of a crate's texts and what stands below it are computed once."""
+def loaded(file, name):
+    """A script of the kit as a module."""
     sys.dont_write_bytecode = True
     bin_of_kit = folder_of_kit() / "bin"
     sys.path.insert(0, str(bin_of_kit))
-    loader = importlib.machinery.SourceFileLoader("rt_command", str(bin_of_kit / "rt"))
-    rt = importlib.util.module_from_spec(importlib.util.spec_from_loader("rt_command", loader))
-    sys.modules["rt_command"] = rt
-    loader.exec_module(rt)
-    rt.rtlib.Crate.stamp = once(rt.rtlib.Crate.stamp)
-    rt.rtlib.Crate.below = once(rt.rtlib.Crate.below)
+    loader = importlib.machinery.SourceFileLoader(name, str(bin_of_kit / file))
+    made = importlib.util.module_from_spec(importlib.util.spec_from_loader(name, loader))
+    sys.modules[name] = made
+    loader.exec_module(made)
+    return made
+
+
+def ask_once(crate):
+    """The sum of a crate's texts and what stands below it are computed once."""
+    crate.stamp = once(crate.stamp)
+    crate.below = once(crate.below)
+
+
+def module():
+    """`rt` as a module."""
+    rt = loaded("rt", "rt_command")
+    ask_once(rt.rtlib.Crate)
     return rt
+
+
+def plant(words):
+    """`rt plant`, which the kit runs as a script of its own."""
+    script = loaded("rt-plant", "rt_plant")
+    ask_once(script.rt.Crate)
+    return script.main(*words)
 
 
 def load(checkout):

@@ -27,7 +27,7 @@ PLAYER = "kombazily-play"
 MATCH, SEE = 1, 2
 OPEN, RUN_ENDED = "open", "the run ended there"
 NOT_SURE = r"  (rank \d+ (waits|asks for ever|is in MPI_Finalize)|what was recorded of rank )"
-WORTH_KNOWING = r".*(ended with a communicator never freed|ended with \d+ types never freed|is left to chance, and not tried both ways)"
+WORTH_KNOWING = r".*(ended with a communicator never freed|ended with \d+ (types?|persistent requests?) never freed|is left to chance, and not tried both ways)"
 WITH_WAITS = "with sends and collectives that wait"
 CLEAN, FOUND, WORDS, START = 0, 1, 2, 6
 # How far the calls of the first run are explored in other orders: what is found there is run first.
@@ -183,6 +183,8 @@ class Words:
                 self.texts[word] = rest.pop(0)
             else:
                 self.numbers[word] = self.number(rest.pop(0))
+        if {"--synchronous", "--each"} <= self.flags:
+            raise Fault(WORDS, "--synchronous and --each: a send waits always, or by a choice; one of them")
         if not 1 <= self.numbers["-n"] <= 64:
             raise Fault(WORDS, "1 to 64 ranks")
         self.program, self.arguments = rest[0], rest[1:]

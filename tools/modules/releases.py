@@ -88,9 +88,13 @@ class Parts:
     def make_part(self, folder, what, *words):
         c_programs.run_make(folder, self.room, what, "CFLAGS=-O2 '-ffile-prefix-map=%s=.'" % folder, *words)
 
-    def make_explorer(self, say):
-        """The explorer of C programs, over the same engine."""
-        parts = {"OUT": self.room / "explorer", "ENGINE": c_programs.ENGINE, "CHOICES": explorer.choices(say)}
+    def make_explorer(self, say, wants_proved):
+        """The explorer of C programs, with the proved library where that is there or wanted."""
+        if wants_proved:
+            explorer.prove(say)
+        if explorer.is_proved() and "RUN_CHOICES" not in os.environ:
+            self.proved.append(explorer.PROGRAM.name)
+        parts = {"OUT": self.room / "explorer", "CHOICES": explorer.choices(say)}
         flags = "CFLAGS=-O2 '-ffile-prefix-map=%s=.'" % explorer.FOLDER
         named = ["%s=%s" % (name, os.path.relpath(it, explorer.FOLDER)) for name, it in parts.items()]
         made = subprocess.run(["make", "-s", "-C", explorer.FOLDER, *named, flags], capture_output=True, text=True)
@@ -119,7 +123,11 @@ class Parts:
         return self.room / "explorer" / explorer.PROGRAM.name
 
     def is_proved(self):
-        return len(self.proved) == len(self.programs) + 1
+        return len(self.proved) == len(self.names())
+
+    def names(self):
+        """What a release has of which BUILT says whether it is proved, or C over a library that is."""
+        return [*self.programs, "libmpi", explorer.PROGRAM.name]
 
 
 def same(one, other):
@@ -243,7 +251,7 @@ def libc_needed(files):
 
 def built(parts, table):
     """What a release says of how it was built; `sha256sum -c` takes its last lines."""
-    names = [*parts.programs, "libmpi"]
+    names = parts.names()
     sums = [it for it in table if it.startswith(("bin/", "lib/")) and isinstance(table[it], Copy)]
     lines = ["Kombazily %s for x86_64-linux" % programs.version(), "commit: %s" % commit(),
              "toolchain: %s" % run_output([programs.kit() / "bin" / "rt", "--version"]),

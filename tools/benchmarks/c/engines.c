@@ -1,8 +1,9 @@
 /* Two ranks of the engine in one process, which hands over their datagrams in memory and has a clock of its own: no
  * socket, no waiting, so each run takes the same instructions. tools/benchmarks/c/instructions counts them.
  *
- *   engines BYTES COUNT FRAME     so many messages from rank 0 to rank 1, of so many bytes each, in frames of so many
- *                                 bytes of data; what comes is checked
+ *   engines BYTES COUNT FRAME ROOM     so many messages from rank 0 to rank 1, of so many bytes each, in frames of so
+ *                                      many bytes of data; what comes is checked. ROOM is what the socket of each
+ *                                      would keep, for windows; 0 for none
  */
 #include "engine.h"
 
@@ -95,14 +96,15 @@ __attribute__((noinline)) void measured(const unsigned char *from, unsigned char
 }
 
 int main(int count, char **words) {
-    if (count != 4) return 2;
+    if (count != 5) return 2;
     size_t len = strtoul(words[1], NULL, 10);
     unsigned char *from = malloc(len + 1), *into = calloc(1, len + 1);
     if (from == NULL || into == NULL) return 2;
     for (size_t at = 0; at < len; at++) from[at] = (unsigned char)(at * 31 + at / 1021);
     for (int it = 0; it < RANKS; it++) {
         struct engine_place place = {.job = 7, .message_limit = 1 << 20, .rank = (uint16_t)it, .size = RANKS,
-                                     .frame_limit = (uint32_t)strtoul(words[3], NULL, 10)};
+                                     .frame_limit = (uint32_t)strtoul(words[3], NULL, 10),
+                                     .room = (uint32_t)strtoul(words[4], NULL, 10)};
         uint32_t number = kombazily_new(&ranks[it], &place);
         if (number != 0) give_up("there is no rank", number);
     }
