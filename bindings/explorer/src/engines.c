@@ -38,10 +38,9 @@ void engines_call(struct engines *all, int rank, const struct engine_call *call,
     all->is_dirty = true;
 }
 
-void engines_add_matches(struct engines *all, struct choices *choices, int rank, const struct operation *receive,
-                         int sources) {
-    check(kombazily_ranks_add_matches(&all->ranks, choices, (uint16_t)rank, receive->op, receive->at,
-                                      receive->call.communicator, (uint32_t)sources, (uint32_t)receive->call.tag));
+void engines_add_matches(struct engines *all, struct choices *choices, int rank, const uint32_t *ops,
+                         const uint32_t *sources, size_t count) {
+    check(kombazily_ranks_add_matches(&all->ranks, choices, (uint16_t)rank, ops, count, sources, count));
     all->is_dirty = true;
 }
 

@@ -23,13 +23,15 @@ void kombazily_ranks_call(struct joined_ranks *ranks, uint16_t rank, const struc
 /* Copies data of the last answer of a rank out that brought any: how many bytes. */
 size_t kombazily_ranks_take(struct joined_ranks *ranks, uint16_t rank, uint8_t *into, size_t length);
 
-/* Each source of a communicator of so many ranks is asked, by a probe of this rank, for a receive of any source, the
- * rank's `op`-th: where one has a message with this tag, the receive may take it, unless one that was begun before it
- * does, which adds a move at the fence. 0; 5 (no such rank), 14, 81. */
-uint32_t kombazily_ranks_add_matches(struct joined_ranks *ranks, struct choices *choices, uint16_t rank, uint32_t op,
-                                     uint64_t operation, uint32_t communicator, uint32_t sources, uint32_t tag);
-/* The same for a probe of the rank, the `op`-th of what it looks at: of this source, or of any (ENGINE_ANY). It may see
- * a message unless a receive that waits takes it. */
+/* Each source of each receive of any source that waits in the row of this rank is asked by a probe of the rank: where
+ * one has such a message, the receive may take it, unless one that was begun before it does, which adds a move at the
+ * fence. Of each receive of the row, in order, it is told the number of it among its rank's and how many ranks its
+ * communicator has. 0; 5 (no such rank), 14, 81, 85 (it is told of more or fewer receives). */
+uint32_t kombazily_ranks_add_matches(struct joined_ranks *ranks, struct choices *choices, uint16_t rank,
+                                     const uint32_t *ops, size_t op_count, const uint32_t *sources,
+                                     size_t source_count);
+/* The same for a probe of the rank, the `op`-th of what it looks at: of this source, or of any (ENGINE_ANY) of a
+ * communicator of so many ranks. It may see a message unless a receive that waits takes it. */
 uint32_t kombazily_ranks_add_sights(struct joined_ranks *ranks, struct choices *choices, uint16_t rank, uint32_t op,
                                     uint32_t communicator, uint32_t source, uint32_t sources, uint32_t tag);
 

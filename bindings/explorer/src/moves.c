@@ -18,15 +18,21 @@ static bool is_told(uint32_t number) {
 }
 
 /* What the messages of all sources make possible of receives of any source: also where a probe saw a message, since a
- * receive of any source may take another one (MPI 3.1, 3.8.1). */
+ * receive of any source may take another one (MPI 3.1, 3.8.1). The static library has the receives in its row. */
 static void ask_receives(struct steps *s, int rank) {
     const struct rank *own = &s->ranks[rank];
-    if (own->is_in_engine || own->state == RANK_ENDED || own->is_finalized) return;
-    for (int i = 0; i < own->late_count; i++) {
+    if (own->late_count == 0 || own->is_in_engine || own->state == RANK_ENDED || own->is_finalized) return;
+    const size_t count = (size_t)own->late_count;
+    uint32_t *ops = room_for(NULL, count, sizeof *ops), *sources = room_for(NULL, count, sizeof *sources);
+    for (size_t i = 0; i < count; i++) {
         const struct operation *it = &own->operations[own->late[i]];
         const struct members *of = members_of(s, rank, it->call.communicator);
-        if (it->state == OP_WILD && of != NULL) engines_add_matches(s->engines, s->options.choices, rank, it, of->size);
+        ops[i] = it->op;
+        sources[i] = of == NULL ? 0 : (uint32_t)of->size;
     }
+    engines_add_matches(s->engines, s->options.choices, rank, ops, sources, count);
+    free(ops);
+    free(sources);
 }
 
 /* The places of a list that are at their ends: how many. */

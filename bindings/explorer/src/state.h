@@ -190,8 +190,8 @@ void engines_call(struct engines *all, int rank, const struct engine_call *call,
                   struct engine_answer *answer);
 size_t engines_take(struct engines *all, int rank, uint8_t *into, size_t length);
 /* What the messages of so many sources make possible at the fence: of a receive of any source, and of a probe. */
-void engines_add_matches(struct engines *all, struct choices *choices, int rank, const struct operation *receive,
-                         int sources);
+void engines_add_matches(struct engines *all, struct choices *choices, int rank, const uint32_t *ops,
+                         const uint32_t *sources, size_t count);
 void engines_add_sights(struct engines *all, struct choices *choices, int rank, uint32_t op,
                         const struct engine_call *probe, int sources);
 /* All that was sent comes, and what is sent for it; all engines are quiet then. */

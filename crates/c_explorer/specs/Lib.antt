@@ -1,5 +1,5 @@
 pub mod Answers
+pub mod Asked
 pub mod FindingNumbers
 pub mod HandleContents
 pub mod RanksContents
-pub mod Sources

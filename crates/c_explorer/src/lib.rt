@@ -7,7 +7,6 @@
 //! is decided from plain numbers (`bindings/explorer/src/verdicts.h`).
 #![tactic(auto)]
 
-mod asking;
 mod exports;
 mod fences;
 mod findings;
@@ -16,5 +15,4 @@ mod held;
 mod held_ranks;
 mod ranks;
 mod ranks_handle;
-mod sought;
 mod sources;
