@@ -26,9 +26,9 @@ options, as mpiexec and mpirun have them:
        -v              says which programs are taken, and the command that is run
 
 Options stand in any order, in front of the file or behind it; behind a C program's file stand -n N and the program's own
-words alone. Those of mpiexplore (--most K, --seed S, ..) may stand beside --explore, and those of mpidraw (--width W,
---datagrams) beside --picture and --svg; of those of mpiexplore the exploration of a C program has --most, --results, --out,
---synchronous and --both, and it has those of `./run check`.
+words alone. Those of mpiexplore (--most K, --states K, --seed S, ..) may stand beside --explore, and those of mpidraw
+(--width W, --datagrams) beside --picture and --svg; of those of mpiexplore the exploration of a C program has --most,
+--results, --out, --synchronous and --both, and it has those of `./run check`.
 
 A script is judged before ranks are started: what is wrong with it is told once, and the status is 1. Scripts are
 run by mpiexec and rank_main and explored by mpiexplore, files of events are run by mpisim and drawn by mpidraw, C programs
@@ -39,7 +39,7 @@ since. Else programs of the same sources are taken, of which nothing is proved: 
 minutes, and kept in out/unproved. RUN_PROGRAMS may name a folder whose programs are taken as they are.
 
 What `run` itself says stands on standard error behind 'run:'. The status is that of mpiexec, mpirun,
-mpisim, mpidraw or mpiexplore; 125 where `run` itself fails. Begin with docs/TUTORIAL.md.
+mpisim, mpidraw, mpiexplore or kombazily-check; 125 where `run` itself fails. Begin with docs/TUTORIAL.md.
 """
 
 import os
@@ -68,7 +68,8 @@ PICTURES = ("--picture", "--svg")
 PASSED_ON = ("-job", "-baseport", "-restart", "-patience")
 # Options of the programs that show something, each with how many values it has.
 SHOWING = {
-    "--explore": {"--most": 1, "--seed": 1, "--events": 1, "--out": 1, "--results": 1, "--findings": 0, "--synchronous": 0, "--both": 0},
+    "--explore": {"--most": 1, "--seed": 1, "--states": 1, "--events": 1, "--out": 1, "--results": 1, "--findings": 0, "--synchronous": 0,
+                  "--both": 0},
     "--picture": {"--width": 1, "--datagrams": 0},
     "--svg": {"--datagrams": 0},
 }

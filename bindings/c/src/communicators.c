@@ -196,14 +196,19 @@ int MPI_Comm_group(MPI_Comm comm, MPI_Group *group) {
     return class;
 }
 
-/* So many of one communicator are the engine's, before further ones have worlds of their own. */
-enum { MOST_IN_ENGINE = 1000 };
+/* So many of a communicator are its engine's, by how many others it comes of in its world; further ones have worlds of
+ * their own. They are 4,000 of MPI_COMM_WORLD and MPI_COMM_SELF together, and an engine makes 4,094: no program comes
+ * to that limit. All members count alike, since they make what comes of it together. */
+static uint32_t most_in_engine(const struct communicator *own) {
+    static const uint32_t most[] = {500, 3};
+    return own->depth < sizeof most / sizeof *most ? most[own->depth] : 0;
+}
 
 int make_communicator(MPI_Comm comm, const char *call, struct engine_call *entry, MPI_Comm *newcomm) {
     struct communicator *own = communicator_of(comm);
     MPI_Comm handle;
     struct engine_answer answer;
-    if (++own->made > MOST_IN_ENGINE && !is_explored) return make_further(comm, call, entry, newcomm);
+    if (++own->made > most_in_engine(own) && !is_explored) return make_further(comm, call, entry, newcomm);
     struct communicator *made = new_communicator(&handle);
     if (made == NULL) return raise_on(comm, call, MPI_ERR_NO_MEM, "no memory for a communicator");
     entry->communicator = own->place;
@@ -213,6 +218,7 @@ int make_communicator(MPI_Comm comm, const char *call, struct engine_call *entry
     bool is_none = number != 0 || answer.communicator == ENGINE_NO_COMMUNICATOR;
     if (!is_none) {
         place_communicator(made, answer.communicator, own);
+        made->depth = own->depth + 1;
         number = number_communicator(made);
         if (number == 0 && is_inter(own)) number = part_groups(made, own, &is_none);
     }

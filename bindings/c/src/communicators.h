@@ -23,6 +23,7 @@ struct communicator {
     struct world *world;       /* whose engine that is; held, or NULL before it is there */
     struct two_groups *groups; /* of intercommunicators.h: of an intercommunicator; else NULL */
     uint32_t made;             /* how many the members were to make of it, together */
+    uint32_t depth;            /* of how many others it comes in its world, as a copy or a part */
     MPI_Errhandler errhandler;
     int uses; /* by the program's handle, and by operations that aren't at their end */
     char name[MPI_MAX_OBJECT_NAME];

@@ -286,6 +286,7 @@ uint32_t kombazily_group_of_places(uint32_t, const uint16_t *, size_t, const uin
                                    uint64_t *);
 void kombazily_way(bool, const uint8_t *, size_t, struct launch_way *);
 uint32_t kombazily_frame(bool, const uint8_t *, size_t, const uint32_t *, size_t);
+uint32_t kombazily_room(bool, uint32_t, uint32_t, uint16_t);
 size_t kombazily_word(const uint8_t *, size_t, const uint8_t *, size_t, uint32_t, uint8_t *, size_t);
 uint32_t kombazily_answer(const uint8_t *, size_t, const uint8_t *, size_t, uint32_t);
 bool kombazily_speaks(const uint8_t *, size_t, uint32_t);

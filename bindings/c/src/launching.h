@@ -67,6 +67,11 @@ void kombazily_way(bool has_words, const uint8_t *environment, size_t len, struc
  * KOMBAZILY_FRAME, if it is told, and the addresses of the job's ranks; 0 where the text is no such number. */
 uint32_t kombazily_frame(bool is_told, const uint8_t *text, size_t len, const uint32_t *addresses, size_t count);
 
+/* How many bytes a rank is told that its socket keeps (engine_place), where the system says `kept`, or 0. Of ranks at
+ * several addresses it is that. On one machine it is 0 where the socket keeps all that the others may have on its way,
+ * and else as much as that is: each of the others has 64 frames at most. */
+uint32_t kombazily_room(bool is_apart, uint32_t kept, uint32_t frame, uint16_t size);
+
 /* Copies the value of a key in a line or a record out: how many bytes it has; 0 where there is none, it is empty or
  * there is no room for it. */
 size_t kombazily_word(const uint8_t *line, size_t len, const uint8_t *key, size_t key_len, uint32_t wire, uint8_t *into,

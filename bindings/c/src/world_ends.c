@@ -10,8 +10,10 @@
 /* Tags of messages that are of no communicator's plans: kind 0 of MPI_COMM_WORLD (plan_runs.c). */
 enum { TAG_LEFT = 1, TAG_GONE };
 
-/* Those that were left and haven't ended; whether none ends any more. */
+/* Those that were left in which something that was sent may not be acknowledged yet, or which all have left. How many
+ * were left and haven't ended: the others of them wait for a word. Whether none ends any more. */
 static struct world *left;
+static size_t left_count;
 static bool is_stopped;
 
 /* ---- messages: a world's number each ---- */
@@ -44,10 +46,13 @@ static bool hear(int tag, uint64_t *number) {
 /* ---- ends ---- */
 
 static void end_left(struct world *world) {
-    struct world **at = &left;
-    while (*at != world) at = &(*at)->next_left;
-    *at = world->next_left;
+    left_count--;
     end_world(world);
+}
+
+static void look_at(struct world *world) {
+    world->next_left = left;
+    left = world;
 }
 
 /* How many have left a world that isn't there yet: they may have had it, and left it, before its first member heard
@@ -67,8 +72,14 @@ static void note_left(uint64_t number) {
         *it = (struct early){number, 0, early};
         early = it;
     }
-    if (world != NULL) world->have_left++;
-    else if (it != NULL) it->have_left++;
+    if (world == NULL) {
+        if (it != NULL) it->have_left++;
+        return;
+    }
+    world->have_left++;
+    if (!world->awaits_word || world->have_left < world->size - 1) return;
+    world->awaits_word = false;
+    look_at(world);
 }
 
 int take_early(uint64_t number) {
@@ -90,7 +101,7 @@ static void hear_all(void) {
     struct world *it;
     while (hear(TAG_LEFT, &number)) note_left(number);
     while (hear(TAG_GONE, &number))
-        if ((it = world_numbered(number)) != NULL && it->has_said) end_left(it);
+        if ((it = world_numbered(number)) != NULL && it->awaits_word) end_left(it);
 }
 
 /* Whether all that was sent in it is acknowledged. */
@@ -100,22 +111,27 @@ static bool is_quiet(struct world *world) {
     return true;
 }
 
+/* One that is quiet. */
 static void go_on(struct world *world) {
-    if (world->has_said || !is_quiet(world)) return;
-    if (world->rank != 0) {
-        world->has_said = true;
-        tell(first_rank(world, 0), TAG_LEFT, world->number);
-    } else if (world->have_left == world->size - 1) {
+    if (world->rank == 0 && world->have_left == world->size - 1) {
         for (int rank = 1; rank < world->size; rank++) tell(first_rank(world, rank), TAG_GONE, world->number);
         end_left(world);
+        return;
     }
+    world->awaits_word = true;
+    if (world->rank != 0) tell(first_rank(world, 0), TAG_LEFT, world->number);
 }
 
 void worlds_go_on(void) {
-    if (left == NULL || is_stopped) return;
+    if (left_count == 0 || is_stopped) return;
     hear_all();
-    for (struct world *it = left, *next; it != NULL; it = next) {
-        next = it->next_left;
+    for (struct world **at = &left; *at != NULL;) {
+        struct world *it = *at;
+        if (!is_quiet(it)) {
+            at = &it->next_left;
+            continue;
+        }
+        *at = it->next_left;
         go_on(it);
     }
 }
@@ -124,7 +140,7 @@ void stop_worlds(void) { is_stopped = true; }
 
 void release_world(struct world *world) {
     if (--world->uses > 0 || world == &first_world) return;
-    world->next_left = left;
-    left = world;
+    left_count++;
+    look_at(world);
     worlds_go_on();
 }

@@ -3,6 +3,7 @@
 
 #include "device.h"
 #include "internal.h"
+#include "launching.h"
 
 #include <stdlib.h>
 
@@ -112,7 +113,8 @@ uint32_t make_engine(struct world *world, int kind) {
                                        .size = (uint16_t)world->size,
                                        .incarnation = (uint16_t)process.incarnation,
                                        .frame_limit = process.frame,
-                                       .room = process.is_apart ? device_heard_room() : 0};
+                                       .room = kombazily_room(process.is_apart, device_heard_room(),
+                                                               process.frame, (uint16_t)process.size)};
     uint32_t number = own->world != NULL ? 0 : kombazily_new(&own->rank, &place);
     if (number == 0) own->world = world;
     return number;

@@ -41,9 +41,9 @@ struct world {
     int uses; /* by communicators; where there are none it is left, and ends once all members have left it */
     uint64_t taken[PLAN_WORDS]; /* numbers of communicators that are in use: plan_places.c */
     int have_left;              /* at its first rank: how many others have said so */
-    bool has_said;              /* at another one: that it has left it */
+    bool awaits_word;           /* it was left, all is acknowledged, and others are to tell that they have left it */
     struct world *next;         /* among those with like numbers */
-    struct world *next_left;    /* among those that this process has left */
+    struct world *next_left;    /* among those that this process has left and looks at */
 };
 
 /* The places of communicators, and the keys of requests, of all worlds are told apart by the number of the world's

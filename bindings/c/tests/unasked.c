@@ -58,6 +58,7 @@ static void send_all(void) {
     MPI_Request_free(&requests[2]);
     /* The ends tell that all was received: as much may wait as before. */
     CHECK(send_until_full(1, &requests[0]) == ROOM);
+    MPI_Send(row, 1, MPI_BYTE, 1, TAG_GO, MPI_COMM_WORLD);
     MPI_Wait(&requests[0], MPI_STATUS_IGNORE);
 }
 
@@ -67,6 +68,7 @@ static void receive_all(void) {
     receive(0, TAG_EMPTY);
     receive(0, TAG_AGAIN);
     for (int i = 0; i < 3; i++) receive(0, TAG_BUFFERED);
+    receive(0, TAG_GO);
     for (int i = 0; i <= ROOM; i++) receive(0, TAG_DATA);
 }
 

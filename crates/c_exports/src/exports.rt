@@ -1,13 +1,12 @@
 //! The functions that C calls.
 
-ghost use Rattle.std.specs.Prelude.{◌≡◌, ◌⊎◌, ◌↔◌, All, IsSome, IsTrue, None, Result, Some, true};
-ghost use Rattle.engine.specs.Datagrams.{DatagramGives};
-ghost use Rattle.point_to_point_calls.specs.declared.refusal.Refusal.{Refusal};
+ghost use Rattle.std.specs.Prelude.{◌≡◌, ◌⊎◌, ◌↔◌, All, IsSome, IsTrue, None, Some, true};
 ghost use Rattle.sessions.specs.Peers.{IsIdlePeer};
 ghost use Rattle.c_rank.specs.Answers.{refusal};
 ghost use Rattle.c_rank.specs.Calls.{Answers};
+ghost use Rattle.c_rank.specs.IncomingDatagrams.{TakesIn};
 ghost use Rattle.c_rank.specs.OutgoingDatagrams.{HandsNext};
-ghost use Rattle.c_rank.specs.State.{IsNoPlace, IsOpening, RankState, Ticks, number_of_result};
+ghost use Rattle.c_rank.specs.State.{IsNoPlace, IsOpening, IsSameTime, RankState, Ticks};
 ghost use Rattle.c_rank.specs.AnswerCopies.{TakesOf};
 ghost use Rattle.c_exports.specs.HandleContents.{OnHeld};
 
@@ -67,7 +66,7 @@ pub extern "C" fn kombazily_call(
     answer: &mut AnswerRecord,
 )
     ensures { OnHeld rank.old.held.value rank.new.held.value (answer.new ≡ refusal 81)
-        (λ r s. Answers r call.now bytes.now answer.new s) }
+        (λ r s. Answers r call.now bytes.now answer.new s × IsSameTime r s) }
 {
     match rank.take(alloc) {
         Some(mut held) => {
@@ -103,8 +102,7 @@ pub extern "C" fn kombazily_take(
 #[unsafe(no_mangle)]
 pub extern "C" fn kombazily_datagram(alloc: Global, rank: &mut Handle, bytes: &[u8]) -> u32
     ensures { OnHeld rank.old.held.value rank.new.held.value (result ≡ 81)
-        (λ r s. (gone : Result (Unit {0}) Refusal) ×
-        (DatagramGives r.engine bytes.now gone s.engine × (result ≡ number_of_result gone))) }
+        (λ r s. TakesIn r bytes.now result s) }
 {
     match rank.take(alloc) {
         Some(mut held) => {

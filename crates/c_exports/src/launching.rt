@@ -1,6 +1,8 @@
-//! By which way a process has its place, what its launcher says, and how long frames are: functions that C calls before it makes a rank.
+//! By which way a process has its place, what its launcher says, how long frames are, and what a socket keeps: functions
+//! that C calls before it makes a rank.
 
 ghost use Rattle.std.specs.Prelude.{◌≡◌, ◌⊎◌, MatchOption, None, Some, false, true, unwrap_or};
+ghost use Rattle.c_rank.specs.Windows.{room_told};
 ghost use Rattle.launcher_words.specs.Answers.{answer_in, is_version, separator};
 ghost use Rattle.launcher_words.specs.Lengths.{record_length};
 ghost use Rattle.launcher_words.specs.Places.{IsPlace, place_text};
@@ -33,6 +35,15 @@ pub extern "C" fn kombazily_frame(is_told: bool, text: &[u8], addresses: &[u32])
 {
     let told = if is_told { Some(text) } else { None };
     rank_environment::frame_of(told, addresses).unwrap_or(0)
+}
+
+/// How many bytes a rank is told that its socket keeps, in a job of so many ranks whose frames have so many bytes of data at
+/// most, where the system says `kept`, or 0; 0: the rank has no windows.
+#[unsafe(no_mangle)]
+pub extern "C" fn kombazily_room(is_apart: bool, kept: u32, frame: u32, size: u16) -> u32
+    ensures { result ≡ room_told is_apart kept frame size }
+{
+    c_rank::room_told(is_apart, kept, frame, size)
 }
 
 /// Copies the value of a key in a line of a launcher out: how many bytes it has. It is 0 where there is none, where it

@@ -10,6 +10,7 @@ use Rattle.outgoing_datagrams.specs.HandedDatagrams.{
   HandsOn,
   HandsOut,
   HandsOutKept,
+  KeepsFrom,
   NoneFits,
   SendingState,
   kept_going,
@@ -18,7 +19,8 @@ use Rattle.outgoing_datagrams.specs.HandedDatagrams.{
 }
 use Rattle.outgoing_datagrams.specs.Runs.{Stands}
 use Rattle.outgoing_datagrams.specs.declared.record.OutgoingRecord.{OutgoingRecord}
-use Rattle.outgoing_datagrams.proofs.HandedSteps.{hands_joined}
+use Rattle.outgoing_datagrams.proofs.HandedSteps.{hands_joined, hands_none}
+use Rattle.outgoing_datagrams.proofs.KeptSteps.{keeps_joined, keeps_none}
 use Rattle.round_trips.specs.declared.round_trip.RoundTrip.{RoundTrip}
 use Rattle.congestion_windows.specs.Flights.{WindowsState}
 use Rattle.c_rank.specs.Clocks.{after_all, going}
@@ -42,6 +44,29 @@ hands_more k m ws us went out p = record {
   front = ap (λ (l : List Parcel). l ++ out) p.front ∙ append_assoc p.taken us out;
   plain = p.plain;
   short = p.short;
+}
+
+keeps_more : (a b : SendingState) (ws us out : List Parcel) → KeepsFrom a ws b us → KeepsFrom a (ws ++ out) b (us ++ out)
+keeps_more a b ws us out p = record {
+  taken = p.taken;
+  front = ap (λ (l : List Parcel). l ++ out) p.front ∙ append_assoc p.taken us out;
+  last = p.last;
+  since = p.since;
+  stands = p.stands;
+  few = p.few;
+  calm = p.calm;
+}
+
+-- what waited is no matter
+keeps_as : (a b : SendingState) (w ws us : List Parcel) → KeepsFrom (record a { waiting = w }) ws b us → KeepsFrom a ws b us
+keeps_as a b w ws us p = record {
+  taken = p.taken;
+  front = p.front;
+  last = p.last;
+  since = p.since;
+  stands = p.stands;
+  few = p.few;
+  calm = p.calm;
 }
 
 -- a first datagram that doesn't fit stays the first one
@@ -142,15 +167,49 @@ hands_from a b c went same kept p =
     subst (λ k. HandsOn k (pending a) went c.sending.kept (pending c)) kept
     (subst (λ (l : List Parcel). HandsOn b.sending.kept l went c.sending.kept (pending c)) same p)
 
+-- and keeps back the same
+keeps_from : (a b c : RankState) → pending b ≡ pending a →
+    b.sending ≡ record a.sending { waiting = b.sending.waiting } → emitted b ≡ emitted c →
+    KeepsFrom b.sending b.sending.waiting c.sending c.sending.waiting →
+    KeepsFrom a.sending (pending a) c.sending (pending c)
+keeps_from a b c same is out p =
+    keeps_as a.sending c.sending b.sending.waiting (pending a) (pending c)
+    (subst (λ (s : SendingState). KeepsFrom s (pending a) c.sending (pending c)) is
+    (subst (λ (l : List Parcel). KeepsFrom b.sending l c.sending (pending c)) same
+    (subst (λ (l : List Parcel). KeepsFrom b.sending (pending b) c.sending (c.sending.waiting ++ l)) out
+    (keeps_more b.sending c.sending b.sending.waiting c.sending.waiting (emitted b) p))))
+
+-- where nothing is there nothing is handed out, and the same is kept back
+pub nothing_first : (a : RankState) (most : ℕ) (o : OutgoingRecord) (into : List ℕ) → a.sending.waiting ≡ [] →
+    a.engine.sessions.out ≡ [] → o.count ≡ 0 → o.each ≡ 0 → HandsFirst a most 0 o into into a
+nothing_first a most o into waiting out none each = record {
+  went = [];
+  hands = hands_none a.sending.kept (pending a);
+  stands = record {
+    count = none;
+    size = refl;
+    bytes = refl;
+    targets = tt;
+    each = 0;
+    told = each;
+    lengths = tt;
+  };
+  few = omega arith;
+  none = λ e.
+      inl (ap (λ (l : List Parcel). l ++ emitted a) waiting ∙ none_emitted a out);
+  rest = (inl (refl, refl, refl), refl, refl, refl);
+  keeps = keeps_none a.sending a.sending (pending a) refl;
+}
+
 -- its sending handed out, behind what it was refilled with
 pub hands_first : (a b c : RankState) (most len : ℕ) (o : OutgoingRecord) (old new : List ℕ) →
-    pending b ≡ pending a → b.sending.kept ≡ a.sending.kept → KeepsRest a b →
+    pending b ≡ pending a → b.sending ≡ record a.sending { waiting = b.sending.waiting } → KeepsRest a b →
     HandsOut b.sending most len o old new c.sending → c.engine ≡ b.engine → c.trips ≡ b.trips → c.windows ≡ b.windows → c.received ≡ b.received →
     c.told ≡ b.told →
     (o.count ≡ 0 → NoneFits (pending c) (length old)) → HandsFirst a most len o old new c
-hands_first a b c most len o old new same kept rest h engine trips windows received told none = record {
+hands_first a b c most len o old new same sending rest h engine trips windows received told none = record {
   went = h.went;
-  hands = hands_from a b c h.went same kept
+  hands = hands_from a b c h.went same (ap (λ (s : SendingState). s.kept) sending)
       (subst (λ (l : List Parcel). HandsOn b.sending.kept (pending b) h.went c.sending.kept (c.sending.waiting ++ l))
       (same_emitted b c engine trips windows)
       (hands_more b.sending.kept c.sending.kept b.sending.waiting c.sending.waiting h.went (emitted b) h.hands));
@@ -158,6 +217,7 @@ hands_first a b c most len o old new same kept rest h engine trips windows recei
   few = h.few;
   none = none;
   rest = rest_joined a b c rest (inl (engine, trips, windows), received, told, h.time);
+  keeps = keeps_from a b c same sending (same_emitted b c engine trips windows) h.keeps;
 }
 
 -- what is handed out behind nothing
@@ -175,30 +235,35 @@ hands_second a b c most len more o p old mid new f none s =
       few = s.few;
       none = λ e. subst (λ (l : List ℕ). NoneFits (pending c) (length l)) same (s.none e);
       rest = rest_joined a b c f.rest s.rest;
+      keeps = keeps_joined a.sending b.sending c.sending (pending a) (pending b) (pending c) f.rest.3
+          (subst (λ (l : List Parcel). HandsOn a.sending.kept (pending a) l b.sending.kept (pending b)) went f.hands) f.keeps
+          s.keeps;
     }
 
 -- the same, of a rank that is told as what it was refilled to
 pub hands_after : (a r b c : RankState) (most len : ℕ) (o : OutgoingRecord) (old new : List ℕ) → b ≡ r →
-    pending r ≡ pending a → r.sending.kept ≡ a.sending.kept → KeepsRest a r →
+    pending r ≡ pending a → r.sending ≡ record a.sending { waiting = r.sending.waiting } → KeepsRest a r →
     HandsOut b.sending most len o old new c.sending → c.engine ≡ b.engine → c.trips ≡ b.trips → c.windows ≡ b.windows → c.received ≡ b.received →
     c.told ≡ b.told →
     (o.count ≡ 0 → NoneFits (pending c) (length old)) → HandsFirst a most len o old new c
-hands_after a r b c most len o old new is same kept rest h engine trips windows received told none =
+hands_after a r b c most len o old new is same sending rest h engine trips windows received told none =
     hands_first a b c most len o old new (subst (λ (s : RankState). pending s ≡ pending a) (sym is) same)
-    (subst (λ (s : RankState). s.sending.kept ≡ a.sending.kept) (sym is) kept)
+    (subst (λ (s : RankState). s.sending ≡ record a.sending { waiting = s.sending.waiting }) (sym is) sending)
     (subst (λ (s : RankState). KeepsRest a s) (sym is) rest) h engine trips windows received told none
 
 -- what is handed out behind nothing, once it was refilled a second time
 pub hands_again : (a r b s c : RankState) (most len more : ℕ) (o p : OutgoingRecord) (old mid new : List ℕ) → b ≡ r →
-    pending r ≡ pending a → r.sending.kept ≡ a.sending.kept → KeepsRest a r →
+    pending r ≡ pending a → r.sending ≡ record a.sending { waiting = r.sending.waiting } → KeepsRest a r →
     HandsOut b.sending most len o old mid s.sending → s.engine ≡ b.engine → s.trips ≡ b.trips → s.windows ≡ b.windows →
     s.received ≡ b.received → s.told ≡ b.told → o.count ≡ 0 → HandsFirst s most more p mid new c → HandsFirst a most more p old new c
-hands_again a r b s c most len more o p old mid new is same kept rest h engine trips windows received told none f =
+hands_again a r b s c most len more o p old mid new is same sending rest h engine trips windows received told none f =
+    let pends : pending b ≡ pending a = subst (λ (x : RankState). pending x ≡ pending a) (sym is) same in
+    let sends : b.sending ≡ record a.sending { waiting = b.sending.waiting } =
+    subst (λ (x : RankState). x.sending ≡ record a.sending { waiting = x.sending.waiting }) (sym is) sending in
     let went : h.went ≡ [] = none_went h.went o len old mid h.stands none in
     let put : mid ≡ old = nothing_stands h.went o len old mid h.stands none in
     let first : HandsOn a.sending.kept (pending a) h.went s.sending.kept (pending s) =
-    hands_from a b s h.went (subst (λ (x : RankState). pending x ≡ pending a) (sym is) same)
-    (subst (λ (x : RankState). x.sending.kept ≡ a.sending.kept) (sym is) kept)
+    hands_from a b s h.went pends (ap (λ (x : SendingState). x.kept) sends)
     (subst (λ (l : List Parcel). HandsOn b.sending.kept (pending b) h.went s.sending.kept (s.sending.waiting ++ l))
     (same_emitted b s engine trips windows)
     (hands_more b.sending.kept s.sending.kept b.sending.waiting s.sending.waiting h.went (emitted b) h.hands))
@@ -213,6 +278,10 @@ hands_again a r b s c most len more o p old mid new is same kept rest h engine t
       none = λ e. subst (λ (l : List ℕ). NoneFits (pending c) (length l)) put (f.none e);
       rest = rest_joined a s c (rest_joined a b s (subst (λ (x : RankState). KeepsRest a x) (sym is) rest)
           (inl (engine, trips, windows), received, told, h.time)) f.rest;
+      keeps = keeps_joined a.sending s.sending c.sending (pending a) (pending s) (pending c)
+          (h.time ∙ ap (λ (x : SendingState). x.time) sends)
+          (subst (λ (l : List Parcel). HandsOn a.sending.kept (pending a) l s.sending.kept (pending s)) went first)
+          (keeps_from a b s pends sends (same_emitted b s engine trips windows) h.keeps) f.keeps;
     }
 
 few_of : (t : Bool) (k : Option DelayedAcknowledgement) (most : ℕ) → length (if t then kept_in k else []) ≤ max most 1
@@ -249,6 +318,11 @@ kept_first a s b c most len more kept_too o p old mid new f none is h engine tri
       none = λ e. subst (λ (l : List Parcel). NoneFits l (length old)) left (f.none none);
       rest = rest_joined a s c f.rest
           (subst (λ (x : RankState). KeepsRest x c) is (inl (engine, trips, windows), received, told, h.time));
+      keeps = keeps_joined a.sending s.sending c.sending (pending a) (pending s) (pending c) f.rest.3
+          (subst (λ (l : List Parcel). HandsOn a.sending.kept (pending a) l s.sending.kept (pending s)) went f.hands) f.keeps
+          (subst (λ (x : RankState). KeepsFrom x.sending (pending x) c.sending (pending c)) is
+          (subst (λ (l : List Parcel). KeepsFrom b.sending (pending b) c.sending (c.sending.waiting ++ l)) out
+          (keeps_more b.sending c.sending b.sending.waiting c.sending.waiting (emitted b) h.keeps)));
     }
 
 front_empty : (xs ys : List Parcel) → xs ++ ys ≡ [] → xs ≡ []

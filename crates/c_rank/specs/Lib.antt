@@ -1,6 +1,7 @@
 pub mod Kinds
 pub mod Elements
 pub mod OutgoingDatagrams
+pub mod IncomingDatagrams
 pub mod Meanings
 pub mod Answers
 pub mod Clocks

@@ -7,7 +7,7 @@ use Rattle.engine.specs.Ticks.{TickGives}
 use Rattle.engine_calls.specs.EngineState.{without_out}
 use Rattle.point_to_point_calls.specs.declared.refusal.Refusal.{Refusal}
 use Rattle.port_transport.specs.Wires.{Parcel}
-use Rattle.outgoing_datagrams.specs.HandedDatagrams.{HandsOn, NoneFits, late_at}
+use Rattle.outgoing_datagrams.specs.HandedDatagrams.{HandsOn, KeepsFrom, NoneFits, late_at}
 use Rattle.outgoing_datagrams.specs.Runs.{Stands}
 use Rattle.outgoing_datagrams.specs.declared.record.OutgoingRecord.{OutgoingRecord}
 use Rattle.round_trips.specs.declared.round_trip.RoundTrip.{RoundTrip}
@@ -48,6 +48,7 @@ KeepsRest old new =
 
 -- These were handed out: they stand in the slice, `most` at most; none only where nothing is there that fits. Of what was
 -- kept back and pending they went in order: none but acknowledgements of which the next one says all stay out for good.
+-- One is kept back for no longer, and for no more others, than one may be.
 pub record HandsFirst (old : RankState) (most len : ℕ) (o : OutgoingRecord) (into_old into_new : List ℕ) (new : RankState) :
     Type 0 where
   pub went : List Parcel
@@ -56,6 +57,7 @@ pub record HandsFirst (old : RankState) (most len : ℕ) (o : OutgoingRecord) (i
   pub few : length went ≤ max most 1
   pub none : o.count ≡ 0 → NoneFits (pending new) (length into_old)
   pub rest : KeepsRest old new
+  pub keeps : KeepsFrom old.sending (pending old) new.sending (pending new)
 
 -- where nothing pends, nothing is handed out, and what is kept back stays
 abbrev pub StaysSo : RankState → OutgoingRecord → RankState → Type 0

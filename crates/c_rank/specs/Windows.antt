@@ -1,6 +1,6 @@
 -- What goes out of what the engine of a rank emitted, where windows bound what is on its way. `None`: nothing does.
 use Rattle.std.specs.Prelude.{◌==◌, ℕ, zero, suc, List, [], ◌∷◌, filter, not, slice_get, Bool, true, false, if◌then◌else◌}
-use Rattle.std.specs.Prelude.{Option, Some, None, Result, Ok, Err}
+use Rattle.std.specs.Prelude.{Option, Some, None, Result, Ok, Err, ◌+◌, ◌-◌, ◌*◌, ◌||◌, min, nat_le}
 use Rattle.congestion_windows.specs.Flights as flights
 use Rattle.congestion_windows.specs.Flights.{WindowsState, after_offer, asked, asks_in, is_new, withholds}
 use Rattle.congestion_windows.specs.Windows.{limits_of}
@@ -18,6 +18,18 @@ use Rattle.c_rank.specs.declared.records.PlaceRecord.{PlaceRecord}
 -- a rank has windows, in which nothing is on its way, where it is told how many bytes its socket keeps
 abbrev pub opened : PlaceRecord → Option WindowsState
 opened p = if p.room == 0 then None else Some (flights.opening (limits_of p.frame_limit p.room p.size) p.size)
+
+-- so many bytes are on their way to a rank at most: each other one has 64 frames out, of as many bytes as a datagram has
+abbrev pub most_under_way : (frame size : ℕ) → ℕ
+most_under_way frame size = (frame + 208) * 64 * (size - 1)
+
+-- What a rank is told that its socket keeps. Of ranks at several addresses it is what the system says, or 0. On one
+-- machine nothing but the sockets loses what came: there is no need of windows where a socket keeps all that may be on
+-- its way to a rank; where it doesn't, they are bounded by what is lost alone.
+abbrev pub room_told : (is_apart : Bool) → (kept frame size : ℕ) → ℕ
+room_told true kept frame size = kept
+room_told false kept frame size =
+    if kept == 0 || nat_le (most_under_way frame size) kept then 0 else min (most_under_way frame size) 4294967295
 
 -- ---- what goes now
 

@@ -23,3 +23,4 @@ pub use meaning::{Meant, meaning_of};
 pub use outgoing_datagrams::OutgoingRecord;
 pub use rank::{Rank, ReceivedData};
 pub use records::{AnswerRecord, CallRecord, PlaceRecord, RequestRecord};
+pub use windows::room_told;

@@ -3,7 +3,8 @@
 ghost use Rattle.std.specs.Prelude.{◌≡◌, filter, not, slice_get, IfOk};
 ghost use Rattle.congestion_windows.specs.Flights.{asks_in, withholds};
 ghost use Rattle.datagram.specs.ByteMeanings.{datagram_of};
-ghost use Rattle.c_rank.specs.Windows.{admitted, admitted_within, asks, came, new_in, offered, offered_all, opened, released, released_to};
+ghost use Rattle.c_rank.specs.Windows.{admitted, admitted_within, asks, came, most_under_way, new_in, offered, offered_all, opened, released, released_to};
+ghost use Rattle.c_rank.specs.Windows.{room_told};
 ghost use Rattle.c_rank.specs.Windows.{told_asks, with_ask, with_asks};
 
 use crate::records::PlaceRecord;
@@ -11,6 +12,37 @@ use congestion_windows::{CongestionWindows, WindowLimits};
 use datagram::Bytes;
 use engine::Engine;
 use std::alloc::{AllocError, Global};
+
+/// So many frames to a rank are unanswered at most.
+const MOST_UNANSWERED: u64 = 64;
+
+/// The bytes of a longest datagram beside the data of its frame.
+const BESIDE_DATA: u64 = 208;
+
+/// How many bytes are on their way to a rank at most, in a job of so many ranks whose frames have so many bytes of data at
+/// most.
+fn most_under_way(frame: u32, size: u16) -> u64
+    ensures { result ≡ most_under_way frame size }
+{
+    (u64::from(frame) + BESIDE_DATA) * MOST_UNANSWERED * u64::from(size.saturating_sub(1))
+}
+
+/// How many bytes a rank is told that its socket keeps (`PlaceRecord::room`), where the system says `kept`, or 0: that,
+/// where its job's ranks are at several addresses. On one machine nothing but a socket that is full loses a datagram. So it
+/// is 0, and there are no windows, where the socket keeps all that may be on its way to a rank; else as much as that is,
+/// so that nothing but what is lost bounds the windows.
+pub fn room_told(is_apart: bool, kept: u32, frame: u32, size: u16) -> u32
+    ensures { result ≡ room_told is_apart kept frame size }
+{
+    if is_apart {
+        return kept;
+    }
+    let most = most_under_way(frame, size);
+    if kept == 0 || most <= u64::from(kept) {
+        return 0;
+    }
+    most.min(u64::from(u32::MAX)) as u32
+}
 
 /// The windows of a rank at this place: none where it isn't told how many bytes its socket keeps.
 pub(crate) fn opened(

@@ -51,10 +51,12 @@ use Rattle.port_transport.specs.Wires.{Parcel}
 use Rattle.port_transport.specs.Ports.{IsAcknowledgement, Thins, is_short, plain_in, short_in}
 use Rattle.port_transport.proofs.OmittedDatagrams.{IsAtMostOne, all_go}
 use Rattle.port_transport.proofs.OmittedDatagrams as thinning
+use Rattle.outgoing_datagrams.proofs.KeptSteps.{keeps_gone, keeps_joined, keeps_none, keeps_run, short_one}
 use Rattle.outgoing_datagrams.specs.HandedDatagrams.{
   HandsOn,
   HandsOut,
   HandsOutKept,
+  KeepsFrom,
   NoneFits,
   SendingState,
   kept_going,
@@ -102,9 +104,6 @@ hands_none k ws = record {
   plain = refl;
   short = subst (λ (l : List Parcel). Thins l (kept_in k)) (sym (append-nil (kept_in k))) (all_go (kept_in k));
 }
-
-short_one : (p : Parcel) → is_short p ≡ true → short_in (p ∷ []) ≡ p ∷ []
-short_one p is = ap (λ (b : Bool). if b then p ∷ [] else []) is
 
 plain_none : (p : Parcel) → is_short p ≡ true → plain_in (p ∷ []) ≡ []
 plain_none p is = ap (λ (b : Bool). if not b then p ∷ [] else []) is
@@ -385,14 +384,16 @@ passed s m t going next waits named stays behind keeps =
 -- an acknowledgement was handed out
 pub out_one : (s t : SendingState) (most len : ℕ) (o : OutgoingRecord) (old new : List ℕ)
     (going : DelayedAcknowledgement) → HandsOn s.kept s.waiting ((going.target, going.bytes) ∷ []) t.kept t.waiting →
-    t.time ≡ s.time → Stands ((going.target, going.bytes) ∷ []) o len old new → HandsOut s most len o old new t
-out_one s t most len o old new going hands time stands = record {
+    t.time ≡ s.time → Stands ((going.target, going.bytes) ∷ []) o len old new → KeepsFrom s s.waiting t t.waiting →
+    HandsOut s most len o old new t
+out_one s t most len o old new going hands time stands keeps = record {
   went = (going.target, going.bytes) ∷ [];
   hands = hands;
   stands = stands;
   few = omega arith;
   none = λ e. let one = stands.count in absurd (omega (arith, e, one));
   time = time;
+  keeps = keeps;
 }
 
 none_fits : (most room : ℕ) (ws us : List Parcel) (n : ℕ) → n ≡ 0 → us ≡ drop n ws →
@@ -406,8 +407,9 @@ pub out_run : (s m t : SendingState) (most : ℕ) (r : Run) (o : OutgoingRecord)
     HandsOn s.kept s.waiting [] m.kept m.waiting → m.time ≡ s.time →
     ((p : Parcel) → (rest : List Parcel) → m.waiting ≡ p ∷ rest → is_short p ≡ false) →
     IsRun (max most 1) m.waiting r old new → t ≡ record m { waiting = drop r.count m.waiting } →
-    (o.count ≡ r.count) × (o.target ≡ r.target) → o.each ≡ min r.each (2 ^ 32 - 1) → HandsOut s most r.len o old new t
-out_run s m t most r o old new hands time plain is behind told each =
+    (o.count ≡ r.count) × (o.target ≡ r.target) → o.each ≡ min r.each (2 ^ 32 - 1) →
+    KeepsFrom s s.waiting m m.waiting → HandsOut s most r.len o old new t
+out_run s m t most r o old new hands time plain is behind told each keeps =
     let us : t.waiting ≡ drop r.count m.waiting = ap (λ (x : SendingState). x.waiting) behind in
     let size : length (take r.count m.waiting) ≡ r.count = length-take-le r.count m.waiting is.count in
     record {
@@ -419,6 +421,8 @@ out_run s m t most r o old new hands time plain is behind told each =
       none = λ e. none_fits most (length old) m.waiting t.waiting r.count (sym told.0 ∙ e) us
           (is.some (sym told.0 ∙ e));
       time = ap (λ (x : SendingState). x.time) behind ∙ time;
+      keeps = keeps_joined s m t s.waiting m.waiting t.waiting time hands keeps
+          (keeps_run m t r.count behind (none_short m.waiting r.count is.plain plain));
     }
 
 -- nothing is put
@@ -459,6 +463,7 @@ kept_stays s kept_too o into not_all early none each =
       all = λ e. absurd (false≢true (sym not_all ∙ e));
       waiting = refl;
       time = refl;
+      keeps = keeps_none s s s.waiting refl;
     }
 
 -- nothing is kept back
@@ -477,6 +482,7 @@ kept_none s t kept_too o into is after none each =
       all = λ e. ap (λ (x : SendingState). x.kept) after;
       waiting = waiting;
       time = ap (λ (x : SendingState). x.time) after;
+      keeps = keeps_gone s t after;
     }
 
 first_same : (e p : Parcel) (list rest : List Parcel) → e ∷ list ≡ p ∷ rest → e ≡ p

@@ -1,6 +1,7 @@
 -- What a rank hands out of what its engine emitted.
 use Rattle.std.specs.Prelude.{◌≡◌, ◌⊎◌, ◌+◌, ◌-◌, ◌<◌, ◌≤◌, ◌^◌, ℕ, Bool, true, nat_lt, min, max, List, [], ◌∷◌, ◌++◌}
-use Rattle.std.specs.Prelude.{length, slice_get, Option, Some, None, ◌||◌, not, if◌then◌else◌}
+use Rattle.std.specs.Prelude.{length, slice_get, Option, Some, None, IfSome, ◌||◌, not, if◌then◌else◌}
+use Rattle.delayed_acknowledgements.specs.Acknowledgements.{IsUrgent, short_acknowledgement}
 use Rattle.delayed_acknowledgements.specs.declared.acknowledgements.Acknowledgement.{Acknowledgement}
 use Rattle.delayed_acknowledgements.specs.declared.delay.Delay.{Delay}
 use Rattle.delayed_acknowledgements.specs.declared.delayed.DelayedAcknowledgement.{DelayedAcknowledgement}
@@ -50,6 +51,43 @@ pub record HandsOn (kept : Option DelayedAcknowledgement) (waiting went : List P
   pub plain : plain_in went ≡ plain_in taken
   pub short : Thins (kept_in kept ++ short_in taken) (short_in went ++ kept_in kept_then)
 
+-- what the last of these acknowledgements says; what was said before, where there is none
+abbrev pub last_said : Option Acknowledgement → List Parcel → Option Acknowledgement
+last_said before [] = before
+last_said before (p ∷ ps) = last_said (short_acknowledgement p.1) ps
+
+-- it isn't one that can't wait
+abbrev pub CanWait : (before said : Option Acknowledgement) → Type 0
+CanWait before None = Unit {0}
+CanWait before (Some said) = IsUrgent before said → ⊥
+
+-- each of these acknowledgements, which came one behind the other, can wait
+abbrev pub AllCanWait : Option Acknowledgement → List Parcel → Type 0
+AllCanWait before [] = Unit {0}
+AllCanWait before (p ∷ ps) = CanWait before (short_acknowledgement p.1) × AllCanWait (short_acknowledgement p.1) ps
+
+-- for how many acknowledgements one stands that takes the place of so many more
+abbrev pub counted_on : (before : ℕ) → List Parcel → ℕ
+counted_on before [] = before
+counted_on before (p ∷ ps) = counted_on (min (before + 1) 4294967295) ps
+
+-- for how many what is kept back stands: for none where nothing is
+abbrev pub stands_now : Option DelayedAcknowledgement → (before : ℕ) → ℕ
+stands_now None before = 0
+stands_now (Some k) before = before
+
+-- HOW LONG ONE IS KEPT BACK: these datagrams were taken from the front. The last acknowledgement among them is noted.
+-- Where one is kept back then, it is so since the first one came that wasn't gone, it stands for each of them, for fewer
+-- than 16 in all, and each of them could wait.
+pub record KeepsFrom (old : SendingState) (waiting : List Parcel) (new : SendingState) (waiting_then : List Parcel) : Type 0 where
+  pub taken : List Parcel
+  pub front : waiting ≡ taken ++ waiting_then
+  pub last : new.last ≡ last_said old.last (short_in taken)
+  pub since : IfSome new.kept (λ _. new.since ≡ since_behind old.kept old.since old.time)
+  pub stands : IfSome new.kept (λ _. new.delay.stands_for ≡ counted_on (stands_now old.kept old.delay.stands_for) (short_in taken))
+  pub few : IfSome old.kept (λ _. old.delay.stands_for < 16) → IfSome new.kept (λ _. new.delay.stands_for < 16)
+  pub calm : IfSome new.kept (λ _. AllCanWait old.last (short_in taken))
+
 -- of datagrams that wait, the first one doesn't fit, if there is one
 abbrev pub NoneFits : List Parcel → (room : ℕ) → Type 0
 NoneFits waiting room = (waiting ≡ []) ⊎ (room < length (bytes_in (slice_get waiting 0)))
@@ -63,6 +101,7 @@ pub record HandsOut (old : SendingState) (most len : ℕ) (o : OutgoingRecord) (
   pub few : length went ≤ max most 1
   pub none : o.count ≡ 0 → NoneFits new.waiting (length into_old)
   pub time : new.time ≡ old.time
+  pub keeps : KeepsFrom old old.waiting new new.waiting
 
 -- what is kept back goes, if it is late or all is to go
 abbrev pub kept_going : (kept_too : Bool) → SendingState → List Parcel
@@ -77,3 +116,4 @@ pub record HandsOutKept (old : SendingState) (kept_too : Bool) (len : ℕ) (o : 
   pub all : kept_too ≡ true → new.kept ≡ None
   pub waiting : new.waiting ≡ old.waiting
   pub time : new.time ≡ old.time
+  pub keeps : KeepsFrom old old.waiting new new.waiting

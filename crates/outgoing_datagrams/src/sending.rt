@@ -5,7 +5,7 @@ ghost use Rattle.std.specs.Prelude.{drop, false, true, length, max, min, nat_lt,
 ghost use Rattle.delayed_acknowledgements.specs.Acknowledgements.{Covers, IsUrgent};
 ghost use Rattle.port_transport.specs.Ports.{IsAcknowledgement, is_short};
 ghost use Rattle.port_transport.specs.Wires.{Parcel};
-ghost use Rattle.outgoing_datagrams.specs.HandedDatagrams.{HandsOn, HandsOut, HandsOutKept, SendingState, kept_in, late_at, since_behind, stands_behind};
+ghost use Rattle.outgoing_datagrams.specs.HandedDatagrams.{HandsOn, HandsOut, HandsOutKept, KeepsFrom, SendingState, kept_in, late_at, since_behind, stands_behind};
 ghost use Rattle.outgoing_datagrams.specs.Runs.{IsRun, Stands};
 
 use crate::record::OutgoingRecord;
@@ -223,6 +223,7 @@ impl Sending {
         ensures over { 16 ≤ stands_behind self.old.kept self.old.delay.stands_for → result ≡ Some next }
         ensures last { self.new.last ≡ Some next.said }
         ensures since { self.new.since ≡ since_behind self.old.kept self.old.since self.old.time }
+        ensures many { self.new.delay.stands_for ≡ stands_behind self.old.kept self.old.delay.stands_for }
     {
         let is_urgent = is_urgent(self.last, next.said);
         self.last = Some(next.said);
@@ -236,13 +237,14 @@ impl Sending {
 
     /// Passes the acknowledgement that is next, and answers which one goes now. Where that is another one, which was
     /// kept back and goes before it, this one stays next.
-    #[tactic(auto, using(crate::proofs::HandedSteps::passed, crate::proofs::HandedSteps::hands_former))]
+    #[tactic(auto, using(crate::proofs::HandedSteps::passed, crate::proofs::HandedSteps::hands_former, crate::proofs::KeptSteps::keeps_gone, crate::proofs::KeptSteps::keeps_passed))]
     fn pass(&mut self, next: DelayedAcknowledgement) -> Option<DelayedAcknowledgement>
         requires is { IsAcknowledgement next }
         requires next { (rest : List Parcel) × (self.old.waiting ≡ (next.target, next.bytes) ∷ rest) }
         ensures hands { HandsOn self.old.kept self.old.waiting (kept_in result) self.new.kept self.new.waiting }
         ensures passed { result ≡ None → self.new.waiting ≡ drop 1 self.old.waiting }
         ensures time { self.new.time ≡ self.old.time }
+        ensures keeps { KeepsFrom self.old self.old.waiting self.new self.new.waiting }
     {
         match self.give_way(next) {
             Some(former) => Some(former),
@@ -267,6 +269,7 @@ impl Sending {
         ensures none { result ≡ None → (p : Parcel) → (rest : List Parcel) → self.new.waiting ≡ p ∷ rest →
             is_short p ≡ false }
         ensures time { self.new.time ≡ self.old.time }
+        ensures keeps { KeepsFrom self.old self.old.waiting self.new self.new.waiting }
         ensures stays { self.old.waiting ≡ [] → (result ≡ None) × (self.new ≡ self.old) }
     {
         for _ in self.next..self.out.len() {
@@ -305,7 +308,7 @@ impl Sending {
     }
 
     /// Hands out the acknowledgement that is kept back, if it is late, or all are to go.
-    #[tactic(auto, using(crate::proofs::HandedSteps::kept_stays, crate::proofs::HandedSteps::kept_none))]
+    #[tactic(auto, using(crate::proofs::HandedSteps::kept_stays, crate::proofs::HandedSteps::kept_none, crate::proofs::KeptSteps::keeps_gone))]
     pub fn hand_out_kept(
         &mut self,
         kept_too: bool,

@@ -1,3 +1,4 @@
+pub mod Keeping
 pub mod OmittedDatagrams
 pub mod PortSteps
 pub mod Steps

@@ -4,7 +4,6 @@ use Rattle.std.proofs.lemmas.List.{append-nil}
 use Rattle.std.specs.Prelude.{◌⊎◌, map, not, is_some, option_map, Option, Some, None, IfSome, IsSomeAnd, OnOk, Result}
 use Rattle.std.specs.Prelude.{Ok, Err, if◌then◌else◌}
 use Rattle.delayed_acknowledgements.specs.Acknowledgements.{Covers, short_acknowledgement}
-use Rattle.delayed_acknowledgements.specs.declared.delay.Delay.{Delay}
 use Rattle.delayed_acknowledgements.specs.declared.delayed.DelayedAcknowledgement.{DelayedAcknowledgement}
 use Rattle.port_transport.specs.declared.wire.WireEvent.{WireEvent}
 use Rattle.port_transport.specs.declared.wire.WireEvent.TheVariants.{Went}
@@ -154,21 +153,6 @@ puts did s m t former leaves next same is named lost other at by wire first kept
       came = come_going s.first leaves;
       wrote = written_going s.first leaves;
     }
-
--- the delay of the former one goes on where the next one takes its place
-pub delay_on : (former kept leaves : Option DelayedAcknowledgement) (next : DelayedAcknowledgement)
-    (d m s t : Delay) → former ≡ kept → IfSome former (λ k. Covers next.said k.said → leaves ≡ None) →
-    IfSome former (λ k. leaves ≡ None → (d.since ≡ m.since) × (d.receives ≡ m.receives)) → m ≡ s → t ≡ d →
-    IfSome kept (λ k. Covers next.said k.said → (t.since ≡ s.since) × (t.receives ≡ s.receives))
-delay_on None None leaves next d m s t same covered goes at is = tt
-delay_on None (Some k) leaves next d m s t same covered goes at is = absurd cc
-delay_on (Some k) None leaves next d m s t same covered goes at is = absurd cc
-delay_on (Some k) (Some l) leaves next d m s t same covered goes at is = λ covers.
-    let one : k ≡ l = cc in
-    let on = goes (covered (subst (λ (x : DelayedAcknowledgement). Covers next.said x.said) (sym one) covers)) in (
-      ap (λ (x : Delay). x.since) is ∙ on.0 ∙ ap (λ (x : Delay). x.since) at,
-      ap (λ (x : Delay). x.receives) is ∙ on.1 ∙ ap (λ (x : Delay). x.receives) at,
-    )
 
 -- what is said of one beginning is said of another one with the same wire, ports and acknowledgement
 pub from_same : {W : Type 0} (did : W → List WireEvent → W → Type 0) (s m t : PortState W) (sent : List Parcel)

@@ -1,10 +1,13 @@
 //! A rank's transport over ports.
 
-ghost use Rattle.std.specs.Prelude.{◌≡◌, ◌⊎◌, ◌↔◌, ◌∷◌, ◌++◌, ◌≤◌, ◌+◌, ◌||◌, [], Some, None, true, length, min, nat_le, IfOk, IfSome, IsTrue, OnOk};
-ghost use Rattle.delayed_acknowledgements.specs.Acknowledgements.{Covers, IsUrgent};
+ghost use Rattle.std.specs.Prelude.{◌≡◌, ◌≢◌, ◌⊎◌, ◌↔◌, ◌∷◌, ◌++◌, ◌≤◌, ◌||◌, [], Some, None, true, false, is_some};
+ghost use Rattle.std.specs.Prelude.{length, IfOk, IfSome, IsTrue, OnOk};
+ghost use Rattle.delayed_acknowledgements.specs.Acknowledgements.{IsUrgent, short_acknowledgement};
 ghost use Rattle.port_transport.specs.declared.wire.WireEvent.TheVariants.{Went, Wrote};
 ghost use Rattle.port_transport.specs.Wires.{arrived};
 ghost use Rattle.port_transport.specs.Ports.{GoesOrStays, IsAcknowledgement, Passes, going, port_of, received_in, with_end};
+ghost use Rattle.port_transport.specs.Ports.{Begins, CountsReceive, IsDelayOfNext, KeepsBehind, KeepsNext, KeepsNone};
+ghost use Rattle.port_transport.specs.Ports.{KeepsSoon, delay_of, for_one_more, unless_over};
 
 use crate::traffic::Traffic;
 use crate::wire::{Wire, WireFault};
@@ -55,6 +58,7 @@ impl<W: Wire> Model for PortTransport<W> {
       kept = t.kept;
       delay = t.delay;
       last = t.last;
+      carried = t.traffic.has_carried;
     } };
 
     ghost invariant = { λ t. IfSome t.kept IsAcknowledgement };
@@ -91,6 +95,8 @@ impl<W: Wire> PortTransport<W> {
     pub fn new(alloc: Global, wire: W, first_port: u16) -> PortTransport<W>
         ensures wire { (result.wire ≡ wire) × (result.first ≡ first_port) }
         ensures none { result.kept ≡ None }
+        ensures last { result.last ≡ None }
+        ensures carried { result.carried ≡ false }
     {
         let now = wire.time();
         PortTransport {
@@ -116,7 +122,8 @@ impl<W: Wire> PortTransport<W> {
         ensures wire { OnOk result
             (W.did self.old.wire (Went (port_of self.old.first target) bytes.now ∷ []) self.new.wire) }
         ensures others { (self.new.first ≡ self.old.first) × (self.new.kept ≡ self.old.kept) ×
-            (self.new.delay ≡ self.old.delay) × (self.new.last ≡ self.old.last) }
+            (self.new.delay ≡ self.old.delay) × (self.new.last ≡ self.old.last) ×
+            (self.new.carried ≡ self.old.carried) }
     {
         let port = port_of(self.first_port, target);
         self.wire.send(port, bytes)
@@ -126,7 +133,8 @@ impl<W: Wire> PortTransport<W> {
     fn carry_kept(&mut self, kept: Option<DelayedAcknowledgement>) -> Result<(), WireFault>
         ensures wire { OnOk result (W.did self.old.wire (going self.old.first kept) self.new.wire) }
         ensures others { (self.new.first ≡ self.old.first) × (self.new.kept ≡ self.old.kept) ×
-            (self.new.delay ≡ self.old.delay) × (self.new.last ≡ self.old.last) }
+            (self.new.delay ≡ self.old.delay) × (self.new.last ≡ self.old.last) ×
+            (self.new.carried ≡ self.old.carried) }
     {
         match kept {
             Some(kept) => self.carry(kept.target, &kept.bytes),
@@ -140,7 +148,8 @@ impl<W: Wire> PortTransport<W> {
         ensures none { self.new.kept ≡ None }
         ensures is { IfSome self.old.kept IsAcknowledgement }
         ensures others { (self.new.wire ≡ self.old.wire) × (self.new.first ≡ self.old.first) ×
-            (self.new.delay ≡ self.old.delay) × (self.new.last ≡ self.old.last) }
+            (self.new.delay ≡ self.old.delay) × (self.new.last ≡ self.old.last) ×
+            (self.new.carried ≡ self.old.carried) }
     {
         self.kept.take()
     }
@@ -151,7 +160,7 @@ impl<W: Wire> PortTransport<W> {
         ensures none { self.new.kept ≡ None }
         ensures is { IfSome self.old.kept IsAcknowledgement }
         ensures others { (self.new.first ≡ self.old.first) × (self.new.delay ≡ self.old.delay) ×
-            (self.new.last ≡ self.old.last) }
+            (self.new.last ≡ self.old.last) × (self.new.carried ≡ self.old.carried) }
     {
         let kept = self.take_kept();
         self.carry_kept(kept)
@@ -162,10 +171,9 @@ impl<W: Wire> PortTransport<W> {
     fn flush_if_over(&mut self) -> Result<(), WireFault>
         ensures wire { OnOk result (GoesOrStays W.did self.old self.new) }
         ensures is { IfSome self.old.kept IsAcknowledgement }
-        ensures over { (nat_le 16 self.old.delay.stands_for || nat_le 128 self.old.delay.receives) ≡ true →
-            self.new.kept ≡ None }
+        ensures over { self.new.kept ≡ unless_over self.old.delay self.old.kept }
         ensures others { (self.new.first ≡ self.old.first) × (self.new.delay ≡ self.old.delay) ×
-            (self.new.last ≡ self.old.last) }
+            (self.new.last ≡ self.old.last) × (self.new.carried ≡ self.old.carried) }
     {
         if !self.delay.is_over() {
             return Ok(());
@@ -178,7 +186,8 @@ impl<W: Wire> PortTransport<W> {
         ensures exact { IsTrue result ↔ IsUrgent self.old.last said }
         ensures last { self.new.last ≡ Some said }
         ensures others { (self.new.wire ≡ self.old.wire) × (self.new.first ≡ self.old.first) ×
-            (self.new.kept ≡ self.old.kept) × (self.new.delay ≡ self.old.delay) }
+            (self.new.kept ≡ self.old.kept) × (self.new.delay ≡ self.old.delay) ×
+            (self.new.carried ≡ self.old.carried) }
     {
         let before = self.last;
         self.last = Some(said);
@@ -192,8 +201,8 @@ impl<W: Wire> PortTransport<W> {
         former: Option<DelayedAcknowledgement>,
         leaves: Option<DelayedAcknowledgement>,
     ) -> Delay
-        ensures { IfSome former (λ _. leaves ≡ None →
-            (result.since ≡ self.now.delay.since) × (result.receives ≡ self.now.delay.receives)) }
+        ensures goes_on { IfSome former (λ _. leaves ≡ None → result ≡ for_one_more self.now.delay) }
+        ensures begins { (former ≡ None) ⊎ (leaves ≢ None) → Begins (W.tells self.now.wire) result }
     {
         match (former, leaves) {
             (Some(_), None) => self.delay.with_one_more(),
@@ -211,7 +220,8 @@ impl<W: Wire> PortTransport<W> {
         requires { IsAcknowledgement next }
         ensures wire { OnOk result (W.did self.old.wire (going self.old.first leaves) self.new.wire) }
         ensures kept { (self.new.kept ≡ Some next) × (self.new.delay ≡ delay) }
-        ensures others { (self.new.first ≡ self.old.first) × (self.new.last ≡ self.old.last) }
+        ensures others { (self.new.first ≡ self.old.first) × (self.new.last ≡ self.old.last) ×
+            (self.new.carried ≡ self.old.carried) }
     {
         self.kept = Some(next);
         self.delay = delay;
@@ -223,9 +233,8 @@ impl<W: Wire> PortTransport<W> {
         requires { IsAcknowledgement next }
         ensures passes { OnOk result (Passes W.did self.old ((next.target, next.bytes) ∷ []) [] [] self.new) }
         ensures kept { self.new.kept ≡ Some next }
-        ensures delay { IfSome self.old.kept (λ former. Covers next.said former.said →
-            (self.new.delay.since ≡ self.old.delay.since) × (self.new.delay.receives ≡ self.old.delay.receives)) }
-        ensures last { self.new.last ≡ self.old.last }
+        ensures delay { IsDelayOfNext (W.tells self.old.wire) self.old.kept self.old.delay next.said self.new.delay }
+        ensures others { (self.new.last ≡ self.old.last) × (self.new.carried ≡ self.old.carried) }
     {
         let former = self.take_kept();
         let leaves = sent_before(former, next);
@@ -238,7 +247,8 @@ impl<W: Wire> PortTransport<W> {
     fn keep(&mut self, next: DelayedAcknowledgement) -> Result<(), WireFault>
         requires { IsAcknowledgement next }
         ensures passes { OnOk result (Passes W.did self.old ((next.target, next.bytes) ∷ []) [] [] self.new) }
-        ensures urgent { IsUrgent self.old.last next.said → OnOk result (self.new.kept ≡ None) }
+        ensures keeps { OnOk result (KeepsNext W.tells self.old next self.new) }
+        ensures carried { OnOk result (self.new.carried ≡ self.old.carried) }
     {
         let is_urgent = self.is_urgent_now(next.said);
         self.keep_back(next)?;
@@ -250,7 +260,9 @@ impl<W: Wire> PortTransport<W> {
 
     /// A datagram was sent or handed out.
     fn note_carried(&mut self)
-        ensures { self.new ≡ self.old }
+        ensures carried { self.new.carried ≡ true }
+        ensures others { (self.new.wire ≡ self.old.wire) × (self.new.first ≡ self.old.first) ×
+            (self.new.kept ≡ self.old.kept) × (self.new.delay ≡ self.old.delay) × (self.new.last ≡ self.old.last) }
     {
         self.traffic.note(true);
     }
@@ -258,7 +270,10 @@ impl<W: Wire> PortTransport<W> {
     /// Hands a datagram over for a rank. It goes at once, but for an acknowledgement, which may be kept back. Where the
     /// wire fails, it may be lost, and what was kept back too.
     pub fn send(&mut self, target: u16, bytes: &[u8]) -> Result<(), WireFault>
-        ensures { OnOk result (Passes W.did self.old ((target, bytes.now) ∷ []) [] [] self.new) }
+        ensures passes { OnOk result (Passes W.did self.old ((target, bytes.now) ∷ []) [] [] self.new) }
+        ensures keeps { OnOk result
+            (KeepsBehind W.tells self.old target bytes.now (short_acknowledgement bytes.now) self.new) }
+        ensures carried { OnOk result (self.new.carried ≡ true) }
     {
         self.note_carried();
         match delayed_of(target, bytes) {
@@ -271,10 +286,8 @@ impl<W: Wire> PortTransport<W> {
     fn begin_receive(&mut self) -> Result<(), WireFault>
         ensures wire { OnOk result (GoesOrStays W.did self.old self.new) }
         ensures is { IfSome self.old.kept IsAcknowledgement }
-        ensures counted { IfSome self.old.kept (λ _. self.new.delay.receives ≡ min (self.old.delay.receives + 1) 4294967295) }
-        ensures over { 127 ≤ self.old.delay.receives → self.new.kept ≡ None }
-        ensures others { (self.new.delay.stands_for ≡ self.old.delay.stands_for) ×
-            (self.new.delay.since ≡ self.old.delay.since) }
+        ensures counts { CountsReceive self.old self.new }
+        ensures carried { self.new.carried ≡ self.old.carried }
     {
         if self.kept.is_none() {
             return Ok(());
@@ -287,7 +300,9 @@ impl<W: Wire> PortTransport<W> {
     fn take_in(&mut self, buffer: &mut [u8]) -> Result<Option<usize>, WireFault>
         ensures within { IfOk result (λ found. IfSome found (λ n. n ≤ length buffer.new)) }
         ensures wire { IfOk result (λ found. W.did self.old.wire (arrived found buffer.new) self.new.wire) }
-        ensures others { (self.new.first ≡ self.old.first) × (self.new.kept ≡ self.old.kept) }
+        ensures others { (self.new.first ≡ self.old.first) × (self.new.kept ≡ self.old.kept) ×
+            (self.new.delay ≡ self.old.delay) × (self.new.last ≡ self.old.last) }
+        ensures carried { IfOk result (λ found. self.new.carried ≡ (self.old.carried || is_some found)) }
     {
         let found = self.wire.receive(buffer)?;
         self.traffic.note(found.is_some());
@@ -299,6 +314,8 @@ impl<W: Wire> PortTransport<W> {
     pub fn receive(&mut self, buffer: &mut [u8]) -> Result<Option<usize>, WireFault>
         ensures within { IfOk result (λ found. IfSome found (λ n. n ≤ length buffer.new)) }
         ensures passes { IfOk result (λ found. Passes W.did self.old [] (received_in found buffer.new) [] self.new) }
+        ensures counts { OnOk result (CountsReceive self.old self.new) }
+        ensures carried { IfOk result (λ found. self.new.carried ≡ (self.old.carried || is_some found)) }
     {
         self.begin_receive()?;
         let found = self.take_in(buffer)?;
@@ -308,7 +325,9 @@ impl<W: Wire> PortTransport<W> {
     /// Writes a line and its end.
     fn write_line(&mut self, line: &[u8]) -> Result<(), PrintFault>
         ensures wire { OnOk result (W.did self.old.wire (Wrote (with_end line.now) ∷ []) self.new.wire) }
-        ensures others { (self.new.first ≡ self.old.first) × (self.new.kept ≡ self.old.kept) }
+        ensures others { (self.new.first ≡ self.old.first) × (self.new.kept ≡ self.old.kept) ×
+            (self.new.delay ≡ self.old.delay) × (self.new.last ≡ self.old.last) ×
+            (self.new.carried ≡ self.old.carried) }
     {
         if put_line(&mut self.text, line).is_err() {
             return Err(PrintFault::Output);
@@ -321,7 +340,9 @@ impl<W: Wire> PortTransport<W> {
 
     /// Prints a line, which is written with its end. What is kept back goes before.
     pub fn print(&mut self, line: &[u8]) -> Result<(), PrintFault>
-        ensures { OnOk result (Passes W.did self.old [] [] (line.now ∷ []) self.new) }
+        ensures passes { OnOk result (Passes W.did self.old [] [] (line.now ∷ []) self.new) }
+        ensures keeps { OnOk result (KeepsNone self.old self.new) }
+        ensures carried { OnOk result (self.new.carried ≡ self.old.carried) }
     {
         match self.flush() {
             Ok(()) => self.write_line(line),
@@ -330,7 +351,9 @@ impl<W: Wire> PortTransport<W> {
     }
 
     /// The delay of what is kept back, if something is.
-    fn delay_of_kept(&self) -> Option<Delay> {
+    fn delay_of_kept(&self) -> Option<Delay>
+        ensures { result ≡ delay_of self.now.kept self.now.delay }
+    {
         match self.kept {
             Some(_) => Some(self.delay),
             None => None,
@@ -339,8 +362,11 @@ impl<W: Wire> PortTransport<W> {
 
     /// Whether a datagram is there soon, where one was sent or came since the last wait.
     fn comes_soon(&mut self) -> bool
-        ensures { W.did self.old.wire [] self.new.wire × (self.new.first ≡ self.old.first) ×
-            (self.new.kept ≡ self.old.kept) }
+        ensures wire { W.did self.old.wire [] self.new.wire }
+        ensures answers { W.answers self.old.wire (delay_of self.old.kept self.old.delay) result self.new.wire }
+        ensures others { (self.new.first ≡ self.old.first) × (self.new.kept ≡ self.old.kept) ×
+            (self.new.delay ≡ self.old.delay) × (self.new.last ≡ self.old.last) ×
+            (self.new.carried ≡ self.old.carried) }
     {
         let delay = self.delay_of_kept();
         self.wire.comes_soon(delay)
@@ -348,7 +374,10 @@ impl<W: Wire> PortTransport<W> {
 
     /// Whether a datagram was sent or handed out since this was asked last.
     fn has_carried(&mut self) -> bool
-        ensures { self.new ≡ self.old }
+        ensures told { result ≡ self.old.carried }
+        ensures anew { self.new.carried ≡ false }
+        ensures others { (self.new.wire ≡ self.old.wire) × (self.new.first ≡ self.old.first) ×
+            (self.new.kept ≡ self.old.kept) × (self.new.delay ≡ self.old.delay) × (self.new.last ≡ self.old.last) }
     {
         self.traffic.take()
     }
@@ -356,7 +385,9 @@ impl<W: Wire> PortTransport<W> {
     /// The wire waits.
     fn sleep(&mut self, most: u64) -> Result<(), WireFault>
         ensures wire { OnOk result (W.did self.old.wire [] self.new.wire) }
-        ensures others { (self.new.first ≡ self.old.first) × (self.new.kept ≡ self.old.kept) }
+        ensures others { (self.new.first ≡ self.old.first) × (self.new.kept ≡ self.old.kept) ×
+            (self.new.delay ≡ self.old.delay) × (self.new.last ≡ self.old.last) ×
+            (self.new.carried ≡ self.old.carried) }
     {
         self.wire.wait(most)
     }
@@ -364,7 +395,8 @@ impl<W: Wire> PortTransport<W> {
     /// Lets what is kept back go, and then waits.
     fn flush_and_sleep(&mut self, most: u64) -> Result<(), WireFault>
         ensures passes { OnOk result (Passes W.did self.old [] [] [] self.new) }
-        ensures none { self.new.kept ≡ None }
+        ensures keeps { KeepsNone self.old self.new }
+        ensures carried { self.new.carried ≡ self.old.carried }
     {
         self.flush()?;
         self.sleep(most)
@@ -373,7 +405,10 @@ impl<W: Wire> PortTransport<W> {
     /// Waits until a datagram is there, or so many milliseconds are over. It may come back before. What is kept back
     /// goes where none comes.
     pub fn wait(&mut self, most: u64) -> Result<(), WireFault>
-        ensures { OnOk result (Passes W.did self.old [] [] [] self.new) }
+        ensures passes { OnOk result (Passes W.did self.old [] [] [] self.new) }
+        ensures keeps { OnOk result (KeepsSoon W.answers self.old self.new ⊎ KeepsNone self.old self.new) }
+        ensures sleeps { self.old.carried ≡ false → OnOk result (KeepsNone self.old self.new) }
+        ensures carried { OnOk result (self.new.carried ≡ false) }
     {
         if !self.has_carried() {
             return self.flush_and_sleep(most);
@@ -388,6 +423,8 @@ impl<W: Wire> PortTransport<W> {
     pub fn finish(&mut self) -> Result<(), WireFault>
         ensures none { self.new.kept ≡ None }
         ensures passes { OnOk result (Passes W.did self.old [] [] [] self.new) }
+        ensures keeps { KeepsNone self.old self.new }
+        ensures carried { self.new.carried ≡ self.old.carried }
     {
         self.flush()
     }

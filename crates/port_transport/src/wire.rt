@@ -26,9 +26,19 @@ pub trait Wire {
     ghost use Rattle.port_transport.specs.declared.wire.WireEvent.{WireEvent};
     ghost use Rattle.port_transport.specs.declared.wire.WireEvent.TheVariants.{Went, Wrote};
     ghost use Rattle.port_transport.specs.Wires.{arrived};
+    ghost use Rattle.std.specs.Prelude.{Bool, Option};
+    ghost use Rattle.std.specs.declared.time.Instant.{Instant};
+    ghost use Rattle.delayed_acknowledgements.specs.declared.delay.Delay.{Delay};
 
     /// Between these states it did this, in order.
     ghost did: { Self → List WireEvent → Self → Type 0 };
+
+    /// This is the time that it tells, if it tells one.
+    ghost tells: { Self → Option Instant → Type 0 };
+
+    /// Between these states it was asked whether something is there soon, with this delay, if there is one, and this is
+    /// its answer.
+    ghost answers: { Self → Option Delay → Bool → Self → Type 0 };
 
     /// Sends the bytes to a port.
     fn send(&mut self, port: u16, bytes: &[u8]) -> Result<(), WireFault>
@@ -50,10 +60,12 @@ pub trait Wire {
     /// Lets others run, and asks some times whether something is there, until it is, or this delay, if there is one, is
     /// late. Answers whether something is there.
     fn comes_soon(&mut self, delay: Option<Delay>) -> bool
-        ensures { did self.old [] self.new };
+        ensures did { did self.old [] self.new }
+        ensures answers { answers self.old delay result self.new };
 
     /// The time now, if it is known.
-    fn time(&self) -> Option<Instant>;
+    fn time(&self) -> Option<Instant>
+        ensures { tells self.now result };
 
     /// Where nothing was done, it did nothing.
     ghost none: { (w : Self) → did w [] w };

@@ -1,5 +1,5 @@
 -- How long the frames of a job are.
-use Rattle.std.specs.Prelude.{ℕ, ◌==◌, ◌/◌, ◌%◌, Bool, List, Option, Some, None, if◌then◌else◌}
+use Rattle.std.specs.Prelude.{ℕ, ◌==◌, ◌/◌, ◌%◌, ◌||◌, ◌∷◌, [], Bool, true, List, Option, Some, None, if◌then◌else◌}
 use Rattle.std.specs.List.{list_all}
 use Rattle.numerals.specs.Numbers.{number_between}
 
@@ -16,9 +16,18 @@ frame_in text = whole (number_between text 1024 61440)
 abbrev pub is_on_loopback : ℕ → Bool
 is_on_loopback address = address / 16777216 == 127
 
+-- all these addresses are the first one
+abbrev pub are_one : List ℕ → Bool
+are_one [] = true
+are_one (first ∷ others) = list_all (λ address. address == first) others
+
+-- ranks at these addresses are on one machine: all are on loopback, or at one address
+abbrev pub is_one_machine : List ℕ → Bool
+is_one_machine addresses = list_all is_on_loopback addresses || are_one addresses
+
 -- the same in a job of ranks at these addresses, where nothing is told
 abbrev pub usual_frame : List ℕ → ℕ
-usual_frame addresses = if list_all is_on_loopback addresses then 61440 else 1024
+usual_frame addresses = if is_one_machine addresses then 61440 else 1024
 
 -- what is told, or the usual number
 abbrev pub frame_of : Option (List ℕ) → List ℕ → Option ℕ

@@ -1,17 +1,17 @@
 //! How long the frames of a job are: what a launcher tells, and what ranks take where none does.
 
-ghost use Rattle.std.specs.Prelude.{◌≡◌, ◌≤◌, IfSome};
+ghost use Rattle.std.specs.Prelude.{◌≡◌, ◌≤◌, ◌==◌, IfSome};
 ghost use Rattle.std.specs.List.{list_all};
 ghost use Rattle.std.specs.Option.{option_copied};
-ghost use Rattle.rank_environment.specs.Frames.{frame_in, frame_of, is_on_loopback, usual_frame};
+ghost use Rattle.rank_environment.specs.Frames.{are_one, frame_in, frame_of, is_on_loopback, is_one_machine, usual_frame};
 
 use numerals::number_between;
 
-/// The least number of bytes of data that a frame has at most. Ranks that aren't all on loopback have it where nothing is
+/// The least number of bytes of data that a frame has at most. Ranks that aren't on one machine have it where nothing is
 /// told.
 pub const LEAST_FRAME: u32 = 1_024;
 
-/// The greatest such number. Ranks on loopback have it where nothing is told.
+/// The greatest such number. Ranks on one machine have it where nothing is told.
 pub const GREATEST_FRAME: u32 = 61_440;
 
 /// Such numbers are multiples of it: so many bytes the longest element has.
@@ -47,12 +47,36 @@ fn are_on_loopback(addresses: &[u32]) -> bool
     addresses.iter().all(|address| is_on_loopback(*address))
 }
 
-/// The most bytes of data of a frame in a job of ranks at these addresses, where nothing is told: 61,440 where all are on
-/// loopback, and else 1,024. All ranks know the same addresses, so they take the same.
+/// Whether all these are this one.
+fn are_at(place: u32, addresses: &[u32]) -> bool
+    ensures { result ≡ list_all (λ address. address == place) addresses.now }
+{
+    addresses.iter().all(|address| *address == place)
+}
+
+/// Whether all these are the first one.
+fn are_one(addresses: &[u32]) -> bool
+    ensures { result ≡ are_one addresses.now }
+{
+    match addresses.split_first() {
+        Some((first, others)) => are_at(*first, others),
+        None => true,
+    }
+}
+
+/// Whether ranks at these addresses are on one machine: all on loopback, or at one address.
+fn is_one_machine(addresses: &[u32]) -> bool
+    ensures { result ≡ is_one_machine addresses.now }
+{
+    are_on_loopback(addresses) || are_one(addresses)
+}
+
+/// The most bytes of data of a frame in a job of ranks at these addresses, where nothing is told: 61,440 where they are on
+/// one machine, and else 1,024. All ranks know the same addresses, so they take the same.
 fn usual_frame(addresses: &[u32]) -> u32
     ensures { result ≡ usual_frame addresses.now }
 {
-    if are_on_loopback(addresses) {
+    if is_one_machine(addresses) {
         GREATEST_FRAME
     } else {
         LEAST_FRAME

@@ -156,6 +156,10 @@ impl<'a, R: Print + Clock> UdpWire<'a, R> {
 impl<'a, R: Print + Clock> Wire for UdpWire<'a, R> {
     ghost did = { λ _ _ _. Unit {0} };
 
+    ghost tells = { λ _ _. Unit {0} };
+
+    ghost answers = { λ _ _ _ _. Unit {0} };
+
     fn send(&mut self, port: u16, bytes: &[u8]) -> Result<(), WireFault> {
         let Some(place) = self.addresses.of_port(port) else {
             return Ok(());

@@ -10,7 +10,7 @@ use Rattle.c_rank.proofs.rank.Rank.hand_pending.Goals as goal
 pub returns-then-outgoing-gt0-clause-went : goal.returns-then-outgoing-gt0-clause-went
 returns-then-outgoing-gt0-clause-went c =
     hands_after c.args.self.now c.refill.new.self _ _ c.args.most c.hand_out-len.result c.hand_out-len.new.outgoing _ _
-    c.self.view_is c.refill.ensures.pending c.refill.ensures.kept c.refill.ensures.rest c.hand_out-len.ensures.went refl refl
+    c.self.view_is c.refill.ensures.pending c.refill.ensures.sending c.refill.ensures.rest c.hand_out-len.ensures.went refl refl
     refl refl refl
     (elim c.then-outgoing-gt0.branch [
       | then-outgoing-gt0-via-then-outgoing-gt0 w ↦ λ e. absurd (omega (arith, w.if-outgoing-gt0, e))
@@ -24,10 +24,10 @@ pub returns-clause-went : goal.returns-clause-went
 returns-clause-went c =
     hands_again c.args.self.now c.refill.new.self _ _ _ c.args.most c.hand_out-len.result c.hand_out.result
     c.hand_out-len.new.outgoing c.hand_out.new.outgoing _ _ _ c.self.view_is
-    c.refill.ensures.pending c.refill.ensures.kept c.refill.ensures.rest c.hand_out-len.ensures.went refl refl refl refl refl
+    c.refill.ensures.pending c.refill.ensures.sending c.refill.ensures.rest c.hand_out-len.ensures.went refl refl refl refl refl
     (omega (arith, c.if-outgoing-gt0.false))
     (hands_after _ c.refill-2.new.self _ _ c.args.most c.hand_out.result c.hand_out.new.outgoing _ _ c.self-2.view_is
-    c.refill-2.ensures.pending c.refill-2.ensures.kept c.refill-2.ensures.rest c.hand_out.ensures.went refl refl refl refl refl
+    c.refill-2.ensures.pending c.refill-2.ensures.sending c.refill-2.ensures.rest c.hand_out.ensures.went refl refl refl refl refl
     (λ e. fits_more c.hand_out.new.self.waiting (admitted c.self-2.inside.windows (going c.self-2.inside.trips c.self-2.inside.engine.sessions.out)) _
     (c.hand_out.ensures.went.none e)
     (ap emitted c.self-2.view_is ∙ none_emitted c.refill-2.new.self

@@ -13,7 +13,7 @@ returns-clause-went c =
     c.put_next-run.new.into
     (subst (λ o. HandsOn s.kept s.waiting (kept_in o) m.kept m.waiting) none c.pass_all.ensures.hands)
     c.pass_all.ensures.time (c.pass_all.ensures.none none) c.put_next-run.ensures.run c.put_next-run.ensures.rest
-    c.tell_of.ensures.count c.tell_of.ensures.each
+    c.tell_of.ensures.count c.tell_of.ensures.each c.pass_all.ensures.keeps
 
 pub returns-clause-stays : goal.returns-clause-stays
 returns-clause-stays c = λ empty.

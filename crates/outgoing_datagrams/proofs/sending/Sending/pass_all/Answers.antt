@@ -2,6 +2,7 @@ use Rattle.std.proofs.Common.{rules, refl, ◌≡◌, [], ◌∷◌, subst, ◌�
 use Rattle.std.specs.Prelude.{None}
 use Rattle.outgoing_datagrams.specs.HandedDatagrams.{HandsOn, kept_in}
 use Rattle.outgoing_datagrams.proofs.HandedSteps.{hands_joined, none_behind, one_fewer}
+use Rattle.outgoing_datagrams.proofs.KeptSteps.{keeps_joined}
 use Rattle.outgoing_datagrams.proofs.sending.Sending.pass_all.Goals as goal
 
 pub returns-in-Some-clause-hands : goal.returns-in-Some-clause-hands
@@ -24,7 +25,15 @@ loop-preserved c =
       λ empty.
           absurd (none_behind l.self c.args.self.now l.counter c.len-end.result (l.invariant.3 empty) empty l.invariant.2
           (search rules)),
+      keeps_joined c.args.self.now l.self after c.args.self.now.waiting l.self.waiting after.waiting l.invariant.1
+          l.invariant.0 l.invariant.4 c.pass.ensures.keeps,
     )
+
+pub returns-in-Some-clause-keeps : goal.returns-in-Some-clause-keeps
+returns-in-Some-clause-keeps c =
+    let l = c.loop in
+    keeps_joined c.args.self.now l.self c.pass.new.self c.args.self.now.waiting l.self.waiting c.pass.new.self.waiting
+    l.invariant.1 l.invariant.0 l.invariant.4 c.in-Some.ensures.keeps
 
 pub returns-in_err-next-clause-stays : goal.returns-in_err-next-clause-stays
 returns-in_err-next-clause-stays c =

@@ -1,4 +1,7 @@
-use Rattle.port_transport.proofs.Steps.{delay_on, on_ok, puts}
+use Rattle.std.proofs.Common.{sym, subst}
+use Rattle.port_transport.proofs.Keeping.{delay_from_same, next_delay}
+use Rattle.port_transport.proofs.Steps.{on_ok, puts}
+use Rattle.port_transport.specs.Ports.{IsDelayOfNext}
 use Rattle.port_transport.proofs.transport.PortTransport.keep_back.Goals as goal
 
 pub returns-clause-passes : goal.returns-clause-passes
@@ -14,6 +17,13 @@ returns-clause-passes g c =
 pub returns-clause-delay : goal.returns-clause-delay
 returns-clause-delay g c =
     let taken = c.take_kept-former in
-    delay_on taken.result c.args.self.now.kept c.sent_before-leaves.result c.args.next c.delay_behind-delay.result
-    taken.new.self.delay c.args.self.now.delay c.put.new.self.delay taken.ensures.value
-    c.sent_before-leaves.ensures.covered c.delay_behind-delay.ensures taken.ensures.others.2 c.put.ensures.kept.1
+    let before = c.sent_before-leaves in
+    let delay = c.delay_behind-delay in
+    let tells = g.W.Wire.tells in
+    let old = c.args.self.now in
+    let said = c.args.next.said in
+    subst (λ d. IsDelayOfNext (tells old.wire) old.kept old.delay said d) (sym c.put.ensures.kept.1)
+    (delay_from_same tells taken.new.self.wire old.wire taken.result old.kept taken.new.self.delay old.delay said
+    delay.result taken.ensures.others.0 taken.ensures.value taken.ensures.others.2
+    (next_delay (tells taken.new.self.wire) taken.result before.result c.args.next taken.new.self.delay delay.result
+    before.ensures.lost before.ensures.covered delay.ensures.goes_on delay.ensures.begins))

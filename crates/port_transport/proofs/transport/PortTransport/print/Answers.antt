@@ -5,8 +5,8 @@ use Rattle.port_transport.specs.Ports.{with_end}
 use Rattle.port_transport.proofs.Steps.{goes, on_ok, stays}
 use Rattle.port_transport.proofs.transport.PortTransport.print.Goals as goal
 
-pub returns-in-Ok : goal.returns-in-Ok
-returns-in-Ok g c =
+pub returns-in-Ok-clause-passes : goal.returns-in-Ok-clause-passes
+returns-in-Ok-clause-passes g c =
     let line = c.args.line.now in
     on_ok c.write_line.result
     (λ wire. passes_joined g.W.Wire.did g.met.W.Wire.joined c.args.self.now c.flush.new.self c.write_line.new.self [] [] []
