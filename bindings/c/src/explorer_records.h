@@ -49,7 +49,7 @@ struct explorer_entry {
 enum { EXPLORER_AGAIN = 2 };
 
 /* These records as a program and its explorer know them. */
-enum { EXPLORER_VERSION = 3 };
+enum { EXPLORER_VERSION = 4 };
 
 /* A block of a collective: its bytes, and the type of the engine that they are of. */
 struct explorer_block {
@@ -88,5 +88,6 @@ struct explorer_answer {
 /* What a process that is copied for each run is handed with the two descriptors of a run. */
 struct explorer_run {
     uint32_t tells_places;
+    uint32_t leaves_early;
 };
 #endif
