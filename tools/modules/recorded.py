@@ -429,7 +429,7 @@ class Explorer:
         return results
 
     def can_hang(self, run, result):
-        """Whether it can stand so where sends wait, and nobody waits for a message of one source alone only since it took that in the run."""
+        """Whether ranks can stand so where sends wait, and each receive of any source takes whoever comes."""
         _, results = self.tell(run, ["--synchronous"], False)
         return any(it.ending == result.ending and it.stands() == result.stands() for it in results)
 

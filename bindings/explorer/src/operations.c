@@ -129,6 +129,7 @@ bool is_done(struct steps *s, int rank, uint64_t key) {
     const struct operation *it = operation_of(s, rank, key);
     if (it == NULL) return true;
     if (it->state == OP_WILD || it->state == OP_HELD || it->state == OP_COPYING) return false;
+    if (s->options.synchronous && it->plan != 0 && !has_met(s, rank, it->plan)) return false;
     if (it->state != OP_POSTED) return true;
     struct engine_answer look;
     engines_call(it->plan != 0 ? s->plan_engines : s->engines, rank,

@@ -67,6 +67,7 @@ struct pin {
 struct plan {
     uint32_t communicator;
     uint32_t entry; /* the how-many-th collective of its communicator it is */
+    bool waits;     /* its rank waits for its end in the call itself */
     struct place place;
 };
 
@@ -288,6 +289,8 @@ void free_meetings(struct steps *s);
 /* A plan's message as its engine is told of it: by ranks in `world`, apart from those of other communicators. */
 struct engine_call plan_message(struct steps *s, int rank, const struct engine_call *call);
 void begin_plan(struct steps *s, int rank);
+/* Whether all members have entered the collective that goes by this plan, where one waits for it in the call. */
+bool has_met(struct steps *s, int rank, uint64_t number);
 /* The plan of this number, or NULL. */
 const struct plan *plan_of(const struct rank *own, uint64_t number);
 
