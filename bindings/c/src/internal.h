@@ -56,8 +56,9 @@ static inline void leave_call(const bool *has_lock) {
  * program here. */
 enum { STATUS_PLACE = 2, STATUS_SOCKET, STATUS_PATIENCE };
 
-/* The first rank of MPI_COMM_WORLD that has the own address, so runs on the same machine. */
+/* The first rank of MPI_COMM_WORLD that has the own address, so runs on the same machine; whether one does. */
 int first_neighbour(void);
+bool is_neighbour(int rank);
 
 /* The rank that the environment tells, before MPI_Init; -1 where it tells none. (start.c) */
 int rank_in_environment(void);
