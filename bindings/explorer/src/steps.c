@@ -29,6 +29,7 @@ static void free_rank(struct rank *own) {
     free(own->pins);
     free(own->takings);
     free(own->plans);
+    free(own->series);
 }
 
 void steps_free(struct steps *s) {
