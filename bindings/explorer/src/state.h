@@ -13,7 +13,7 @@ enum operation_state {
     OP_HELD,   /* a receive behind such a one, which might take the same message */
     OP_CANCELLED,
     OP_FAILED,   /* the engine refused it, by `number` */
-    OP_BUFFERED, /* a send that was buffered by a move */
+    OP_BUFFERED, /* a send that was buffered: at its end, whatever its engine does */
     OP_COPYING,  /* a copy of a communicator that isn't made yet, and one that is: `made` */
     OP_COPIED
 };
@@ -23,6 +23,7 @@ struct operation {
     enum operation_state state;
     bool is_send;
     bool is_looked_at; /* a LOOK said that it isn't at its end */
+    bool waits;        /* a send that is at its end once it is received, unless it is buffered by a move */
     uint32_t op;       /* as moves name it */
     uint32_t at;       /* its place among all that the rank began */
     uint32_t number;
@@ -77,6 +78,12 @@ struct series {
     uint32_t entered;
 };
 
+/* A send that was buffered and that its rank has ended: its engine has it until it is received. */
+struct rest {
+    bool is_of_plan;
+    struct engine_request own;
+};
+
 enum rank_state { RANK_RUNS, RANK_BLOCKED, RANK_ENDED };
 
 struct rank {
@@ -107,6 +114,8 @@ struct rank {
     int plan_count;
     struct series *series;
     int series_count;
+    struct rest *rests; /* what the engines have of sends that were buffered and ended */
+    int rest_count, rest_room, rest_bound;
     /* The answer, and what stands behind it. */
     struct explorer_answer answer;
     uint32_t *places;
@@ -178,6 +187,7 @@ struct steps {
     bool is_aborted, has_mismatch, is_unsafe_told;
     bool has_withheld; /* a look wasn't let say no, since others in front of it had */
     bool has_copies;   /* some rank has asked for a copy that doesn't wait */
+    bool has_long;     /* a standard send was longer than is buffered */
     uint64_t calls;
     int rounds_of_no;
     struct sent *sent;
