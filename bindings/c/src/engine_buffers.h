@@ -16,8 +16,8 @@ struct byte_run {
     uint64_t stride;
 };
 
-/* Whether one of some runs shares a byte with one of others: 1, it does; 0, none does; 96, one of them doesn't end within
- * 64 bits. */
+/* Whether one of some runs shares a byte with one of others: 1, it does; 0, none does; 96, one of them doesn't end
+ * within 64 bits. */
 uint32_t kombazily_share_bytes(const struct byte_run *ones, size_t count, const struct byte_run *others,
                                size_t other_count);
 

@@ -3,10 +3,12 @@
 ghost use Rattle.std.specs.Prelude.{◌≡◌, ℕ, ◌<◌, ◌↔◌, IsTrue, true, false};
 ghost use Rattle.shared_bytes.specs.Memory.{IsIn, IsWithinMemory, Meet, piece_at};
 
+use std::default::Default;
+
 /// `count` rows of `length` bytes, the first one at the address `at`, each further one `stride` bytes behind the one
 /// before it.
 #[repr(C)]
-#[derive(Clone, Copy)]
+#[derive(Clone, Copy, Default)]
 pub struct ByteRun {
     /// The address of the first row.
     pub at: u64,
