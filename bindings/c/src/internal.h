@@ -14,6 +14,7 @@
 
 struct communicator;
 struct datatype;
+struct watch;
 
 /* ---- environment.c ---- */
 
@@ -35,6 +36,7 @@ struct process {
     bool sends_wait; /* each standard or ready send is at its end once a receive has its message, as synchronous ones */
     const char *call;   /* the call of MPI that the program made last */
     const void *caller; /* where in the program the last call stands that notes it */
+    uint64_t calls;     /* so many noted it */
 };
 extern struct process process;
 
@@ -46,6 +48,7 @@ static inline bool enter_call(const void *caller) {
     const bool is_threaded = process.is_threaded;
     if (is_threaded) lock_library();
     process.caller = fortran_caller == NULL ? caller : fortran_caller;
+    process.calls++;
     return is_threaded;
 }
 static inline void leave_call(const bool *has_lock) {
@@ -176,6 +179,7 @@ struct request {
     uint64_t mark;
     struct request *other;  /* the send that ends together with this receive, or NULL */
     struct request *behind; /* of a matched message: the next one to be received */
+    struct watch *watch;    /* of its buffers (watches.h), or NULL */
 };
 
 /* Whether a request is at its end now. What it received then is where it belongs. */

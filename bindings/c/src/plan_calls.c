@@ -4,6 +4,7 @@
 #include "errors.h"
 #include "explored.h"
 #include "explored_plans.h"
+#include "watches.h"
 
 #include <stdlib.h>
 
@@ -113,8 +114,10 @@ static int carry_to_end(const struct asked *asked, struct plan_call *call) {
     struct request own = {.kind = &plan_kind, .comm = call->comm, .caller = process.caller};
     own.state = make_plan(call, &own);
     if (own.state == NULL) return drop_call(call, no_memory(asked));
+    watch_plan(&own, call);
     start_plan(own.state);
     uint32_t number = await_request(&own);
+    drop_watch(&own);
     int class = number == 0 ? MPI_SUCCESS : raise_end(asked->name, &own);
     end_plan(own.state);
     return class;
@@ -147,7 +150,10 @@ int carry_out(const struct asked *asked, struct plan_call *call) {
         return drop_call(call, no_memory(asked));
     }
     own->is_persistent = own->is_inactive = asked->is_persistent;
-    if (!asked->is_persistent) start_plan(own->state);
+    if (!asked->is_persistent) {
+        watch_plan(own, call);
+        start_plan(own->state);
+    }
     *asked->request = handle;
     return MPI_SUCCESS;
 }

@@ -9,6 +9,7 @@
 #include "explored_plans.h"
 #include "intercommunicators.h"
 #include "lines.h"
+#include "watches.h"
 #include "worlds.h"
 
 #include <stdio.h>
@@ -603,6 +604,7 @@ static int start(const char *call, struct request *request) {
     request->number = 0;
     request->age = next_age();
     request->caller = process.caller;
+    watch_plan(request, &run->call);
     start_plan(run);
     return MPI_SUCCESS;
 }

@@ -7,6 +7,7 @@
 #include "table.h"
 #include "types.h"
 #include "wait_lines.h"
+#include "watches.h"
 
 #include <stdio.h>
 #include <stdlib.h>
@@ -83,7 +84,9 @@ static void note_end(struct request *request, const struct engine_answer *answer
     /* A message of no elements fits a receive of any type (3.3.1). */
     if (answer->outcome == ENGINE_FAILED && answer->count != 0) request->number = answer->number;
     if (request->number == NUMBER_TYPE) request->elements = answer->count;
-    if (answer->outcome == ENGINE_RECEIVED) request->number = take_data(request, answer->bytes);
+    if (answer->outcome != ENGINE_RECEIVED || !open_watch(request->watch)) return;
+    request->number = take_data(request, answer->bytes);
+    refill_watch(request->watch);
 }
 
 void end_request(struct request *request, const struct engine_answer *answer) {
@@ -185,6 +188,8 @@ static int forget_state(struct request *request) {
 }
 
 int tell_end(struct request *request, char *cause) {
+    end_watch(request);
+    end_watch(request->other);
     int asked = request->kind->query == NULL ? MPI_SUCCESS : request->kind->query(request);
     if (request->number != 0) say_end(request, cause);
     int last = request->is_persistent ? MPI_SUCCESS : forget_state(request);
@@ -198,6 +203,8 @@ int tell_end(struct request *request, char *cause) {
 /* Gives the memory of a request back, and what it holds, where its operation never ended too: 0, or an error code. */
 static int forget_request(struct request *request) {
     int code = forget_state(request);
+    drop_watch(request);
+    drop_watch(request->other);
     stop_moving(request);
     if (request->type != NULL) release_type(request->type);
     if (request->other != NULL && request->other->type != NULL) release_type(request->other->type);
@@ -327,6 +334,9 @@ int MPI_Request_free(MPI_Request *request) {
     if (found == NULL) return raise_on(MPI_COMM_WORLD, call, MPI_ERR_REQUEST, "the request is MPI_REQUEST_NULL");
     table_remove(&requests, (intptr_t)*request);
     *request = MPI_REQUEST_NULL;
+    /* The program may know of its end by other means. */
+    drop_watch(found);
+    drop_watch(found->other);
     progress();
     if (is_at_end(found)) return free_ended(call, found);
     found->is_freed = true;
@@ -373,6 +383,8 @@ int MPI_Request_get_status(MPI_Request request, int *flag, MPI_Status *status) {
     *flag = found == NULL || (is_explored ? explored_test(1, &request) : is_at_end(found));
     if (found == NULL) put_empty(status);
     if (found == NULL || !*flag) return MPI_SUCCESS;
+    end_watch(found);
+    end_watch(found->other);
     int code = found->kind->query == NULL ? MPI_SUCCESS : found->kind->query(found);
     put_status(status, &found->end);
     return found->number == 0 ? raise_code(call, code) : raise_end(call, found);

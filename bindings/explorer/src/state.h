@@ -314,6 +314,11 @@ bool has_copies(const struct rank *own, uint32_t communicator, bool any);
 
 void answer_kept(struct steps *s, int rank);
 
+/* ---- misuses.c ---- */
+
+/* A rank tells how the program uses a buffer that an operation has. */
+void note_misuse(struct steps *s, int rank);
+
 /* ---- looks.c ---- */
 
 /* What is told of a rank where nobody can go on, or 0. */

@@ -29,7 +29,8 @@ enum finding_kind {
     NO_FINALIZE,
     OTHER_STATUS,
     RECORD_ENDS, /* what was recorded of a rank is over */
-    CANCEL_RACES /* whether a message or the cancel of its receive comes first is left to chance */
+    CANCEL_RACES, /* whether a message or the cancel of its receive comes first is left to chance */
+    BUFFER_MISUSED /* a buffer is used that an operation has */
 };
 
 /* How a run ends, by its number. */
