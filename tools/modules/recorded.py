@@ -208,7 +208,7 @@ class Words:
 
 
 OWN_TEXTS = {"--stdin", "--html", "--replay", "--out"}
-TAKE_ONE = OWN_TEXTS | {"--debug", "--random", "--noes"} | set(Words.NUMBERS) | set(Words.TEXTS)
+TAKE_ONE = OWN_TEXTS | {"--debug", "--random", "--noes", "--mix"} | set(Words.NUMBERS) | set(Words.TEXTS)
 
 
 def program_of(words):

@@ -188,6 +188,9 @@ struct steps {
     bool has_withheld; /* a look wasn't let say no, since others in front of it had */
     bool has_copies;   /* some rank has asked for a copy that doesn't wait */
     bool has_long;     /* a standard send was longer than is buffered */
+    bool has_kept;     /* a rank stayed in a call that makes a communicator, since others weren't there */
+    bool has_ready;    /* a ready send was made */
+    bool has_parts;    /* not each part was a move of the requests that some of a list might end */
     uint64_t calls;
     int rounds_of_no;
     struct sent *sent;
