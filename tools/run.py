@@ -75,8 +75,8 @@ SHOWING = {
 }
 # The same of a C program that is explored.
 EXPLORING_C = {"--most": 1, "--results": 1, "--out": 1, "--html": 1, "--seconds": 1, "--random": 1, "--noes": 1, "--replay": 1, "--debug": 1,
-               "--patience": 1, "--stdin": 1, "--both": 0, "--synchronous": 0, "--each": 0, "--fork": 0, "--go-on": 0, "--output": 0,
-               "--quiet": 0, "--count": 0}
+               "--patience": 1, "--stdin": 1, "--both": 0, "--only-buffered": 0, "--synchronous": 0, "--each": 0, "--buffered": 1,
+               "--fork": 0, "--go-on": 0, "--output": 0, "--quiet": 0, "--count": 0}
 OPTIONS_OF_C = ("-n", "-np")
 # Milliseconds for which all ranks of a C program may wait for one another.
 PATIENCE_OF_C = 10000
@@ -372,8 +372,7 @@ def exploration_of_c(request):
         if word in EXPLORING_C:
             say("'%s' stands behind %s, so it is handed to the program" % (word, request.file))
     program = c_programs.compiled(say, request.file, request.is_proved)
-    both = [] if {"--synchronous", "--both", "--each", "--replay"} & set(request.shown) else ["--both"]
-    return [short(explorer.taken(say)), *request.shown, "-n", str(request.ranks or 2), *both, short(program), *request.words]
+    return [short(explorer.taken(say)), *request.shown, "-n", str(request.ranks or 2), short(program), *request.words]
 
 
 def check(words):

@@ -85,6 +85,11 @@ LEFT = ["rank 0: MPI_Finalize: 2 more messages"] + 10 * [SELF] + [
     "rank 1: MPI_Finalize: nobody received a message of rank 0 with tag 1 in MPI_COMM_WORLD: 40 bytes",
     "rank 1: MPI_Finalize: nobody received a message of rank 0 with tag 2 in 'part', where it is rank 1: 4000 bytes",
 ]
+# What rank 1 of two is told, errors being fatal, by whichever call ends a collective that rank 0 entered with less: status, line.
+SHORT = "the block of rank 0 has 4 bytes, and 40 are wanted (1)"
+DIFFERING = {it: (2, "MPI_%s: %s" % (it, SHORT)) for it in ("Wait", "Test", "Waitany", "Request_get_status", "Request_free")}
+DIFFERING.update({it: (19, "MPI_%s: request 0 of 1: %s" % (it, SHORT)) for it in ("Waitall", "Testsome")})
+DIFFERING["Request_free_receive"] = (15, "MPI_Request_free: a message of 40 bytes from rank 0 with tag 1 is longer than its receive of 4 bytes")
 KEPT = ("crash", "kill", "abort", "error")
 # What rank 0 says behind a second without any movement, where no patience was told: on a slow machine before an interrupt, too.
 STANDS = "rank 0: all ranks wait, and nothing has moved for 1 s; Ctrl-C ends the job and tells what each waits for"
@@ -229,6 +234,13 @@ class Ends:
         self.add("a child isn't the rank", found == (0, ["rank 1 leaves", "the child's status is 0"], []), found)
         found = self.run(1, "leaves", "return")
         self.add("a job of one rank leaves nobody waiting", found == (0, ["rank 1 leaves"], []), found)
+
+    def differing(self):
+        for word, (status, said) in DIFFERING.items():
+            found = self.run(2, "differs", word)
+            wanted = ["mpirun: rank 1 ended with status %d; the other ranks are ended" % status, "rank 1: " + said]
+            is_so = (found[0], found[1], sorted(map(without_source, found[2]))) == (status, [], wanted)
+            self.add("a collective whose members differ, by " + word, is_so, found)
 
     def interrupted(self, word, options=()):
         """What the ranks of a program say that is interrupted once they wait."""
@@ -404,7 +416,7 @@ def tells(library, mpirun, names, longest):
 
 def all_rows(mode, library, mpirun, verdict, side_by_side):
     it = Ends(mode, library, mpirun, verdict)
-    rows = [it.lines, it.beginning, it.standstill, it.hangs, it.prompts, it.kept, it.leaving, it.patience, it.left, it.misused, it.synchronous,
-            it.bounded, it.too_early, it.terminal, it.source]
+    rows = [it.lines, it.beginning, it.standstill, it.hangs, it.prompts, it.kept, it.leaving, it.differing, it.patience, it.left,
+            it.misused, it.synchronous, it.bounded, it.too_early, it.terminal, it.source]
     side_by_side(lambda row: row(), rows)
     side_by_side(it.stuck, list(STUCK))

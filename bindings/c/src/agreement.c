@@ -10,6 +10,9 @@
 /* A sum of all that was entered so far, in order: by FNV-1a, so that others in another order have another one. */
 static uint64_t entered = UINT64_C(0xcbf29ce484222325);
 
+/* A sum of the persistent ones that were begun: the same in each order. */
+static uint64_t begun;
+
 /* At rank 0: the first rank that has entered others than it; 0: there is none. */
 static int other_rank;
 
@@ -35,6 +38,11 @@ void note_plan(enum plan_kind kind, int root, const struct communicator *comm) {
     if (comm->place != ENGINE_WORLD) return;
     note(BEHIND_CALLS + kind);
     note((uint32_t)root);
+}
+
+void note_again(uint32_t number, const struct communicator *comm) {
+    if (comm->place != ENGINE_WORLD) return;
+    begun += (number + UINT64_C(1)) * UINT64_C(0x9e3779b97f4a7c15);
 }
 
 /* Whether all ranks have the same sum: the greatest one is the least. Or a number of the engine. */
@@ -65,6 +73,7 @@ static void find_other(uint64_t own) {
 }
 
 int compare_entries(const char *call) {
+    note(begun);
     const uint64_t own = entered;
     bool is_same;
     uint32_t number = is_same_at_all(own, &is_same);

@@ -53,9 +53,11 @@ static bool is_wanted(const char *variable) {
     return value != NULL && strcmp(value, "1") == 0;
 }
 
+bool is_neighbour(int rank) { return addresses.of_rank[rank] == addresses.of_rank[process.rank]; }
+
 int first_neighbour(void) {
     int rank = 0;
-    while (addresses.of_rank[rank] != addresses.of_rank[process.rank]) rank++;
+    while (!is_neighbour(rank)) rank++;
     return rank;
 }
 

@@ -27,8 +27,9 @@ enum explorer_ask_kind {
     ASK_START,    /* in MPI_Init; call.order: EXPLORER_VERSION. Answered by nothing */
     ASK_ENTER, /* plan; call: a collective that goes by sends and receives begins. kind: a plan_kind, peer: the root or
                   EXPLORER_NO_ROOT, operation: that of a reduction, of which EXPLORER_OWN_OPERATION is a function of
-                  the program, count: how many blocks the member hands in; is_waiting: it waits for its end. bytes:
-                  those blocks and those that it gets, each an explorer_block. Answered by nothing */
+                  the program, count: how many blocks the member hands in, tag: 0, or the number of a persistent one in
+                  its communicator; is_waiting: it waits for its end. bytes: those blocks and those that it gets, each
+                  an explorer_block. Answered by nothing */
     ASK_KEPT,  /* entries: sends of MPI_Bsend, in their order. The fact: of so many of the first ones this rank knows
                   that they were received: no run may have them in the buffer still */
     ASK_FINALIZE, /* entries: the requests that are left; bytes: an explorer_left, then the places of the communicators

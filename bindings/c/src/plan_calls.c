@@ -16,6 +16,9 @@ int check_asked(struct asked *asked) {
     return class;
 }
 
+#define LIMIT_OF_PERSISTENT "16,384 persistent collectives of a communicator are there at one of its members"
+_Static_assert(MOST_PERSISTENT == 16384, "what is said of the limit is so");
+
 static int no_memory(const struct asked *asked) {
     return raise_on(asked->handle, asked->name, MPI_ERR_NO_MEM, "no memory for a collective");
 }
@@ -98,6 +101,7 @@ int check_apart_places(const struct asked *asked, const void *sendbuf, const voi
 /* ---- beginning ---- */
 
 static int drop_call(struct plan_call *call, int class) {
+    if (call->persistent != 0) forget_persistent(call->comm, call->persistent - 1);
     free_places(&call->given);
     free_places(&call->got);
     free(call->steps);
@@ -119,11 +123,21 @@ static int carry_to_end(const struct asked *asked, struct plan_call *call) {
     return class;
 }
 
+/* Gives a persistent one its number: 0, or a class. */
+static int number_call(const struct asked *asked, struct plan_call *call) {
+    uint32_t made;
+    uint32_t number = number_persistent(asked->comm, &made);
+    if (number == 0) call->persistent = made + 1;
+    return number == 0 ? MPI_SUCCESS : raise_limited(asked->handle, asked->name, number, LIMIT_OF_PERSISTENT);
+}
+
 int carry_out(const struct asked *asked, struct plan_call *call) {
     call->name = asked->name;
     call->comm = asked->comm;
     call->waits = asked->waits;
     if (asked->waits) return carry_to_end(asked, call);
+    int class = asked->is_persistent ? number_call(asked, call) : MPI_SUCCESS;
+    if (class != MPI_SUCCESS) return drop_call(call, class);
     if (is_explored && !go_straight(call)) return drop_call(call, no_memory(asked));
     MPI_Request handle = open_request();
     struct request *own = request_of(handle);

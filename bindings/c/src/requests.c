@@ -130,7 +130,8 @@ static void say_other_type(const struct request *request, char *text) {
              request->element, NUMBER_TYPE);
 }
 
-void say_end(const struct request *request, char *text) {
+/* Why a request failed, which hangs on what its kind keeps. */
+static void say_end(const struct request *request, char *text) {
     const MPI_Status *end = &request->end;
     if (request->kind == &plan_kind) say_plan_end(request->state, text);
     else if (request->number == NUMBER_TYPE && request->elements != 0) say_other_type(request, text);
@@ -138,7 +139,6 @@ void say_end(const struct request *request, char *text) {
         snprintf(text, LONGEST_CAUSE,
                  "a message of %lld bytes from rank %d with tag %d is longer than its receive of %zu bytes",
                  end->reserved_bytes, end->MPI_SOURCE, end->MPI_TAG, request->room);
-    else if (request->number == 0) snprintf(text, LONGEST_CAUSE, CODE_OF_PROGRAM, request->code);
     else snprintf(text, LONGEST_CAUSE, "%s (%u)", cause_of(request->number), (unsigned)request->number);
 }
 
@@ -187,13 +187,16 @@ static int forget_state(struct request *request) {
     return request->kind->forget(request);
 }
 
-int tell_end(struct request *request) {
+int tell_end(struct request *request, char *cause) {
     end_watch(request);
     end_watch(request->other);
     int asked = request->kind->query == NULL ? MPI_SUCCESS : request->kind->query(request);
+    if (request->number != 0) say_end(request, cause);
     int last = request->is_persistent ? MPI_SUCCESS : forget_state(request);
     request->is_settled = true;
     request->code = request->number != 0 ? class_of(request->number) : last != MPI_SUCCESS ? last : asked;
+    if (request->number == 0 && request->code != MPI_SUCCESS)
+        snprintf(cause, LONGEST_CAUSE, CODE_OF_PROGRAM, request->code);
     return request->code;
 }
 
@@ -226,6 +229,15 @@ bool let_go(const struct request *request) {
     return true;
 }
 
+/* Where an operation fails whose request the program has freed, no call can answer it: the error is fatal (3.7.3). */
+static void end_by_freed(const struct request *request) {
+    char text[LONGEST_CAUSE];
+    if (!request->is_freed || request->number == 0) return;
+    say_end(request, text);
+    process.caller = request->caller;
+    raise_fatal("MPI_Request_free", class_of(request->number), "%s", text);
+}
+
 void settle_freed(void) {
     for (struct request **at = &freed; *at != NULL;) {
         struct request *it = *at;
@@ -234,6 +246,7 @@ void settle_freed(void) {
             continue;
         }
         *at = it->next;
+        end_by_freed(it);
         (void)forget_request(it);
         /* A function of the program's may have been called, and the list be another one. */
         at = &freed;
@@ -304,6 +317,13 @@ int check_request(const char *call, const MPI_Request *handle, struct request **
     return raise_on(MPI_COMM_WORLD, call, MPI_ERR_REQUEST, "a handle that is no request");
 }
 
+/* Frees a request that is at its end. One that is inactive has been told of already. */
+static int free_ended(const char *call, struct request *request) {
+    int class = request->is_inactive || request->number == 0 ? MPI_SUCCESS : raise_end(call, request);
+    int code = forget_request(request);
+    return class == MPI_SUCCESS ? raise_code(call, code) : class;
+}
+
 int MPI_Request_free(MPI_Request *request) {
     NOTE_CALLER();
     static const char call[] = "MPI_Request_free";
@@ -318,7 +338,9 @@ int MPI_Request_free(MPI_Request *request) {
     drop_watch(found);
     drop_watch(found->other);
     progress();
-    if (is_at_end(found)) return raise_code(call, forget_request(found));
+    if (is_at_end(found)) return free_ended(call, found);
+    found->is_freed = true;
+    found->caller = process.caller;
     found->next = freed;
     freed = found;
     settle_freed();
@@ -365,7 +387,7 @@ int MPI_Request_get_status(MPI_Request request, int *flag, MPI_Status *status) {
     end_watch(found->other);
     int code = found->kind->query == NULL ? MPI_SUCCESS : found->kind->query(found);
     put_status(status, &found->end);
-    return raise_code(call, code);
+    return found->number == 0 ? raise_code(call, code) : raise_end(call, found);
 }
 
 /* Nothing that it began in the engine waits any longer. */
@@ -377,7 +399,10 @@ void abandon_requests(void) {
     free_engine();
     for (int place = 0; place < requests.count; place++)
         if (requests.places[place].object != NULL) abandon_request(requests.places[place].object);
-    for (struct request *it = freed; it != NULL; it = it->next) abandon_request(it);
+    for (struct request *it = freed; it != NULL; it = it->next) {
+        abandon_request(it);
+        it->is_freed = it->is_freed && it->is_ended;
+    }
 }
 
 void close_requests(void) {

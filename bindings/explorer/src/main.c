@@ -132,6 +132,8 @@ static void replay(struct pass *pass) {
 
 /* The signal that ended the last pass, or 0. */
 static int stopped;
+/* Whether a pass that is over made sends that are longer than is buffered, some of which other runs may buffer. */
+static bool has_mixture;
 
 /* One pass: how much it weighs. */
 static uint32_t make_pass(bool synchronous) {
@@ -140,17 +142,19 @@ static uint32_t make_pass(bool synchronous) {
     if (set.replay != NULL || set.followed != NULL) replay(&pass);
     else explore(&pass);
     uint32_t weight = tell_results(&pass);
+    has_mixture |= counts.has_long;
     stopped = pass.stopped;
     if (set.html != NULL) page_add(&pass);
     free_results();
     return weight;
 }
 
-/* What a pass in which sends are buffered can't show. */
+/* What a pass can't show in which all sends of a length go alike. */
 static void say_hint(const uint32_t *passes, size_t count) {
-    const bool is_other = set.synchronous || set.both || set.each || set.replay != NULL || set.played != NULL;
+    const bool is_other = !has_mixture || set.each || set.replay != NULL || set.followed != NULL;
     if (kombazily_is_hint_told(passes, count, is_other))
-        puts("--both looks for what hangs where sends aren't buffered, too");
+        printf("sends of more than %ld bytes were made: --each tries each send waiting and buffered, by choice\n",
+               set.buffered);
 }
 
 /* The folder of --out is made, or is there and can be written. */

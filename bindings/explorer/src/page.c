@@ -184,10 +184,9 @@ static void put_result(int i) {
 
 void page_add(const struct pass *pass) {
     open_page();
-    fprintf(page, "<h2>%s</h2>\n",
-            pass->synchronous ? "Sends that wait for their receives, collectives that wait for all members"
-            : set.each        ? "Sends that wait or are buffered, by choice"
-                              : "Sends that are buffered");
+    char sends[80];
+    say_sends(pass->synchronous, sends, sizeof sends);
+    fprintf(page, "<h2>With %s</h2>\n", sends);
     fprintf(page, "<p>%ld run%s: %s.</p>\n", pass->runs, pass->runs == 1 ? "" : "s", said_of(pass));
     for (int i = 0; i < result_count && i < set.results; i++) put_result(i);
 }

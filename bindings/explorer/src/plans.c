@@ -41,12 +41,17 @@ void begin_plan(struct steps *s, int rank) {
     struct entering entering = {.kind = ENTERS_PLAN + ask->call.kind,
                                 .root = ask->call.peer,
                                 .operation = ask->call.operation,
+                                .persistent = (uint32_t)ask->call.tag,
                                 .given = (uint32_t)ask->call.count,
                                 .got = blocks - (uint32_t)ask->call.count,
                                 .blocks = room_for(NULL, blocks, sizeof(struct explorer_block)),
                                 .place = own->place};
     if (blocks > 0) memcpy(entering.blocks, own->bytes, blocks * sizeof(struct explorer_block));
-    own->plans[ask->plan - 1] = (struct plan){.communicator = ask->call.communicator, .place = own->place};
+    own->plans[ask->plan - 1] = (struct plan){
+        .communicator = ask->call.communicator,
+        .name = entering.persistent == 0 ? of->name : series_name(of, entering.persistent),
+        .place = own->place,
+    };
     own->plans[ask->plan - 1].entry = enter_meeting(s, rank, of, entering);
 }
 

@@ -248,6 +248,40 @@ static void tell_parting(int own) {
            theirs);
 }
 
+void say_sends(bool synchronous, char *into, size_t room) {
+    if (synchronous) snprintf(into, room, "sends and collectives that wait");
+    else if (set.each) snprintf(into, room, "sends that wait or are buffered, by choice");
+    else snprintf(into, room, "sends of up to %ld bytes that are buffered", set.buffered);
+}
+
+/* What the runs did that wasn't tried in all ways: how many such things, in words. */
+static size_t untried(const char *words[]) {
+    size_t count = 0;
+    if (counts.has_cancelled) words[count++] = "whether a message or the cancel of its receive comes first";
+    return count;
+}
+
+/* That every choice was tried, and what is excepted. */
+static const char *said_of_all(void) {
+    static char said[600];
+    const char *words[8];
+    const size_t count = untried(words);
+    size_t at = (size_t)snprintf(said, sizeof said, "every choice was tried");
+    if (counts.has_withheld)
+        at += (size_t)snprintf(said + at, sizeof said - at, " in which at most %d look%s in a row say%s no (--noes K)",
+                               set.noes, set.noes == 1 ? "" : "s", set.noes == 1 ? "s" : "");
+    bool is_silent = false;
+    for (int i = 0; i < result_count; i++) is_silent |= results[i].ending == SILENT;
+    if (is_silent) at += (size_t)snprintf(said + at, sizeof said - at, ", up to where a rank is silent");
+    for (size_t i = 0; i < count; i++)
+        at += (size_t)snprintf(said + at, sizeof said - at, "%s%s",
+                               i == 0          ? ", but for "
+                               : i + 1 < count ? ", "
+                                               : " and for ",
+                               words[i]);
+    return said;
+}
+
 const char *said_of(const struct pass *pass) {
     if (pass->astray != NULL) return pass->astray;
     if (pass->stopped != 0) return "stopped by a signal, before every choice was tried";
@@ -257,22 +291,15 @@ const char *said_of(const struct pass *pass) {
         if (results[i].is_elsewhere)
             return "every choice that came up was tried, but the same ones led elsewhere: the program depends on "
                    "something else";
-    for (int i = 0; i < result_count; i++)
-        if (results[i].ending == SILENT) return "every choice was tried, up to where a rank is silent";
-    static char bounded[96];
-    snprintf(bounded, sizeof bounded, "every choice was tried in which at most %d look%s in a row say%s no (--noes K)",
-             set.noes, set.noes == 1 ? "" : "s", set.noes == 1 ? "s" : "");
-    const char *said = counts.has_withheld ? bounded : "every choice was tried";
-    static char but[192];
-    snprintf(but, sizeof but, "%s, but for whether a message or the cancel of its receive comes first", said);
-    return counts.has_cancelled ? but : said;
+    return said_of_all();
 }
 
 static void tell_head(const struct pass *pass) {
-    printf("%s%d rank%s, %ld run%s: %s (%.2f s, %ld cut short, %lu calls, %lu choices)\n",
-           pass->synchronous ? "with sends and collectives that wait: " : "", set.size, set.size == 1 ? "" : "s",
-           pass->runs, pass->runs == 1 ? "" : "s", said_of(pass), pass->took, pass->cut, (unsigned long)counts.asks,
-           (unsigned long)counts.moves);
+    char sends[80];
+    say_sends(pass->synchronous, sends, sizeof sends);
+    printf("with %s: %d rank%s, %ld run%s: %s (%.2f s, %ld cut short, %lu calls, %lu choices)\n", sends, set.size,
+           set.size == 1 ? "" : "s", pass->runs, pass->runs == 1 ? "" : "s", said_of(pass), pass->took, pass->cut,
+           (unsigned long)counts.asks, (unsigned long)counts.moves);
 }
 
 /* Whether a rank's process ended by itself in a way that is told: what it printed may say why. */

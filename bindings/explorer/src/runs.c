@@ -296,6 +296,7 @@ void run_once(struct run *run, bool synchronous, enum choosing choosing) {
     const struct steps_options options = {.size = set.size,
                                           .synchronous = synchronous,
                                           .each = set.each && !synchronous,
+                                          .buffered = (uint64_t)set.buffered,
                                           .patience = set.noes,
                                           .goes_on = set.goes_on,
                                           .choices = &choices};
@@ -317,4 +318,5 @@ void run_once(struct run *run, bool synchronous, enum choosing choosing) {
     counts.calls += steps_calls(run->steps);
     if (steps_withheld(run->steps)) counts.has_withheld = true;
     if (steps_cancelled(run->steps)) counts.has_cancelled = true;
+    if (steps_sent_long(run->steps)) counts.has_long = true;
 }

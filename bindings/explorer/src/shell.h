@@ -15,7 +15,8 @@ enum { STATUS_CLEAN = 0, STATUS_WORDS = 2, STATUS_START = 6 };
 
 struct settings {
     int size;
-    bool both, synchronous, each;
+    bool both, synchronous, each, only_buffered;
+    long buffered; /* the longest standard send of the first pass that is buffered, in bytes */
     bool forks, places, goes_on, quiet, shows_output, counts_only, has_no_sleep;
     long most, results, random;
     double seconds, patience;
@@ -93,6 +94,7 @@ struct counts {
     uint64_t asks, moves, calls;
     bool has_withheld;  /* a look of some run wasn't let say no (--noes) */
     bool has_cancelled; /* some run left to chance whether a message or the cancel of its receive came first */
+    bool has_long;      /* a standard send of some run was longer than is buffered */
 };
 extern struct counts counts;
 
@@ -152,7 +154,8 @@ struct pass {
     double took;
 };
 uint32_t tell_results(const struct pass *pass);
-/* What was tried, in words. */
+/* How the sends of a pass go, and what was tried, in words. */
+void say_sends(bool synchronous, char *into, size_t room);
 const char *said_of(const struct pass *pass);
 const char *ending_word(enum ending ending);
 /* Where a result parts from the one that is nearest to it: false, there is none. */

@@ -29,6 +29,8 @@ static void free_rank(struct rank *own) {
     free(own->pins);
     free(own->takings);
     free(own->plans);
+    free(own->series);
+    free(own->rests);
 }
 
 void steps_free(struct steps *s) {
@@ -276,6 +278,8 @@ bool steps_has_finalized(const struct steps *s, int rank) { return s->ranks[rank
 uint64_t steps_calls(const struct steps *s) { return s->calls; }
 
 bool steps_withheld(const struct steps *s) { return s->has_withheld; }
+
+bool steps_sent_long(const struct steps *s) { return s->has_long; }
 
 bool steps_cancelled(const struct steps *s) {
     for (int rank = 0; rank < s->options.size; rank++)

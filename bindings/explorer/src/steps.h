@@ -58,10 +58,11 @@ struct finding {
 
 struct steps_options {
     int size;
-    bool synchronous; /* each standard send waits for its receive, each collective for all members */
-    bool each;        /* whether a standard send waits is a choice of its own, made where nobody else can go on */
-    int patience;     /* so many looks in a row may say no though something is there */
-    bool goes_on;     /* an error that would end the program is told, and returned */
+    bool synchronous;  /* each standard send waits for its receive, each collective for all members */
+    bool each;         /* whether a standard send waits is a choice of its own, made where nobody else can go on */
+    uint64_t buffered; /* else one of so many bytes at most is buffered, and a longer one waits */
+    int patience;      /* so many looks in a row may say no though something is there */
+    bool goes_on;      /* an error that would end the program is told, and returned */
     struct choices *choices; /* where the rows of receives are that no engine knows */
 };
 
@@ -95,6 +96,8 @@ uint64_t steps_calls(const struct steps *s);
 bool steps_withheld(const struct steps *s);
 /* Whether a receive was cancelled to which a message might have come first. */
 bool steps_cancelled(const struct steps *s);
+/* Whether a standard send was longer than is buffered. */
+bool steps_sent_long(const struct steps *s);
 
 /* ---- what may come next ---- */
 
