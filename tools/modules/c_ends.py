@@ -19,6 +19,13 @@ TESTS = Path(__file__).resolve().parents[2] / "bindings" / "c" / "tests"
 LONGEST = 60
 BEGUN = 0.5    # so long behind their first lines the ranks wait for one another
 WORLD = "in MPI_COMM_WORLD"
+# What is told of buffers that are used while an operation has them, without the lines of the program.
+MISUSED = ["rank 0: " + it for it in (
+    "MPI_Irecv: its buffer overlaps that of MPI_Irecv, which isn't complete",
+    "MPI_Sendrecv: two of its buffers overlap, and data come into one",
+    "MPI_Wait: the buffer of MPI_Isend changed before it was complete",
+    "MPI_Wait: the buffer of MPI_Irecv was written before it was complete",
+    "MPI_Wait: the buffer of MPI_Irecv: its memory is gone before it was complete")]
 # Programs that wait for ever, by their word: what ranks 0 and 1 of two say.
 STUCK = {
     "receive": ["MPI_Recv waits for a message of rank %d with tag 5 " + WORLD] * 2,
@@ -281,6 +288,15 @@ class Ends:
             found = sorted(map(without_source, errors))
             self.add("what is left with KOMBAZILY_CHECK=%s" % wanted, (status, found) == (0, said), (status, errors))
 
+    def misused(self):
+        """Buffers that are used while an operation has them are told where that is asked for, with the lines where they can be had."""
+        for wanted, words in (("1", ()), ("1", ("right",)), ("0", ())):
+            status, _, errors = self.run(2, "misuses", *words, KOMBAZILY_CHECK=wanted)
+            said = sorted(MISUSED) if wanted == "1" and not words else []
+            # Where memory is gone, a run that isn't checked may end by a signal.
+            is_so = (status == 0 or wanted == "0") and sorted(re.sub(r" \(\w+\.c:\d+\)", "", it) for it in errors if "buffer" in it) == said
+            self.add("misused buffers with KOMBAZILY_CHECK=" + " ".join((wanted, *words)), is_so, (status, errors))
+
     def standstill(self):
         """With a file in which ranks say that they wait: rank 0 tells it once, and they give up; while one computes nobody does."""
         with tempfile.NamedTemporaryFile() as file:
@@ -401,6 +417,6 @@ def tells(library, mpirun, names, longest):
 def all_rows(mode, library, mpirun, verdict, side_by_side):
     it = Ends(mode, library, mpirun, verdict)
     rows = [it.lines, it.beginning, it.standstill, it.hangs, it.prompts, it.kept, it.leaving, it.differing, it.patience, it.left,
-            it.synchronous, it.bounded, it.too_early, it.terminal, it.source]
+            it.misused, it.synchronous, it.bounded, it.too_early, it.terminal, it.source]
     side_by_side(lambda row: row(), rows)
     side_by_side(it.stuck, list(STUCK))
