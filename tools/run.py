@@ -10,6 +10,7 @@ usage: ./run                            two ranks play ping-pong
        ./run --explore [-n N] SCRIPT    plays a script by the schedules that can matter: what may go wrong
        ./run --explore [-n N] FILE.c    compiles a C program and runs it again and again, by other choices each time
        ./run check -n N [..] PROGRAM    explores a C program that is compiled (tools/mpicc); ./run check --help has all options
+       ./run grade FOLDER EXERCISE      grades the C programs of a folder by an exercise of examples/lab; ./run grade --help
        ./run .. -                       what stands on the standard input, in place of a file
        ./run [-n N] FILE.c [WORD ..]    compiles a C program (tools/mpicc) and runs it with these words; without -n 2 ranks.
                                         Lines come as they are printed; rank 0 has the standard input
@@ -55,6 +56,7 @@ sys.path.insert(0, str(Path(__file__).resolve().parent / "modules"))
 import bounds
 import c_programs
 import explorer
+import grading
 import launchers
 import recorded
 import ports
@@ -451,6 +453,8 @@ def main(words):
         return written("%s (Kombazily) %s\n" % (CALLED.removeprefix("./"), programs.version()), 0)
     if words[:1] == ["check"]:
         return check(words[1:])
+    if words[:1] == ["grade"]:
+        return grading.main(words[1:], say)
     signal.signal(signal.SIGTERM, lambda *_: sys.exit(128 + signal.SIGTERM))
     try:
         request = Request(words)

@@ -247,3 +247,15 @@ void explored_abort(int code) {
     process.call = "MPI_Abort";
     (void)answer_of((struct explorer_ask){.kind = ASK_ABORT, .call.order = code});
 }
+
+struct begun begun_here(void) {
+    struct begun made = {.name = process.call, .caller = process.caller, .call = process.calls};
+    strncpy(made.told.name, made.name, sizeof made.told.name - 1);
+    if (is_explored) made.told.frame_count = explored_frames(made.told.frames);
+    return made;
+}
+
+void explored_misuse(enum misuse misuse, const struct begun *begun) {
+    struct explorer_ask ask = {.kind = ASK_MISUSE, .call.order = (int32_t)misuse, .length = sizeof begun->told};
+    (void)explored_ask(&ask, NULL, &begun->told, NULL);
+}

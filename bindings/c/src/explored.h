@@ -60,6 +60,15 @@ void explored_probe(const struct engine_call *probe, bool waits, struct engine_a
 /* Tells of an error that ends the program, or that a call returned: whether the program is to go on. */
 bool explored_error(enum explorer_ask_kind kind, const char *call, int class, const char *text);
 void explored_abort(int code);
+/* Where the call of now stands; and tells how the buffer of an operation is misused that was begun there. */
+struct begun {
+    const char *name;
+    const void *caller;
+    uint64_t call; /* the how-many-th of the process */
+    struct explorer_begun told;
+};
+struct begun begun_here(void);
+void explored_misuse(enum misuse misuse, const struct begun *begun);
 /* A clock that goes on by a millisecond with each look: a program's time is the same in each run of the same choices.
  */
 uint64_t explored_nanoseconds(void);

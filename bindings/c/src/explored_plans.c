@@ -33,6 +33,7 @@ uint32_t tell_plan(const struct plan_call *call) {
     const struct engine_call entry = {.kind = call->kind,
                                       .communicator = call->comm->place,
                                       .peer = has_root(call->kind) ? call->root : EXPLORER_NO_ROOT,
+                                      .tag = (int32_t)call->persistent,
                                       .operation = operation_told(call->folding.operation),
                                       .count = call->given.count};
     size_t count = put_blocks(&call->given, blocks);

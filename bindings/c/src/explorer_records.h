@@ -27,12 +27,31 @@ enum explorer_ask_kind {
     ASK_START,    /* in MPI_Init; call.order: EXPLORER_VERSION. Answered by nothing */
     ASK_ENTER, /* plan; call: a collective that goes by sends and receives begins. kind: a plan_kind, peer: the root or
                   EXPLORER_NO_ROOT, operation: that of a reduction, of which EXPLORER_OWN_OPERATION is a function of
-                  the program, count: how many blocks the member hands in; is_waiting: it waits for its end. bytes:
-                  those blocks and those that it gets, each an explorer_block. Answered by nothing */
+                  the program, count: how many blocks the member hands in, tag: 0, or the number of a persistent one in
+                  its communicator; is_waiting: it waits for its end. bytes: those blocks and those that it gets, each
+                  an explorer_block. Answered by nothing */
     ASK_KEPT,  /* entries: sends of MPI_Bsend, in their order. The fact: of so many of the first ones this rank knows
                   that they were received: no run may have them in the buffer still */
-    ASK_FINALIZE /* entries: the requests that are left; bytes: an explorer_left, then the places of the communicators
-                    that are left. Answered once all ranks are there */
+    ASK_FINALIZE, /* entries: the requests that are left; bytes: an explorer_left, then the places of the communicators
+                     that are left. Answered once all ranks are there */
+    ASK_MISUSE    /* bytes: an explorer_begun. The buffer of that operation is misused, as call.order says, which is a
+                     misuse: seen in the call that asks. It is no call by itself */
+};
+
+/* How a program uses a buffer that an operation has (MPI 3.1, 3.7.2, 3.10, 5.12). */
+enum misuse {
+    MISUSE_OVERLAP = 1, /* the buffer of the operation that begins now shares a byte with it, and data come into one */
+    MISUSE_WITHIN,      /* so do two buffers of this call */
+    MISUSE_CHANGED,     /* what is sent isn't as it was, when the operation completes */
+    MISUSE_WRITTEN,     /* nor is the memory where data come, before they do */
+    MISUSE_GONE         /* it isn't there */
+};
+
+/* An operation that was begun: in which call, and where that stands, as in an ask. */
+struct explorer_begun {
+    char name[EXPLORER_NAME];
+    uint64_t frame_count;
+    uint64_t frames[EXPLORER_FRAMES];
 };
 
 /* A request of a list. A list with one that is EXPLORER_OPEN is answered by the fact EXPLORER_AGAIN, too: as a pause.

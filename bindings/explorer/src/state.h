@@ -66,9 +66,17 @@ struct pin {
 /* A collective of a rank that goes by sends and receives. */
 struct plan {
     uint32_t communicator;
-    uint32_t entry; /* the how-many-th collective of its communicator it is */
+    uint64_t name;  /* of its communicator, or of a series */
+    uint32_t entry; /* the how-many-th collective of this name it is */
     bool waits;     /* its rank waits for its end in the call itself */
     struct place place;
+};
+
+/* A persistent collective, which a rank begins again and again: members begin several in any order (MPI 4.0, 6.13), so
+ * each is counted by itself. */
+struct series {
+    uint64_t name;
+    uint32_t entered;
 };
 
 /* A send that was buffered and that its rank has ended: its engine has it until it is received. */
@@ -105,6 +113,8 @@ struct rank {
     int taking_count, taking_room;
     struct plan *plans; /* by their numbers, less one */
     int plan_count;
+    struct series *series;
+    int series_count;
     struct rest *rests; /* what the engines have of sends that were buffered and ended */
     int rest_count, rest_room, rest_bound;
     /* The answer, and what stands behind it. */
@@ -148,6 +158,7 @@ struct entering {
     uint32_t kind;             /* an engine_call_kind, or ENTERS_PLAN and a plan_kind */
     int32_t root;              /* or EXPLORER_NO_ROOT */
     uint32_t operation;        /* or 0 */
+    uint32_t persistent;       /* or 0 */
     struct explorer_block row; /* of a collective of the engine's, where members have alike ones */
     uint32_t given, got;       /* of a plan: blocks that the member hands in, and that it gets behind them */
     struct explorer_block *blocks;
@@ -156,7 +167,7 @@ struct entering {
 
 /* A collective that some members have entered. */
 struct meeting {
-    uint64_t name;
+    uint64_t name, communicator; /* that of a series, and of its communicator; else twice the latter */
     uint32_t index, entered, size;
     bool is_told;
     struct entering *of;
@@ -234,8 +245,12 @@ void learn_members(struct steps *s, int rank, uint32_t place, uint64_t name);
 struct members *members_of(struct steps *s, int rank, uint32_t place);
 /* The rank in `world` of a member, or -1. */
 int world_rank(struct steps *s, int rank, uint32_t place, int32_t member);
-/* How many collectives of the communicator of this name a rank has entered. */
+/* How many collectives of the communicator or series of this name a rank has entered. */
 uint32_t entered_by(const struct rank *own, uint64_t name);
+/* The name of a persistent collective of a communicator; and the series of this name of a rank, made where it is new.
+ */
+uint64_t series_name(const struct members *of, uint32_t persistent);
+struct series *series_of(struct rank *own, uint64_t name);
 uint64_t mixed(uint64_t a, uint64_t b);
 
 /* ---- operations.c ---- */
@@ -277,8 +292,8 @@ bool are_all_there(struct steps *s, int rank);
 
 /* ---- meetings.c ---- */
 
-/* A member enters a collective, whose blocks are taken over: the how-many-th of the communicator it is. What differs
- * from what others entered is told. */
+/* A member enters a collective, whose blocks are taken over: the how-many-th of the communicator, or of its series, it
+ * is. What differs from what others entered is told. */
 uint32_t enter_meeting(struct steps *s, int rank, struct members *of, struct entering own);
 /* Tells of collectives that some member never entered, and what differs at those that did. */
 void tell_absent(struct steps *s);
@@ -304,6 +319,11 @@ bool has_copies(const struct rank *own, uint32_t communicator, bool any);
 /* ---- buffers.c ---- */
 
 void answer_kept(struct steps *s, int rank);
+
+/* ---- misuses.c ---- */
+
+/* A rank tells how the program uses a buffer that an operation has. */
+void note_misuse(struct steps *s, int rank);
 
 /* ---- looks.c ---- */
 

@@ -29,6 +29,7 @@ static void free_rank(struct rank *own) {
     free(own->pins);
     free(own->takings);
     free(own->plans);
+    free(own->series);
     free(own->rests);
 }
 
@@ -52,7 +53,7 @@ static bool is_turn(const struct explorer_ask *ask) {
     const uint32_t kind = ask->call.kind;
     bool is_look_inside = ask->kind == ASK_CALL && (kind == ENGINE_LOOK || kind == ENGINE_TEST);
     bool is_of_plan = ask->plan != 0 && ask->kind != ASK_ENTER;
-    return is_look_inside || is_of_plan || ask->kind == ASK_PAUSE || ask->kind == ASK_KEPT;
+    return is_look_inside || is_of_plan || ask->kind == ASK_PAUSE || ask->kind == ASK_KEPT || ask->kind == ASK_MISUSE;
 }
 
 /* Keeps the ask, and what stands behind it. */
@@ -168,6 +169,9 @@ void steps_ask(struct steps *s, int rank, const struct explorer_ask *ask, const 
         return;
     case ASK_KEPT:
         answer_kept(s, rank);
+        return;
+    case ASK_MISUSE:
+        note_misuse(s, rank);
         return;
     case ASK_FINALIZE:
         tell_left(s, rank, own->bytes);

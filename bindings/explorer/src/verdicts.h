@@ -28,8 +28,9 @@ enum finding_kind {
     KILLED,   /* a rank's process was killed, ended without MPI_Finalize, or with another status than 0 */
     NO_FINALIZE,
     OTHER_STATUS,
-    RECORD_ENDS, /* what was recorded of a rank is over */
-    CANCEL_RACES /* whether a message or the cancel of its receive comes first is left to chance */
+    RECORD_ENDS,   /* what was recorded of a rank is over */
+    CANCEL_RACES,  /* whether a message or the cancel of its receive comes first is left to chance */
+    BUFFER_MISUSED /* a buffer is used that an operation has */
 };
 
 /* How a run ends, by its number. */

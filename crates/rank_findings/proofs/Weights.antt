@@ -12,7 +12,7 @@ use Rattle.rank_findings.specs.declared.finding.Finding.TheVariants.{MessagesTak
 use Rattle.rank_findings.specs.declared.finding.Finding.TheVariants.{AsksForEver, InFinalize, Cycle, Differs}
 use Rattle.rank_findings.specs.declared.finding.Finding.TheVariants.{NeverEntered, CallFailed, ErrorReturned, Aborted}
 use Rattle.rank_findings.specs.declared.finding.Finding.TheVariants.{Silent, Killed, NoFinalize, OtherStatus}
-use Rattle.rank_findings.specs.declared.finding.Finding.TheVariants.{RecordEnds, CancelRaces}
+use Rattle.rank_findings.specs.declared.finding.Finding.TheVariants.{RecordEnds, CancelRaces, BufferMisused}
 
 -- one more number is looked at
 pub largest_next : (most w h all : ℕ) → max most (max w h) ≡ all → max (max w most) h ≡ all
@@ -40,6 +40,7 @@ weight_is NoFinalize = refl
 weight_is OtherStatus = refl
 weight_is RecordEnds = refl
 weight_is CancelRaces = refl
+weight_is BufferMisused = refl
 
 at_most_three : (a b : Bool) → (if a then 3 else (if b then 2 else 1)) ≤ 3
 at_most_three true b = omega arith

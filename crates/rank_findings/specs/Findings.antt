@@ -6,7 +6,7 @@ use Rattle.rank_findings.specs.declared.finding.Finding.TheVariants.{MessagesTak
 use Rattle.rank_findings.specs.declared.finding.Finding.TheVariants.{AsksForEver, InFinalize, Cycle, Differs}
 use Rattle.rank_findings.specs.declared.finding.Finding.TheVariants.{NeverEntered, CallFailed, ErrorReturned, Aborted}
 use Rattle.rank_findings.specs.declared.finding.Finding.TheVariants.{Silent, Killed, NoFinalize, OtherStatus}
-use Rattle.rank_findings.specs.declared.finding.Finding.TheVariants.{RecordEnds, CancelRaces}
+use Rattle.rank_findings.specs.declared.finding.Finding.TheVariants.{RecordEnds, CancelRaces, BufferMisused}
 
 abbrev pub finding_number : Finding → ℕ
 finding_number RequestLeft = 1
@@ -30,6 +30,7 @@ finding_number NoFinalize = 18
 finding_number OtherStatus = 19
 finding_number RecordEnds = 20
 finding_number CancelRaces = 21
+finding_number BufferMisused = 22
 
 -- the finding that a number names
 abbrev pub finding_at : ℕ → Option Finding
@@ -41,10 +42,11 @@ finding_at n =
     (if n == 12 then Some NeverEntered else (if n == 13 then Some CallFailed else
     (if n == 14 then Some ErrorReturned else (if n == 15 then Some Aborted else (if n == 16 then Some Silent else
     (if n == 17 then Some Killed else (if n == 18 then Some NoFinalize else (if n == 19 then Some OtherStatus else
-    (if n == 20 then Some RecordEnds else (if n == 21 then Some CancelRaces else None))))))))))))))))))))
+    (if n == 20 then Some RecordEnds else (if n == 21 then Some CancelRaces else
+    (if n == 22 then Some BufferMisused else None)))))))))))))))))))))
 
 -- the program is wrong: somebody waits and nobody can go on, a call fails, a process dies or makes no call, members enter
--- a collective differently or not at all
+-- a collective differently or not at all, a buffer is used that an operation has
 abbrev pub is_fault : Finding → Bool
 is_fault Waits = true
 is_fault AsksForEver = true
@@ -57,6 +59,7 @@ is_fault Aborted = true
 is_fault Silent = true
 is_fault Killed = true
 is_fault NoFinalize = true
+is_fault BufferMisused = true
 is_fault f = false
 
 -- something is left over: a request, a message, a status, a send that a buffer is to take

@@ -49,6 +49,8 @@ pub enum Finding {
     RecordEnds,
     /// Chance decides whether a message or the cancel of its receive comes first.
     CancelRaces,
+    /// The program uses a buffer that an operation has.
+    BufferMisused,
 }
 
 impl Finding {
@@ -78,6 +80,7 @@ impl Finding {
             19 => Some(Finding::OtherStatus),
             20 => Some(Finding::RecordEnds),
             21 => Some(Finding::CancelRaces),
+            22 => Some(Finding::BufferMisused),
             _ => None,
         }
     }
@@ -109,17 +112,19 @@ impl Finding {
             Finding::OtherStatus => 19,
             Finding::RecordEnds => 20,
             Finding::CancelRaces => 21,
+            Finding::BufferMisused => 22,
         }
     }
 
     /// Whether the program is wrong: somebody waits and nobody can go on, a call fails, a process dies or makes no call,
-    /// or members enter a collective differently or not at all.
+    /// members enter a collective differently or not at all, or a buffer is used that an operation has.
     pub fn is_fault(self) -> bool
         ensures { result ≡ is_fault self }
     {
         match self {
             Finding::Waits | Finding::AsksForEver | Finding::InFinalize | Finding::Cycle => true,
             Finding::Differs | Finding::NeverEntered | Finding::Aborted => true,
+            Finding::BufferMisused => true,
             Finding::CallFailed | Finding::Silent | Finding::Killed | Finding::NoFinalize => true,
             _ => false,
         }
