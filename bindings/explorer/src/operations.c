@@ -45,7 +45,6 @@ static void begin_send(struct steps *s, int rank, const struct explorer_ask *ask
     struct engine_answer answer;
     it->op = ++own->sends;
     it->waits = is_to_wait(s, ask);
-    if (strcmp(ask->name, "MPI_Rsend") == 0 || strcmp(ask->name, "MPI_Irsend") == 0) s->has_ready = true;
     if (it->waits) call.kind = ENGINE_ISSEND;
     call_engine(s, ask->plan != 0, rank, &call, bytes, ask->length, &answer);
     /* The engine ends one at once that goes in a frame. */

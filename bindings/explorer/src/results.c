@@ -262,7 +262,6 @@ static size_t untried(const char *words[]) {
              set.mix);
     if (counts.has_apart) words[count++] = apart;
     if (counts.has_kept) words[count++] = "ranks that leave MPI_Comm_dup or MPI_Comm_split before all are there";
-    if (counts.has_ready) words[count++] = "ready sends that come before their receives";
     if (counts.has_parts) words[count++] = "what MPI_Waitsome or MPI_Testsome ends of more than six, but one and all";
     if (counts.has_cancelled) words[count++] = "whether a message or the cancel of its receive comes first";
     return count;

@@ -333,7 +333,6 @@ void run_once(struct run *run, bool synchronous, enum choosing choosing) {
     if (steps_withheld(run->steps)) counts.has_withheld = true;
     if (steps_cancelled(run->steps)) counts.has_cancelled = true;
     if (steps_kept(run->steps)) counts.has_kept = true;
-    if (steps_sent_ready(run->steps)) counts.has_ready = true;
     if (steps_left_parts(run->steps)) counts.has_parts = true;
     if (steps_sent_long(run->steps)) counts.has_long = true;
 }

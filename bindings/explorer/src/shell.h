@@ -99,7 +99,6 @@ struct counts {
     bool has_cancelled; /* some run left to chance whether a message or the cancel of its receive came first */
     bool has_apart;     /* some run was kept from other choices than the first ones (--mix) */
     bool has_kept;      /* a rank had to stay in a call that makes a communicator, since others weren't there */
-    bool has_ready;     /* a ready send, whose receive may not be there yet */
     bool has_parts;     /* not each part of those that some of a list might end was tried */
     bool has_long;      /* a standard send of some run was longer than is buffered */
 };

@@ -190,7 +190,6 @@ struct steps {
     bool has_copies;   /* some rank has asked for a copy that doesn't wait */
     bool has_long;     /* a standard send was longer than is buffered */
     bool has_kept;     /* a rank stayed in a call that makes a communicator, since others weren't there */
-    bool has_ready;    /* a ready send was made */
     bool has_parts;    /* not each part was a move of the requests that some of a list might end */
     uint64_t calls;
     int rounds_of_no;

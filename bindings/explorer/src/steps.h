@@ -97,10 +97,8 @@ uint64_t steps_calls(const struct steps *s);
 bool steps_withheld(const struct steps *s);
 /* Whether a receive was cancelled to which a message might have come first. */
 bool steps_cancelled(const struct steps *s);
-/* Whether a rank stayed in a call that makes a communicator, since others weren't there; and whether a ready send was
- * made, which MPI allows only once its receive is there (3.4). */
+/* Whether a rank stayed in a call that makes a communicator, since others weren't there. */
 bool steps_kept(const struct steps *s);
-bool steps_sent_ready(const struct steps *s);
 /* Whether more requests were at their ends for MPI_Waitsome or MPI_Testsome than each part was a move of. */
 bool steps_left_parts(const struct steps *s);
 /* Whether a standard send was longer than is buffered. */
