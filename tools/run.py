@@ -76,9 +76,9 @@ SHOWING = {
     "--svg": {"--datagrams": 0},
 }
 # The same of a C program that is explored.
-EXPLORING_C = {"--most": 1, "--results": 1, "--out": 1, "--html": 1, "--seconds": 1, "--random": 1, "--noes": 1, "--replay": 1, "--debug": 1,
-               "--patience": 1, "--stdin": 1, "--both": 0, "--only-buffered": 0, "--synchronous": 0, "--each": 0, "--buffered": 1,
-               "--fork": 0, "--go-on": 0, "--output": 0, "--quiet": 0, "--count": 0}
+EXPLORING_C = {"--most": 1, "--results": 1, "--out": 1, "--html": 1, "--seconds": 1, "--random": 1, "--noes": 1, "--mix": 1, "--replay": 1,
+               "--debug": 1, "--patience": 1, "--stdin": 1, "--both": 0, "--only-buffered": 0, "--synchronous": 0, "--each": 0,
+               "--buffered": 1, "--fork": 0, "--go-on": 0, "--output": 0, "--quiet": 0, "--count": 0}
 OPTIONS_OF_C = ("-n", "-np")
 # Milliseconds for which all ranks of a C program may wait for one another.
 PATIENCE_OF_C = 10000

@@ -89,7 +89,8 @@ LEFT = ["rank 0: MPI_Finalize: 2 more messages"] + 10 * [SELF] + [
 SHORT = "the block of rank 0 has 4 bytes, and 40 are wanted (1)"
 DIFFERING = {it: (2, "MPI_%s: %s" % (it, SHORT)) for it in ("Wait", "Test", "Waitany", "Request_get_status", "Request_free")}
 DIFFERING.update({it: (19, "MPI_%s: request 0 of 1: %s" % (it, SHORT)) for it in ("Waitall", "Testsome")})
-DIFFERING["Request_free_receive"] = (15, "MPI_Request_free: a message of 40 bytes from rank 0 with tag 1 is longer than its receive of 4 bytes")
+DIFFERING["Request_free_receive"] = (15, "MPI_Request_free: a message of 40 bytes from rank 0 with tag 1 is longer than its receive of "
+                                         "4 bytes")
 KEPT = ("crash", "kill", "abort", "error")
 # What rank 0 says behind a second without any movement, where no patience was told: on a slow machine before an interrupt, too.
 STANDS = "rank 0: all ranks wait, and nothing has moved for 1 s; Ctrl-C ends the job and tells what each waits for"

@@ -208,7 +208,7 @@ class Words:
 
 
 OWN_TEXTS = {"--stdin", "--html", "--replay", "--out"}
-TAKE_ONE = OWN_TEXTS | {"--debug", "--random", "--noes"} | set(Words.NUMBERS) | set(Words.TEXTS)
+TAKE_ONE = OWN_TEXTS | {"--debug", "--random", "--noes", "--mix"} | set(Words.NUMBERS) | set(Words.TEXTS)
 
 
 def program_of(words):
@@ -374,6 +374,10 @@ class Result:
         found = [it for it in self.lines if not re.match(WORTH_KNOWING, it)]
         return [it for it in found if not re.match(NOT_SURE, it)] if self.ending == OPEN else found
 
+    def stands(self):
+        """Where each rank stands, whatever it waits for there."""
+        return [re.sub(r"(at \S+( \(\w+\))?).*", r"\1", it) for it in self.lines if it.startswith("  rank ")]
+
     def worth_knowing(self):
         return [it for it in self.lines if re.match(WORTH_KNOWING, it)]
 
@@ -423,6 +427,11 @@ class Explorer:
             for it in results:
                 read_moves(it, Path(folder) / ("choices%d.txt" % it.number))
         return results
+
+    def can_hang(self, run, result):
+        """Whether ranks can stand so where sends wait, and each receive of any source takes whoever comes."""
+        _, results = self.tell(run, ["--synchronous"], False)
+        return any(it.ending == result.ending and it.stands() == result.stands() for it in results)
 
     def others(self, run):
         """What each receive of any source might have taken in place of what it took: schedules, each with that in words."""
@@ -537,6 +546,8 @@ class Search:
         faulty = [it for it in results if it.is_faulty()]
         is_told = any(not it.waits for it in faulty)
         for it in faulty:
+            if it.waits and it.ending.startswith("DEADLOCK") and run.record.took and not self.explorer.can_hang(run, it):
+                continue
             # What the pass with sends that wait is for; the rest was told of the other one.
             if not it.waits or not is_told or it.ending.startswith("DEADLOCK"):
                 self.findings.setdefault(it.key(), Finding(it, run))

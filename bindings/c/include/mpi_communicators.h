@@ -1,6 +1,6 @@
 /* Topologies (7), attributes (6.7), error handlers (8.3), Info (9): a part of mpi.h, which includes it. */
-#ifndef MPI_COMMUNICATORS_H
-#define MPI_COMMUNICATORS_H
+#ifndef KOMBAZILY_MPI_COMMUNICATORS_H
+#define KOMBAZILY_MPI_COMMUNICATORS_H
 
 /* Kinds of topologies (7.5.5). */
 #define MPI_GRAPH 1

@@ -1,6 +1,6 @@
 /* The second names of all functions of mpi.h, for profilers (MPI 3.1, 14.2.1). Made by `make profiling-names`. */
-#ifndef MPI_PROFILING_H
-#define MPI_PROFILING_H
+#ifndef KOMBAZILY_MPI_PROFILING_H
+#define KOMBAZILY_MPI_PROFILING_H
 
 int PMPI_Init(int *argc, char ***argv);
 int PMPI_Init_thread(int *argc, char ***argv, int required, int *provided);

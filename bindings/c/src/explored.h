@@ -9,6 +9,9 @@
 #include "internal.h"
 
 extern bool is_explored;
+/* Under an explorer, of whose passes this is told: whether members leave a collective as soon as they have what it
+ * gives them and their own data are on the way (MPI 3.1, 5.1). Blocks go straight from member to member then. */
+extern bool leaves_early;
 
 /* ---- explored_start.c ---- */
 

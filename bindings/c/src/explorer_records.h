@@ -107,5 +107,6 @@ struct explorer_answer {
 /* What a process that is copied for each run is handed with the two descriptors of a run. */
 struct explorer_run {
     uint32_t tells_places;
+    uint32_t leaves_early;
 };
 #endif

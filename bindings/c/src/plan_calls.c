@@ -135,10 +135,11 @@ int carry_out(const struct asked *asked, struct plan_call *call) {
     call->name = asked->name;
     call->comm = asked->comm;
     call->waits = asked->waits;
+    const bool is_straight = is_explored && (!asked->waits || (leaves_early && can_be_left(call->kind)));
+    if (is_straight && !go_straight(call)) return drop_call(call, no_memory(asked));
     if (asked->waits) return carry_to_end(asked, call);
     int class = asked->is_persistent ? number_call(asked, call) : MPI_SUCCESS;
     if (class != MPI_SUCCESS) return drop_call(call, class);
-    if (is_explored && !go_straight(call)) return drop_call(call, no_memory(asked));
     MPI_Request handle = open_request();
     struct request *own = request_of(handle);
     if (own == NULL) return drop_call(call, no_memory(asked));

@@ -423,6 +423,7 @@ void plans_go_on(void) {
 }
 
 void say_plan_end(const struct plan_run *run, char *text) {
+    note_told(run->call.comm->place);
     static const char *const kinds[] = {
         [PLAN_ALLTOALL] = "an alltoall",
         [PLAN_ALLGATHER] = "an allgather",

@@ -53,7 +53,7 @@ struct plan_run *make_plan(const struct plan_call *asked, struct request *reques
 void start_plan(struct plan_run *run);
 /* Goes on as far as it can, and notes in the request where it is at its end. */
 void plan_goes_on(struct plan_run *run);
-/* Why it failed, in at most LONGEST_CAUSE bytes. */
+/* Why it failed, in at most LONGEST_CAUSE bytes: the program is told. */
 void say_plan_end(const struct plan_run *run, char *text);
 /* Forgets it. */
 void end_plan(struct plan_run *run);

@@ -132,6 +132,8 @@ static void replay(struct pass *pass) {
 
 /* The signal that ended the last pass, or 0. */
 static int stopped;
+/* Whether a pass that is over met a bound, and left runs out. */
+static bool has_rest;
 /* Whether a pass that is over made sends that are longer than is buffered, some of which other runs may buffer. */
 static bool has_mixture;
 
@@ -143,6 +145,7 @@ static uint32_t make_pass(bool synchronous) {
     else explore(&pass);
     uint32_t weight = tell_results(&pass);
     has_mixture |= counts.has_long;
+    has_rest |= !pass.is_all && pass.astray == NULL && pass.stopped == 0;
     stopped = pass.stopped;
     if (set.html != NULL) page_add(&pass);
     free_results();
@@ -151,7 +154,10 @@ static uint32_t make_pass(bool synchronous) {
 
 /* What a pass can't show in which all sends of a length go alike. */
 static void say_hint(const uint32_t *passes, size_t count) {
-    const bool is_other = !has_mixture || set.each || set.replay != NULL || set.followed != NULL;
+    const bool is_one = set.replay != NULL || set.followed != NULL;
+    const bool is_other = !has_mixture || set.each || is_one;
+    if (has_rest && set.mix < 0 && !is_one && set.played == NULL)
+        puts("--mix 2 makes fewer runs: those whose choices differ from the first ones at two places in a row at most");
     if (kombazily_is_hint_told(passes, count, is_other))
         printf("sends of more than %ld bytes were made: --each tries each send waiting and buffered, by choice\n",
                set.buffered);

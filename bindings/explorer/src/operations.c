@@ -45,6 +45,7 @@ static void begin_send(struct steps *s, int rank, const struct explorer_ask *ask
     struct engine_answer answer;
     it->op = ++own->sends;
     it->waits = is_to_wait(s, ask);
+    if (strcmp(ask->name, "MPI_Rsend") == 0 || strcmp(ask->name, "MPI_Irsend") == 0) s->has_ready = true;
     if (it->waits) call.kind = ENGINE_ISSEND;
     call_engine(s, ask->plan != 0, rank, &call, bytes, ask->length, &answer);
     /* The engine ends one at once that goes in a frame. */
@@ -128,6 +129,7 @@ bool is_done(struct steps *s, int rank, uint64_t key) {
     const struct operation *it = operation_of(s, rank, key);
     if (it == NULL) return true;
     if (it->state == OP_WILD || it->state == OP_HELD || it->state == OP_COPYING) return false;
+    if (s->options.synchronous && it->plan != 0 && !has_met(s, rank, it->plan)) return false;
     if (it->state != OP_POSTED) return true;
     struct engine_answer look;
     engines_call(it->plan != 0 ? s->plan_engines : s->engines, rank,

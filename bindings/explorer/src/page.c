@@ -171,7 +171,7 @@ static void put_result(int i) {
             ending_word(it->ending));
     fprintf(page, "<p class=\"small\">In %ld run%s.", it->runs, it->runs == 1 ? "" : "s");
     if (it->is_early && it->weight > 0)
-        fputs(" Perhaps: only where a look says no, or tells of one, though more is there.", page);
+        fputs(" Perhaps: only where a look says no, or tells of fewer than are there.", page);
     if (it->is_odd) fputs(" Perhaps: no one order of arrival gives this, but MPI allows it.", page);
     fputs(it->finding_count == 0 ? " Nothing to tell.</p>\n" : "</p>\n<ul class=\"found\">\n", page);
     for (int k = 0; k < it->finding_count; k++) put_finding(&it->findings[k]);

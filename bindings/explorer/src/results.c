@@ -256,7 +256,14 @@ void say_sends(bool synchronous, char *into, size_t room) {
 
 /* What the runs did that wasn't tried in all ways: how many such things, in words. */
 static size_t untried(const char *words[]) {
+    static char apart[120];
     size_t count = 0;
+    snprintf(apart, sizeof apart, "runs that make other choices than the first ones %ld or more places apart (--mix)",
+             set.mix);
+    if (counts.has_apart) words[count++] = apart;
+    if (counts.has_kept) words[count++] = "ranks that leave MPI_Comm_dup or MPI_Comm_split before all are there";
+    if (counts.has_ready) words[count++] = "ready sends that come before their receives";
+    if (counts.has_parts) words[count++] = "what MPI_Waitsome or MPI_Testsome ends of more than six, but one and all";
     if (counts.has_cancelled) words[count++] = "whether a message or the cancel of its receive comes first";
     return count;
 }
@@ -316,7 +323,7 @@ static void tell_result(int i) {
     printf("result %d of %d, in %ld run%s: %s%s%s%s\n", i + 1, result_count, it->runs, it->runs == 1 ? "" : "s",
            ending_word(it->ending), it->weight == 0 ? ", nothing to tell" : "",
            it->is_early && it->weight > 0
-               ? " (perhaps: only where a look says no that could say yes, or tells of one alone)"
+               ? " (perhaps: only where a look says no that could say yes, or tells of fewer than are there)"
                : "",
            it->is_odd ? " (perhaps: no one order of arrival gives this, but MPI allows it)" : "");
     fputs(it->words, stdout);

@@ -6,7 +6,7 @@
 
 #include <signal.h>
 
-enum { MOST_MOVES = 4096 };
+enum { MOST_MOVES = 1 << 14 };
 
 /* Statuses of the program, beside those that its runs give (verdicts.h). */
 enum { STATUS_CLEAN = 0, STATUS_WORDS = 2, STATUS_START = 6 };
@@ -19,6 +19,7 @@ struct settings {
     long buffered; /* the longest standard send of the first pass that is buffered, in bytes */
     bool forks, places, goes_on, quiet, shows_output, counts_only, has_no_sleep;
     long most, results, random;
+    long mix; /* within so many places a run may make other choices than the first ones; -1: at all of them */
     double seconds, patience;
     int noes;
     const char *replay, *out, *html, *input;
@@ -42,8 +43,8 @@ void read_words(int count, char **words);
 
 /* ---- processes.c ---- */
 
-/* Starts the process of a rank for a run. */
-void start_rank(int rank);
+/* Starts the process of a rank for a run, in which it leaves collectives early, or with all. */
+void start_rank(int rank, bool leaves_early);
 void close_moulds(void);
 /* Takes it to its end. One that talks no more may end by itself: whether it did. */
 bool end_rank(int rank, bool by_force);
@@ -88,12 +89,18 @@ struct run {
     int move_count;
     int early; /* looks that say no, or name one of several, though more is there */
     bool is_astray;
+    bool differs; /* a choice wasn't the first one of its place, and the first such place */
+    int differs_at;
     bool has_open_end; /* what was recorded of a rank was over before its program was */
 };
 struct counts {
     uint64_t asks, moves, calls;
     bool has_withheld;  /* a look of some run wasn't let say no (--noes) */
     bool has_cancelled; /* some run left to chance whether a message or the cancel of its receive came first */
+    bool has_apart;     /* some run was kept from other choices than the first ones (--mix) */
+    bool has_kept;      /* a rank had to stay in a call that makes a communicator, since others weren't there */
+    bool has_ready;     /* a ready send, whose receive may not be there yet */
+    bool has_parts;     /* not each part of those that some of a list might end was tried */
     bool has_long;      /* a standard send of some run was longer than is buffered */
 };
 extern struct counts counts;

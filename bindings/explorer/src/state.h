@@ -68,6 +68,7 @@ struct plan {
     uint32_t communicator;
     uint64_t name;  /* of its communicator, or of a series */
     uint32_t entry; /* the how-many-th collective of this name it is */
+    bool waits;     /* its rank waits for its end in the call itself */
     struct place place;
 };
 
@@ -188,6 +189,9 @@ struct steps {
     bool has_withheld; /* a look wasn't let say no, since others in front of it had */
     bool has_copies;   /* some rank has asked for a copy that doesn't wait */
     bool has_long;     /* a standard send was longer than is buffered */
+    bool has_kept;     /* a rank stayed in a call that makes a communicator, since others weren't there */
+    bool has_ready;    /* a ready send was made */
+    bool has_parts;    /* not each part was a move of the requests that some of a list might end */
     uint64_t calls;
     int rounds_of_no;
     struct sent *sent;
@@ -300,6 +304,8 @@ void free_meetings(struct steps *s);
 /* A plan's message as its engine is told of it: by ranks in `world`, apart from those of other communicators. */
 struct engine_call plan_message(struct steps *s, int rank, const struct engine_call *call);
 void begin_plan(struct steps *s, int rank);
+/* Whether all members have entered the collective that goes by this plan, where one waits for it in the call. */
+bool has_met(struct steps *s, int rank, uint64_t number);
 /* The plan of this number, or NULL. */
 const struct plan *plan_of(const struct rank *own, uint64_t number);
 

@@ -279,6 +279,10 @@ uint64_t steps_calls(const struct steps *s) { return s->calls; }
 
 bool steps_withheld(const struct steps *s) { return s->has_withheld; }
 
+bool steps_kept(const struct steps *s) { return s->has_kept; }
+bool steps_sent_ready(const struct steps *s) { return s->has_ready; }
+bool steps_left_parts(const struct steps *s) { return s->has_parts; }
+
 bool steps_sent_long(const struct steps *s) { return s->has_long; }
 
 bool steps_cancelled(const struct steps *s) {

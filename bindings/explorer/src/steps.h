@@ -13,13 +13,14 @@
 enum { MOST_RANKS = 64 };
 
 enum move_kind {
-    MOVE_MATCH = 1, /* a receive of any source takes the message of the rank `at` of its communicator */
-    MOVE_SEE,       /* a probe sees the message of the rank `at` of its communicator */
-    MOVE_PLACE,     /* a call for a list ends the request at this place */
-    MOVE_ALL,       /* it ends all that are at their ends; `at` is a sum of their places */
-    MOVE_TRUE,      /* a test says yes */
-    MOVE_FALSE,     /* a test or a probe says no */
-    MOVE_BUFFER     /* a send that waits is buffered after all; `at` is to whom */
+    MOVE_PART,  /* a call for a list ends some of those that are at their ends; `at` is a sum of their places */
+    MOVE_MATCH, /* a receive of any source takes the message of the rank `at` of its communicator */
+    MOVE_SEE,   /* a probe sees the message of the rank `at` of its communicator */
+    MOVE_PLACE, /* a call for a list ends the request at this place */
+    MOVE_ALL,   /* it ends all that are at their ends; `at` is a sum of their places */
+    MOVE_TRUE,  /* a test says yes */
+    MOVE_FALSE, /* a test or a probe says no */
+    MOVE_BUFFER /* a send that waits is buffered after all; `at` is to whom */
 };
 
 /* What may be decided next, of the `op`-th operation of its kind (a receive or a look, or a send) of a rank. So a move
@@ -96,6 +97,12 @@ uint64_t steps_calls(const struct steps *s);
 bool steps_withheld(const struct steps *s);
 /* Whether a receive was cancelled to which a message might have come first. */
 bool steps_cancelled(const struct steps *s);
+/* Whether a rank stayed in a call that makes a communicator, since others weren't there; and whether a ready send was
+ * made, which MPI allows only once its receive is there (3.4). */
+bool steps_kept(const struct steps *s);
+bool steps_sent_ready(const struct steps *s);
+/* Whether more requests were at their ends for MPI_Waitsome or MPI_Testsome than each part was a move of. */
+bool steps_left_parts(const struct steps *s);
 /* Whether a standard send was longer than is buffered. */
 bool steps_sent_long(const struct steps *s);
 

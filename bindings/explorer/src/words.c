@@ -12,6 +12,7 @@ struct settings set = {.size = 2,
                        .patience = 10,
                        .noes = 1,
                        .buffered = 61440,
+                       .mix = -1,
                        .debugged = -1};
 
 static const char usage[] =
@@ -30,6 +31,7 @@ static const char usage[] =
     "  --most RUNS      so many runs at most (10000)\n"
     "  --seconds S      so long at most (60)\n"
     "  --random RUNS    so many runs by chance, where the bounds were met\n"
+    "  --mix K          a run makes other choices than the first ones within K places in a row alone: fewer runs\n"
     "  --noes K         so many looks in a row may say no though they could say yes (1)\n"
     "  --fork           each process is started once, and copied in MPI_Init for each run\n"
     "  --out FOLDER     the choices of each result go there, as choices1.txt ..; it is made where it isn't there\n"
@@ -76,6 +78,7 @@ static const struct word known[] = {
     {"--most", TAKES_LONG, &set.most},
     {"--seconds", TAKES_SECONDS, &set.seconds},
     {"--random", TAKES_LONG, &set.random},
+    {"--mix", TAKES_LONG, &set.mix},
     {"--noes", TAKES_WHOLE, &set.noes},
     {"--fork", TAKES_NOTHING, &set.forks},
     {"--out", TAKES_TEXT, &set.out},
@@ -173,6 +176,7 @@ void read_words(int count, char **words) {
     find_program();
     if (set.input != NULL && access(set.input, R_OK) != 0) fail(STATUS_WORDS, "it can't be read: ", set.input);
     read_passes();
+    if (set.mix == 0) fail(STATUS_WORDS, "--mix 1 at least: the choices of one place alone differ then", "");
     if (set.size < 1 || set.size > MOST_RANKS) fail(STATUS_WORDS, "1 to 64 ranks", "");
     if (set.debugged >= set.size) fail(STATUS_WORDS, "there is no such rank to debug", "");
     if (set.debugged >= 0) set.forks = false;

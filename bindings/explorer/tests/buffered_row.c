@@ -1,5 +1,5 @@
-/* Faulty: rank 2 asks rank 0 alone for a second note if rank 0's came first. It can only where the row of 2,000 bytes before
- * it is buffered, since rank 1 takes the row once rank 2 has both. */
+/* Faulty: rank 2 asks rank 0 alone for a second note if rank 0's came first. It can only where the row of 2,000 bytes
+ * before it is buffered, since rank 1 takes the row once rank 2 has both. */
 #include <mpi.h>
 
 static int row[500];

@@ -1,5 +1,5 @@
-/* Faulty: rank 2 serves whoever comes, and takes it for sure that rank 1 is the first. Rank 0 is, where its row to rank 1 is
- * buffered. A word behind the program has rank 0 begin its row without waiting, and wait for it before it asks. */
+/* Faulty: rank 2 serves whoever comes, and takes it for sure that rank 1 is the first. Rank 0 is, where its row to rank
+ * 1 is buffered. A word behind the program has rank 0 begin its row without waiting, and wait for it before it asks. */
 #include <mpi.h>
 
 static double row[250];
