@@ -181,7 +181,8 @@ def last_line(text):
 
 def write_junit(name, suite, verdicts):
     wrong = sum(not it.is_right for it in verdicts)
-    head = '<testsuite name=%s tests="%d" failures="%d" time="%.2f">' % (quoteattr(suite), len(verdicts), wrong, sum(it.took for it in verdicts))
+    counts = (quoteattr(suite), len(verdicts), wrong, sum(it.took for it in verdicts))
+    head = '<testsuite name=%s tests="%d" failures="%d" time="%.2f">' % counts
     lines = ['<?xml version="1.0" encoding="UTF-8"?>', head, *(it.case(suite) for it in verdicts), "</testsuite>"]
     Path(name).write_text("\n".join(lines) + "\n", encoding="utf-8")
 

@@ -16,7 +16,7 @@ struct watched {
 };
 
 struct watch {
-    struct watch *next;
+    struct watch *next, *before;
     struct watched out, in; /* what is read, and where data come */
     struct begun begun;
     bool is_told; /* that it was written, or is gone */
@@ -100,7 +100,7 @@ static bool do_overlap(const struct watch *own, const struct watch *other) {
            share_bytes(&own->out.rows, &other->in.rows);
 }
 
-/* Tells of those that are open of which this one has a byte: of one call both may be. */
+/* Tells of one that is open of which this one has a byte, the last that began: of one call both may be. */
 static void tell_overlaps(struct watch *own) {
     for (struct watch *it = watches; it != NULL; it = it->next) {
         if (!do_overlap(own, it)) continue;
@@ -108,6 +108,7 @@ static void tell_overlaps(struct watch *own) {
         tell(is_one_call ? MISUSE_WITHIN : MISUSE_OVERLAP, &it->begun);
         /* What comes into one changes the other, which is told by this. */
         own->is_told = it->is_told = true;
+        return;
     }
 }
 
@@ -141,6 +142,7 @@ static void begin(struct request *request, const struct places *out, const struc
     note_sum(&own->out);
     note_sum(&own->in);
     own->next = watches;
+    if (watches != NULL) watches->before = own;
     watches = own;
     request->watch = own;
 }
@@ -191,10 +193,11 @@ void refill_watch(struct watch *watch) {
 
 void drop_watch(struct request *request) {
     if (request == NULL || request->watch == NULL) return;
-    struct watch **at = &watches;
-    while (*at != request->watch) at = &(*at)->next;
-    *at = request->watch->next;
-    free_watch(request->watch);
+    struct watch *own = request->watch;
+    if (own->next != NULL) own->next->before = own->before;
+    if (own->before != NULL) own->before->next = own->next;
+    else watches = own->next;
+    free_watch(own);
     request->watch = NULL;
 }
 

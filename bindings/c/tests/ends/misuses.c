@@ -1,5 +1,6 @@
 /* Rank 0 uses buffers that its operations have, in each way that a run with KOMBAZILY_CHECK tells; with a word it does
  * nothing wrong. */
+#define _GNU_SOURCE
 #include <mpi.h>
 #include <stdlib.h>
 #include <sys/mman.h>
