@@ -267,6 +267,8 @@ static bool hand_on(device_hearer *hearer, int packet) {
 
 bool device_is_at(int rank, uint32_t address, uint16_t port) { return is_at(addresses, rank, address, port); }
 
+const struct addresses *device_ranks(void) { return addresses; }
+
 bool device_knows(uint32_t address, uint16_t port) { return is_of_some(addresses, address, port); }
 
 bool device_hear(device_hearer *hearer) {

@@ -43,6 +43,8 @@ typedef bool device_hearer(uint32_t address, uint16_t port, const unsigned char 
 bool device_hear(device_hearer *hearer);
 /* Whether there is such a rank, and it has this address and port. */
 bool device_is_at(int rank, uint32_t address, uint16_t port);
+/* Where the ranks are to which it is open. */
+const struct addresses *device_ranks(void);
 /* Whether some rank has them. */
 bool device_knows(uint32_t address, uint16_t port);
 /* Waits until something comes, or so many milliseconds. */

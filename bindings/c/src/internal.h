@@ -71,6 +71,10 @@ _Noreturn void end_job(int status);
 
 /* ---- progress.c ---- */
 
+/* The lowest rank of another host from which nothing has ever come, though something was sent to it long ago, while
+ * this rank waits; -1 where there is none. */
+int never_heard(void);
+
 /* Asks the engine of the world that the call's communicator or request is of (worlds.h), once it is free: see
  * matched_receives.c. Data may be NULL where there are none. */
 void call_engine(const struct engine_call *call, const void *data, size_t len, struct engine_answer *answer);

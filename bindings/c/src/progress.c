@@ -4,6 +4,7 @@
 #include "explored.h"
 #include "internal.h"
 #include "plan_runs.h"
+#include "silence.h"
 #include "standstill.h"
 #include "wait_lines.h"
 #include "worlds.h"
@@ -26,8 +27,10 @@ enum {
 
 /* What the engines were told last, in nanoseconds, and until when one keeps an acknowledgement back (0: none does). */
 static uint64_t told, kept_until;
-/* When an engine took a datagram last. */
-static uint64_t heard;
+/* When an engine took a datagram last, and when the wait began that lasts. */
+static uint64_t heard, wait_begun;
+/* Which ranks were sent something, and which have ever been heard. */
+static struct silence known;
 /* So long it asks again and again before it sleeps. */
 static uint64_t spin_time, longest_spin;
 /* So often all is sent that goes out. */
@@ -104,7 +107,10 @@ static void send_from(struct carried *own, bool kept_too) {
         size_t room;
         unsigned char *into = device_room(&room);
         len = kombazily_next(&own->rank, device_most(), kept_too, &out, into, room);
-        if (len != 0) device_put((uint16_t)first_rank(own->world, out.target), out.count, out.each, len);
+        if (len == 0) break;
+        const int target = first_rank(own->world, out.target);
+        note_sent(&known, target, told);
+        device_put((uint16_t)target, out.count, out.each, len);
     }
     own->is_due = false;
     own->kept_until = out.kept_until;
@@ -138,6 +144,7 @@ static bool hear_one(uint32_t address, uint16_t port, const unsigned char *bytes
     struct world *world = world_of_job(job, &kind);
     if (world == NULL && may_be_ours(job) && device_knows(address, port)) keep_datagram(address, port, bytes, len);
     if (world == NULL || !device_is_at(first_rank(world, sender_of(bytes, len)), address, port)) return false;
+    note_came(&known, first_rank(world, sender_of(bytes, len)));
     if (!need_engine(world, kind)) return false;
     tell_before(&world->engines[kind]);
     if (kombazily_datagram(&world->engines[kind].rank, bytes, len) == 0) heard = told, note_news();
@@ -201,9 +208,24 @@ static void sleep_on(void) {
     send_out(false);
 }
 
+int never_heard(void) {
+    if (!device_is_open()) return -1;
+    return first_silent(&known, device_ranks(), process.rank, wait_begun, device_nanoseconds());
+}
+
+/* Tells once of a rank that was never heard. */
+static void tell_silence(void) {
+    static bool is_told;
+    const int rank = is_told ? -1 : never_heard();
+    if (rank < 0) return;
+    is_told = true;
+    tell_never_heard(rank);
+}
+
 /* A rank that was told a patience gives up where the engine took no datagram for so long. */
 static void lose_patience(void) {
     uint64_t quiet = (device_nanoseconds() - heard) / MILLISECOND;
+    tell_silence();
     if (process.patience == 0) {
         watch_standstill(quiet, are_idle());
         return;
@@ -257,6 +279,7 @@ void progress_wait(void) {
 void progress_begin_wait(void) {
     /* The program may have computed for long: that isn't waiting. */
     heard = device_nanoseconds();
+    wait_begun = heard;
 }
 
 void progress_until_idle(void) {

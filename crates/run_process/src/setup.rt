@@ -8,7 +8,7 @@ use host_keepers::message_text;
 use launch_decisions::Start;
 use launch_keeper::Word;
 use process_commands::{command_of, text_of};
-use run_plan::{RunOptions, USUAL_LAUNCHER, launcher_words, rank_command, set_frame, set_hosts};
+use run_plan::{RunOptions, launcher_words, rank_command, set_frame, set_hosts};
 use std::alloc::Global;
 use std::io;
 use std::io::ErrorKind;
@@ -45,6 +45,8 @@ pub struct Setup<'a> {
     pub front: Front,
     /// The hosts of its ranks, where they aren't all this machine.
     pub hosts: Option<&'a JobHosts>,
+    /// The words that start a keeper on a host, where `-launcher` isn't given.
+    pub usual_launcher: &'a str,
     /// The name of this program's file.
     pub itself: &'a str,
     /// The folder in which this process is.
@@ -133,7 +135,7 @@ impl<'a> Setup<'a> {
     pub fn keeper_command(&self, alloc: Global, host: &Word) -> io::Result<Command> {
         let text = self
             .text_at(self.options.launcher)
-            .unwrap_or(USUAL_LAUNCHER);
+            .unwrap_or(self.usual_launcher);
         let words = launcher_words(alloc, text.as_bytes(), host.as_bytes())?;
         let mut command = command_of(alloc, words.as_slice())?;
         command.arg(self.itself)?;
