@@ -142,24 +142,30 @@ pub extern "C" fn kombazily_tick(
 /// Frames to a rank take as long as this says, which others learned that do with the same process.
 #[unsafe(no_mangle)]
 pub extern "C" fn kombazily_learn(alloc: Global, rank: &mut Handle, peer: u16, estimate: &Estimate)
-    ensures { OnHeld rank.old.held.value rank.new.held.value (Unit {0})
+    ensures { OnHeld rank.old.held.value rank.new.held.value (rank.new.held.value ≡ rank.old.held.value)
         (λ r s. Learns r peer estimate.now s) }
 {
-    if let Some(mut held) = rank.take(alloc) {
-        held.learn(peer, *estimate);
-        rank.put(held);
+    match rank.take(alloc) {
+        Some(mut held) => {
+            held.learn(peer, *estimate);
+            rank.put(held);
+        }
+        None => {}
     }
 }
 
 /// The same of all ranks.
 #[unsafe(no_mangle)]
 pub extern "C" fn kombazily_learn_all(alloc: Global, rank: &mut Handle, estimate: &Estimate)
-    ensures { OnHeld rank.old.held.value rank.new.held.value (Unit {0})
+    ensures { OnHeld rank.old.held.value rank.new.held.value (rank.new.held.value ≡ rank.old.held.value)
         (λ r s. LearnsAll r estimate.now s) }
 {
-    if let Some(mut held) = rank.take(alloc) {
-        held.learn_all(*estimate);
-        rank.put(held);
+    match rank.take(alloc) {
+        Some(mut held) => {
+            held.learn_all(*estimate);
+            rank.put(held);
+        }
+        None => {}
     }
 }
 
@@ -174,11 +180,12 @@ pub extern "C" fn kombazily_learned(
     ensures { OnHeld rank.old.held.value rank.new.held.value (estimate.new ≡ estimate.old)
         (λ r s. (s ≡ r) × (estimate.new ≡ unwrap_or (learned r peer) estimate.old)) }
 {
-    if let Some(held) = rank.take(alloc) {
-        if let Some(learned) = held.learned(peer) {
-            *estimate = learned;
+    match rank.take(alloc) {
+        Some(held) => {
+            *estimate = held.learned(peer).unwrap_or(*estimate);
+            rank.put(held);
         }
-        rank.put(held);
+        None => {}
     }
 }
 

@@ -112,9 +112,10 @@ measured t round_trip = record t {
   timed = None;
 }
 
--- its frame went again less than 10 ms before, so that the answer may be that of the repeat
+-- its frame went again less than 10 ms before, or less than a quarter of the time since it went first: so the answer may
+-- be that of the repeat
 abbrev pub is_doubtful : TimedFrame → (now : ℕ) → Bool
-is_doubtful f now = nat_lt f.since f.again && nat_lt (now - f.again) 10000
+is_doubtful f now = nat_lt f.since f.again && nat_lt (now - f.again) (max ((now - f.since) / 4) 10000)
 
 -- the acknowledgement of a frame whose round trip is measured comes: one that is doubtful says nothing
 abbrev pub answered : RoundTrip → TimedFrame → (now : ℕ) → RoundTrip

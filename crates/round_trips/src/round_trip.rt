@@ -11,8 +11,11 @@ ghost use Rattle.round_trips.specs.Trips.{with_incarnation, with_sample, with_se
 
 use crate::estimate::{Estimate, LEAST_WAIT, backed_off, millis, wait_by};
 
-/// An answer that comes so many microseconds behind a repeat, or sooner, may be that of the repeat.
+/// An answer that comes less than so many microseconds behind a repeat may be that of the repeat.
 const SOON: u64 = 10_000;
+
+/// So may one that comes sooner behind it than such a part of the time since the frame went first.
+const PART: u64 = 4;
 
 /// A frame whose round trip is being measured.
 #[derive(Clone, Copy, Debug, PartialEq, Eq)]
@@ -123,7 +126,8 @@ fn timed_again(timed: Option<TimedFrame>, number: u64, now: u64) -> Option<Timed
 fn is_doubtful(frame: TimedFrame, now: u64) -> bool
     ensures { result ≡ is_doubtful frame now }
 {
-    frame.since < frame.again && now.saturating_sub(frame.again) < SOON
+    let soon = (now.saturating_sub(frame.since) / PART).max(SOON);
+    frame.since < frame.again && now.saturating_sub(frame.again) < soon
 }
 
 /// Whether an acknowledgement of all frames below `next` says that a frame came, where bit i of `held` tells of the
