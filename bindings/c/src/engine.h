@@ -244,7 +244,7 @@ void kombazily_learn_all(struct engine_rank *rank, const struct engine_estimate 
 void kombazily_learned(struct engine_rank *rank, uint16_t peer, struct engine_estimate *estimate);
 
 /* The same of ranks on one machine, which are late where its processors are busy, and so all of them are: what an
- * engine learned takes the place of what was known at once where it is higher, else 50 ms after the last time. At first
+ * engine learned takes the place of what was known at once where it is higher, else 10 ms after the last time. At first
  * those that share a processor are thought to have their turns behind one another. Times are in nanoseconds. */
 struct engine_lateness {
     struct engine_estimate estimate;

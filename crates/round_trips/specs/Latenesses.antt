@@ -12,8 +12,8 @@ crowded ranks processors = record { smoothed = (ranks / max processors 1 - 1) * 
 abbrev pub micros_waited : Estimate → ℕ
 micros_waited e = min (timeout e) 18446744073709551615
 
--- what an engine learned takes the place of what was known where it is higher, or 50 ms after the last time
+-- what an engine learned takes the place of what was known where it is higher, or 10 ms after the last time
 abbrev pub lateness_behind : Lateness → Estimate → (now : ℕ) → Lateness
 lateness_behind l learned now =
-    if nat_lt (micros_waited l.estimate) (micros_waited learned) || nat_le 50000000 (now - l.since)
+    if nat_lt (micros_waited l.estimate) (micros_waited learned) || nat_le 10000000 (now - l.since)
     then record { estimate = learned; since = now } else l

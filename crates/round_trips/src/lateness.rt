@@ -6,7 +6,7 @@ ghost use Rattle.round_trips.specs.Latenesses.{crowded, lateness_behind, micros_
 use crate::estimate::Estimate;
 
 /// So many nanoseconds a higher estimate is kept at least before a lower one takes its place.
-const KEPT_FOR: u64 = 50_000_000;
+const KEPT_FOR: u64 = 10_000_000;
 
 /// So many microseconds each process runs that has its turn before another one, as it is thought at first.
 const TURN: u64 = 4_000;
@@ -45,7 +45,7 @@ impl Lateness {
         ensures exact { self.new ≡ lateness_behind self.old learned now }
         ensures higher { micros_waited self.old.estimate < micros_waited learned → self.new.estimate ≡ learned }
         ensures kept { micros_waited learned ≤ micros_waited self.old.estimate →
-            now < self.old.since + 50000000 → self.new ≡ self.old }
+            now < self.old.since + 10000000 → self.new ≡ self.old }
     {
         let is_higher = self.estimate.timeout() < learned.timeout();
         if is_higher || now.saturating_sub(self.since) >= KEPT_FOR {
