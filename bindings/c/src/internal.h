@@ -35,6 +35,7 @@ struct process {
     bool sends_wait; /* each standard or ready send is at its end once a receive has its message, as synchronous ones */
     const char *call;   /* the call of MPI that the program made last */
     const void *caller; /* where in the program the last call stands that notes it */
+    uint32_t calls;     /* so many calls that note where they stand were made */
 };
 extern struct process process;
 
@@ -46,6 +47,7 @@ static inline bool enter_call(const void *caller) {
     const bool is_threaded = process.is_threaded;
     if (is_threaded) lock_library();
     process.caller = fortran_caller == NULL ? caller : fortran_caller;
+    process.calls++;
     return is_threaded;
 }
 static inline void leave_call(const bool *has_lock) {
@@ -201,6 +203,8 @@ int check_request(const char *call, const MPI_Request *handle, struct request **
 /* The requests that have handles: how many places there are, and what is at one of them, or NULL. */
 int request_places(void);
 struct request *request_at(int place);
+/* The place of the request that has this handle. */
+uint32_t place_of_request(MPI_Request handle);
 /* The same, or NULL of a request that is inactive, too. */
 struct request *active_of(MPI_Request handle);
 /* Tells the functions of the program's of its end: its code. `end` has all that is known of it then. */

@@ -6,7 +6,8 @@ use Rattle.rank_findings.specs.declared.finding.Finding.TheVariants.{MessagesTak
 use Rattle.rank_findings.specs.declared.finding.Finding.TheVariants.{AsksForEver, InFinalize, Cycle, Differs}
 use Rattle.rank_findings.specs.declared.finding.Finding.TheVariants.{NeverEntered, CallFailed, ErrorReturned, Aborted}
 use Rattle.rank_findings.specs.declared.finding.Finding.TheVariants.{Silent, Killed, NoFinalize, OtherStatus}
-use Rattle.rank_findings.specs.declared.finding.Finding.TheVariants.{RecordEnds, CancelRaces}
+use Rattle.rank_findings.specs.declared.finding.Finding.TheVariants.{RecordEnds, CancelRaces, StoodThere, CantExplore}
+use Rattle.rank_findings.specs.declared.finding.Finding.TheVariants.{ReadyEarly}
 
 abbrev pub finding_number : Finding → ℕ
 finding_number RequestLeft = 1
@@ -30,6 +31,9 @@ finding_number NoFinalize = 18
 finding_number OtherStatus = 19
 finding_number RecordEnds = 20
 finding_number CancelRaces = 21
+finding_number StoodThere = 26
+finding_number CantExplore = 27
+finding_number ReadyEarly = 28
 
 -- the finding that a number names
 abbrev pub finding_at : ℕ → Option Finding
@@ -41,10 +45,12 @@ finding_at n =
     (if n == 12 then Some NeverEntered else (if n == 13 then Some CallFailed else
     (if n == 14 then Some ErrorReturned else (if n == 15 then Some Aborted else (if n == 16 then Some Silent else
     (if n == 17 then Some Killed else (if n == 18 then Some NoFinalize else (if n == 19 then Some OtherStatus else
-    (if n == 20 then Some RecordEnds else (if n == 21 then Some CancelRaces else None))))))))))))))))))))
+    (if n == 20 then Some RecordEnds else (if n == 21 then Some CancelRaces else
+    (if n == 26 then Some StoodThere else (if n == 27 then Some CantExplore else
+    (if n == 28 then Some ReadyEarly else None)))))))))))))))))))))))
 
 -- the program is wrong: somebody waits and nobody can go on, a call fails, a process dies or makes no call, members enter
--- a collective differently or not at all
+-- a collective differently or not at all, the time is over, a ready send may come before its receive
 abbrev pub is_fault : Finding → Bool
 is_fault Waits = true
 is_fault AsksForEver = true
@@ -57,6 +63,8 @@ is_fault Aborted = true
 is_fault Silent = true
 is_fault Killed = true
 is_fault NoFinalize = true
+is_fault StoodThere = true
+is_fault ReadyEarly = true
 is_fault f = false
 
 -- something is left over: a request, a message, a status, a send that a buffer is to take
@@ -80,14 +88,16 @@ weight_of None = 0
 abbrev pub weight_at : ℕ → ℕ
 weight_at n = weight_of (finding_at n)
 
--- a rank is known to have failed by an error that ends the program, and by MPI_Abort
+-- a rank is known to have come no further by an error that ends the program, by MPI_Abort, and by what can't be explored
 abbrev pub does_fail : Finding → Bool
 does_fail CallFailed = true
 does_fail Aborted = true
+does_fail CantExplore = true
 does_fail f = false
 
--- such an error ends the job unless it is to be returned; MPI_Abort always does
+-- such an error ends the job unless it is to be returned; MPI_Abort always does, and what can't be explored
 abbrev pub ends_job : Finding → (goes_on : Bool) → Bool
 ends_job CallFailed goes_on = not goes_on
 ends_job Aborted goes_on = true
+ends_job CantExplore goes_on = true
 ends_job f goes_on = false

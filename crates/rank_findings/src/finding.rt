@@ -47,8 +47,14 @@ pub enum Finding {
     OtherStatus,
     /// What was recorded of a rank is over.
     RecordEnds,
-    /// Chance decides whether a message or the cancel of its receive comes first.
+    /// Whether a message or the cancel of its receive comes first isn't tried both ways.
     CancelRaces,
+    /// A rank stood in a call, or between two, when the time was over.
+    StoodThere,
+    /// A rank made a call that can't be explored.
+    CantExplore,
+    /// A ready send may come before its receive.
+    ReadyEarly,
 }
 
 impl Finding {
@@ -78,6 +84,9 @@ impl Finding {
             19 => Some(Finding::OtherStatus),
             20 => Some(Finding::RecordEnds),
             21 => Some(Finding::CancelRaces),
+            26 => Some(Finding::StoodThere),
+            27 => Some(Finding::CantExplore),
+            28 => Some(Finding::ReadyEarly),
             _ => None,
         }
     }
@@ -109,11 +118,14 @@ impl Finding {
             Finding::OtherStatus => 19,
             Finding::RecordEnds => 20,
             Finding::CancelRaces => 21,
+            Finding::StoodThere => 26,
+            Finding::CantExplore => 27,
+            Finding::ReadyEarly => 28,
         }
     }
 
     /// Whether the program is wrong: somebody waits and nobody can go on, a call fails, a process dies or makes no call,
-    /// or members enter a collective differently or not at all.
+    /// members enter a collective differently or not at all, the time is over, or a ready send may come too early.
     pub fn is_fault(self) -> bool
         ensures { result ≡ is_fault self }
     {
@@ -121,6 +133,7 @@ impl Finding {
             Finding::Waits | Finding::AsksForEver | Finding::InFinalize | Finding::Cycle => true,
             Finding::Differs | Finding::NeverEntered | Finding::Aborted => true,
             Finding::CallFailed | Finding::Silent | Finding::Killed | Finding::NoFinalize => true,
+            Finding::StoodThere | Finding::ReadyEarly => true,
             _ => false,
         }
     }
@@ -149,23 +162,24 @@ impl Finding {
         }
     }
 
-    /// Whether its rank is known to have failed by it.
+    /// Whether its rank is known to have come no further by it.
     pub fn does_fail(self) -> bool
         ensures { result ≡ does_fail self }
     {
         match self {
-            Finding::CallFailed | Finding::Aborted => true,
+            Finding::CallFailed | Finding::Aborted | Finding::CantExplore => true,
             _ => false,
         }
     }
 
-    /// Whether it ends the job: an error does unless it is to be returned, and `MPI_Abort` always does.
+    /// Whether it ends the job: an error does unless it is to be returned; `MPI_Abort` always does, and what can't be
+    /// explored.
     pub fn ends_job(self, goes_on: bool) -> bool
         ensures { result ≡ ends_job self goes_on }
     {
         match self {
             Finding::CallFailed => !goes_on,
-            Finding::Aborted => true,
+            Finding::Aborted | Finding::CantExplore => true,
             _ => false,
         }
     }
