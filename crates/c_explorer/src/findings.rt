@@ -182,11 +182,7 @@ pub extern "C" fn kombazily_ending_of_ranks(
 ) -> u32
     ensures { result ≡ over (ending_of_ranks is_unexplored is_aborted has_ended.now) }
 {
-    number_of_ending(rank_findings::ending_of_ranks(
-        is_unexplored,
-        is_aborted,
-        has_ended,
-    ))
+    number_of_ending(rank_findings::ending_of_ranks(is_unexplored, is_aborted, has_ended))
 }
 
 /// Whether a run is a deadlock where no rank can go on and there is no move.

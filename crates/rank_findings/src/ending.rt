@@ -148,11 +148,7 @@ fn is_any_killed(signals: &[u32]) -> bool
 
 /// How a run has ended whose ranks have ended or not, if it has: by what can't be explored; by an error where one ended
 /// the job; else once all have.
-pub fn ending_of_ranks(
-    is_unexplored: bool,
-    is_aborted: bool,
-    has_ended: &[bool],
-) -> Option<Ending>
+pub fn ending_of_ranks(is_unexplored: bool, is_aborted: bool, has_ended: &[bool]) -> Option<Ending>
     ensures { result ≡ ending_of_ranks is_unexplored is_aborted has_ended.now }
 {
     if is_unexplored {

@@ -179,7 +179,7 @@ impl Finding {
     {
         match self {
             Finding::CallFailed => !goes_on,
-            Finding::Aborted | Finding::CantExplore => true,
+            Finding::CantExplore | Finding::Aborted => true,
             _ => false,
         }
     }
