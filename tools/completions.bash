@@ -13,7 +13,11 @@ _kombazily() {
         ;;
     esac
 }
-complete -o bashdefault -o default -F _kombazily mpirun mpiexec kombazily-mpiexec mpicc mpicxx mpic++ mpiCC mpifort mpif77 mpif90
-complete -o bashdefault -o default -F _kombazily mpisim mpiexplore mpidraw rank_main kombazily kombazily-check
+complete -o bashdefault -o default -F _kombazily kombazily-mpiexec mpisim mpiexplore mpidraw rank_main kombazily kombazily-check
+# Of a package, which stands beside other MPIs, the plain names of compilers and launchers may be another one's.
+case ${BASH_SOURCE[0]} in
+/usr/share/*) complete -o bashdefault -o default -F _kombazily mpirun.kombazily mpiexec.kombazily mpi{cc,cxx,fort}.kombazily ;;
+*) complete -o bashdefault -o default -F _kombazily mpirun mpiexec mpicc mpicxx mpic++ mpiCC mpifort mpif77 mpif90 ;;
+esac
 # In a clone of the repository: source tools/completions.bash
 case ${BASH_SOURCE[0]} in *.bash) complete -o bashdefault -o default -F _kombazily run ;; esac

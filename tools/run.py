@@ -11,6 +11,7 @@ usage: ./run                            two ranks play ping-pong
        ./run --explore [-n N] FILE.c    compiles a C program and runs it again and again, by other choices each time
        ./run check -n N [..] PROGRAM    explores a C program that is compiled (tools/mpicc); ./run check --help has all options
        ./run check -n N [..] FILE.c ..  the same of one that is compiled first, of one file or several
+       ./run grade FOLDER EXERCISE      grades the C programs of a folder by an exercise of examples/lab; ./run grade --help
        ./run .. -                       what stands on the standard input, in place of a file
        ./run [-n N] FILE.c [WORD ..]    compiles a C program (tools/mpicc) and runs it with these words; without -n 2 ranks.
                                         Lines come as they are printed; rank 0 has the standard input
@@ -57,6 +58,7 @@ sys.path.insert(0, str(Path(__file__).resolve().parent / "modules"))
 import bounds
 import c_programs
 import explorer
+import grading
 import launchers
 import recorded
 import ports
@@ -76,9 +78,9 @@ SHOWING = {
     "--svg": {"--datagrams": 0},
 }
 # The same of a C program that is explored.
-EXPLORING_C = {"--most": 1, "--results": 1, "--out": 1, "--html": 1, "--format": 1, "--sarif": 1, "--junit": 1, "--seconds": 1, "--random": 1, "--noes": 1, "--replay": 1, "--debug": 1,
-               "--patience": 1, "--stdin": 1, "--both": 0, "--synchronous": 0, "--each": 0, "--fork": 0, "--go-on": 0, "--output": 0,
-               "--quiet": 0, "--count": 0}
+EXPLORING_C = {"--most": 1, "--results": 1, "--out": 1, "--html": 1, "--format": 1, "--sarif": 1, "--junit": 1,
+               "--seconds": 1, "--random": 1, "--noes": 1, "--mix": 1, "--replay": 1, "--debug": 1, "--patience": 1,
+               "--stdin": 1, "--both": 0, "--only-buffered": 0, "--synchronous": 0, "--each": 0, "--buffered": 1, "--fork": 0, "--go-on": 0, "--output": 0, "--quiet": 0, "--count": 0}
 OPTIONS_OF_C = ("-n", "-np")
 # Milliseconds for which all ranks of a C program may wait for one another.
 PATIENCE_OF_C = 10000
@@ -374,8 +376,7 @@ def exploration_of_c(request):
         if word in EXPLORING_C:
             say("'%s' stands behind %s, so it is handed to the program" % (word, request.file))
     program = c_programs.compiled(say, request.file, request.is_proved)
-    both = [] if {"--synchronous", "--both", "--each", "--replay"} & set(request.shown) else ["--both"]
-    return [short(explorer.taken(say)), *request.shown, "-n", str(request.ranks or 2), *both, short(program), *request.words]
+    return [short(explorer.taken(say)), *request.shown, "-n", str(request.ranks or 2), short(program), *request.words]
 
 
 def with_program(words):
@@ -467,6 +468,8 @@ def main(words):
         return written("%s (Kombazily) %s\n" % (CALLED.removeprefix("./"), programs.version()), 0)
     if words[:1] == ["check"]:
         return check(words[1:])
+    if words[:1] == ["grade"]:
+        return grading.main(words[1:], say)
     signal.signal(signal.SIGTERM, lambda *_: sys.exit(128 + signal.SIGTERM))
     try:
         request = Request(words)

@@ -19,6 +19,13 @@ TESTS = Path(__file__).resolve().parents[2] / "bindings" / "c" / "tests"
 LONGEST = 60
 BEGUN = 0.5    # so long behind their first lines the ranks wait for one another
 WORLD = "in MPI_COMM_WORLD"
+# What is told of buffers that are used while an operation has them, without the lines of the program.
+MISUSED = ["rank 0: " + it for it in (
+    "MPI_Irecv: its buffer overlaps that of MPI_Irecv, which isn't complete",
+    "MPI_Sendrecv: two of its buffers overlap, and data come into one",
+    "MPI_Wait: the buffer of MPI_Isend changed before it was complete",
+    "MPI_Wait: the buffer of MPI_Irecv was written before it was complete",
+    "MPI_Wait: the buffer of MPI_Irecv: its memory is gone before it was complete")]
 # Programs that wait for ever, by their word: what ranks 0 and 1 of two say.
 STUCK = {
     "receive": ["MPI_Recv waits for a message of rank %d with tag 5 " + WORLD] * 2,
@@ -78,6 +85,12 @@ LEFT = ["rank 0: MPI_Finalize: 2 more messages"] + 10 * [SELF] + [
     "rank 1: MPI_Finalize: nobody received a message of rank 0 with tag 1 in MPI_COMM_WORLD: 40 bytes",
     "rank 1: MPI_Finalize: nobody received a message of rank 0 with tag 2 in 'part', where it is rank 1: 4000 bytes",
 ]
+# What rank 1 of two is told, errors being fatal, by whichever call ends a collective that rank 0 entered with less: status, line.
+SHORT = "the block of rank 0 has 4 bytes, and 40 are wanted (1)"
+DIFFERING = {it: (2, "MPI_%s: %s" % (it, SHORT)) for it in ("Wait", "Test", "Waitany", "Request_get_status", "Request_free")}
+DIFFERING.update({it: (19, "MPI_%s: request 0 of 1: %s" % (it, SHORT)) for it in ("Waitall", "Testsome")})
+DIFFERING["Request_free_receive"] = (15, "MPI_Request_free: a message of 40 bytes from rank 0 with tag 1 is longer than its receive of "
+                                         "4 bytes")
 KEPT = ("crash", "kill", "abort", "error")
 # What rank 0 says behind a second without any movement, where no patience was told: on a slow machine before an interrupt, too.
 STANDS = "rank 0: all ranks wait, and nothing has moved for 1 s; Ctrl-C ends the job and tells what each waits for"
@@ -223,6 +236,13 @@ class Ends:
         found = self.run(1, "leaves", "return")
         self.add("a job of one rank leaves nobody waiting", found == (0, ["rank 1 leaves"], []), found)
 
+    def differing(self):
+        for word, (status, said) in DIFFERING.items():
+            found = self.run(2, "differs", word)
+            wanted = ["mpirun: rank 1 ended with status %d; the other ranks are ended" % status, "rank 1: " + said]
+            is_so = (found[0], found[1], sorted(map(without_source, found[2]))) == (status, [], wanted)
+            self.add("a collective whose members differ, by " + word, is_so, found)
+
     def interrupted(self, word, options=()):
         """What the ranks of a program say that is interrupted once they wait."""
         with subprocess.Popen(self.words(2, "stuck", word, options=options), stdin=subprocess.DEVNULL, stdout=subprocess.PIPE,
@@ -268,6 +288,15 @@ class Ends:
             status, _, errors = self.run(2, "leaks", KOMBAZILY_CHECK=wanted)
             found = sorted(map(without_source, errors))
             self.add("what is left with KOMBAZILY_CHECK=%s" % wanted, (status, found) == (0, said), (status, errors))
+
+    def misused(self):
+        """Buffers that are used while an operation has them are told where that is asked for, with the lines where they can be had."""
+        for wanted, words in (("1", ()), ("1", ("right",)), ("0", ())):
+            status, _, errors = self.run(2, "misuses", *words, KOMBAZILY_CHECK=wanted)
+            said = sorted(MISUSED) if wanted == "1" and not words else []
+            # Where memory is gone, a run that isn't checked may end by a signal.
+            is_so = (status == 0 or wanted == "0") and sorted(re.sub(r" \(\w+\.c:\d+\)", "", it) for it in errors if "buffer" in it) == said
+            self.add("misused buffers with KOMBAZILY_CHECK=" + " ".join((wanted, *words)), is_so, (status, errors))
 
     def standstill(self):
         """With a file in which ranks say that they wait: rank 0 tells it once, and they give up; while one computes nobody does."""
@@ -388,7 +417,7 @@ def tells(library, mpirun, names, longest):
 
 def all_rows(mode, library, mpirun, verdict, side_by_side):
     it = Ends(mode, library, mpirun, verdict)
-    rows = [it.lines, it.beginning, it.standstill, it.hangs, it.prompts, it.kept, it.leaving, it.patience, it.left, it.synchronous,
-            it.bounded, it.too_early, it.terminal, it.source]
+    rows = [it.lines, it.beginning, it.standstill, it.hangs, it.prompts, it.kept, it.leaving, it.differing, it.patience, it.left,
+            it.misused, it.synchronous, it.bounded, it.too_early, it.terminal, it.source]
     side_by_side(lambda row: row(), rows)
     side_by_side(it.stuck, list(STUCK))

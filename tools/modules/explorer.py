@@ -97,9 +97,10 @@ def usage():
 
 
 def compile_program(source, into, flags=("-g", "-O0")):
-    """Compiles a C program with the library."""
+    """Compiles a C program with the library, and with the calls that aren't supported."""
     include = c_programs.OUT / "include"
-    command = ["cc", *flags, "-w", "-I%s" % include, source, c_programs.LIBRARY, "-lm", "-o", into]
+    library = c_programs.LIBRARY.with_name("libkombazily_unsupported.a")
+    command = ["cc", *flags, "-w", "-I%s" % include, source, library, "-lm", "-o", into]
     made = subprocess.run(command, stdin=subprocess.DEVNULL, stdout=subprocess.PIPE, stderr=subprocess.STDOUT)
     if made.returncode != 0:
         raise c_programs.Fault("%s isn't compiled:\n%s" % (source, made.stdout.decode(errors="replace")))

@@ -14,7 +14,7 @@ HANDLES = {"MPI_Comm": ("comm", "Comm"), "MPI_Datatype": ("type", "Type"), "MPI_
            "MPI_Message": ("message", "Message"), "MPI_Op": ("op", "Op"), "MPI_Request": ("request", "Request"),
            "MPI_Win": ("win", "Win")}
 NUMBERS = {"MPI_Aint": "MPI_ADDRESS_KIND", "MPI_Count": "MPI_COUNT_KIND", "MPI_Offset": "MPI_OFFSET_KIND"}
-PROTOTYPE = re.compile(r"(?m)^(int|double|MPI_\w+) (MPI_\w+)\(([^()]*)\);")
+PROTOTYPE = re.compile(r"(?m)^(?:KOMBAZILY_WARNS )?(int|double|MPI_\w+) (MPI_\w+)\(([^()]*)\);")
 
 
 class Table:

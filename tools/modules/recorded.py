@@ -29,6 +29,8 @@ OPEN, RUN_ENDED = "open", "the run ended there"
 NOT_SURE = r"  (rank \d+ (waits|asks for ever|is in MPI_Finalize)|what was recorded of rank )"
 WORTH_KNOWING = r".*(ended with a communicator never freed|ended with \d+ (types?|persistent requests?) never freed|is not tried both ways)"
 WITH_WAITS = "with sends and collectives that wait"
+# What the explorer says where some sends were longer than is buffered.
+HINT = "sends of more than "
 CLEAN, FOUND, WORDS, START = 0, 1, 2, 6
 # How far the calls of the first run are explored in other orders: what is found there is run first.
 MOST_OTHERWISE, SECONDS_OTHERWISE = 100, 5
@@ -164,9 +166,11 @@ def make_player(out, flags=None, library=c_programs.OUT):
 class Words:
     """What was asked for."""
 
-    NUMBERS = {"-n": 2, "--most": 1000, "--seconds": 60, "--patience": 10, "--results": 10, "--runs": 20}
+    # Of another MPI's standard sends those of up to 64 KiB are taken to be buffered.
+    NUMBERS = {"-n": 2, "--most": 1000, "--seconds": 60, "--patience": 10, "--results": 10, "--runs": 20, "--buffered": 65536}
     TEXTS = ("--records", "--mpiexec", "--mpicc", "--stdin", "--html")
-    FLAGS = ("--both", "--synchronous", "--each", "--output", "--quiet", "--fork", "--go-on", "--count")
+    PASSES = ("--both", "--only-buffered", "--synchronous", "--each")
+    FLAGS = (*PASSES, "--output", "--quiet", "--fork", "--go-on", "--count")
 
     def __init__(self, words):
         self.numbers, self.texts, self.flags = dict(self.NUMBERS), {}, set()
@@ -185,6 +189,8 @@ class Words:
                 self.numbers[word] = self.number(rest.pop(0))
         if {"--synchronous", "--each"} <= self.flags:
             raise Fault(WORDS, "--synchronous and --each: a send waits always, or by a choice; one of them")
+        if "--only-buffered" in self.flags and len(self.flags & set(self.PASSES)) > 1:
+            raise Fault(WORDS, "--only-buffered is a pass of its own: no other one stands beside it")
         if not 1 <= self.numbers["-n"] <= 64:
             raise Fault(WORDS, "1 to 64 ranks")
         self.program, self.arguments = rest[0], rest[1:]
@@ -197,12 +203,12 @@ class Words:
         return float(text)
 
     def passes(self):
-        """Words of kombazily-check for the calls as they were matched in the run."""
-        return [it for it in ("--both", "--synchronous", "--each") if it in self.flags]
+        """Words of kombazily-check for the calls as they were matched in the run: it makes both passes, unless one is asked for."""
+        return [it for it in self.PASSES if it in self.flags]
 
 
 OWN_TEXTS = {"--stdin", "--html", "--replay", "--out", "--format", "--sarif", "--junit"}
-TAKE_ONE = OWN_TEXTS | {"--debug", "--random", "--noes"} | set(Words.NUMBERS) | set(Words.TEXTS)
+TAKE_ONE = OWN_TEXTS | {"--debug", "--random", "--noes", "--mix"} | set(Words.NUMBERS) | set(Words.TEXTS)
 
 
 def place_of_program(words):
@@ -374,6 +380,10 @@ class Result:
         found = [it for it in self.lines if not re.match(WORTH_KNOWING, it)]
         return [it for it in found if not re.match(NOT_SURE, it)] if self.ending == OPEN else found
 
+    def stands(self):
+        """Where each rank stands, whatever it waits for there."""
+        return [re.sub(r"(at \S+( \(\w+\))?).*", r"\1", it) for it in self.lines if it.startswith("  rank ")]
+
     def worth_knowing(self):
         return [it for it in self.lines if re.match(WORTH_KNOWING, it)]
 
@@ -385,7 +395,7 @@ class Explorer:
     """Explores records by kombazily-check."""
 
     def __init__(self, check, play, words):
-        self.check, self.play, self.words = check, play, words
+        self.check, self.play, self.words, self.hint = check, play, words, None
 
     def needs(self, run):
         """The words that the player needs for all ranks of a record."""
@@ -394,7 +404,7 @@ class Explorer:
 
     def command(self, run, *words):
         cut = ["--go-on", "--fork", "--plays", self.words.program, "--most", str(int(self.words.numbers["--most"])),
-               "--seconds", str(self.words.numbers["--seconds"] / 4)]
+               "--seconds", str(self.words.numbers["--seconds"] / 4), "--buffered", str(int(self.words.numbers["--buffered"]))]
         return [str(it) for it in (self.check, "-n", self.words.size, *cut, *words, self.play, *self.needs(run), run.record.folder)]
 
     def tell(self, run, words, pinned, out=None):
@@ -404,6 +414,7 @@ class Explorer:
                               errors="replace")
         if done.returncode not in (CLEAN, FOUND):
             raise Fault(START, "the record of run %d isn't explored:\n%s" % (run.number, done.stdout[-2000:]))
+        self.hint = next((it for it in done.stdout.splitlines() if it.startswith(HINT)), self.hint)
         return results_of(done.stdout)
 
     @staticmethod
@@ -418,10 +429,15 @@ class Explorer:
     def otherwise(self, run):
         """In other orders, with the calls as they were: the results, with the matches of each."""
         with tempfile.TemporaryDirectory() as folder:
-            _, results = self.tell(run, ["--most", MOST_OTHERWISE, "--seconds", SECONDS_OTHERWISE], False, folder)
+            _, results = self.tell(run, ["--only-buffered", "--most", MOST_OTHERWISE, "--seconds", SECONDS_OTHERWISE], False, folder)
             for it in results:
                 read_moves(it, Path(folder) / ("choices%d.txt" % it.number))
         return results
+
+    def can_hang(self, run, result):
+        """Whether ranks can stand so where sends wait, and each receive of any source takes whoever comes."""
+        _, results = self.tell(run, ["--synchronous"], False)
+        return any(it.ending == result.ending and it.stands() == result.stands() for it in results)
 
     def others(self, run):
         """What each receive of any source might have taken in place of what it took: schedules, each with that in words."""
@@ -536,6 +552,8 @@ class Search:
         faulty = [it for it in results if it.is_faulty()]
         is_told = any(not it.waits for it in faulty)
         for it in faulty:
+            if it.waits and it.ending.startswith("DEADLOCK") and run.record.took and not self.explorer.can_hang(run, it):
+                continue
             # What the pass with sends that wait is for; the rest was told of the other one.
             if not it.waits or not is_told or it.ending.startswith("DEADLOCK"):
                 self.findings.setdefault(it.key(), Finding(it, run))
@@ -604,8 +622,8 @@ class Teller:
             print("worth knowing, by the calls of run %d: %s" % (run.number, line.strip()))
         if not shown and not unshown:
             print("nothing wrong was found in the calls that were recorded")
-            if not self.words.passes():
-                print("--both looks for what hangs where sends aren't buffered, too")
+            if self.search.explorer.hint:
+                print(self.search.explorer.hint)
         self.tell_outputs()
         return FOUND if shown or unshown or any(self.is_wrong(it) for it in runs) else CLEAN
 

@@ -12,8 +12,7 @@ CLONE = re.compile(r"^<!-- clone -->\n.*?^<!-- end -->\n", re.M | re.S)
 RELEASE = re.compile(r"^<!-- release\n(.*?)^-->\n", re.M | re.S)
 COMPILERS = re.compile(r"\btools/(mpi(?:cc|cxx|c\+\+|CC|fort|f77|f90))(?![\w/])")
 # Pages on the repository itself, whose commands stay.
-OF_REPOSITORY = {"docs/%s.md" % it for it in ("ARCHITECTURE", "DECISIONS", "LIBRARY", "PERFORMANCE", "PROGRAMS", "PROOF", "PROOF_STATUS",
-                                              "PUBLIC_CALLS")}
+OF_REPOSITORY = {"docs/%s.md" % it for it in ("ARCHITECTURE", "DECISIONS", "LIBRARY", "PERFORMANCE", "PROGRAMS", "PROOF", "PROOF_STATUS")}
 # Man pages by another name in a release.
 MANUALS = {"mpiexec": "kombazily-mpiexec"}
 # A row of a table or a line of a fence with a command that a release hasn't.

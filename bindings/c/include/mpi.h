@@ -1,8 +1,8 @@
 /* MPI for C: the part of MPI 3.1 that the library has (docs/C.md has the list); mpi_absent.h declares what it lacks,
  * mpi_unsupported.h what links and says that it isn't there.
  * The numbers are this library's own; a program is compiled and linked with the same version of it. */
-#ifndef MPI_H
-#define MPI_H
+#ifndef KOMBAZILY_MPI_H
+#define KOMBAZILY_MPI_H
 
 #include <stddef.h>
 

@@ -2,8 +2,8 @@
  * None is defined, so that a configure script that links sees that it lacks. Where KOMBAZILY_WITHOUT_ABSENT is defined
  * before mpi.h is included, none of this is there: for functions of these names of one's own.
  * Made by tools/absent_calls of absent.txt. */
-#ifndef MPI_ABSENT_H
-#define MPI_ABSENT_H
+#ifndef KOMBAZILY_MPI_ABSENT_H
+#define KOMBAZILY_MPI_ABSENT_H
 /* clang-format off */
 
 #ifdef __has_attribute

@@ -1,7 +1,7 @@
 /* The interface for tools (14.3): a part of mpi.h, which includes it. There are no variables and no categories. Its
  * calls never end a program. */
-#ifndef MPI_TOOLS_H
-#define MPI_TOOLS_H
+#ifndef KOMBAZILY_MPI_TOOLS_H
+#define KOMBAZILY_MPI_TOOLS_H
 
 typedef struct kombazily_enumeration *MPI_T_enum;
 typedef struct kombazily_control_variable *MPI_T_cvar_handle;

@@ -10,6 +10,12 @@
 /* A sum of all that was entered so far, in order: by FNV-1a, so that others in another order have another one. */
 static uint64_t entered = UINT64_C(0xcbf29ce484222325);
 
+/* A sum of the persistent ones that were begun: the same in each order. */
+static uint64_t begun;
+
+/* Whether this rank was told of a collective that failed. */
+static bool is_told;
+
 /* At rank 0: the first rank that has entered others than it; 0: there is none. */
 static int other_rank;
 
@@ -37,19 +43,27 @@ void note_plan(enum plan_kind kind, int root, const struct communicator *comm) {
     note((uint32_t)root);
 }
 
-/* Whether all ranks have the same sum: the greatest one is the least. Or a number of the engine. */
+void note_again(uint32_t number, const struct communicator *comm) {
+    if (comm->place != ENGINE_WORLD) return;
+    begun += (number + UINT64_C(1)) * UINT64_C(0x9e3779b97f4a7c15);
+}
+
+void note_told(uint32_t place) { is_told |= place == ENGINE_WORLD; }
+
+/* Whether all ranks have the same sum: the greatest one is the least; or some rank was told why not. Or a number of the
+ * engine. */
 static uint32_t is_same_at_all(uint64_t own, bool *is_same) {
-    const uint64_t both[2] = {own, ~own};
-    uint64_t most[2] = {own, ~own};
+    const uint64_t all[] = {own, ~own, is_told};
+    uint64_t most[] = {own, ~own, is_told};
     const struct engine_call ask = {.kind = ENGINE_ALLREDUCE,
                                     .communicator = ENGINE_WORLD,
                                     .basic = ENGINE_UINT64,
                                     .operation = ENGINE_MAX,
-                                    .count = 2};
+                                    .count = sizeof all / sizeof *all};
     struct engine_answer answer;
-    uint32_t number = enter_engine(&ask, both, sizeof both, &answer);
+    uint32_t number = enter_engine(&ask, all, sizeof all, &answer);
     if (number == 0) take_from_engine(0, (uint8_t *)most, sizeof most);
-    *is_same = most[0] == own && most[1] == ~own;
+    *is_same = most[2] != 0 || (most[0] == own && most[1] == ~own);
     return number;
 }
 
@@ -65,6 +79,7 @@ static void find_other(uint64_t own) {
 }
 
 int compare_entries(const char *call) {
+    note(begun);
     const uint64_t own = entered;
     bool is_same;
     uint32_t number = is_same_at_all(own, &is_same);

@@ -5,6 +5,7 @@
 #include "explored.h"
 #include "transfers.h"
 #include "types.h"
+#include "watches.h"
 
 #include <stdlib.h>
 
@@ -109,7 +110,9 @@ int MPI_Bsend(const void *buf, int count, MPI_Datatype datatype, int dest, int t
     struct transfer made;
     struct request request;
     int class = check_transfer(&it, TRANSFER_BUFFERED, &made);
-    return class == MPI_SUCCESS ? begin_transfer(it.call, &made, &request) : class;
+    if (class == MPI_SUCCESS) class = begin_transfer(it.call, &made, &request);
+    if (class == MPI_SUCCESS) drop_watch(&request);
+    return class;
 }
 
 int MPI_Ibsend(const void *buf, int count, MPI_Datatype datatype, int dest, int tag, MPI_Comm comm,

@@ -1,5 +1,6 @@
 /* Barrier, broadcast, gather and scatter (MPI 3.1, 5.3 to 5.6). */
 #include "errors.h"
+#include "explored.h"
 #include "intercollectives.h"
 #include "internal.h"
 #include "rows.h"
@@ -93,9 +94,8 @@ int MPI_Bcast(void *buffer, int count, MPI_Datatype datatype, int root, MPI_Comm
     struct communicator *own;
     struct items items;
     struct arrival arrival;
-    if (is_of_inter(comm))
-        return inter_broadcast(BLOCKING(call, comm), root,
-                               &(struct blocks){.at = buffer, .count = count, .type = datatype});
+    if (is_of_inter(comm) || leaves_early)
+        return broadcast_by_plan(BLOCKING(call, comm), root, buffer, count, datatype);
     int class = check_rooted(comm, call, root, &own);
     if (class == MPI_SUCCESS) class = check_items(comm, call, buffer, count, datatype, &items);
     if (class != MPI_SUCCESS) return class;
@@ -132,10 +132,10 @@ int MPI_Gather(const void *sendbuf, int sendcount, MPI_Datatype sendtype, void *
     const char *call = "MPI_Gather";
     struct communicator *own;
     struct items sent, received;
-    if (is_of_inter(comm))
-        return inter_gather(BLOCKING(call, comm), root,
-                            &(struct blocks){.at = sendbuf, .count = sendcount, .type = sendtype},
-                            &(struct blocks){.at = recvbuf, .count = recvcount, .type = recvtype});
+    if (is_of_inter(comm) || leaves_early)
+        return gather_by_plan(BLOCKING(call, comm), root,
+                              &(struct blocks){.at = sendbuf, .count = sendcount, .type = sendtype},
+                              &(struct blocks){.at = recvbuf, .count = recvcount, .type = recvtype});
     int class = check_rooted(comm, call, root, &own);
     if (class != MPI_SUCCESS) return class;
     if (own->rank != root) {
@@ -182,10 +182,10 @@ int MPI_Scatter(const void *sendbuf, int sendcount, MPI_Datatype sendtype, void 
     struct communicator *own;
     struct items sent = {0}, received;
     bool stays = recvbuf == MPI_IN_PLACE;
-    if (is_of_inter(comm))
-        return inter_scatter(BLOCKING(call, comm), root,
-                             &(struct blocks){.at = sendbuf, .count = sendcount, .type = sendtype},
-                             &(struct blocks){.at = recvbuf, .count = recvcount, .type = recvtype});
+    if (is_of_inter(comm) || leaves_early)
+        return scatter_by_plan(BLOCKING(call, comm), root,
+                               &(struct blocks){.at = sendbuf, .count = sendcount, .type = sendtype},
+                               &(struct blocks){.at = recvbuf, .count = recvcount, .type = recvtype});
     int class = check_rooted(comm, call, root, &own);
     if (class != MPI_SUCCESS) return class;
     if (own->rank != root) {

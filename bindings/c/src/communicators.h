@@ -9,6 +9,7 @@
 #include <stdint.h>
 
 struct attribute;
+struct persistent_numbers;
 struct topology;
 struct two_groups;
 struct world;
@@ -33,9 +34,11 @@ struct communicator {
     struct attribute *attributes; /* of attributes.h */
 
     /* Of plan_places.c: the ranks in the world of all members (NULL: they are their ranks here), the number that all of
-     * them know it by, how many plans were begun in it; under an explorer the engine's communicator for them, or 0. */
+     * them know it by, how many plans were begun in it; under an explorer the engine's communicator for them, or 0. And
+     * the numbers of persistent ones, or NULL. */
     uint16_t *members;
     uint32_t number, plans;
+    struct persistent_numbers *persistents;
 };
 
 /* The communicator of a handle, or NULL: there is none. */

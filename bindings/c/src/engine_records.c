@@ -2,6 +2,7 @@
  * It compiles where that is so. Made by tools/c_records of the sources of c_exports and of the crates below it. */
 /* clang-format off */
 #include "engine.h"
+#include "engine_buffers.h"
 #include "engine_grids.h"
 #include "engine_groups.h"
 #include "engine_plans.h"
@@ -107,6 +108,12 @@ FIELD(plan_step, into, 28, 8);
 RECORD(send_counts, 16, 8);
 FIELD(send_counts, sent, 0, 8);
 FIELD(send_counts, received, 8, 8);
+
+RECORD(byte_run, 32, 8);
+FIELD(byte_run, at, 0, 8);
+FIELD(byte_run, length, 8, 8);
+FIELD(byte_run, count, 16, 8);
+FIELD(byte_run, stride, 24, 8);
 
 RECORD(type_numbers, 80, 8);
 FIELD(type_numbers, size, 0, 8);
@@ -266,6 +273,7 @@ NUMBER(COURSE_ANNOUNCED, 1);
 NUMBER(COURSE_SYNCHRONOUS, 2);
 
 /* The functions. */
+uint32_t kombazily_share_bytes(const struct byte_run *, size_t, const struct byte_run *, size_t);
 uint32_t kombazily_new(struct engine_rank *, const struct engine_place *);
 void kombazily_free(struct engine_rank *);
 void kombazily_call(struct engine_rank *, const struct engine_call *, const uint8_t *, size_t, struct engine_answer *);

@@ -22,6 +22,7 @@
 #include "types.h"
 #include "unasked.h"
 #include "wait_lines.h"
+#include "watches.h"
 #include "worlds.h"
 
 #include <errno.h>
@@ -52,9 +53,11 @@ static bool is_wanted(const char *variable) {
     return value != NULL && strcmp(value, "1") == 0;
 }
 
+bool is_neighbour(int rank) { return addresses.of_rank[rank] == addresses.of_rank[process.rank]; }
+
 int first_neighbour(void) {
     int rank = 0;
-    while (addresses.of_rank[rank] != addresses.of_rank[process.rank]) rank++;
+    while (!is_neighbour(rank)) rank++;
     return rank;
 }
 
@@ -104,6 +107,7 @@ static int begin(const char *call, int *argc, char ***argv, int required) {
     standstill_open(!has_explorer && are_together(&addresses), addresses.first_port);
     process.sends_wait = is_wanted("KOMBAZILY_SYNCHRONOUS");
     process.checks = is_wanted("KOMBAZILY_CHECK");
+    watches_open();
     if (!open_unasked())
         refuse_start(STATUS_PLACE, TOLD_WRONGLY, "KOMBAZILY_UNASKED is neither a number of bytes nor none");
     if (!has_explorer) {

@@ -160,6 +160,13 @@ int raise_in(const struct communicator *comm, const char *call, int class, const
     return class;
 }
 
+void raise_fatal(const char *call, int class, const char *cause, ...) {
+    va_list arguments;
+    va_start(arguments, cause);
+    (void)end_by_error(false, call, class, cause, arguments);
+    va_end(arguments);
+}
+
 int raise_number(MPI_Comm comm, const char *call, uint32_t number) {
     return raise_on(comm, call, class_of(number), "%s (%u)", cause_of(number), (unsigned)number);
 }

@@ -17,6 +17,9 @@ int raise_on(MPI_Comm comm, const char *call, int class, const char *cause, ...)
 int raise_in(const struct communicator *comm, const char *call, int class, const char *cause, ...)
     __attribute__((format(printf, 4, 5)));
 
+/* Ends the job, whatever the handler: where no call is there that could answer. */
+void raise_fatal(const char *call, int class, const char *cause, ...) __attribute__((format(printf, 3, 4)));
+
 /* The same of a number of the engine that isn't 0; and where it may be that of a limit, by the name of this limit. */
 int raise_number(MPI_Comm comm, const char *call, uint32_t number);
 int raise_limited(MPI_Comm comm, const char *call, uint32_t number, const char *limit);

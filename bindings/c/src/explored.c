@@ -128,7 +128,7 @@ void explored_leave(uint32_t plan) {
 static void tell(struct explorer_ask *ask, const struct explorer_entry *entries, const void *bytes) {
     uint64_t frames[EXPLORER_FRAMES];
     const char *name = process.call;
-    ask->calls = process.calls;
+    ask->calls = (uint32_t)process.calls;
     if (kombazily_played_place != NULL) ask->frame_count = kombazily_played_place(frames, &name);
     else ask->frame_count = explored_frames(frames);
     strncpy(ask->name, name, sizeof ask->name - 1);
@@ -280,4 +280,16 @@ void explored_refuse(const char *call, const char *cause) {
 void explored_abort(int code) {
     process.call = "MPI_Abort";
     (void)answer_of((struct explorer_ask){.kind = ASK_ABORT, .call.order = code});
+}
+
+struct begun begun_here(void) {
+    struct begun made = {.name = process.call, .caller = process.caller, .call = process.calls};
+    strncpy(made.told.name, made.name, sizeof made.told.name - 1);
+    if (is_explored) made.told.frame_count = explored_frames(made.told.frames);
+    return made;
+}
+
+void explored_misuse(enum misuse misuse, const struct begun *begun) {
+    struct explorer_ask ask = {.kind = ASK_MISUSE, .call.order = (int32_t)misuse, .length = sizeof begun->told};
+    (void)explored_ask(&ask, NULL, &begun->told, NULL);
 }

@@ -9,6 +9,9 @@
 #include "internal.h"
 
 extern bool is_explored;
+/* Under an explorer, of whose passes this is told: whether members leave a collective as soon as they have what it
+ * gives them and their own data are on the way (MPI 3.1, 5.1). Blocks go straight from member to member then. */
+extern bool leaves_early;
 
 /* ---- explored_start.c ---- */
 
@@ -66,6 +69,15 @@ bool explored_error(enum explorer_ask_kind kind, const char *call, int class, co
 /* Tells of a call that can't be explored, by which the run ends; nothing happens without an explorer. */
 void explored_refuse(const char *call, const char *cause);
 void explored_abort(int code);
+/* Where the call of now stands; and tells how the buffer of an operation is misused that was begun there. */
+struct begun {
+    const char *name;
+    const void *caller;
+    uint64_t call; /* the how-many-th of the process */
+    struct explorer_begun told;
+};
+struct begun begun_here(void);
+void explored_misuse(enum misuse misuse, const struct begun *begun);
 /* A clock that goes on by a millisecond with each look: a program's time is the same in each run of the same choices.
  */
 uint64_t explored_nanoseconds(void);

@@ -1,6 +1,7 @@
 /* Collectives that go by sends and receives, under an explorer: see explored_plans.h. A rank that waits for something
  * else is blocked in the explorer, and its collectives don't go on meanwhile. So those that don't wait hand nothing on:
- * all is sent when they begin, and what came is folded by who wants it, in the order of the ranks. */
+ * all is sent when they begin, and what came is folded by who wants it, in the order of the ranks. So it is of those
+ * that wait and that a member may leave early. */
 #include "explored_plans.h"
 
 #include "explored.h"
@@ -32,6 +33,7 @@ uint32_t tell_plan(const struct plan_call *call) {
     const struct engine_call entry = {.kind = call->kind,
                                       .communicator = call->comm->place,
                                       .peer = has_root(call->kind) ? call->root : EXPLORER_NO_ROOT,
+                                      .tag = (int32_t)call->persistent,
                                       .operation = operation_told(call->folding.operation),
                                       .count = call->given.count};
     size_t count = put_blocks(&call->given, blocks);
@@ -121,6 +123,8 @@ static bool is_straight(enum plan_kind kind) {
     return kind == PLAN_ALLTOALL || kind == PLAN_ALLGATHER || kind == PLAN_REDUCE_SCATTER || kind == PLAN_GATHER ||
            kind == PLAN_SCATTER;
 }
+
+bool can_be_left(enum plan_kind kind) { return has_root(kind) || kind == PLAN_SCAN || kind == PLAN_EXSCAN; }
 
 bool go_straight(struct plan_call *call) {
     call->are_alike = false;

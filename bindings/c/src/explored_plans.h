@@ -12,6 +12,9 @@ uint32_t tell_plan(const struct plan_call *call);
  */
 bool go_straight(struct plan_call *call);
 
+/* Whether some member may leave it before all have entered it (MPI 3.1, 5.1). */
+bool can_be_left(enum plan_kind kind);
+
 /* The requests of copies that don't wait, and the number by which the explorer knows one (later_copies.c). */
 extern const struct request_kind explored_copy_kind;
 uint32_t copy_told(const struct request *request);

@@ -20,6 +20,7 @@ enum { STATUS_LEFT = 125 };
 
 static int explorer = -1;
 static bool tells_places;
+bool leaves_early;
 
 int explored_socket(void) { return explorer; }
 
@@ -84,6 +85,7 @@ static bool take_run(int descriptors[2]) {
     if (it == NULL || it->cmsg_type != SCM_RIGHTS || it->cmsg_len != CMSG_LEN(2 * sizeof(int))) return false;
     memcpy(descriptors, CMSG_DATA(it), 2 * sizeof(int));
     tells_places = run.tells_places != 0;
+    leaves_early = run.leaves_early != 0;
     return true;
 }
 
@@ -125,6 +127,7 @@ bool explored_open(void) {
     if (where == NULL || !read_number(where, 1023, &number)) return false;
     explorer = (int)number;
     tells_places = getenv("KOMBAZILY_EXPLORER_PLACES") != NULL;
+    leaves_early = getenv("KOMBAZILY_EXPLORER_LEAVES") != NULL;
     if (getenv("KOMBAZILY_EXPLORER_COPIES") != NULL) be_mould();
     is_explored = true;
     explored_start();

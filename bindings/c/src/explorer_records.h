@@ -28,17 +28,36 @@ enum explorer_ask_kind {
     ASK_START,    /* in MPI_Init; call.order: EXPLORER_VERSION. Answered by nothing */
     ASK_ENTER, /* plan; call: a collective that goes by sends and receives begins. kind: a plan_kind, peer: the root or
                   EXPLORER_NO_ROOT, operation: that of a reduction, of which EXPLORER_OWN_OPERATION is a function of
-                  the program, count: how many blocks the member hands in; is_waiting: it waits for its end. bytes:
-                  those blocks and those that it gets, each an explorer_block. Answered by nothing */
+                  the program, count: how many blocks the member hands in, tag: 0, or the number of a persistent one in
+                  its communicator; is_waiting: it waits for its end. bytes: those blocks and those that it gets, each
+                  an explorer_block. Answered by nothing */
     ASK_KEPT,  /* entries: sends of MPI_Bsend, in their order. The fact: of so many of the first ones this rank knows
                   that they were received: no run may have them in the buffer still */
     ASK_PLACE, /* told where a rank was asked for its place, which waits on: nothing but frames stands behind it */
     ASK_MADE,  /* call.order: a made_kind, call.peer: its number among those that live. Answered by nothing */
     ASK_FREED, /* call.communicator: freed by the program. Answered by nothing */
     ASK_UNSUPPORTED, /* bytes: the error of a call that can't be explored, whether it would be returned or not */
-    ASK_FINALIZE /* entries: the requests that are left; bytes: an explorer_left, then the places of the communicators
-                    that are left, the numbers of the types, and those of the persistent requests. Answered once all
-                    ranks are there */
+    ASK_FINALIZE, /* entries: the requests that are left; bytes: an explorer_left, then the places of the communicators
+                     that are left, the numbers of the types, and those of the persistent requests. Answered once all
+                     ranks are there */
+    ASK_MISUSE    /* bytes: an explorer_begun. The buffer of that operation is misused, as call.order says, which is a
+                     misuse: seen in the call that asks. It is no call by itself */
+};
+
+/* How a program uses a buffer that an operation has (MPI 3.1, 3.7.2, 3.10, 5.12). */
+enum misuse {
+    MISUSE_OVERLAP = 1, /* the buffer of the operation that begins now shares a byte with it, and data come into one */
+    MISUSE_WITHIN,      /* so do two buffers of this call */
+    MISUSE_CHANGED,     /* what is sent isn't as it was, when the operation completes */
+    MISUSE_WRITTEN,     /* nor is the memory where data come, before they do */
+    MISUSE_GONE         /* it isn't there */
+};
+
+/* An operation that was begun: in which call, and where that stands, as in an ask. */
+struct explorer_begun {
+    char name[EXPLORER_NAME];
+    uint64_t frame_count;
+    uint64_t frames[EXPLORER_FRAMES];
 };
 
 /* A request of a list. A list with one that is EXPLORER_OPEN is answered by the fact EXPLORER_AGAIN, too: as a pause.
@@ -55,7 +74,7 @@ struct explorer_entry {
 enum { EXPLORER_AGAIN = 2 };
 
 /* These records as a program and its explorer know them. */
-enum { EXPLORER_VERSION = 4 };
+enum { EXPLORER_VERSION = 5 };
 
 /* A block of a collective: its bytes, and the type of the engine that they are of. */
 struct explorer_block {
@@ -102,5 +121,6 @@ struct explorer_answer {
 /* What a process that is copied for each run is handed with the two descriptors of a run. */
 struct explorer_run {
     uint32_t tells_places;
+    uint32_t leaves_early;
 };
 #endif

@@ -178,6 +178,19 @@ int MPI_Info_free(MPI_Info *info) {
     return MPI_SUCCESS;
 }
 
+int set_info(const char *call, MPI_Info info, const char *key, const char *value) {
+    struct info *own;
+    int class = check_own(call, info, &own);
+    if (class == MPI_SUCCESS && !put_entry(own, key, value)) class = no_memory(call);
+    return class;
+}
+
+const char *info_value(MPI_Info info, const char *key) {
+    const struct info *own = table_find(&infos, (intptr_t)info);
+    const struct entry *entry = own == NULL ? NULL : entry_of(own, key);
+    return entry == NULL ? NULL : entry->value;
+}
+
 int MPI_Info_set(MPI_Info info, const char *key, const char *value) {
     NOTE_CALLER();
     static const char call[] = "MPI_Info_set";

@@ -12,6 +12,10 @@ int add_info(const char *call, struct info **made, MPI_Info *handle);
 /* Hints: an info object, or MPI_INFO_NULL for none. */
 int check_hints(MPI_Comm comm, const char *call, MPI_Info info);
 
+/* The value of a key, or NULL. And sets one of the program's own: 0, or the class of an error. */
+const char *info_value(MPI_Info info, const char *key);
+int set_info(const char *call, MPI_Info info, const char *key, const char *value);
+
 /* At the start: what MPI_INFO_ENV tells. At the end: gives that back; the program's own ones stay. */
 void open_infos(int argc, char *argv[]);
 void close_infos(void);

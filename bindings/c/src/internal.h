@@ -14,6 +14,7 @@
 
 struct communicator;
 struct datatype;
+struct watch;
 
 /* ---- environment.c ---- */
 
@@ -35,7 +36,7 @@ struct process {
     bool sends_wait; /* each standard or ready send is at its end once a receive has its message, as synchronous ones */
     const char *call;   /* the call of MPI that the program made last */
     const void *caller; /* where in the program the last call stands that notes it */
-    uint32_t calls;     /* so many calls that note where they stand were made */
+    uint64_t calls;     /* so many noted it */
 };
 extern struct process process;
 
@@ -58,8 +59,9 @@ static inline void leave_call(const bool *has_lock) {
  * program here. */
 enum { STATUS_PLACE = 2, STATUS_SOCKET, STATUS_PATIENCE };
 
-/* The first rank of MPI_COMM_WORLD that has the own address, so runs on the same machine. */
+/* The first rank of MPI_COMM_WORLD that has the own address, so runs on the same machine; whether one does. */
 int first_neighbour(void);
+bool is_neighbour(int rank);
 
 /* The rank that the environment tells, before MPI_Init; -1 where it tells none. (start.c) */
 int rank_in_environment(void);
@@ -154,6 +156,7 @@ struct request {
     bool is_inactive;   /* calls that end requests take it as a null one (3.7.3) */
     bool is_ended;      /* it is at its end: `number` and `end` tell how */
     bool is_settled;    /* the program's functions know of it, and what it held is given back */
+    bool is_freed;      /* the program freed it while it was on its way */
     uint32_t number;    /* 0, or why it failed */
     int code;           /* of an end that is told: 0, or the error code of it */
     MPI_Status end;
@@ -176,6 +179,7 @@ struct request {
     uint64_t mark;
     struct request *other;  /* the send that ends together with this receive, or NULL */
     struct request *behind; /* of a matched message: the next one to be received */
+    struct watch *watch;    /* of its buffers (watches.h), or NULL */
 };
 
 /* Whether a request is at its end now. What it received then is where it belongs. */
@@ -187,11 +191,10 @@ uint32_t await_request(struct request *request);
 /* From now on each progress goes on with it, until its end, whatever the program waits for. It has a handle. */
 void keep_moving(struct request *request);
 void move_requests(void);
-/* Tells the error handler why a request failed; or says it, in at most LONGEST_CAUSE bytes. */
+/* Tells the error handler why a request failed, whose state is there. */
 int raise_end(const char *call, const struct request *request);
 /* The same of an error code of a function of the program's; 0 is none. */
 int raise_code(const char *call, int code);
-void say_end(const struct request *request, char *text);
 
 /* A request with a handle, for an operation that begins now; MPI_REQUEST_NULL where there is no memory. */
 MPI_Request open_request(void);
@@ -207,8 +210,9 @@ struct request *request_at(int place);
 uint32_t place_of_request(MPI_Request handle);
 /* The same, or NULL of a request that is inactive, too. */
 struct request *active_of(MPI_Request handle);
-/* Tells the functions of the program's of its end: its code. `end` has all that is known of it then. */
-int tell_end(struct request *request);
+/* Tells the functions of the program's of its end: its code. `end` has all that is known of it then. Where the code is
+ * that of an error, `cause` says why, in at most LONGEST_CAUSE bytes. */
+int tell_end(struct request *request, char *cause);
 /* Ends a request: its handle is a null one behind it, or stays, and the request is inactive (3.9). */
 void close_request(MPI_Request *handle);
 /* Lets an operation go on of which nobody will ask: false where there is no memory to know it by. */

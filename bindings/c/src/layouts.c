@@ -21,8 +21,7 @@ static ptrdiff_t place_behind(const struct run *run) {
     return (ptrdiff_t)((size_t)run->at + run->count * (size_t)run->stride);
 }
 
-/* So many items as one run. */
-static struct run copies_of(const struct layout *layout, size_t items) {
+struct run copies_of(const struct layout *layout, size_t items) {
     struct run made;
     const struct runs *runs = layout->runs;
     kombazily_type_copies(runs->list, runs->count, body_number(runs), layout->numbers.size, items,

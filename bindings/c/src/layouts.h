@@ -30,6 +30,9 @@ struct layout {
 void layout_free(struct layout *layout);
 void release_runs(struct runs *runs); /* or NULL */
 
+/* So many items, which have data, as one run. */
+struct run copies_of(const struct layout *layout, size_t items);
+
 /* Whether so many items have their data in one row in memory, without gaps. */
 bool is_row(const struct layout *layout, size_t items);
 

@@ -217,3 +217,49 @@ int MPI_Ineighbor_alltoallw(const void *sendbuf, const int sendcounts[], const M
     return exchange(NONBLOCKING("MPI_Ineighbor_alltoallw", comm, request), ANY(sendbuf, sendcounts, sdispls, sendtypes),
                     false, ANY(recvbuf, recvcounts, rdispls, recvtypes));
 }
+
+/* ---- begun again and again ---- */
+
+int MPI_Neighbor_allgather_init(const void *sendbuf, int sendcount, MPI_Datatype sendtype, void *recvbuf, int recvcount,
+                                MPI_Datatype recvtype, MPI_Comm comm, MPI_Info info, MPI_Request *request) {
+    NOTE_CALLER();
+    (void)info;
+    return exchange(PERSISTENT("MPI_Neighbor_allgather_init", comm, request), ROW(sendbuf, sendcount, sendtype), true,
+                    ROW(recvbuf, recvcount, recvtype));
+}
+
+int MPI_Neighbor_allgatherv_init(const void *sendbuf, int sendcount, MPI_Datatype sendtype, void *recvbuf,
+                                 const int recvcounts[], const int displs[], MPI_Datatype recvtype, MPI_Comm comm,
+                                 MPI_Info info, MPI_Request *request) {
+    NOTE_CALLER();
+    (void)info;
+    return exchange(PERSISTENT("MPI_Neighbor_allgatherv_init", comm, request), ROW(sendbuf, sendcount, sendtype), true,
+                    ROWS(recvbuf, recvcounts, displs, recvtype));
+}
+
+int MPI_Neighbor_alltoall_init(const void *sendbuf, int sendcount, MPI_Datatype sendtype, void *recvbuf, int recvcount,
+                               MPI_Datatype recvtype, MPI_Comm comm, MPI_Info info, MPI_Request *request) {
+    NOTE_CALLER();
+    (void)info;
+    return exchange(PERSISTENT("MPI_Neighbor_alltoall_init", comm, request), ROW(sendbuf, sendcount, sendtype), false,
+                    ROW(recvbuf, recvcount, recvtype));
+}
+
+int MPI_Neighbor_alltoallv_init(const void *sendbuf, const int sendcounts[], const int sdispls[], MPI_Datatype sendtype,
+                                void *recvbuf, const int recvcounts[], const int rdispls[], MPI_Datatype recvtype,
+                                MPI_Comm comm, MPI_Info info, MPI_Request *request) {
+    NOTE_CALLER();
+    (void)info;
+    return exchange(PERSISTENT("MPI_Neighbor_alltoallv_init", comm, request),
+                    ROWS(sendbuf, sendcounts, sdispls, sendtype), false, ROWS(recvbuf, recvcounts, rdispls, recvtype));
+}
+
+int MPI_Neighbor_alltoallw_init(const void *sendbuf, const int sendcounts[], const MPI_Aint sdispls[],
+                                const MPI_Datatype sendtypes[], void *recvbuf, const int recvcounts[],
+                                const MPI_Aint rdispls[], const MPI_Datatype recvtypes[], MPI_Comm comm, MPI_Info info,
+                                MPI_Request *request) {
+    NOTE_CALLER();
+    (void)info;
+    return exchange(PERSISTENT("MPI_Neighbor_alltoallw_init", comm, request),
+                    ANY(sendbuf, sendcounts, sdispls, sendtypes), false, ANY(recvbuf, recvcounts, rdispls, recvtypes));
+}

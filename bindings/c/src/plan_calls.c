@@ -4,6 +4,7 @@
 #include "errors.h"
 #include "explored.h"
 #include "explored_plans.h"
+#include "watches.h"
 
 #include <stdlib.h>
 
@@ -14,6 +15,9 @@ int check_asked(struct asked *asked) {
         class = check_result(asked->handle, asked->name, asked->request, "request");
     return class;
 }
+
+#define LIMIT_OF_PERSISTENT "16,384 persistent collectives of a communicator are there at one of its members"
+_Static_assert(MOST_PERSISTENT == 16384, "what is said of the limit is so");
 
 static int no_memory(const struct asked *asked) {
     return raise_on(asked->handle, asked->name, MPI_ERR_NO_MEM, "no memory for a collective");
@@ -97,6 +101,7 @@ int check_apart_places(const struct asked *asked, const void *sendbuf, const voi
 /* ---- beginning ---- */
 
 static int drop_call(struct plan_call *call, int class) {
+    if (call->persistent != 0) forget_persistent(call->comm, call->persistent - 1);
     free_places(&call->given);
     free_places(&call->got);
     free(call->steps);
@@ -109,19 +114,32 @@ static int carry_to_end(const struct asked *asked, struct plan_call *call) {
     struct request own = {.kind = &plan_kind, .comm = call->comm, .caller = process.caller};
     own.state = make_plan(call, &own);
     if (own.state == NULL) return drop_call(call, no_memory(asked));
+    watch_plan(&own, call);
     start_plan(own.state);
     uint32_t number = await_request(&own);
+    drop_watch(&own);
     int class = number == 0 ? MPI_SUCCESS : raise_end(asked->name, &own);
     end_plan(own.state);
     return class;
+}
+
+/* Gives a persistent one its number: 0, or a class. */
+static int number_call(const struct asked *asked, struct plan_call *call) {
+    uint32_t made;
+    uint32_t number = number_persistent(asked->comm, &made);
+    if (number == 0) call->persistent = made + 1;
+    return number == 0 ? MPI_SUCCESS : raise_limited(asked->handle, asked->name, number, LIMIT_OF_PERSISTENT);
 }
 
 int carry_out(const struct asked *asked, struct plan_call *call) {
     call->name = asked->name;
     call->comm = asked->comm;
     call->waits = asked->waits;
+    const bool is_straight = is_explored && (!asked->waits || (leaves_early && can_be_left(call->kind)));
+    if (is_straight && !go_straight(call)) return drop_call(call, no_memory(asked));
     if (asked->waits) return carry_to_end(asked, call);
-    if (is_explored && !go_straight(call)) return drop_call(call, no_memory(asked));
+    int class = asked->is_persistent ? number_call(asked, call) : MPI_SUCCESS;
+    if (class != MPI_SUCCESS) return drop_call(call, class);
     MPI_Request handle = open_request();
     struct request *own = request_of(handle);
     if (own == NULL) return drop_call(call, no_memory(asked));
@@ -133,8 +151,12 @@ int carry_out(const struct asked *asked, struct plan_call *call) {
         return drop_call(call, no_memory(asked));
     }
     own->is_persistent = own->is_inactive = asked->is_persistent;
-    if (asked->is_persistent) explored_made(MADE_PERSISTENT, place_of_request(handle));
-    if (!asked->is_persistent) start_plan(own->state);
+    if (asked->is_persistent) {
+        explored_made(MADE_PERSISTENT, place_of_request(handle));
+    } else {
+        watch_plan(own, call);
+        start_plan(own->state);
+    }
     *asked->request = handle;
     return MPI_SUCCESS;
 }

@@ -47,4 +47,10 @@ int check_apart_places(const struct asked *asked, const void *sendbuf, const voi
 /* Carries a plan out, or begins it where a request is wanted. It takes the lists of the call over in any case. */
 int carry_out(const struct asked *asked, struct plan_call *call);
 
+/* ---- rooted.c: gather, scatter and broadcast as plans ---- */
+
+int gather_by_plan(struct asked *asked, int root, const struct blocks *send, const struct blocks *receive);
+int scatter_by_plan(struct asked *asked, int root, const struct blocks *send, const struct blocks *receive);
+int broadcast_by_plan(struct asked *asked, int root, void *buffer, int count, MPI_Datatype datatype);
+
 #endif

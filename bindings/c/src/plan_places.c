@@ -81,4 +81,51 @@ uint32_t number_communicator(struct communicator *comm) {
 void forget_number(struct communicator *comm) {
     if (comm->number > ENGINE_SELF) comm->world->taken[comm->number / 64] &= ~(UINT64_C(1) << comm->number % 64);
     free(comm->members);
+    free(comm->persistents);
+}
+
+/* ---- persistent collectives ---- */
+
+/* Those that the own rank has, and those that were free at all members when they agreed last, and are still to be
+ * given.
+ */
+enum { PERSISTENT_WORDS = MOST_PERSISTENT / 64 };
+struct persistent_numbers {
+    uint64_t taken[PERSISTENT_WORDS], agreed[PERSISTENT_WORDS];
+};
+
+/* The first one that is to be given, or MOST_PERSISTENT. */
+static uint32_t first_agreed(const struct persistent_numbers *numbers) {
+    uint32_t at = 0;
+    while (at < MOST_PERSISTENT && (numbers->agreed[at / 64] >> at % 64 & 1) == 0) at++;
+    return at;
+}
+
+/* All members come here at the same one, since they have given as many: those that all of them have free. */
+static uint32_t agree_on_numbers(const struct communicator *comm, struct persistent_numbers *numbers) {
+    uint64_t own[PERSISTENT_WORDS];
+    const struct collective all = {comm, 0, ENGINE_UINT64, sizeof *own};
+    for (int at = 0; at < PERSISTENT_WORDS; at++) own[at] = ~numbers->taken[at];
+    memcpy(numbers->agreed, own, sizeof own);
+    return comm->all_size == 1 ? 0 : allreduce_rows(all, ENGINE_BAND, own, sizeof own, numbers->agreed);
+}
+
+uint32_t number_persistent(struct communicator *comm, uint32_t *made) {
+    if (comm->persistents == NULL) {
+        comm->persistents = calloc(1, sizeof *comm->persistents);
+        if (comm->persistents == NULL) return NUMBER_NO_MEMORY;
+        memset(comm->persistents->agreed, 0xff, sizeof comm->persistents->agreed);
+    }
+    struct persistent_numbers *numbers = comm->persistents;
+    uint32_t number = first_agreed(numbers) < MOST_PERSISTENT ? 0 : agree_on_numbers(comm, numbers);
+    if (number != 0) return number;
+    *made = first_agreed(numbers);
+    if (*made == MOST_PERSISTENT) return NUMBER_LIMIT;
+    numbers->agreed[*made / 64] &= ~(UINT64_C(1) << *made % 64);
+    numbers->taken[*made / 64] |= UINT64_C(1) << *made % 64;
+    return 0;
+}
+
+void forget_persistent(struct communicator *comm, uint32_t made) {
+    comm->persistents->taken[made / 64] &= ~(UINT64_C(1) << made % 64);
 }

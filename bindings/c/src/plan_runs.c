@@ -9,14 +9,17 @@
 #include "explored_plans.h"
 #include "intercommunicators.h"
 #include "lines.h"
+#include "watches.h"
 #include "worlds.h"
 
 #include <stdio.h>
 #include <stdlib.h>
 #include <string.h>
 
-/* The tag of a plan's messages: the number of its communicator, its kind, and its own number in the communicator. */
-enum { COMM_SHIFT = 19, KIND_SHIFT = 15, MOST_OPEN = 1 << KIND_SHIFT };
+/* The tag of a plan's messages: the number of its communicator, its kind, a bit where it is persistent, and its own
+ * number in the communicator. */
+enum { COMM_SHIFT = 19, KIND_SHIFT = 15, MOST_OPEN = 1 << 14, PERSISTENT_BIT = MOST_OPEN };
+_Static_assert((int)MOST_PERSISTENT <= (int)MOST_OPEN, "a number is below the bit");
 enum { LONG_QUIET = 100000000 /* nanoseconds behind which it looks whether another rank entered another collective */ };
 
 /* A send or a receive. */
@@ -35,7 +38,7 @@ struct fault {
 struct plan_run {
     struct plan_call call;
     struct request *request;
-    uint32_t own;  /* which one of the communicator's plans it is */
+    uint32_t own;  /* which one of the communicator's plans it is, as its tag tells */
     uint32_t told; /* the number by which an explorer knows it */
     struct plan_step *steps;
     struct message *messages; /* of each step */
@@ -44,7 +47,8 @@ struct plan_run {
     unsigned char *room;
     size_t room_of_each;   /* bytes of a block of room */
     ptrdiff_t room_before; /* from the first one to the address of its items */
-    uint32_t number;
+    uint32_t number;       /* 0, or why it failed; and why it can't be carried out at all */
+    uint32_t hindrance;
     struct fault fault;
     uint64_t moved; /* when it went on last */
     struct plan_run *earlier, *later;
@@ -80,7 +84,7 @@ static bool is_same(struct plan_slot a, struct plan_slot b) { return a.kind == b
 /* ---- messages ---- */
 
 static uint32_t tag_of(const struct plan_run *run, enum plan_kind kind) {
-    return run->call.comm->number << COMM_SHIFT | (uint32_t)kind << KIND_SHIFT | run->own % MOST_OPEN;
+    return run->call.comm->number << COMM_SHIFT | (uint32_t)kind << KIND_SHIFT | run->own;
 }
 
 /* A call of the engine about a message of this run. An explorer, which has engines for plans alone, too, is told of
@@ -419,6 +423,7 @@ void plans_go_on(void) {
 }
 
 void say_plan_end(const struct plan_run *run, char *text) {
+    note_told(run->call.comm->place);
     static const char *const kinds[] = {
         [PLAN_ALLTOALL] = "an alltoall",
         [PLAN_ALLGATHER] = "an allgather",
@@ -506,8 +511,20 @@ static uint32_t find_room(struct plan_run *run) {
 /* Whether the plan that had its number before is on its way. */
 static bool is_number_taken(const struct plan_run *own) {
     for (const struct plan_run *run = on_their_way; run != NULL; run = run->later)
-        if (run->call.comm == own->call.comm && run->own == own->own - MOST_OPEN) return true;
+        if (run->call.comm == own->call.comm && run->own == own->own) return true;
     return false;
+}
+
+/* What its tag tells of it: members begin those that aren't persistent in one order (5.12), and make the others so. */
+static uint32_t next_own(const struct plan_run *run) {
+    const uint32_t persistent = run->call.persistent;
+    return persistent == 0 ? run->call.comm->plans++ % MOST_OPEN : PERSISTENT_BIT | (persistent - 1);
+}
+
+/* Notes for agreement.h what is entered, or begun again. */
+static void note_start(const struct plan_call *call) {
+    if (call->persistent == 0) note_plan(call->kind, call->root, call->comm);
+    else note_again(call->persistent, call->comm);
 }
 
 struct plan_run *make_plan(const struct plan_call *asked, struct request *request) {
@@ -517,8 +534,9 @@ struct plan_run *make_plan(const struct plan_call *asked, struct request *reques
     run->request = request;
     hold_communicator(asked->comm);
     if (asked->folding.operation != NULL) asked->folding.operation->uses++;
-    run->number = find_steps(run);
-    if (run->number == 0) run->number = find_room(run);
+    run->hindrance = find_steps(run);
+    if (run->hindrance == 0) run->hindrance = find_room(run);
+    if (asked->persistent != 0) note_plan(asked->kind, asked->root, asked->comm);
     return run;
 }
 
@@ -528,19 +546,6 @@ static void leave_explorer(struct plan_run *run) {
 }
 
 uint32_t plan_told(const struct plan_run *run) { return run->told; }
-
-void start_plan(struct plan_run *run) {
-    run->own = run->call.comm->plans++;
-    run->next = run->ended = 0;
-    run->moved = device_nanoseconds();
-    if (run->messages != NULL) memset(run->messages, 0, run->count * sizeof *run->messages);
-    note_plan(run->call.kind, run->call.root, run->call.comm);
-    leave_explorer(run);
-    if (is_explored) run->told = tell_plan(&run->call);
-    if (is_number_taken(run)) run->number = NUMBER_LIMIT;
-    put_on_way(run);
-    plan_goes_on(run);
-}
 
 /* What was begun and isn't at its end, since the plan failed: a receive is cancelled; a send goes on. */
 static void give_up_messages(struct plan_run *run) {
@@ -557,10 +562,26 @@ static void give_up_messages(struct plan_run *run) {
     }
 }
 
+void start_plan(struct plan_run *run) {
+    if (run->number != 0) give_up_messages(run);
+    run->own = next_own(run);
+    run->next = run->ended = 0;
+    run->number = run->hindrance;
+    run->moved = device_nanoseconds();
+    if (run->messages != NULL) memset(run->messages, 0, run->count * sizeof *run->messages);
+    note_start(&run->call);
+    leave_explorer(run);
+    if (is_explored) run->told = tell_plan(&run->call);
+    if (is_number_taken(run)) run->number = NUMBER_LIMIT;
+    put_on_way(run);
+    plan_goes_on(run);
+}
+
 void end_plan(struct plan_run *run) {
     take_off_way(run);
     give_up_messages(run);
     leave_explorer(run);
+    if (run->call.persistent != 0) forget_persistent(run->call.comm, run->call.persistent - 1);
     release_operation(run->call.folding.operation);
     free_places(&run->call.given);
     free_places(&run->call.got);
@@ -584,6 +605,7 @@ static int start(const char *call, struct request *request) {
     request->number = 0;
     request->age = next_age();
     request->caller = process.caller;
+    watch_plan(request, &run->call);
     start_plan(run);
     return MPI_SUCCESS;
 }

@@ -39,6 +39,7 @@ struct plan_call {
     struct plan_step *steps; /* NULL: those that the engine's plan has; else freed with the plan. Of an */
     size_t step_count;       /* intercommunicator they name all members */
     void *spare;             /* room that some places are in, or NULL: freed with the plan */
+    uint32_t persistent;     /* of a persistent one its number in the communicator, and one more; else 0 */
 };
 
 /* The requests of collectives: their state is a run. */
@@ -52,7 +53,7 @@ struct plan_run *make_plan(const struct plan_call *asked, struct request *reques
 void start_plan(struct plan_run *run);
 /* Goes on as far as it can, and notes in the request where it is at its end. */
 void plan_goes_on(struct plan_run *run);
-/* Why it failed, in at most LONGEST_CAUSE bytes. */
+/* Why it failed, in at most LONGEST_CAUSE bytes: the program is told. */
 void say_plan_end(const struct plan_run *run, char *text);
 /* Forgets it. */
 void end_plan(struct plan_run *run);
@@ -82,5 +83,11 @@ int plan_rank(const struct communicator *comm, int member);
  * forget_number. */
 uint32_t number_communicator(struct communicator *comm);
 void forget_number(struct communicator *comm);
+
+/* Numbers a persistent collective that is made, at all members in the order in which they make them (MPI 4.0, 6.13): 0,
+ * or a number. The number is its own until forget_persistent. */
+enum { MOST_PERSISTENT = 1 << 14 };
+uint32_t number_persistent(struct communicator *comm, uint32_t *made);
+void forget_persistent(struct communicator *comm, uint32_t made);
 
 #endif

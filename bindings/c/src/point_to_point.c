@@ -8,6 +8,7 @@
 #include "transfers.h"
 #include "types.h"
 #include "unasked.h"
+#include "watches.h"
 
 #include <stdlib.h>
 
@@ -98,11 +99,14 @@ static uint32_t send_own(const struct transfer *it, struct request *request) {
 }
 
 int begin_transfer(const char *call, const struct transfer *it, struct request *request) {
-    if (it->kind == TRANSFER_BUFFERED) return begin_buffered(call, it, request);
-    if (it->kind == TRANSFER_RECEIVE)
-        return tell_number(it->comm, call,
-                           begin_receive(request, it->comm, it->buf, it->count, it->type, it->peer, it->tag));
-    return tell_number(it->comm, call, send_own(it, request));
+    int class;
+    if (it->kind == TRANSFER_BUFFERED) class = begin_buffered(call, it, request);
+    else if (it->kind == TRANSFER_RECEIVE)
+        class = tell_number(it->comm, call,
+                            begin_receive(request, it->comm, it->buf, it->count, it->type, it->peer, it->tag));
+    else class = tell_number(it->comm, call, send_own(it, request));
+    if (class == MPI_SUCCESS) watch_transfer(request, it);
+    return class;
 }
 
 /* ---- checks ---- */
@@ -135,7 +139,9 @@ static int send_and_wait(const struct argument *it, enum transfer_kind kind) {
     struct request request;
     int class = start(it, kind, &request);
     if (class != 0) return class;
-    return await_request(&request) == 0 ? MPI_SUCCESS : raise_end(it->call, &request);
+    (void)await_request(&request);
+    drop_watch(&request);
+    return request.number == 0 ? MPI_SUCCESS : raise_end(it->call, &request);
 }
 
 int open_handle(const struct argument *it, const MPI_Request *request, MPI_Request *own) {
@@ -211,6 +217,7 @@ int MPI_Recv(void *buf, int count, MPI_Datatype datatype, int source, int tag, M
     int class = start(&it, TRANSFER_RECEIVE, &request);
     if (class != 0) return class;
     await_request(&request);
+    drop_watch(&request);
     put_status(status, &request.end);
     return request.number == 0 ? MPI_SUCCESS : raise_end(it.call, &request);
 }
@@ -223,39 +230,48 @@ int MPI_Irecv(void *buf, int count, MPI_Datatype datatype, int source, int tag, 
 
 /* ---- a send and a receive together (3.10) ---- */
 
+/* How the two go together. */
+enum together { APART, REPLACES /* what comes takes the place of what is sent */ };
+
 /* Begins both. The data of the send are taken before anything is received, so the two may name the same memory. A send
  * that has begun goes on where the receive can't begin, and is ended by whatever ends requests next. */
-static int start_both(const struct argument *out, const struct argument *in, struct request *send,
+static int start_both(const struct argument *out, const struct argument *in, enum together how, struct request *send,
                       struct request *receive) {
     struct transfer made;
     /* All of the receive is checked before anything is sent. */
     int class = check_transfer(in, TRANSFER_RECEIVE, &made);
     if (class == 0) class = start(out, TRANSFER_SEND, send);
     if (class != 0) return class;
+    if (how == REPLACES) drop_watch(send);
     class = begin_transfer(in->call, &made, receive);
-    if (class != 0) (void)let_go(send);
+    if (class == 0) return class;
+    drop_watch(send);
+    (void)let_go(send);
     return class;
 }
 
-static int exchange(const struct argument *out, const struct argument *in, MPI_Status *status) {
+static int exchange(const struct argument *out, const struct argument *in, enum together how, MPI_Status *status) {
     struct request send, receive;
-    int class = start_both(out, in, &send, &receive);
+    int class = start_both(out, in, how, &send, &receive);
     if (class != 0) return class;
     await_request(&receive);
     await_request(&send);
+    drop_watch(&receive);
+    drop_watch(&send);
     put_status(status, &receive.end);
     if (receive.number != 0) return raise_end(in->call, &receive);
     return send.number == 0 ? MPI_SUCCESS : raise_end(out->call, &send);
 }
 
 /* The two end together, as one request. */
-static int exchange_later(const struct argument *out, const struct argument *in, MPI_Request *request) {
+static int exchange_later(const struct argument *out, const struct argument *in, enum together how,
+                          MPI_Request *request) {
     MPI_Request own;
     int class = open_handle(in, request, &own);
     if (class != 0) return class;
     struct request *send = malloc(sizeof *send), *receive = request_of(own);
     if (send == NULL) class = raise_number(in->comm, in->call, NUMBER_NO_MEMORY);
-    else class = start_both(out, in, send, receive);
+    else class = start_both(out, in, how, send, receive);
     if (class != 0) free(send);
     else receive->other = send;
     return hand_over(class, own, request);
@@ -267,7 +283,7 @@ int MPI_Sendrecv(const void *sendbuf, int sendcount, MPI_Datatype sendtype, int 
     static const char call[] = "MPI_Sendrecv";
     const struct argument out = {call, (void *)sendbuf, sendcount, sendtype, dest, sendtag, comm};
     const struct argument in = {call, recvbuf, recvcount, recvtype, source, recvtag, comm};
-    return exchange(&out, &in, status);
+    return exchange(&out, &in, APART, status);
 }
 
 int MPI_Sendrecv_replace(void *buf, int count, MPI_Datatype datatype, int dest, int sendtag, int source, int recvtag,
@@ -276,7 +292,7 @@ int MPI_Sendrecv_replace(void *buf, int count, MPI_Datatype datatype, int dest, 
     static const char call[] = "MPI_Sendrecv_replace";
     const struct argument out = {call, buf, count, datatype, dest, sendtag, comm};
     const struct argument in = {call, buf, count, datatype, source, recvtag, comm};
-    return exchange(&out, &in, status);
+    return exchange(&out, &in, REPLACES, status);
 }
 
 int MPI_Isendrecv(const void *sendbuf, int sendcount, MPI_Datatype sendtype, int dest, int sendtag, void *recvbuf,
@@ -285,7 +301,7 @@ int MPI_Isendrecv(const void *sendbuf, int sendcount, MPI_Datatype sendtype, int
     static const char call[] = "MPI_Isendrecv";
     const struct argument out = {call, (void *)sendbuf, sendcount, sendtype, dest, sendtag, comm};
     const struct argument in = {call, recvbuf, recvcount, recvtype, source, recvtag, comm};
-    return exchange_later(&out, &in, request);
+    return exchange_later(&out, &in, APART, request);
 }
 
 int MPI_Isendrecv_replace(void *buf, int count, MPI_Datatype datatype, int dest, int sendtag, int source, int recvtag,
@@ -294,5 +310,5 @@ int MPI_Isendrecv_replace(void *buf, int count, MPI_Datatype datatype, int dest,
     static const char call[] = "MPI_Isendrecv_replace";
     const struct argument out = {call, buf, count, datatype, dest, sendtag, comm};
     const struct argument in = {call, buf, count, datatype, source, recvtag, comm};
-    return exchange_later(&out, &in, request);
+    return exchange_later(&out, &in, REPLACES, request);
 }

@@ -6,6 +6,7 @@
 #include "table.h"
 #include "types.h"
 #include "wait_lines.h"
+#include "watches.h"
 
 #include <stdlib.h>
 
@@ -167,6 +168,7 @@ static void start_message(MPI_Message *message, const struct message *own, const
         end_request(request, &of_no_process);
     } else {
         request->own = own->own;
+        watch_message(request, room->count);
         begin_matched(request);
         free(table_remove(&messages, (intptr_t)*message));
     }
@@ -184,6 +186,7 @@ int MPI_Mrecv(void *buf, int count, MPI_Datatype datatype, MPI_Message *message,
     if (class != 0) return class;
     start_message(message, own, &room, type, &request);
     await_request(&request);
+    drop_watch(&request);
     put_status(status, &request.end);
     class = request.number == 0 ? MPI_SUCCESS : raise_end(call, &request);
     release_communicator(request.comm);

@@ -1,6 +1,7 @@
 /* Reductions (MPI 3.1, 5.9): by the engine, but of long doubles, which C folds in the order of the ranks, and those
  * that the engine doesn't know, which go by plans. */
 #include "errors.h"
+#include "explored.h"
 #include "intercollectives.h"
 #include "internal.h"
 #include "own_operations.h"
@@ -58,7 +59,7 @@ int MPI_Reduce(const void *sendbuf, void *recvbuf, int count, MPI_Datatype datat
                MPI_Comm comm) {
     NOTE_CALLER();
     const char *call = "MPI_Reduce";
-    if (is_of_inter(comm) || is_for_plans(op, datatype))
+    if (is_of_inter(comm) || is_for_plans(op, datatype) || leaves_early)
         return reduce_by_plan(sendbuf, recvbuf, count, datatype, op, root, comm);
     struct reduction of;
     const void *row = sendbuf;

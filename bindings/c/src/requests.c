@@ -7,6 +7,7 @@
 #include "table.h"
 #include "types.h"
 #include "wait_lines.h"
+#include "watches.h"
 
 #include <stdio.h>
 #include <stdlib.h>
@@ -83,7 +84,9 @@ static void note_end(struct request *request, const struct engine_answer *answer
     /* A message of no elements fits a receive of any type (3.3.1). */
     if (answer->outcome == ENGINE_FAILED && answer->count != 0) request->number = answer->number;
     if (request->number == NUMBER_TYPE) request->elements = answer->count;
-    if (answer->outcome == ENGINE_RECEIVED) request->number = take_data(request, answer->bytes);
+    if (answer->outcome != ENGINE_RECEIVED || !open_watch(request->watch)) return;
+    request->number = take_data(request, answer->bytes);
+    refill_watch(request->watch);
 }
 
 void end_request(struct request *request, const struct engine_answer *answer) {
@@ -127,7 +130,8 @@ static void say_other_type(const struct request *request, char *text) {
              request->element, NUMBER_TYPE);
 }
 
-void say_end(const struct request *request, char *text) {
+/* Why a request failed, which hangs on what its kind keeps. */
+static void say_end(const struct request *request, char *text) {
     const MPI_Status *end = &request->end;
     if (request->kind == &plan_kind) say_plan_end(request->state, text);
     else if (request->number == NUMBER_TYPE && request->elements != 0) say_other_type(request, text);
@@ -135,7 +139,6 @@ void say_end(const struct request *request, char *text) {
         snprintf(text, LONGEST_CAUSE,
                  "a message of %lld bytes from rank %d with tag %d is longer than its receive of %zu bytes",
                  end->reserved_bytes, end->MPI_SOURCE, end->MPI_TAG, request->room);
-    else if (request->number == 0) snprintf(text, LONGEST_CAUSE, CODE_OF_PROGRAM, request->code);
     else snprintf(text, LONGEST_CAUSE, "%s (%u)", cause_of(request->number), (unsigned)request->number);
 }
 
@@ -184,17 +187,24 @@ static int forget_state(struct request *request) {
     return request->kind->forget(request);
 }
 
-int tell_end(struct request *request) {
+int tell_end(struct request *request, char *cause) {
+    end_watch(request);
+    end_watch(request->other);
     int asked = request->kind->query == NULL ? MPI_SUCCESS : request->kind->query(request);
+    if (request->number != 0) say_end(request, cause);
     int last = request->is_persistent ? MPI_SUCCESS : forget_state(request);
     request->is_settled = true;
     request->code = request->number != 0 ? class_of(request->number) : last != MPI_SUCCESS ? last : asked;
+    if (request->number == 0 && request->code != MPI_SUCCESS)
+        snprintf(cause, LONGEST_CAUSE, CODE_OF_PROGRAM, request->code);
     return request->code;
 }
 
 /* Gives the memory of a request back, and what it holds, where its operation never ended too: 0, or an error code. */
 static int forget_request(struct request *request) {
     int code = forget_state(request);
+    drop_watch(request);
+    drop_watch(request->other);
     stop_moving(request);
     if (request->type != NULL) release_type(request->type);
     if (request->other != NULL && request->other->type != NULL) release_type(request->other->type);
@@ -219,6 +229,15 @@ bool let_go(const struct request *request) {
     return true;
 }
 
+/* Where an operation fails whose request the program has freed, no call can answer it: the error is fatal (3.7.3). */
+static void end_by_freed(const struct request *request) {
+    char text[LONGEST_CAUSE];
+    if (!request->is_freed || request->number == 0) return;
+    say_end(request, text);
+    process.caller = request->caller;
+    raise_fatal("MPI_Request_free", class_of(request->number), "%s", text);
+}
+
 void settle_freed(void) {
     for (struct request **at = &freed; *at != NULL;) {
         struct request *it = *at;
@@ -227,6 +246,7 @@ void settle_freed(void) {
             continue;
         }
         *at = it->next;
+        end_by_freed(it);
         (void)forget_request(it);
         /* A function of the program's may have been called, and the list be another one. */
         at = &freed;
@@ -299,6 +319,13 @@ int check_request(const char *call, const MPI_Request *handle, struct request **
     return raise_on(MPI_COMM_WORLD, call, MPI_ERR_REQUEST, "a handle that is no request");
 }
 
+/* Frees a request that is at its end. One that is inactive has been told of already. */
+static int free_ended(const char *call, struct request *request) {
+    int class = request->is_inactive || request->number == 0 ? MPI_SUCCESS : raise_end(call, request);
+    int code = forget_request(request);
+    return class == MPI_SUCCESS ? raise_code(call, code) : class;
+}
+
 int MPI_Request_free(MPI_Request *request) {
     NOTE_CALLER();
     static const char call[] = "MPI_Request_free";
@@ -309,8 +336,13 @@ int MPI_Request_free(MPI_Request *request) {
     if (found == NULL) return raise_on(MPI_COMM_WORLD, call, MPI_ERR_REQUEST, "the request is MPI_REQUEST_NULL");
     table_remove(&requests, (intptr_t)*request);
     *request = MPI_REQUEST_NULL;
+    /* The program may know of its end by other means. */
+    drop_watch(found);
+    drop_watch(found->other);
     progress();
-    if (is_at_end(found)) return raise_code(call, forget_request(found));
+    if (is_at_end(found)) return free_ended(call, found);
+    found->is_freed = true;
+    found->caller = process.caller;
     found->next = freed;
     freed = found;
     settle_freed();
@@ -353,9 +385,11 @@ int MPI_Request_get_status(MPI_Request request, int *flag, MPI_Status *status) {
     *flag = found == NULL || (is_explored ? explored_test(1, &request) : is_at_end(found));
     if (found == NULL) put_empty(status);
     if (found == NULL || !*flag) return MPI_SUCCESS;
+    end_watch(found);
+    end_watch(found->other);
     int code = found->kind->query == NULL ? MPI_SUCCESS : found->kind->query(found);
     put_status(status, &found->end);
-    return raise_code(call, code);
+    return found->number == 0 ? raise_code(call, code) : raise_end(call, found);
 }
 
 /* Nothing that it began in the engine waits any longer. */
@@ -367,7 +401,10 @@ void abandon_requests(void) {
     free_engine();
     for (int place = 0; place < requests.count; place++)
         if (requests.places[place].object != NULL) abandon_request(requests.places[place].object);
-    for (struct request *it = freed; it != NULL; it = it->next) abandon_request(it);
+    for (struct request *it = freed; it != NULL; it = it->next) {
+        abandon_request(it);
+        it->is_freed = it->is_freed && it->is_ended;
+    }
 }
 
 void close_requests(void) {

@@ -29,7 +29,7 @@ static int list_at_root(struct asked *asked, int root, const struct blocks *all,
 }
 
 /* Block j of the root's result is what member j hands in. */
-static int gather(struct asked *asked, int root, const struct blocks *send, const struct blocks *receive) {
+int gather_by_plan(struct asked *asked, int root, const struct blocks *send, const struct blocks *receive) {
     struct plan_call call = {.kind = PLAN_GATHER, .root = root};
     if (is_of_inter(asked->handle)) return inter_gather(asked, root, send, receive);
     int class = check_rooted(asked, root);
@@ -42,29 +42,30 @@ static int gather(struct asked *asked, int root, const struct blocks *send, cons
 int MPI_Gatherv(const void *sendbuf, int sendcount, MPI_Datatype sendtype, void *recvbuf, const int recvcounts[],
                 const int displs[], MPI_Datatype recvtype, int root, MPI_Comm comm) {
     NOTE_CALLER();
-    return gather(BLOCKING("MPI_Gatherv", comm), root,
-                  &(struct blocks){.at = sendbuf, .count = sendcount, .type = sendtype},
-                  &(struct blocks){.at = recvbuf, .counts = recvcounts, .displacements = displs, .type = recvtype});
+    return gather_by_plan(
+        BLOCKING("MPI_Gatherv", comm), root, &(struct blocks){.at = sendbuf, .count = sendcount, .type = sendtype},
+        &(struct blocks){.at = recvbuf, .counts = recvcounts, .displacements = displs, .type = recvtype});
 }
 
 int MPI_Igatherv(const void *sendbuf, int sendcount, MPI_Datatype sendtype, void *recvbuf, const int recvcounts[],
                  const int displs[], MPI_Datatype recvtype, int root, MPI_Comm comm, MPI_Request *request) {
     NOTE_CALLER();
-    return gather(NONBLOCKING("MPI_Igatherv", comm, request), root,
-                  &(struct blocks){.at = sendbuf, .count = sendcount, .type = sendtype},
-                  &(struct blocks){.at = recvbuf, .counts = recvcounts, .displacements = displs, .type = recvtype});
+    return gather_by_plan(
+        NONBLOCKING("MPI_Igatherv", comm, request), root,
+        &(struct blocks){.at = sendbuf, .count = sendcount, .type = sendtype},
+        &(struct blocks){.at = recvbuf, .counts = recvcounts, .displacements = displs, .type = recvtype});
 }
 
 int MPI_Igather(const void *sendbuf, int sendcount, MPI_Datatype sendtype, void *recvbuf, int recvcount,
                 MPI_Datatype recvtype, int root, MPI_Comm comm, MPI_Request *request) {
     NOTE_CALLER();
-    return gather(NONBLOCKING("MPI_Igather", comm, request), root,
-                  &(struct blocks){.at = sendbuf, .count = sendcount, .type = sendtype},
-                  &(struct blocks){.at = recvbuf, .count = recvcount, .type = recvtype});
+    return gather_by_plan(NONBLOCKING("MPI_Igather", comm, request), root,
+                          &(struct blocks){.at = sendbuf, .count = sendcount, .type = sendtype},
+                          &(struct blocks){.at = recvbuf, .count = recvcount, .type = recvtype});
 }
 
 /* A member's result is what the root hands in for it. */
-static int scatter(struct asked *asked, int root, const struct blocks *send, const struct blocks *receive) {
+int scatter_by_plan(struct asked *asked, int root, const struct blocks *send, const struct blocks *receive) {
     struct plan_call call = {.kind = PLAN_SCATTER, .root = root};
     if (is_of_inter(asked->handle)) return inter_scatter(asked, root, send, receive);
     int class = check_rooted(asked, root);
@@ -77,29 +78,31 @@ static int scatter(struct asked *asked, int root, const struct blocks *send, con
 int MPI_Scatterv(const void *sendbuf, const int sendcounts[], const int displs[], MPI_Datatype sendtype, void *recvbuf,
                  int recvcount, MPI_Datatype recvtype, int root, MPI_Comm comm) {
     NOTE_CALLER();
-    return scatter(BLOCKING("MPI_Scatterv", comm), root,
-                   &(struct blocks){.at = sendbuf, .counts = sendcounts, .displacements = displs, .type = sendtype},
-                   &(struct blocks){.at = recvbuf, .count = recvcount, .type = recvtype});
+    return scatter_by_plan(
+        BLOCKING("MPI_Scatterv", comm), root,
+        &(struct blocks){.at = sendbuf, .counts = sendcounts, .displacements = displs, .type = sendtype},
+        &(struct blocks){.at = recvbuf, .count = recvcount, .type = recvtype});
 }
 
 int MPI_Iscatterv(const void *sendbuf, const int sendcounts[], const int displs[], MPI_Datatype sendtype, void *recvbuf,
                   int recvcount, MPI_Datatype recvtype, int root, MPI_Comm comm, MPI_Request *request) {
     NOTE_CALLER();
-    return scatter(NONBLOCKING("MPI_Iscatterv", comm, request), root,
-                   &(struct blocks){.at = sendbuf, .counts = sendcounts, .displacements = displs, .type = sendtype},
-                   &(struct blocks){.at = recvbuf, .count = recvcount, .type = recvtype});
+    return scatter_by_plan(
+        NONBLOCKING("MPI_Iscatterv", comm, request), root,
+        &(struct blocks){.at = sendbuf, .counts = sendcounts, .displacements = displs, .type = sendtype},
+        &(struct blocks){.at = recvbuf, .count = recvcount, .type = recvtype});
 }
 
 int MPI_Iscatter(const void *sendbuf, int sendcount, MPI_Datatype sendtype, void *recvbuf, int recvcount,
                  MPI_Datatype recvtype, int root, MPI_Comm comm, MPI_Request *request) {
     NOTE_CALLER();
-    return scatter(NONBLOCKING("MPI_Iscatter", comm, request), root,
-                   &(struct blocks){.at = sendbuf, .count = sendcount, .type = sendtype},
-                   &(struct blocks){.at = recvbuf, .count = recvcount, .type = recvtype});
+    return scatter_by_plan(NONBLOCKING("MPI_Iscatter", comm, request), root,
+                           &(struct blocks){.at = sendbuf, .count = sendcount, .type = sendtype},
+                           &(struct blocks){.at = recvbuf, .count = recvcount, .type = recvtype});
 }
 
 /* Each member's result is what the root hands in. */
-static int broadcast(struct asked *asked, int root, void *buffer, int count, MPI_Datatype datatype) {
+int broadcast_by_plan(struct asked *asked, int root, void *buffer, int count, MPI_Datatype datatype) {
     struct plan_call call = {.kind = PLAN_BROADCAST, .root = root};
     const struct blocks own = {.at = buffer, .count = count, .type = datatype};
     if (is_of_inter(asked->handle)) return inter_broadcast(asked, root, &own);
@@ -111,7 +114,7 @@ static int broadcast(struct asked *asked, int root, void *buffer, int count, MPI
 
 int MPI_Ibcast(void *buffer, int count, MPI_Datatype datatype, int root, MPI_Comm comm, MPI_Request *request) {
     NOTE_CALLER();
-    return broadcast(NONBLOCKING("MPI_Ibcast", comm, request), root, buffer, count, datatype);
+    return broadcast_by_plan(NONBLOCKING("MPI_Ibcast", comm, request), root, buffer, count, datatype);
 }
 
 static int barrier(struct asked *asked) {
@@ -137,16 +140,16 @@ int MPI_Bcast_init(void *buffer, int count, MPI_Datatype datatype, int root, MPI
                    MPI_Request *request) {
     NOTE_CALLER();
     (void)info;
-    return broadcast(PERSISTENT("MPI_Bcast_init", comm, request), root, buffer, count, datatype);
+    return broadcast_by_plan(PERSISTENT("MPI_Bcast_init", comm, request), root, buffer, count, datatype);
 }
 
 int MPI_Gather_init(const void *sendbuf, int sendcount, MPI_Datatype sendtype, void *recvbuf, int recvcount,
                     MPI_Datatype recvtype, int root, MPI_Comm comm, MPI_Info info, MPI_Request *request) {
     NOTE_CALLER();
     (void)info;
-    return gather(PERSISTENT("MPI_Gather_init", comm, request), root,
-                  &(struct blocks){.at = sendbuf, .count = sendcount, .type = sendtype},
-                  &(struct blocks){.at = recvbuf, .count = recvcount, .type = recvtype});
+    return gather_by_plan(PERSISTENT("MPI_Gather_init", comm, request), root,
+                          &(struct blocks){.at = sendbuf, .count = sendcount, .type = sendtype},
+                          &(struct blocks){.at = recvbuf, .count = recvcount, .type = recvtype});
 }
 
 int MPI_Gatherv_init(const void *sendbuf, int sendcount, MPI_Datatype sendtype, void *recvbuf, const int recvcounts[],
@@ -154,18 +157,19 @@ int MPI_Gatherv_init(const void *sendbuf, int sendcount, MPI_Datatype sendtype, 
                      MPI_Request *request) {
     NOTE_CALLER();
     (void)info;
-    return gather(PERSISTENT("MPI_Gatherv_init", comm, request), root,
-                  &(struct blocks){.at = sendbuf, .count = sendcount, .type = sendtype},
-                  &(struct blocks){.at = recvbuf, .counts = recvcounts, .displacements = displs, .type = recvtype});
+    return gather_by_plan(
+        PERSISTENT("MPI_Gatherv_init", comm, request), root,
+        &(struct blocks){.at = sendbuf, .count = sendcount, .type = sendtype},
+        &(struct blocks){.at = recvbuf, .counts = recvcounts, .displacements = displs, .type = recvtype});
 }
 
 int MPI_Scatter_init(const void *sendbuf, int sendcount, MPI_Datatype sendtype, void *recvbuf, int recvcount,
                      MPI_Datatype recvtype, int root, MPI_Comm comm, MPI_Info info, MPI_Request *request) {
     NOTE_CALLER();
     (void)info;
-    return scatter(PERSISTENT("MPI_Scatter_init", comm, request), root,
-                   &(struct blocks){.at = sendbuf, .count = sendcount, .type = sendtype},
-                   &(struct blocks){.at = recvbuf, .count = recvcount, .type = recvtype});
+    return scatter_by_plan(PERSISTENT("MPI_Scatter_init", comm, request), root,
+                           &(struct blocks){.at = sendbuf, .count = sendcount, .type = sendtype},
+                           &(struct blocks){.at = recvbuf, .count = recvcount, .type = recvtype});
 }
 
 int MPI_Scatterv_init(const void *sendbuf, const int sendcounts[], const int displs[], MPI_Datatype sendtype,
@@ -173,7 +177,8 @@ int MPI_Scatterv_init(const void *sendbuf, const int sendcounts[], const int dis
                       MPI_Request *request) {
     NOTE_CALLER();
     (void)info;
-    return scatter(PERSISTENT("MPI_Scatterv_init", comm, request), root,
-                   &(struct blocks){.at = sendbuf, .counts = sendcounts, .displacements = displs, .type = sendtype},
-                   &(struct blocks){.at = recvbuf, .count = recvcount, .type = recvtype});
+    return scatter_by_plan(
+        PERSISTENT("MPI_Scatterv_init", comm, request), root,
+        &(struct blocks){.at = sendbuf, .counts = sendcounts, .displacements = displs, .type = sendtype},
+        &(struct blocks){.at = recvbuf, .count = recvcount, .type = recvtype});
 }

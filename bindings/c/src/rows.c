@@ -27,6 +27,7 @@ uint32_t enter_engine(const struct engine_call *entry, const void *data, size_t 
     if (number == 0) enter_and_wait(entry, root, data, length, answer);
     else *answer = (struct engine_answer){.kind = ENGINE_REFUSED, .number = number};
     if (process.is_threaded) end_turn();
+    if (answer->number == NUMBER_MISMATCH) note_told(entry->communicator);
     return answer->number;
 }
 

@@ -7,6 +7,7 @@
 #include "internal.h"
 
 #include <stdlib.h>
+#include <string.h>
 
 /* ---- of a group ---- */
 
@@ -45,20 +46,51 @@ int MPI_Comm_create(MPI_Comm comm, MPI_Group group, MPI_Comm *newcomm) {
 
 /* ---- of a machine ---- */
 
+/* The only resource that ranks are known to share, and the key that names one (MPI 4.0, 7.4.2). */
+static const char resource_key[] = "mpi_hw_resource_type", machine[] = "mpi_shared_memory";
+
+/* Whether all members of a communicator are on one machine: then those of a machine are no smaller part of it. */
+static int ask_machine(MPI_Comm comm, const char *call, bool *is_one) {
+    int class = MPI_SUCCESS;
+    uint16_t *list = members_of_communicator(comm, call, &class);
+    *is_one = list != NULL;
+    for (int at = 0; list != NULL && at < communicator_of(comm)->size; at++) *is_one &= is_neighbour(list[at]);
+    free(list);
+    return class;
+}
+
+/* By what the parts are told apart: 0, or a class. */
+static int find_resource(MPI_Comm comm, const char *call, int split_type, MPI_Info info, int32_t *colour) {
+    bool is_machine = split_type == MPI_COMM_TYPE_SHARED, is_one = false;
+    int class = MPI_SUCCESS;
+    if (split_type == MPI_COMM_TYPE_HW_GUIDED) {
+        const char *named = info_value(info, resource_key);
+        is_machine = named != NULL && strcmp(named, machine) == 0;
+    } else if (split_type == MPI_COMM_TYPE_HW_UNGUIDED) {
+        class = ask_machine(comm, call, &is_one);
+        is_machine = !is_one;
+    } else if (!is_machine && split_type != MPI_UNDEFINED)
+        class = raise_on(comm, call, MPI_ERR_ARG, "split type %d", split_type);
+    *colour = is_machine ? first_neighbour() : ENGINE_NO_COLOUR;
+    return class;
+}
+
 int MPI_Comm_split_type(MPI_Comm comm, int split_type, int key, MPI_Info info, MPI_Comm *newcomm) {
     NOTE_CALLER();
     static const char call[] = "MPI_Comm_split_type";
     struct communicator *own;
-    struct engine_call entry = {.kind = ENGINE_SPLIT, .order = key, .colour = ENGINE_NO_COLOUR};
-    (void)info;
+    struct engine_call entry = {.kind = ENGINE_SPLIT, .order = key};
     check_running(call);
     int class = check_comm(comm, call, &own);
+    if (class == MPI_SUCCESS) class = check_hints(comm, call, info);
     if (class == MPI_SUCCESS) class = check_result(comm, call, newcomm, "newcomm");
-    if (class != MPI_SUCCESS) return class;
-    if (split_type != MPI_COMM_TYPE_SHARED && split_type != MPI_UNDEFINED)
-        return raise_on(comm, call, MPI_ERR_ARG, "split type %d", split_type);
-    if (split_type == MPI_COMM_TYPE_SHARED) entry.colour = first_neighbour();
-    return make_communicator(comm, call, &entry, newcomm);
+    if (class == MPI_SUCCESS) class = find_resource(comm, call, split_type, info, &entry.colour);
+    if (class == MPI_SUCCESS) class = make_communicator(comm, call, &entry, newcomm);
+    /* It tells which resource it has found, where it is to. */
+    const bool is_told = split_type == MPI_COMM_TYPE_HW_UNGUIDED && info != MPI_INFO_NULL;
+    if (class == MPI_SUCCESS && is_told && *newcomm != MPI_COMM_NULL)
+        class = set_info(call, info, resource_key, machine);
+    return class;
 }
 
 /* ---- hints, of which none is used ---- */

@@ -4,13 +4,14 @@
 #include "internal.h"
 #include "wait_lines.h"
 
-#include <stdlib.h>
+#include <string.h>
 
 /* Ends a request that is at its end: its status, and 0 or the class of its failure. */
 static int finish_request(const char *call, MPI_Request *handle, struct request *request, MPI_Status *status) {
-    int code = tell_end(request);
+    char cause[LONGEST_CAUSE];
+    int code = tell_end(request, cause);
     put_status(status, &request->end);
-    int class = request->number == 0 ? raise_code(call, code) : raise_end(call, request);
+    int class = request->number == 0 ? raise_code(call, code) : raise_in(request->comm, call, code, "%s", cause);
     close_request(handle);
     if (has_freed()) settle_freed();
     return class;
@@ -166,11 +167,12 @@ struct failure {
 /* Tells those of a list that are at their ends of it. */
 static struct failure tell_ends(int count, const MPI_Request list[]) {
     struct failure first = {.place = -1};
+    char cause[LONGEST_CAUSE];
     for (int i = 0; i < count; i++) {
         struct request *it = active_of(list[i]);
-        if (it == NULL || !is_told(it) || tell_end(it) == MPI_SUCCESS || first.place >= 0) continue;
+        if (it == NULL || !is_told(it) || tell_end(it, cause) == MPI_SUCCESS || first.place >= 0) continue;
         first.place = i;
-        say_end(it, first.cause);
+        memcpy(first.cause, cause, sizeof cause);
         first.told = it->comm == NULL ? NULL : hold_communicator(it->comm);
     }
     return first;

@@ -140,8 +140,8 @@ static void check_fortran(void) {
     MPI_F08_status of_2008;
     MPI_Status status, back;
     MPI_Request request;
-    int number = 5, count = 0;
-    MPI_Irecv(&number, 1, MPI_INT, 0, 4, MPI_COMM_SELF, &request);
+    int number = 5, got = 0, count = 0;
+    MPI_Irecv(&got, 1, MPI_INT, 0, 4, MPI_COMM_SELF, &request);
     CHECK(MPI_Request_f2c(MPI_Request_c2f(request)) == request);
     CHECK(MPI_Request_f2c(MPI_Request_c2f(MPI_REQUEST_NULL)) == MPI_REQUEST_NULL);
     CHECK(MPI_Message_f2c(MPI_Message_c2f(MPI_MESSAGE_NO_PROC)) == MPI_MESSAGE_NO_PROC);

@@ -102,11 +102,47 @@ static void check_types(void) {
           MPI_ERR_TOPOLOGY);
 }
 
+/* On a ring each of them, made once and begun in several rounds, another one first at every other rank (MPI 4.0, 8.8).
+ */
+static void check_persistent(void) {
+    int ring = 1, given[2], got[5][2], counts[] = {1, 1}, places[] = {0, 1};
+    const MPI_Aint bytes[] = {0, sizeof(int)};
+    const MPI_Datatype types[] = {MPI_INT, MPI_INT};
+    MPI_Comm comm;
+    MPI_Request list[5];
+    MPI_Cart_create(MPI_COMM_WORLD, 1, &test_size, &ring, 0, &comm);
+    MPI_Neighbor_allgather_init(given, 1, MPI_INT, got[0], 1, MPI_INT, comm, MPI_INFO_NULL, &list[0]);
+    MPI_Neighbor_allgatherv_init(given, 1, MPI_INT, got[1], counts, places, MPI_INT, comm, MPI_INFO_NULL, &list[1]);
+    MPI_Neighbor_alltoall_init(given, 1, MPI_INT, got[2], 1, MPI_INT, comm, MPI_INFO_NULL, &list[2]);
+    MPI_Neighbor_alltoallv_init(given, counts, places, MPI_INT, got[3], counts, places, MPI_INT, comm, MPI_INFO_NULL,
+                                &list[3]);
+    MPI_Neighbor_alltoallw_init(given, counts, bytes, types, got[4], counts, bytes, types, comm, MPI_INFO_NULL,
+                                &list[4]);
+    const int last = (test_rank + test_size - 1) % test_size, next = (test_rank + 1) % test_size;
+    for (int round = 0; round < 4; round++) {
+        memset(got, -1, sizeof got);
+        given[0] = 100 * round + 10 * test_rank;
+        given[1] = given[0] + 1;
+        if (round % 2 == 1) MPI_Startall(5, list);
+        for (int at = 0; at < 5 && round % 2 == 0; at++) MPI_Start(&list[test_rank % 2 == 0 ? at : 4 - at]);
+        MPI_Waitall(5, list, MPI_STATUSES_IGNORE);
+        for (int at = 0; at < 5; at++) {
+            CHECK(got[at][0] == 100 * round + 10 * last + (at < 2 ? 0 : 1) && got[at][1] == 100 * round + 10 * next);
+            CHECK(list[at] != MPI_REQUEST_NULL);
+        }
+    }
+    for (int at = 0; at < 5; at++) MPI_Request_free(&list[at]);
+    MPI_Comm_free(&comm);
+    CHECK(class_of(MPI_Neighbor_allgather_init(given, 1, MPI_INT, got, 1, MPI_INT, MPI_COMM_WORLD, MPI_INFO_NULL,
+                                               &list[0])) == MPI_ERR_TOPOLOGY);
+}
+
 int main(int argc, char **argv) {
     test_begin(&argc, &argv);
     check_grid();
     check_alone();
     check_star();
     check_types();
+    check_persistent();
     return test_end();
 }

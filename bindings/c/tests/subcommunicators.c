@@ -79,6 +79,41 @@ static void check_machine(void) {
     CHECK(comm == MPI_COMM_NULL);
 }
 
+/* By a resource that is named or found (MPI 4.0, 7.4.2): a machine, where it has a part of the ranks alone. */
+static void check_resources(void) {
+    char value[MPI_MAX_INFO_VAL + 1] = "";
+    MPI_Comm shared, named, found;
+    MPI_Info info;
+    int result = -1, size = 0, flag = 1;
+    MPI_Info_create(&info);
+    MPI_Comm_split_type(MPI_COMM_WORLD, MPI_COMM_TYPE_SHARED, 0, MPI_INFO_NULL, &shared);
+    MPI_Comm_size(shared, &size);
+    MPI_Comm_split_type(MPI_COMM_WORLD, MPI_COMM_TYPE_HW_GUIDED, 0, MPI_INFO_NULL, &named);
+    CHECK(named == MPI_COMM_NULL);
+    MPI_Comm_split_type(MPI_COMM_WORLD, MPI_COMM_TYPE_HW_GUIDED, 0, info, &named);
+    CHECK(named == MPI_COMM_NULL);
+    MPI_Info_set(info, "mpi_hw_resource_type", "no such resource");
+    MPI_Comm_split_type(MPI_COMM_WORLD, MPI_COMM_TYPE_HW_GUIDED, 0, info, &named);
+    CHECK(named == MPI_COMM_NULL);
+    MPI_Info_set(info, "mpi_hw_resource_type", "mpi_shared_memory");
+    MPI_Comm_split_type(MPI_COMM_WORLD, MPI_COMM_TYPE_HW_GUIDED, 0, info, &named);
+    MPI_Comm_compare(shared, named, &result);
+    CHECK(result == MPI_CONGRUENT);
+    MPI_Comm_free(&named);
+    MPI_Info_delete(info, "mpi_hw_resource_type");
+    MPI_Comm_split_type(MPI_COMM_WORLD, MPI_COMM_TYPE_HW_UNGUIDED, 0, info, &found);
+    MPI_Info_get(info, "mpi_hw_resource_type", MPI_MAX_INFO_VAL, value, &flag);
+    CHECK((found == MPI_COMM_NULL) == (size == test_size) && flag == (size < test_size));
+    if (found != MPI_COMM_NULL) {
+        MPI_Comm_compare(shared, found, &result);
+        CHECK(result == MPI_CONGRUENT && strcmp(value, "mpi_shared_memory") == 0);
+        MPI_Comm_free(&found);
+    }
+    MPI_Comm_free(&shared);
+    MPI_Info_free(&info);
+    CHECK(class_of(MPI_Comm_split_type(MPI_COMM_WORLD, 99, 0, MPI_INFO_NULL, &found)) == MPI_ERR_ARG);
+}
+
 static void check_requests(void) {
     MPI_Comm copies[3];
     MPI_Request requests[3];
@@ -118,6 +153,7 @@ int main(int argc, char **argv) {
     check_ranges();
     check_group();
     check_machine();
+    check_resources();
     check_requests();
     check_end();
     MPI_Group_free(&world);

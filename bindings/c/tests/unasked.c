@@ -6,7 +6,7 @@
 enum { BYTES = 936 /* a message counts 64 more */, ROOM = 100 /* so many of these may wait */, MANY = 2 * ROOM };
 enum { TAG_DATA = 1, TAG_GO, TAG_EMPTY, TAG_AGAIN, TAG_BUFFERED, TAG_OWN, TAG_BOTH };
 
-static char row[BYTES];
+static char row[BYTES], place[BYTES];
 
 static bool is_finished(MPI_Request *request) {
     int flag = 0;
@@ -15,7 +15,7 @@ static bool is_finished(MPI_Request *request) {
 }
 
 static void receive(int source, int tag) {
-    MPI_Recv(row, BYTES, MPI_BYTE, source, tag, MPI_COMM_WORLD, MPI_STATUS_IGNORE);
+    MPI_Recv(place, BYTES, MPI_BYTE, source, tag, MPI_COMM_WORLD, MPI_STATUS_IGNORE);
 }
 
 /* Sends to a rank until a send isn't at its end at once: how many were; that one is left. */

@@ -5,7 +5,8 @@
 #include <stdlib.h>
 #include <string.h>
 
-static const char waiting[] = ", with sends and collectives that wait", by_choice[] = ", each send by choice";
+/* Where the head of a file tells the pass. */
+static const char with[] = ", with ";
 
 static const char *last_part(const char *path) {
     const char *folder = strrchr(path, '/');
@@ -20,7 +21,9 @@ void write_choices(const struct result *it, int number, bool synchronous) {
         fprintf(stderr, "kombazily: %s can't be written\n", name);
         return;
     }
-    fprintf(into, "# %d ranks%s: %s\n", set.size, synchronous ? waiting : set.each ? by_choice : "", set.program[0]);
+    char sends[80];
+    say_sends(synchronous, sends, sizeof sends);
+    fprintf(into, "# %d ranks%s%s: %s\n", set.size, with, sends, set.program[0]);
     for (const char *at = it->choices == NULL ? "" : it->choices; *at != '\0';) {
         char words[1800];
         size_t length = say_choice(at, words, sizeof words);
@@ -34,6 +37,22 @@ static _Noreturn void refuse(const char *name, const char *why) {
     char text[5000];
     snprintf(text, sizeof text, "%s %s; nothing was run", name, why);
     fail(STATUS_WORDS, text, "");
+}
+
+/* Takes the pass that a head tells, which is one that say_sends tells. */
+static void take_pass(const char *head) {
+    char sends[80];
+    const size_t behind = strlen(with);
+    long bytes;
+    if (strncmp(head, with, behind) != 0) return;
+    if (sscanf(head + behind, "sends of up to %ld bytes", &bytes) == 1) {
+        set.synchronous = set.each = false;
+        set.buffered = bytes;
+        return;
+    }
+    say_sends(true, sends, sizeof sends);
+    set.synchronous = strncmp(head + behind, sends, strlen(sends)) == 0;
+    set.each = !set.synchronous;
 }
 
 /* That a file was written for this program and so many ranks; its pass is taken. */
@@ -51,8 +70,7 @@ static void read_head(const char *name, char *line) {
         snprintf(why, sizeof why, "was written for another program, %.200s", program + 2);
         refuse(name, why);
     }
-    if (strncmp(line + end, waiting, strlen(waiting)) == 0) set.synchronous = true, set.each = false;
-    if (strncmp(line + end, by_choice, strlen(by_choice)) == 0) set.each = true, set.synchronous = false;
+    take_pass(line + end);
 }
 
 int read_choices(const char *name, bool is_recorded, struct move **moves) {

@@ -48,9 +48,15 @@ uint32_t kombazily_choices_add_no(struct choices *choices, uint16_t rank, uint32
  * are at their ends: 0; 1, it is kept from saying no; 14, 81, 83 (no such call). */
 uint32_t kombazily_choices_add_list(struct choices *choices, uint16_t rank, uint32_t op, uint32_t noes, uint32_t most,
                                     uint32_t kind, uint32_t live, const uint32_t *ended, size_t count);
+/* Leaves the first move that was told alone. Whether the choice at this place of a run may be another than the first
+ * one there: where none before it was, or the first one that was is fewer than so many places before it. */
+void kombazily_choices_keep_first(struct choices *choices);
+bool kombazily_may_differ(bool differs, uint64_t first, uint64_t at, uint64_t most);
 /* A send of the rank, its `op`-th, waits and may be buffered after all: 0, 14, 81. */
 uint32_t kombazily_choices_add_buffer(struct choices *choices, uint16_t rank, uint32_t op, uint32_t target);
-/* The move at this place, in the order in which they were told: whether there is one. */
+/* The move at this place, in the order in which they were told: whether there is one. Of a call for some of a list it
+ * is each part of six requests at most that are at their ends, and of more all or one: `at` is a number for a row of
+ * places, 1 for none, and with a place behind them the rest of (number * 1,000,003 + place + 1) by 2,147,483,647. */
 bool kombazily_choices_move(struct choices *choices, size_t place, uint32_t *kind, uint32_t *rank, uint32_t *op,
                             uint32_t *at);
 /* Whether nobody goes on unless a send is buffered; whether the move at this place says no where the same look may say

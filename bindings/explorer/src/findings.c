@@ -173,19 +173,24 @@ static uint64_t members_but(const struct members *of, int rank) {
     return all & ~bit(rank);
 }
 
-/* Those of a communicator of a rank that have entered fewer collectives. */
-static uint64_t behind(struct steps *s, int rank, uint32_t communicator, uint32_t entry) {
-    const struct members *of = members_of(s, rank, communicator);
+/* Those of a communicator of a rank that have entered fewer collectives of a name. */
+static uint64_t behind(struct steps *s, int rank, const struct members *of, uint64_t name, uint32_t entry) {
     uint64_t all = 0;
     for (int i = 0; of != NULL && i < of->size; i++)
-        if (entered_by(&s->ranks[of->of[i]], of->name) < entry) all |= bit(of->of[i]);
+        if (entered_by(&s->ranks[of->of[i]], name) < entry) all |= bit(of->of[i]);
     return all & ~bit(rank);
+}
+
+/* Those that haven't entered a collective that goes by sends and receives. */
+static uint64_t behind_plan(struct steps *s, int rank, const struct plan *plan) {
+    return behind(s, rank, members_of(s, rank, plan->communicator), plan->name, plan->entry);
 }
 
 /* Those of a collective that haven't entered it. */
 static uint64_t absent_members(struct steps *s, int rank) {
     const struct rank *own = &s->ranks[rank];
-    return behind(s, rank, own->ask.call.communicator, own->entry);
+    const struct members *of = members_of(s, rank, own->ask.call.communicator);
+    return of == NULL ? 0 : behind(s, rank, of, of->name, own->entry);
 }
 
 static uint64_t peers_of(struct steps *s, int rank, const struct engine_call *call) {
@@ -197,7 +202,7 @@ static uint64_t peers_of(struct steps *s, int rank, const struct engine_call *ca
 /* The same of one that goes by sends and receives, of which this is one; else its peer. */
 static uint64_t awaited_by(struct steps *s, int rank, const struct operation *it) {
     const struct plan *plan = plan_of(&s->ranks[rank], it->plan);
-    uint64_t absent = plan == NULL ? 0 : behind(s, rank, plan->communicator, plan->entry);
+    uint64_t absent = plan == NULL ? 0 : behind_plan(s, rank, plan);
     return absent != 0 ? absent : peers_of(s, rank, &it->call);
 }
 
@@ -318,7 +323,7 @@ static void tell_plan(struct steps *s, int rank, enum finding_kind kind, const s
     const struct plan *plan = plan_of(own, it->plan);
     char who[300];
     const int count = say_ranks(s, awaited_by(s, rank, it), who, sizeof who);
-    bool is_absent = behind(s, rank, plan->communicator, plan->entry) != 0;
+    bool is_absent = behind_plan(s, rank, plan) != 0;
     const char *what = is_absent ? "enter" : count > 1 ? "hand in their parts" : "hand in its part";
     struct finding *told = note(s, rank, kind, "rank %d %s in %s at %%0 for %s to %s (%s at %%1)", rank, doing(kind),
                                 own->ask.name, who, what, plan->place.name);

@@ -17,8 +17,7 @@ static bool is_plain(struct steps *s, int rank, const struct explorer_entry *ent
     const struct operation *it = entry->key >= EXPLORER_MADE ? NULL : operation_of(s, rank, entry->key);
     if (entry->key == EXPLORER_MADE) return false;
     if (it == NULL || it->state == OP_CANCELLED) return true;
-    if (!it->is_send || it->call.kind != ENGINE_ISEND || s->options.synchronous) return false;
-    return !s->options.each || it->state == OP_BUFFERED;
+    return it->is_send && (it->state == OP_BUFFERED || !it->waits);
 }
 
 /* A test whose yes nobody else is needed for. */

@@ -138,6 +138,10 @@ static void replay(struct pass *pass) {
 /* The signal that ended the last pass, or 0; and whether a call of some pass couldn't be explored. */
 static int stopped;
 static bool is_unexplored;
+/* Whether a pass that is over met a bound, and left runs out. */
+static bool has_rest;
+/* Whether a pass that is over made sends that are longer than is buffered, some of which other runs may buffer. */
+static bool has_mixture;
 
 /* One pass: how much it weighs. */
 static uint32_t make_pass(bool synchronous) {
@@ -146,6 +150,8 @@ static uint32_t make_pass(bool synchronous) {
     if (set.replay != NULL || set.followed != NULL) replay(&pass);
     else explore(&pass);
     uint32_t weight = tell_results(&pass);
+    has_mixture |= counts.has_long;
+    has_rest |= !pass.is_all && pass.runs > 0 && pass.astray == NULL && pass.stopped == 0;
     stopped = pass.stopped;
     is_unexplored |= counts.is_unexplored;
     if (set.html != NULL) page_add(&pass);
@@ -153,11 +159,16 @@ static uint32_t make_pass(bool synchronous) {
     return weight;
 }
 
-/* What a pass in which sends are buffered can't show. */
+/* What a pass can't show in which all sends of a length go alike. */
 static void say_hint(const uint32_t *passes, size_t count) {
-    const bool is_other = set.synchronous || set.both || set.each || set.replay != NULL || set.played != NULL;
-    if (kombazily_is_hint_told(passes, count, is_unexplored, is_other) && set.format == FORMAT_TEXT)
-        puts("--both looks for what hangs where sends aren't buffered, too");
+    const bool is_one = set.replay != NULL || set.followed != NULL;
+    const bool is_other = !has_mixture || set.each || is_one;
+    if (set.format != FORMAT_TEXT) return;
+    if (has_rest && set.mix < 0 && !is_one && set.played == NULL)
+        puts("--mix 2 makes fewer runs: those whose choices differ from the first ones at two places in a row at most");
+    if (kombazily_is_hint_told(passes, count, is_unexplored, is_other))
+        printf("sends of more than %ld bytes were made: --each tries each send waiting and buffered, by choice\n",
+               set.buffered);
 }
 
 /* The folder of --out is made, or is there and can be written. */

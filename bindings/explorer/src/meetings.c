@@ -182,12 +182,13 @@ static void tell_difference(struct steps *s, const struct difference *it, const 
     s->has_mismatch = true;
 }
 
-static struct meeting *meeting_of(struct steps *s, uint64_t name, uint32_t index, uint32_t size) {
+static struct meeting *meeting_of(struct steps *s, uint64_t name, uint32_t index, const struct members *of) {
+    const uint32_t size = (uint32_t)of->size;
     for (int i = 0; i < s->meeting_count; i++)
         if (s->meetings[i].name == name && s->meetings[i].index == index) return &s->meetings[i];
     s->meetings = room_for(s->meetings, (size_t)s->meeting_count + 1, sizeof *s->meetings);
     struct meeting *made = &s->meetings[s->meeting_count++];
-    *made = (struct meeting){.name = name, .index = index, .size = size};
+    *made = (struct meeting){.name = name, .communicator = of->name, .index = index, .size = size};
     made->of = room_for(NULL, size, sizeof *made->of);
     return made;
 }
@@ -225,12 +226,14 @@ static void add_entering(struct meeting *it, const struct entering *own) {
 }
 
 uint32_t enter_meeting(struct steps *s, int rank, struct members *of, struct entering own) {
-    const uint32_t index = ++of->entered;
+    const uint64_t name = own.persistent == 0 ? of->name : series_name(of, own.persistent);
+    uint32_t *entered = own.persistent == 0 ? &of->entered : &series_of(&s->ranks[rank], name)->entered;
+    const uint32_t index = ++*entered;
     if (of->size == 1) {
         free(own.blocks);
         return index;
     }
-    struct meeting *it = meeting_of(s, of->name, index, (uint32_t)of->size);
+    struct meeting *it = meeting_of(s, name, index, of);
     own.rank = rank, own.member = of->rank;
     add_entering(it, &own);
     if (it->entered < it->size) return index;
@@ -247,7 +250,8 @@ static int absent_of(struct steps *s, const struct meeting *it) {
     for (int rank = 0; rank < s->options.size; rank++) {
         const struct rank *own = &s->ranks[rank];
         for (int at = 0; at < own->members_count; at++)
-            if (own->members[at].is_made && own->members[at].name == it->name && own->members[at].entered < it->index)
+            if (own->members[at].is_made && own->members[at].name == it->communicator &&
+                entered_by(own, it->name) < it->index)
                 return rank;
     }
     return -1;

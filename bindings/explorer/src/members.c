@@ -38,5 +38,17 @@ int world_rank(struct steps *s, int rank, uint32_t place, int32_t member) {
 uint32_t entered_by(const struct rank *own, uint64_t name) {
     for (int i = 0; i < own->members_count; i++)
         if (own->members[i].is_made && own->members[i].name == name) return own->members[i].entered;
+    for (int i = 0; i < own->series_count; i++)
+        if (own->series[i].name == name) return own->series[i].entered;
     return 0;
+}
+
+uint64_t series_name(const struct members *of, uint32_t persistent) { return mixed(of->name, ~(uint64_t)persistent); }
+
+struct series *series_of(struct rank *own, uint64_t name) {
+    for (int i = 0; i < own->series_count; i++)
+        if (own->series[i].name == name) return &own->series[i];
+    own->series = room_for(own->series, (size_t)own->series_count + 1, sizeof *own->series);
+    own->series[own->series_count] = (struct series){.name = name};
+    return &own->series[own->series_count++];
 }

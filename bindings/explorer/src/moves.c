@@ -45,6 +45,8 @@ static uint32_t ended_places(struct steps *s, int rank, uint32_t *places) {
     return count;
 }
 
+static bool ends_some(const struct rank *own) { return own->ask.kind == ASK_WAITSOME || own->ask.kind == ASK_TESTSOME; }
+
 static void tell_list(struct steps *s, int rank) {
     const struct rank *own = &s->ranks[rank];
     uint32_t *places = room_for(NULL, own->ask.count, sizeof *places), live = 0;
@@ -89,6 +91,12 @@ static void tell_sends(struct steps *s, int rank) {
     }
 }
 
+/* Whether a rank stays in a call that makes a communicator, which MPI lets it leave before all are there (3.1, 5.1). */
+static bool is_kept(const struct steps *s, const struct rank *own) {
+    if (s->options.synchronous || own->state != RANK_BLOCKED || own->is_finalized) return false;
+    return own->ask.kind == ASK_CALL && (own->ask.call.kind == ENGINE_DUP || own->ask.call.kind == ENGINE_SPLIT);
+}
+
 /* Tells what stands at this fence, and takes the moves there. */
 static int moves_here(struct steps *s, struct move *moves, int room) {
     int count = 0;
@@ -99,9 +107,12 @@ static int moves_here(struct steps *s, struct move *moves, int room) {
         if (own->state == RANK_BLOCKED && is_list(own->ask.kind)) tell_list(s, rank);
         if (own->state == RANK_BLOCKED && own->ask.kind == ASK_PROBE) tell_probe(s, rank);
         tell_sends(s, rank);
+        if (is_kept(s, own)) s->has_kept = true;
     }
-    for (struct move *m = moves; count < room; m++, count++)
+    for (struct move *m = moves; count < room; m++, count++) {
         if (!kombazily_choices_move(s->options.choices, (size_t)count, &m->kind, &m->rank, &m->op, &m->at)) break;
+        if (m->kind == MOVE_PLACE && ends_some(&s->ranks[m->rank])) s->has_parts = true;
+    }
     return count;
 }
 
@@ -160,7 +171,7 @@ static void take_place(struct steps *s, const struct move *move) {
     struct rank *own = &s->ranks[move->rank];
     const uint32_t place = move->at;
     own->noes = 0;
-    if (own->ask.kind == ASK_WAITSOME || own->ask.kind == ASK_TESTSOME) {
+    if (ends_some(own)) {
         give_places(s, (int)move->rank, &place, 1);
         return;
     }
@@ -172,6 +183,33 @@ static void take_all(struct steps *s, const struct move *move) {
     struct rank *own = &s->ranks[move->rank];
     uint32_t *places = room_for(NULL, own->ask.count, sizeof *places);
     const uint32_t count = ended_places(s, (int)move->rank, places);
+    own->noes = 0;
+    give_places(s, (int)move->rank, places, count);
+    free(places);
+}
+
+/* The places of the part of this number: of those that are at their ends, few enough that each part is a move. */
+static uint32_t part_places(struct steps *s, int rank, uint32_t number, uint32_t *places) {
+    enum { MOST = 31 };
+    const uint64_t factor = 1000003, modulus = 2147483647;
+    uint32_t *all = room_for(NULL, s->ranks[rank].ask.count, sizeof *all), count = 0;
+    const uint32_t ended = ended_places(s, rank, all);
+    for (uint32_t part = 1; ended <= MOST && count == 0 && part >> ended == 0; part++) {
+        uint64_t sum = 1;
+        for (uint32_t i = 0; i < ended; i++)
+            if (part >> i & 1) sum = (sum * factor + all[i] + 1) % modulus;
+        for (uint32_t i = 0; sum == number && i < ended; i++)
+            if (part >> i & 1) places[count++] = all[i];
+    }
+    free(all);
+    if (count == 0) give_up("a part of a list is lost");
+    return count;
+}
+
+static void take_part(struct steps *s, const struct move *move) {
+    struct rank *own = &s->ranks[move->rank];
+    uint32_t *places = room_for(NULL, own->ask.count, sizeof *places);
+    const uint32_t count = part_places(s, (int)move->rank, move->at, places);
     own->noes = 0;
     give_places(s, (int)move->rank, places, count);
     free(places);
@@ -197,6 +235,9 @@ void steps_take(struct steps *s, struct move move) {
         break;
     case MOVE_ALL:
         take_all(s, &move);
+        break;
+    case MOVE_PART:
+        take_part(s, &move);
         break;
     case MOVE_BUFFER:
         if (send != NULL) send->state = OP_BUFFERED;
@@ -224,9 +265,20 @@ bool steps_say_no(struct steps *s) {
 
 /* ---- words ---- */
 
+/* `request 1`, or `requests 0 and 2`. */
+static void say_part(struct steps *s, const struct move *move, char *into, size_t room) {
+    uint32_t *places = room_for(NULL, s->ranks[move->rank].ask.count, sizeof *places);
+    const uint32_t count = part_places(s, (int)move->rank, move->at, places);
+    size_t at = (size_t)snprintf(into, room, "request%s", count == 1 ? "" : "s");
+    for (uint32_t i = 0; i < count && at < room; i++)
+        at += (size_t)snprintf(into + at, room - at, "%s%u", i == 0 ? " " : i + 1 == count ? " and " : ", ", places[i]);
+    free(places);
+}
+
 void steps_say_move(struct steps *s, struct move move, char *text, size_t room, struct place *place) {
     const struct rank *own = &s->ranks[move.rank];
     const char *name = own->ask.name;
+    char part[120];
     int late = move.kind == MOVE_MATCH ? late_place(own, move.op) : -1;
     const struct operation *send = move.kind == MOVE_BUFFER ? send_of(s, &move) : NULL;
     *place = late >= 0 ? own->operations[own->late[late]].place : send != NULL ? send->place : own->place;
@@ -243,6 +295,10 @@ void steps_say_move(struct steps *s, struct move move, char *text, size_t room, 
         break;
     case MOVE_PLACE:
         snprintf(text, room, "rank %u: %s at %%0 ends request %u of its list", move.rank, name, move.at);
+        break;
+    case MOVE_PART:
+        say_part(s, &move, part, sizeof part);
+        snprintf(text, room, "rank %u: %s at %%0 ends %s of its list", move.rank, name, part);
         break;
     case MOVE_ALL:
         snprintf(text, room, "rank %u: %s at %%0 ends all that are at their ends", move.rank, name);

@@ -29,6 +29,14 @@ static int new_operation(struct rank *own, const struct explorer_ask *ask, bool 
     return key;
 }
 
+/* Whether a send waits for its receive: a standard one by the pass, and by how long it is. */
+static bool is_to_wait(struct steps *s, const struct explorer_ask *ask) {
+    if (ask->call.kind == ENGINE_ISSEND || s->options.synchronous || s->options.each) return true;
+    const bool is_long = ask->length > s->options.buffered;
+    if (is_long) s->has_long = true;
+    return is_long;
+}
+
 static void begin_send(struct steps *s, int rank, const struct explorer_ask *ask, const uint8_t *bytes) {
     struct rank *own = &s->ranks[rank];
     int key = new_operation(own, ask, true);
@@ -36,9 +44,12 @@ static void begin_send(struct steps *s, int rank, const struct explorer_ask *ask
     struct engine_call call = ask->plan == 0 ? ask->call : plan_message(s, rank, &ask->call);
     struct engine_answer answer;
     it->op = ++own->sends;
-    if (s->options.synchronous || s->options.each) call.kind = ENGINE_ISSEND;
+    it->waits = is_to_wait(s, ask);
+    if (it->waits) call.kind = ENGINE_ISSEND;
     call_engine(s, ask->plan != 0, rank, &call, bytes, ask->length, &answer);
-    it->state = answer.kind == ENGINE_STARTED ? OP_POSTED : OP_FAILED;
+    /* The engine ends one at once that goes in a frame. */
+    const bool is_kept = !it->waits && ask->length > ENGINE_LEAST_FRAME;
+    it->state = answer.kind != ENGINE_STARTED ? OP_FAILED : is_kept ? OP_BUFFERED : OP_POSTED;
     it->number = answer.number;
     it->own = answer.request;
     if (it->state == OP_FAILED) return;
@@ -140,6 +151,7 @@ bool is_done(struct steps *s, int rank, uint64_t key) {
     const struct operation *it = operation_of(s, rank, key);
     if (it == NULL) return true;
     if (it->state == OP_WILD || it->state == OP_HELD || it->state == OP_COPYING) return false;
+    if (s->options.synchronous && it->plan != 0 && !has_met(s, rank, it->plan)) return false;
     if (it->state != OP_POSTED) return true;
     struct engine_answer look;
     engines_call(it->plan != 0 ? s->plan_engines : s->engines, rank,
@@ -163,6 +175,33 @@ bool has_moved_on(struct steps *s, int rank) {
     return has_moved;
 }
 
+/* Lets go what the engines have of sends that were buffered, where they are received. */
+static void drop_rests(struct steps *s, int rank) {
+    struct rank *own = &s->ranks[rank];
+    int kept = 0;
+    for (int i = 0; i < own->rest_count; i++) {
+        struct engine_answer answer;
+        const struct engine_call test = {.kind = ENGINE_TEST, .request = own->rests[i].own};
+        engines_call(own->rests[i].is_of_plan ? s->plan_engines : s->engines, rank, &test, (const uint8_t *)"", 0,
+                     &answer);
+        if (answer.kind == ENGINE_PENDING) own->rests[kept++] = own->rests[i];
+    }
+    own->rest_count = kept;
+}
+
+/* A send that was buffered is over for its rank. They are looked at each time they are twice as many as were left. */
+static void keep_rest(struct steps *s, int rank, const struct operation *it) {
+    enum { FEW = 32 };
+    struct rank *own = &s->ranks[rank];
+    size_t room = (size_t)own->rest_room;
+    own->rests = one_more(own->rests, (size_t)own->rest_count, &room, sizeof *own->rests);
+    own->rest_room = (int)room;
+    own->rests[own->rest_count++] = (struct rest){it->plan != 0, it->own};
+    if (own->rest_count < own->rest_bound || own->rest_count < FEW) return;
+    drop_rests(s, rank);
+    own->rest_bound = 2 * own->rest_count;
+}
+
 static void end_copy(struct steps *s, int rank, struct operation *it, struct engine_answer *answer) {
     const struct members *of = members_of(s, rank, it->call.communicator);
     const struct plan *plan = plan_of(&s->ranks[rank], it->plan);
@@ -177,13 +216,12 @@ void end_operation(struct steps *s, int rank, struct operation *it, struct engin
         return;
     }
     const struct engine_call test = {.kind = ENGINE_TEST, .request = it->own};
-    bool waits = s->options.synchronous || s->options.each || it->call.kind == ENGINE_ISSEND;
     if (it->state == OP_CANCELLED) answer->outcome = ENGINE_CANCELLED;
-    else if (it->state == OP_BUFFERED) answer->outcome = ENGINE_SENT;
+    else if (it->state == OP_BUFFERED) answer->outcome = ENGINE_SENT, keep_rest(s, rank, it);
     else if (it->state == OP_FAILED) *answer = (struct engine_answer){.kind = ENGINE_REFUSED, .number = it->number};
     else call_engine(s, it->plan != 0, rank, &test, NULL, 0, answer);
     if (!it->is_send) log_event(s, rank, EVENT_END, it->at, 0);
-    else if (it->state == OP_POSTED && waits && it->sent_at != NOT_SENT)
+    else if (it->state == OP_POSTED && it->waits && it->sent_at != NOT_SENT)
         log_event(s, rank, EVENT_SEND_END, it->sent_at, 0);
     it->state = OP_NONE;
 }

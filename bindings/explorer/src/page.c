@@ -170,7 +170,7 @@ static void put_result(int i) {
             ending_word(it->ending));
     fprintf(page, "<p class=\"small\">In %ld run%s.", it->runs, it->runs == 1 ? "" : "s");
     if (it->is_early && it->weight > 0)
-        fputs(" Perhaps: only where a look says no, or tells of one, though more is there.", page);
+        fputs(" Perhaps: only where a look says no, or tells of fewer than are there.", page);
     if (it->is_odd) fputs(" Perhaps: no one order of arrival gives this, but MPI allows it.", page);
     fputs(it->finding_count == 0 ? " Nothing to tell.</p>\n" : "</p>\n<ul class=\"found\">\n", page);
     for (int k = 0; k < it->finding_count; k++) put_finding(&it->findings[k]);
@@ -183,10 +183,9 @@ static void put_result(int i) {
 
 void page_add(const struct pass *pass) {
     open_page();
-    fprintf(page, "<h2>%s</h2>\n",
-            pass->synchronous ? "Sends that wait for their receives, collectives that wait for all members"
-            : set.each        ? "Sends that wait or are buffered, by choice"
-                              : "Sends that are buffered");
+    char sends[80];
+    say_sends(pass->synchronous, sends, sizeof sends);
+    fprintf(page, "<h2>With %s</h2>\n", sends);
     fprintf(page, "<p>%ld run%s: %s.</p>\n", pass->runs, pass->runs == 1 ? "" : "s", said_of(pass));
     for (int i = 0; i < result_count && i < set.results; i++) put_result(i);
 }

@@ -41,13 +41,28 @@ void begin_plan(struct steps *s, int rank) {
     struct entering entering = {.kind = ENTERS_PLAN + ask->call.kind,
                                 .root = ask->call.peer,
                                 .operation = ask->call.operation,
+                                .persistent = (uint32_t)ask->call.tag,
                                 .given = (uint32_t)ask->call.count,
                                 .got = blocks - (uint32_t)ask->call.count,
                                 .blocks = room_for(NULL, blocks, sizeof(struct explorer_block)),
                                 .place = own->place};
     if (blocks > 0) memcpy(entering.blocks, own->bytes, blocks * sizeof(struct explorer_block));
-    own->plans[ask->plan - 1] = (struct plan){.communicator = ask->call.communicator, .place = own->place};
+    own->plans[ask->plan - 1] = (struct plan){
+        .communicator = ask->call.communicator,
+        .name = entering.persistent == 0 ? of->name : series_name(of, entering.persistent),
+        .waits = ask->is_waiting,
+        .place = own->place,
+    };
     own->plans[ask->plan - 1].entry = enter_meeting(s, rank, of, entering);
+}
+
+bool has_met(struct steps *s, int rank, uint64_t number) {
+    const struct plan *plan = plan_of(&s->ranks[rank], number);
+    const struct members *of = plan == NULL ? NULL : members_of(s, rank, plan->communicator);
+    if (of == NULL || !plan->waits) return true;
+    for (int i = 0; i < of->size; i++)
+        if (entered_by(&s->ranks[of->of[i]], plan->name) < plan->entry) return false;
+    return true;
 }
 
 const struct plan *plan_of(const struct rank *own, uint64_t number) {

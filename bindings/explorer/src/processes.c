@@ -18,7 +18,7 @@
 
 extern char **environ;
 
-enum { RANK_SOCKET = 200, INPUT_ROOM = 1 << 16, WORDS_OF_PLACE = 8 };
+enum { RANK_SOCKET = 200, INPUT_ROOM = 1 << 16, WORDS_OF_PLACE = 9 };
 
 static struct {
     pid_t pid;
@@ -89,7 +89,7 @@ bool take_in(int rank, void *into, size_t length) {
 /* ---- starting ---- */
 
 /* The environment of a rank: it is told its place, and its explorer. The rows stay until the next call. */
-static char **environment_of(int rank) {
+static char **environment_of(int rank, bool leaves_early) {
     static char words[WORDS_OF_PLACE][48];
     static char **all;
     const char *places = set.places ? "KOMBAZILY_EXPLORER_PLACES=1" : "KOMBAZILY_EXPLORER_RUNS=1";
@@ -101,6 +101,7 @@ static char **environment_of(int rank) {
     snprintf(words[own++], sizeof *words, "KOMBAZILY_PORT=43000");
     snprintf(words[own++], sizeof *words, "KOMBAZILY_EXPLORER=%d", RANK_SOCKET);
     snprintf(words[own++], sizeof *words, "%s", places);
+    if (leaves_early) snprintf(words[own++], sizeof *words, "KOMBAZILY_EXPLORER_LEAVES=1");
     if (set.forks) snprintf(words[own++], sizeof *words, "KOMBAZILY_EXPLORER_COPIES=1");
     while (environ[count] != NULL) count++;
     all = realloc(all, (size_t)(count + own + 1) * sizeof *all);
@@ -123,7 +124,7 @@ static char **debugged_words(void) {
 }
 
 /* Starts a process of this rank that has this end of a pair of sockets. */
-static pid_t spawn_rank(int rank, int end) {
+static pid_t spawn_rank(int rank, int end, bool leaves_early) {
     posix_spawn_file_actions_t actions;
     bool is_debugged = rank == set.debugged;
     const char *input = rank == 0 && set.input != NULL ? set.input : "/dev/null";
@@ -136,7 +137,7 @@ static pid_t spawn_rank(int rank, int end) {
         posix_spawn_file_actions_adddup2(&actions, ranks[rank].output, STDERR_FILENO);
     }
     posix_spawn_file_actions_adddup2(&actions, end, RANK_SOCKET);
-    int why = posix_spawnp(&pid, words[0], &actions, NULL, words, environment_of(rank));
+    int why = posix_spawnp(&pid, words[0], &actions, NULL, words, environment_of(rank, leaves_early));
     posix_spawn_file_actions_destroy(&actions);
     if (why != 0) {
         fprintf(stderr, "kombazily: %s: %s\n", words[0], strerror(why));
@@ -152,8 +153,8 @@ static void open_pair(int pair[2]) {
 }
 
 /* Hands the mould of a rank the two descriptors of a run: whether it took them. */
-static bool hand_over(int rank, int end) {
-    struct explorer_run run = {set.places};
+static bool hand_over(int rank, int end, bool leaves_early) {
+    struct explorer_run run = {set.places, leaves_early};
     struct iovec part = {&run, sizeof run};
     union {
         char room[CMSG_SPACE(2 * sizeof(int))];
@@ -172,15 +173,15 @@ static bool hand_over(int rank, int end) {
 
 /* Has the mould of a rank make a copy of itself. Where a signal of the terminal's ended it there is none, and the run
  * is cut off. */
-static void copy_mould(int rank, int end) {
+static void copy_mould(int rank, int end, bool leaves_early) {
     int pair[2];
     if (ranks[rank].mould == 0) {
         open_pair(pair);
-        ranks[rank].mould_pid = spawn_rank(rank, pair[1]);
+        ranks[rank].mould_pid = spawn_rank(rank, pair[1], leaves_early);
         ranks[rank].mould = pair[0];
         close(pair[1]);
     }
-    if (hand_over(rank, end) && get(ranks[rank].mould, &ranks[rank].pid, sizeof ranks[rank].pid)) return;
+    if (hand_over(rank, end, leaves_early) && get(ranks[rank].mould, &ranks[rank].pid, sizeof ranks[rank].pid)) return;
     ranks[rank].pid = 0;
     if (asked_to_stop != 0) return;
     size_t length;
@@ -191,7 +192,7 @@ static void copy_mould(int rank, int end) {
          "ended by itself");
 }
 
-void start_rank(int rank) {
+void start_rank(int rank, bool leaves_early) {
     int pair[2];
     ranks[rank].output = memfd_create("output", MFD_CLOEXEC);
     if (ranks[rank].output < 0) fail(STATUS_START, "no memory for output: ", strerror(errno));
@@ -199,8 +200,8 @@ void start_rank(int rank) {
     ranks[rank].from = ranks[rank].to = 0;
     open_pair(pair);
     ranks[rank].socket = pair[0];
-    if (set.forks) copy_mould(rank, pair[1]);
-    else ranks[rank].pid = spawn_rank(rank, pair[1]);
+    if (set.forks) copy_mould(rank, pair[1], leaves_early);
+    else ranks[rank].pid = spawn_rank(rank, pair[1], leaves_early);
     close(pair[1]);
 }
 

@@ -276,6 +276,47 @@ static const char *said_of_unexplored(void) {
     return NULL;
 }
 
+void say_sends(bool synchronous, char *into, size_t room) {
+    if (synchronous) snprintf(into, room, "sends and collectives that wait");
+    else if (set.each) snprintf(into, room, "sends that wait or are buffered, by choice");
+    else snprintf(into, room, "sends of up to %ld bytes that are buffered", set.buffered);
+}
+
+/* What the runs did that wasn't tried in all ways: how many such things, in words. */
+static size_t untried(const char *words[]) {
+    static char apart[120];
+    size_t count = 0;
+    snprintf(apart, sizeof apart, "runs that make other choices than the first ones %ld or more places apart (--mix)",
+             set.mix);
+    if (counts.has_apart) words[count++] = apart;
+    if (counts.has_kept) words[count++] = "ranks that leave MPI_Comm_dup or MPI_Comm_split before all are there";
+    if (counts.has_ready) words[count++] = "ready sends";
+    if (counts.has_parts) words[count++] = "what MPI_Waitsome or MPI_Testsome ends of more than six, but one and all";
+    if (counts.has_cancelled) words[count++] = "whether a message or the cancel of its receive comes first";
+    return count;
+}
+
+/* That every choice was tried, and what is excepted. */
+static const char *said_of_all(void) {
+    static char said[600];
+    const char *words[8];
+    const size_t count = untried(words);
+    size_t at = (size_t)snprintf(said, sizeof said, "every choice was tried");
+    if (counts.has_withheld)
+        at += (size_t)snprintf(said + at, sizeof said - at, " in which at most %d look%s in a row say%s no (--noes K)",
+                               set.noes, set.noes == 1 ? "" : "s", set.noes == 1 ? "s" : "");
+    bool is_silent = false;
+    for (int i = 0; i < result_count; i++) is_silent |= results[i].ending == SILENT;
+    if (is_silent) at += (size_t)snprintf(said + at, sizeof said - at, ", up to where a rank is silent");
+    for (size_t i = 0; i < count; i++)
+        at += (size_t)snprintf(said + at, sizeof said - at, "%s%s",
+                               i == 0          ? ", but for "
+                               : i + 1 < count ? ", "
+                                               : " and for ",
+                               words[i]);
+    return said;
+}
+
 const char *said_of(const struct pass *pass) {
     if (pass->astray != NULL) return pass->astray;
     if (pass->stopped != 0) return "stopped by a signal, before every choice was tried";
@@ -288,17 +329,7 @@ const char *said_of(const struct pass *pass) {
         if (results[i].is_elsewhere)
             return "every choice that came up was tried, but the same ones led elsewhere: the program depends on "
                    "something else";
-    for (int i = 0; i < result_count; i++)
-        if (results[i].ending == SILENT) return "every choice was tried, up to where a rank is silent";
-    static char bounded[96];
-    snprintf(bounded, sizeof bounded, "every choice was tried in which at most %d look%s in a row say%s no (--noes K)",
-             set.noes, set.noes == 1 ? "" : "s", set.noes == 1 ? "s" : "");
-    const char *said = counts.has_withheld ? bounded : "every choice was tried";
-    static char but[256];
-    snprintf(but, sizeof but, "%s%s%s", said,
-             counts.has_cancelled ? ", but for whether a message or the cancel of its receive comes first" : "",
-             counts.has_ready ? ", but for ready sends" : "");
-    return but;
+    return said_of_all();
 }
 
 static void tell_head(void) {
@@ -320,7 +351,8 @@ static void tell_result(int i, const struct told_result *told) {
     const struct result *it = &results[i];
     printf("result %d of %d, in %ld run%s: %s%s%s%s\n", told->number, told->of, told->runs, told->runs == 1 ? "" : "s",
            ending_word(told->ending), told->weight == 0 ? ", nothing to tell" : "",
-           told->is_early ? " (perhaps: only where a look says no that could say yes, or tells of one alone)" : "",
+           told->is_early ? " (perhaps: only where a look says no that could say yes, or tells of fewer than are there)"
+                          : "",
            told->is_odd ? " (perhaps: no one order of arrival gives this, but MPI allows it)" : "");
     for (int k = 0; k < told_row_count; k++)
         if (told_rows[k].result == told_result_count - 1) printf("  %s\n", told_rows[k].it.words);

@@ -1,5 +1,6 @@
 /* One run of the program: see shell.h. */
 #define _GNU_SOURCE
+#include "choices.h"
 #include "shell.h"
 
 #include <math.h>
@@ -237,13 +238,26 @@ static void note_others(struct run *run, const struct move *m, const struct move
             note_choice(run, "or ", &moves[i], count);
 }
 
+/* The move that the search makes at this place. With --mix it is the first one behind so many places. */
+static const struct move *searched_move(struct run *run, int at, const struct move *moves, int count) {
+    const bool is_open =
+        set.mix < 0 || kombazily_may_differ(run->differs, (uint64_t)run->differs_at, (uint64_t)at, (uint64_t)set.mix);
+    if (!is_open && count > 1) {
+        counts.has_apart = true;
+        kombazily_choices_keep_first(&choices);
+    }
+    const struct move *found = search_move(moves, is_open ? count : 1, &run->is_astray);
+    if (found != NULL && found != moves && !run->differs) run->differs = true, run->differs_at = at;
+    return found;
+}
+
 /* Makes the move that is due at this place: false where there is none. */
 static bool make_move(struct run *run, int at, const struct move *moves, int count, enum choosing choosing) {
     const struct move *found = choosing == BY_FILE || choosing == BY_PREFIX
                                    ? forced_move(at, moves, count, &run->is_astray)
                                : choosing == BY_CHANCE ? &moves[random() % count]
                                : choosing == BY_RECORD ? recorded_move(moves, count)
-                                                       : search_move(moves, count, &run->is_astray);
+                                                       : searched_move(run, at, moves, count);
     if (found == NULL) return false;
     const struct move chosen = *found;
     if (set.places) note_choice(run, "", &chosen, count);
@@ -265,7 +279,7 @@ static enum ending play(struct run *run, enum choosing choosing) {
         const enum ending ending = steps_ending(s);
         if (ending != GOES_ON) return ending;
         int count = steps_moves(s, moves, MOST_MOVES);
-        if (count == MOST_MOVES) fail(STATUS_START, "4,096 choices at one place, and more", "");
+        if (count == MOST_MOVES) fail(STATUS_START, "16,384 choices at one place, and more", "");
         if (count > 0 && !make_move(run, at++, moves, count, choosing)) return CUT;
         if (count != 0 || steps_say_no(s)) continue;
         steps_tell_deadlock(s);
@@ -339,13 +353,14 @@ void run_once(struct run *run, bool synchronous, enum choosing choosing) {
     const struct steps_options options = {.size = set.size,
                                           .synchronous = synchronous,
                                           .each = set.each && !synchronous,
+                                          .buffered = (uint64_t)set.buffered,
                                           .patience = set.noes,
                                           .goes_on = set.goes_on,
                                           .choices = &choices};
     search_start_run();
     const uint64_t asks = counts.asks;
     *run = (struct run){.steps = steps_new(&options)};
-    for (int rank = 0; rank < set.size; rank++) start_rank(rank);
+    for (int rank = 0; rank < set.size; rank++) start_rank(rank, !synchronous);
     run->ending = play(run, choosing);
     run->asks = counts.asks - asks;
     if (run->ending == LATE && asked_to_stop == 0) tell_stands(run->steps);
@@ -366,4 +381,7 @@ void run_once(struct run *run, bool synchronous, enum choosing choosing) {
     if (steps_cancelled(run->steps)) counts.has_cancelled = true;
     if (steps_is_ready_unsure(run->steps)) counts.has_ready = true;
     if (run->ending == UNEXPLORED) counts.is_unexplored = true;
+    if (steps_kept(run->steps)) counts.has_kept = true;
+    if (steps_left_parts(run->steps)) counts.has_parts = true;
+    if (steps_sent_long(run->steps)) counts.has_long = true;
 }

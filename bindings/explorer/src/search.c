@@ -18,7 +18,7 @@ void search_close(void) { kombazily_choices_free(&choices); }
 const struct move *search_move(const struct move *moves, int count, bool *is_astray) {
     enum { TOO_MANY = 13, NO_MEMORY = 14 };
     uint64_t place = 0;
-    const uint32_t next = kombazily_choices_choose(&choices, !set.has_no_sleep, &place);
+    const uint32_t next = kombazily_choices_choose(&choices, !set.has_no_sleep && set.mix < 0, &place);
     if (next == TOO_MANY) fail(STATUS_START, "a rank makes 16,777,216 choices and more", "");
     if (next == NO_MEMORY) fail(STATUS_START, "no memory for the search", "");
     *is_astray = next == CHOICES_ASTRAY;

@@ -6,7 +6,7 @@
 
 #include <signal.h>
 
-enum { MOST_MOVES = 4096 };
+enum { MOST_MOVES = 1 << 14 };
 
 /* Statuses of the program, beside those that its runs give (verdicts.h). */
 enum { STATUS_CLEAN = 0, STATUS_WORDS = 2, STATUS_START = 6 };
@@ -15,9 +15,11 @@ enum { STATUS_CLEAN = 0, STATUS_WORDS = 2, STATUS_START = 6 };
 
 struct settings {
     int size;
-    bool both, synchronous, each;
+    bool both, synchronous, each, only_buffered;
+    long buffered; /* the longest standard send of the first pass that is buffered, in bytes */
     bool forks, places, goes_on, quiet, shows_output, counts_only, has_no_sleep;
     long most, results, random;
+    long mix; /* within so many places a run may make other choices than the first ones; -1: at all of them */
     double seconds, patience;
     int noes;
     const char *replay, *out, *html, *input, *sarif, *junit;
@@ -43,8 +45,8 @@ void read_words(int count, char **words);
 
 /* ---- processes.c ---- */
 
-/* Starts the process of a rank for a run. */
-void start_rank(int rank);
+/* Starts the process of a rank for a run, in which it leaves collectives early, or with all. */
+void start_rank(int rank, bool leaves_early);
 void close_moulds(void);
 /* Takes it to its end. One that talks no more may end by itself: whether it did. */
 bool end_rank(int rank, bool by_force);
@@ -89,12 +91,18 @@ struct run {
     int move_count;
     int early; /* looks that say no, or name one of several, though more is there */
     bool is_astray;
+    bool differs; /* a choice wasn't the first one of its place, and the first such place */
+    int differs_at;
     bool has_open_end; /* what was recorded of a rank was over before its program was */
     uint64_t asks;     /* so many calls that the explorer heard of */
 };
 struct counts {
     uint64_t asks, moves, calls;
     bool has_withheld;  /* a look of some run wasn't let say no (--noes) */
+    bool has_apart;     /* some run was kept from other choices than the first ones (--mix) */
+    bool has_kept;      /* a rank had to stay in a call that makes a communicator, since others weren't there */
+    bool has_parts;     /* not each part of those that some of a list might end was tried */
+    bool has_long;      /* a standard send of some run was longer than is buffered */
     bool has_cancelled; /* some run left it open whether a message or the cancel of its receive comes first */
     bool has_ready;     /* of a ready send of some run it isn't known whether it may come before its receive */
     bool is_unexplored; /* some run came to a call that can't be explored */
@@ -162,7 +170,8 @@ struct pass {
     double took;
 };
 uint32_t tell_results(const struct pass *pass);
-/* What was tried, in words. */
+/* How the sends of a pass go, and what was tried, in words. */
+void say_sends(bool synchronous, char *into, size_t room);
 const char *said_of(const struct pass *pass);
 const char *ending_word(enum ending ending);
 /* Where a result parts from the one that is nearest to it: false, there is none. */

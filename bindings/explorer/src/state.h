@@ -13,7 +13,7 @@ enum operation_state {
     OP_HELD,   /* a receive behind such a one, which might take the same message */
     OP_CANCELLED,
     OP_FAILED,   /* the engine refused it, by `number` */
-    OP_BUFFERED, /* a send that was buffered by a move */
+    OP_BUFFERED, /* a send that was buffered: at its end, whatever its engine does */
     OP_COPYING,  /* a copy of a communicator that isn't made yet, and one that is: `made` */
     OP_COPIED
 };
@@ -29,6 +29,7 @@ struct operation {
     enum operation_state state;
     bool is_send;
     bool is_looked_at; /* a LOOK said that it isn't at its end */
+    bool waits;        /* a send that is at its end once it is received, unless it is buffered by a move */
     uint32_t op;       /* as moves name it */
     uint32_t at;       /* its place among all that the rank began */
     uint32_t number;
@@ -72,8 +73,23 @@ struct pin {
 /* A collective of a rank that goes by sends and receives. */
 struct plan {
     uint32_t communicator;
-    uint32_t entry; /* the how-many-th collective of its communicator it is */
+    uint64_t name;  /* of its communicator, or of a series */
+    uint32_t entry; /* the how-many-th collective of this name it is */
+    bool waits;     /* its rank waits for its end in the call itself */
     struct place place;
+};
+
+/* A persistent collective, which a rank begins again and again: members begin several in any order (MPI 4.0, 6.13), so
+ * each is counted by itself. */
+struct series {
+    uint64_t name;
+    uint32_t entered;
+};
+
+/* A send that was buffered and that its rank has ended: its engine has it until it is received. */
+struct rest {
+    bool is_of_plan;
+    struct engine_request own;
 };
 
 enum rank_state { RANK_RUNS, RANK_BLOCKED, RANK_ENDED };
@@ -107,6 +123,10 @@ struct rank {
     int plan_count;
     struct made_row made[MADE_KINDS];
     uint32_t calls; /* so many calls of MPI it has made */
+    struct series *series;
+    int series_count;
+    struct rest *rests; /* what the engines have of sends that were buffered and ended */
+    int rest_count, rest_room, rest_bound;
     /* The answer, and what stands behind it. */
     struct explorer_answer answer;
     uint32_t *places;
@@ -149,6 +169,7 @@ struct entering {
     uint32_t kind;             /* an engine_call_kind, or ENTERS_PLAN and a plan_kind */
     int32_t root;              /* or EXPLORER_NO_ROOT */
     uint32_t operation;        /* or 0 */
+    uint32_t persistent;       /* or 0 */
     struct explorer_block row; /* of a collective of the engine's, where members have alike ones */
     uint32_t given, got;       /* of a plan: blocks that the member hands in, and that it gets behind them */
     struct explorer_block *blocks;
@@ -157,7 +178,7 @@ struct entering {
 
 /* A collective that some members have entered. */
 struct meeting {
-    uint64_t name;
+    uint64_t name, communicator; /* that of a series, and of its communicator; else twice the latter */
     uint32_t index, entered, size;
     bool is_told;
     struct entering *of;
@@ -179,6 +200,9 @@ struct steps {
     bool has_ready, has_unsure_ready; /* some send was a ready one; of one it isn't known whether it may come early */
     bool has_withheld;                /* a look wasn't let say no, since others in front of it had */
     bool has_copies;                  /* some rank has asked for a copy that doesn't wait */
+    bool has_long;                    /* a standard send was longer than is buffered */
+    bool has_kept;  /* a rank stayed in a call that makes a communicator, since others weren't there */
+    bool has_parts; /* not each part was a move of the requests that some of a list might end */
     uint64_t calls;
     int rounds_of_no;
     struct sent *sent;
@@ -232,8 +256,12 @@ void learn_members(struct steps *s, int rank, uint32_t place, uint64_t name);
 struct members *members_of(struct steps *s, int rank, uint32_t place);
 /* The rank in `world` of a member, or -1. */
 int world_rank(struct steps *s, int rank, uint32_t place, int32_t member);
-/* How many collectives of the communicator of this name a rank has entered. */
+/* How many collectives of the communicator or series of this name a rank has entered. */
 uint32_t entered_by(const struct rank *own, uint64_t name);
+/* The name of a persistent collective of a communicator; and the series of this name of a rank, made where it is new.
+ */
+uint64_t series_name(const struct members *of, uint32_t persistent);
+struct series *series_of(struct rank *own, uint64_t name);
 uint64_t mixed(uint64_t a, uint64_t b);
 
 /* ---- operations.c ---- */
@@ -277,8 +305,8 @@ bool are_all_there(struct steps *s, int rank);
 
 /* ---- meetings.c ---- */
 
-/* A member enters a collective, whose blocks are taken over: the how-many-th of the communicator it is. What differs
- * from what others entered is told. */
+/* A member enters a collective, whose blocks are taken over: the how-many-th of the communicator, or of its series, it
+ * is. What differs from what others entered is told. */
 uint32_t enter_meeting(struct steps *s, int rank, struct members *of, struct entering own);
 /* Tells of collectives that some member never entered, and what differs at those that did. */
 void tell_absent(struct steps *s);
@@ -289,6 +317,8 @@ void free_meetings(struct steps *s);
 /* A plan's message as its engine is told of it: by ranks in `world`, apart from those of other communicators. */
 struct engine_call plan_message(struct steps *s, int rank, const struct engine_call *call);
 void begin_plan(struct steps *s, int rank);
+/* Whether all members have entered the collective that goes by this plan, where one waits for it in the call. */
+bool has_met(struct steps *s, int rank, uint64_t number);
 /* The plan of this number, or NULL. */
 const struct plan *plan_of(const struct rank *own, uint64_t number);
 
@@ -324,6 +354,11 @@ uint32_t count_made(const struct rank *own, enum made_kind kind, const uint32_t 
 bool is_same_place(const struct place *a, const struct place *b);
 /* Tells of communicators that some member freed and another one left. */
 void tell_unfreed_members(struct steps *s);
+
+/* ---- misuses.c ---- */
+
+/* A rank tells how the program uses a buffer that an operation has. */
+void note_misuse(struct steps *s, int rank);
 
 /* ---- looks.c ---- */
 

@@ -30,6 +30,8 @@ static void free_rank(struct rank *own) {
     free(own->takings);
     free(own->plans);
     free_made(own);
+    free(own->series);
+    free(own->rests);
 }
 
 void steps_free(struct steps *s) {
@@ -52,7 +54,7 @@ static bool is_turn(const struct explorer_ask *ask) {
     const uint32_t kind = ask->call.kind;
     bool is_look_inside = ask->kind == ASK_CALL && (kind == ENGINE_LOOK || kind == ENGINE_TEST);
     bool is_of_plan = ask->plan != 0 && ask->kind != ASK_ENTER;
-    return is_look_inside || is_of_plan || ask->kind == ASK_PAUSE || ask->kind == ASK_KEPT;
+    return is_look_inside || is_of_plan || ask->kind == ASK_PAUSE || ask->kind == ASK_KEPT || ask->kind == ASK_MISUSE;
 }
 
 /* Keeps the ask, and what stands behind it. */
@@ -198,6 +200,9 @@ void steps_ask(struct steps *s, int rank, const struct explorer_ask *ask, const 
     case ASK_KEPT:
         answer_kept(s, rank);
         return;
+    case ASK_MISUSE:
+        note_misuse(s, rank);
+        return;
     case ASK_FINALIZE:
         tell_left(s, rank, own->bytes);
         own->is_finalized = true;
@@ -303,6 +308,11 @@ bool steps_has_finalized(const struct steps *s, int rank) { return s->ranks[rank
 uint64_t steps_calls(const struct steps *s) { return s->calls; }
 
 bool steps_withheld(const struct steps *s) { return s->has_withheld; }
+
+bool steps_kept(const struct steps *s) { return s->has_kept; }
+bool steps_left_parts(const struct steps *s) { return s->has_parts; }
+
+bool steps_sent_long(const struct steps *s) { return s->has_long; }
 
 bool steps_cancelled(const struct steps *s) {
     for (int rank = 0; rank < s->options.size; rank++)

@@ -13,13 +13,14 @@
 enum { MOST_RANKS = 64 };
 
 enum move_kind {
-    MOVE_MATCH = 1, /* a receive of any source takes the message of the rank `at` of its communicator */
-    MOVE_SEE,       /* a probe sees the message of the rank `at` of its communicator */
-    MOVE_PLACE,     /* a call for a list ends the request at this place */
-    MOVE_ALL,       /* it ends all that are at their ends; `at` is a sum of their places */
-    MOVE_TRUE,      /* a test says yes */
-    MOVE_FALSE,     /* a test or a probe says no */
-    MOVE_BUFFER     /* a send that waits is buffered after all; `at` is to whom */
+    MOVE_PART,  /* a call for a list ends some of those that are at their ends; `at` is a sum of their places */
+    MOVE_MATCH, /* a receive of any source takes the message of the rank `at` of its communicator */
+    MOVE_SEE,   /* a probe sees the message of the rank `at` of its communicator */
+    MOVE_PLACE, /* a call for a list ends the request at this place */
+    MOVE_ALL,   /* it ends all that are at their ends; `at` is a sum of their places */
+    MOVE_TRUE,  /* a test says yes */
+    MOVE_FALSE, /* a test or a probe says no */
+    MOVE_BUFFER /* a send that waits is buffered after all; `at` is to whom */
 };
 
 /* What may be decided next, of the `op`-th operation of its kind (a receive or a look, or a send) of a rank. So a move
@@ -58,10 +59,11 @@ struct finding {
 
 struct steps_options {
     int size;
-    bool synchronous; /* each standard send waits for its receive, each collective for all members */
-    bool each;        /* whether a standard send waits is a choice of its own, made where nobody else can go on */
-    int patience;     /* so many looks in a row may say no though something is there */
-    bool goes_on;     /* an error that would end the program is told, and returned */
+    bool synchronous;  /* each standard send waits for its receive, each collective for all members */
+    bool each;         /* whether a standard send waits is a choice of its own, made where nobody else can go on */
+    uint64_t buffered; /* else one of so many bytes at most is buffered, and a longer one waits */
+    int patience;      /* so many looks in a row may say no though something is there */
+    bool goes_on;      /* an error that would end the program is told, and returned */
     struct choices *choices; /* where the rows of receives are that no engine knows */
 };
 
@@ -98,6 +100,12 @@ bool steps_cancelled(const struct steps *s);
 /* Whether a rank waits for an answer, so that it can be asked for its place; and what it told of that. */
 bool steps_awaits(const struct steps *s, int rank);
 void steps_stands(struct steps *s, int rank, const struct explorer_ask *ask, const uint64_t *frames);
+/* Whether a rank stayed in a call that makes a communicator, since others weren't there. */
+bool steps_kept(const struct steps *s);
+/* Whether more requests were at their ends for MPI_Waitsome or MPI_Testsome than each part was a move of. */
+bool steps_left_parts(const struct steps *s);
+/* Whether a standard send was longer than is buffered. */
+bool steps_sent_long(const struct steps *s);
 
 /* ---- what may come next ---- */
 

@@ -39,6 +39,7 @@ static const char *kind_word(enum finding_kind kind) {
                                         [OTHER_STATUS] = "status",
                                         [RECORD_ENDS] = "record-ends",
                                         [CANCEL_RACES] = "cancel-races",
+                                        [BUFFER_MISUSED] = "buffer-misused",
                                         [STOOD_THERE] = "never-ended",
                                         [CANT_EXPLORE] = "cant-explore",
                                         [READY_EARLY] = "ready-early"};
@@ -74,9 +75,10 @@ void told_begin(const struct pass *pass) {
                              .calls = counts.asks,
                              .choices = counts.moves};
     snprintf(made.said, sizeof made.said, "%s", said_of(pass));
-    snprintf(made.line, sizeof made.line, "%s%d rank%s, %ld run%s: %s",
-             pass->synchronous ? "with sends and collectives that wait: " : "", set.size, set.size == 1 ? "" : "s",
-             pass->runs, pass->runs == 1 ? "" : "s", made.said);
+    char sends[80];
+    say_sends(pass->synchronous, sends, sizeof sends);
+    snprintf(made.line, sizeof made.line, "with %s: %d rank%s, %ld run%s: %s", sends, set.size,
+             set.size == 1 ? "" : "s", pass->runs, pass->runs == 1 ? "" : "s", made.said);
     told_passes = one_more_of(told_passes, told_pass_count, sizeof *told_passes);
     told_passes[told_pass_count++] = made;
     struct told astray = {.kind = "astray", .rank = -1};

@@ -28,11 +28,12 @@ enum finding_kind {
     KILLED,   /* a rank's process was killed, ended without MPI_Finalize, or with another status than 0 */
     NO_FINALIZE,
     OTHER_STATUS,
-    RECORD_ENDS,      /* what was recorded of a rank is over */
-    CANCEL_RACES,     /* whether a message or the cancel of its receive comes first isn't tried both ways */
-    STOOD_THERE = 26, /* a rank, when the time was over */
-    CANT_EXPLORE,     /* a rank made a call that can't be explored */
-    READY_EARLY       /* a ready send may come before its receive */
+    RECORD_ENDS,    /* what was recorded of a rank is over */
+    CANCEL_RACES,   /* whether a message or the cancel of its receive comes first isn't tried both ways */
+    BUFFER_MISUSED, /* a buffer is used that an operation has */
+    STOOD_THERE,    /* a rank, when the time was over */
+    CANT_EXPLORE,   /* a rank made a call that can't be explored */
+    READY_EARLY     /* a ready send may come before its receive */
 };
 
 /* How a run ends, by its number. */

@@ -5,8 +5,15 @@
 #include <string.h>
 #include <unistd.h>
 
-struct settings set = {
-    .size = 2, .most = 10000, .results = 10, .seconds = 60, .patience = 10, .noes = 1, .debugged = -1};
+struct settings set = {.size = 2,
+                       .most = 10000,
+                       .results = 10,
+                       .seconds = 60,
+                       .patience = 10,
+                       .noes = 1,
+                       .buffered = 61440,
+                       .mix = -1,
+                       .debugged = -1};
 
 static const char usage[] =
     "usage: kombazily check -n RANKS [WORD ..] PROGRAM [ARGUMENT ..]\n"
@@ -17,12 +24,16 @@ static const char usage[] =
     "which may be Fortran (FILE.f90), is compiled so first.\n"
     "\n"
     "  -n RANKS         how many ranks, 1 to 64 (2)\n"
-    "  --both           a second pass, in which each standard send waits for its receive, and each collective for all\n"
-    "  --synchronous    that pass alone\n"
-    "  --each           whether a send waits is a choice of its own: what rests on buffers is told\n"
+    "  --both           two passes, as without these words: in the first one sends are buffered; in the second one\n"
+    "                   each standard send waits for its receive, and each collective for all\n"
+    "  --only-buffered  the first pass alone\n"
+    "  --synchronous    the second one alone\n"
+    "  --each           one pass, in which it is a choice whether a send waits: what rests on buffers is told\n"
+    "  --buffered BYTES where sends are buffered, a longer one waits (61440, as a plain run on one machine has it)\n"
     "  --most RUNS      so many runs at most (10000)\n"
     "  --seconds S      so long at most (60)\n"
     "  --random RUNS    so many runs by chance, where the bounds were met\n"
+    "  --mix K          a run makes other choices than the first ones within K places in a row alone: fewer runs\n"
     "  --noes K         so many looks in a row may say no though they could say yes (1)\n"
     "  --fork           each process is started once, and copied in MPI_Init for each run\n"
     "  --out FOLDER     the choices of each result go there, as choices1.txt ..; it is made where it isn't there\n"
@@ -49,8 +60,8 @@ static const char usage[] =
     "  --mpicc COMMAND  its compiler, which makes the recorder (mpicc.mpich, mpicc.openmpi, ..)\n"
     "  --patience S     a run in which no rank made a new call for so long is ended (10)\n"
     "\n"
-    "-n, --both, --synchronous, --each, --most, --seconds, --results, --output, --quiet, --stdin and --html are as\n"
-    "above; that each order was tried is not claimed of it.\n"
+    "-n, --both, --only-buffered, --synchronous, --each, --buffered (65536), --most, --seconds, --results, --output,\n"
+    "--quiet, --stdin and --html are as above; that each order was tried is not claimed of it.\n"
     "\n"
     "The status is 0: nothing; 1: something is wrong or left over, or no run came to its end; 2: these words are\n"
     "wrong; 6: the program can't be run, or is none of MPI, or memory is wanting; 7: it can't be explored. What it\n"
@@ -68,9 +79,12 @@ static const struct word known[] = {
     {"--both", TAKES_NOTHING, &set.both},
     {"--synchronous", TAKES_NOTHING, &set.synchronous},
     {"--each", TAKES_NOTHING, &set.each},
+    {"--only-buffered", TAKES_NOTHING, &set.only_buffered},
+    {"--buffered", TAKES_LONG, &set.buffered},
     {"--most", TAKES_LONG, &set.most},
     {"--seconds", TAKES_SECONDS, &set.seconds},
     {"--random", TAKES_LONG, &set.random},
+    {"--mix", TAKES_LONG, &set.mix},
     {"--noes", TAKES_WHOLE, &set.noes},
     {"--fork", TAKES_NOTHING, &set.forks},
     {"--out", TAKES_TEXT, &set.out},
@@ -153,6 +167,16 @@ static void read_form(void) {
     fail(STATUS_WORDS, "--format is text, json or gcc, and not ", set.form);
 }
 
+/* Which passes are made: both, unless one is asked for. */
+static void read_passes(void) {
+    if (set.synchronous && set.each)
+        fail(STATUS_WORDS, "--synchronous and --each: a send waits always, or by a choice; one of them", "");
+    if (set.only_buffered && (set.synchronous || set.each))
+        fail(STATUS_WORDS, "--only-buffered is a pass of its own, beside ", set.each ? "--each" : "--synchronous");
+    if (set.only_buffered && set.both) fail(STATUS_WORDS, "--only-buffered and --both: one of them", "");
+    if (!set.only_buffered && !set.synchronous && !set.each) set.both = true;
+}
+
 void read_words(int count, char **words) {
     int at = 1;
     if (count < 2) {
@@ -171,8 +195,8 @@ void read_words(int count, char **words) {
     if (*set.program == NULL) fail(STATUS_WORDS, "a program has to stand there", "");
     find_program();
     if (set.input != NULL && access(set.input, R_OK) != 0) fail(STATUS_WORDS, "it can't be read: ", set.input);
-    if (set.synchronous && set.each)
-        fail(STATUS_WORDS, "--synchronous and --each: a send waits always, or by a choice; one of them", "");
+    read_passes();
+    if (set.mix == 0) fail(STATUS_WORDS, "--mix 1 at least: the choices of one place alone differ then", "");
     read_form();
     if (set.size < 1 || set.size > MOST_RANKS) fail(STATUS_WORDS, "1 to 64 ranks", "");
     if (set.debugged >= set.size) fail(STATUS_WORDS, "there is no such rank to debug", "");

@@ -27,22 +27,6 @@ void pmpi_errhandler_create_(handler_function *function, MPI_Fint *errhandler, M
 }
 #pragma weak mpi_errhandler_create_ = pmpi_errhandler_create_
 
-void pmpi_win_create_errhandler_(handler_function *function, MPI_Fint *errhandler, MPI_Fint *ierror) {
-    NOTE_FORTRAN_CALLER();
-    MPI_Errhandler own = (MPI_Errhandler)(intptr_t)UNTOUCHED;
-    *ierror = MPI_Win_create_errhandler((MPI_Win_errhandler_function *)function, &own);
-    put_errhandler(errhandler, own);
-}
-#pragma weak mpi_win_create_errhandler_ = pmpi_win_create_errhandler_
-
-void pmpi_file_create_errhandler_(handler_function *function, MPI_Fint *errhandler, MPI_Fint *ierror) {
-    NOTE_FORTRAN_CALLER();
-    MPI_Errhandler own = (MPI_Errhandler)(intptr_t)UNTOUCHED;
-    *ierror = MPI_File_create_errhandler((MPI_File_errhandler_function *)function, &own);
-    put_errhandler(errhandler, own);
-}
-#pragma weak mpi_file_create_errhandler_ = pmpi_file_create_errhandler_
-
 /* ---- generalised requests ---- */
 
 struct generalised {

@@ -90,3 +90,21 @@ void pmpi_win_get_attr_(const MPI_Fint *win, const MPI_Fint *keyval, MPI_Aint *v
     put_logical(flag, is_there);
 }
 #pragma weak mpi_win_get_attr_ = pmpi_win_get_attr_
+
+/* ---- error handlers ---- */
+
+void pmpi_win_create_errhandler_(handler_function *function, MPI_Fint *errhandler, MPI_Fint *ierror) {
+    NOTE_FORTRAN_CALLER();
+    MPI_Errhandler own = (MPI_Errhandler)(intptr_t)UNTOUCHED;
+    *ierror = MPI_Win_create_errhandler((MPI_Win_errhandler_function *)function, &own);
+    put_errhandler(errhandler, own);
+}
+#pragma weak mpi_win_create_errhandler_ = pmpi_win_create_errhandler_
+
+void pmpi_file_create_errhandler_(handler_function *function, MPI_Fint *errhandler, MPI_Fint *ierror) {
+    NOTE_FORTRAN_CALLER();
+    MPI_Errhandler own = (MPI_Errhandler)(intptr_t)UNTOUCHED;
+    *ierror = MPI_File_create_errhandler((MPI_File_errhandler_function *)function, &own);
+    put_errhandler(errhandler, own);
+}
+#pragma weak mpi_file_create_errhandler_ = pmpi_file_create_errhandler_

@@ -14,7 +14,7 @@ program topologies
 contains
 
   subroutine grid
-    integer :: comm, dims(2), coords(2), source, target, kind, part, got(4), ones(4), types(4), i, size
+    integer :: comm, dims(2), coords(2), source, target, kind, part, got(4), ones(4), types(4), i, size, request
     integer(kind=MPI_ADDRESS_KIND) :: places(4)
     logical :: periods(2), rings(2)
     dims = 0
@@ -34,6 +34,14 @@ contains
     got = -1
     call MPI_NEIGHBOR_ALLTOALLW([rank, rank, rank, rank], ones, places, types, got, ones, places, types, comm, ierror)
     call check(all(got(1:2) == mod(rank + 2, 4)), 'neighbours with a type each')
+    got = -1
+    call MPI_NEIGHBOR_ALLGATHER_INIT(rank, 1, MPI_INTEGER, got, 1, MPI_INTEGER, comm, MPI_INFO_NULL, request, ierror)
+    call MPI_START(request, ierror)
+    call MPI_WAIT(request, MPI_STATUS_IGNORE, ierror)
+    call check(all(got(1:2) == mod(rank + 2, 4)), 'neighbours, begun again and again')
+    call MPI_REQUEST_FREE(request, ierror)
+    call MPI_COMM_SPLIT_TYPE(comm, MPI_COMM_TYPE_HW_GUIDED, 0, MPI_INFO_NULL, part, ierror)
+    call check(part == MPI_COMM_NULL, 'no resource is named')
     call MPI_CART_SUB(comm, [.true., .false.], part, ierror)
     call MPI_COMM_SIZE(part, size, ierror)
     call check(size == 2, 'a part')

@@ -16,6 +16,8 @@ ending_told kinds.Errors number = None
 ending_told kinds.Status number = Some (endings.Status number)
 ending_told kinds.Signal number = Some (endings.Signal number)
 ending_told kinds.Nothing number = Some endings.NotStarted
+ending_told kinds.Ready number = None
+ending_told kinds.Taken number = None
 
 -- the kind and the number by which an end is told
 abbrev pub told_end : ProgramEnding → ReportKind × ℕ

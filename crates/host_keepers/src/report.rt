@@ -1,9 +1,11 @@
-//! What a keeper reports: what its program writes as it comes, and how it ends.
+//! What the keeper on a host reports, each of one rank there: what its program writes as it comes, and how it ends.
 
-ghost use Rattle.std.specs.Prelude.{◌≡◌, ◌<◌, ◌≤◌, ◌++◌, ◌^◌, MatchOption, OnOk, length};
+ghost use Rattle.std.specs.Prelude.{◌≡◌, ◌<◌, ◌++◌, ◌^◌, MatchOption, OnOk, length};
 ghost use Rattle.host_keepers.specs.Ends.{ending_told, first_byte, told_end};
-ghost use Rattle.host_keepers.specs.Reports.{HasNoReport, IsFirstReport, kind_code, kind_of_code, report_text, said_size};
+ghost use Rattle.host_keepers.specs.Frames.{HasNoFrame};
+ghost use Rattle.host_keepers.specs.Reports.{IsFirstReport, kind_code, kind_of_code, report_text};
 
+use crate::frame::{next_frame, push_frame};
 use launch_keeper::ProgramEnding;
 use std::alloc::AllocError;
 
@@ -20,6 +22,10 @@ pub enum ReportKind {
     Signal,
     /// The program couldn't be started, or ended so that nobody knows how.
     Nothing,
+    /// The keeper runs.
+    Ready,
+    /// The program took what was handed over of its standard input, or reads no more of it.
+    Taken,
 }
 
 impl ReportKind {
@@ -33,6 +39,8 @@ impl ReportKind {
             ReportKind::Status => b's',
             ReportKind::Signal => b'k',
             ReportKind::Nothing => b'n',
+            ReportKind::Ready => b'r',
+            ReportKind::Taken => b't',
         }
     }
 
@@ -45,16 +53,20 @@ impl ReportKind {
             b'e' => ReportKind::Errors,
             b's' => ReportKind::Status,
             b'k' => ReportKind::Signal,
+            b'r' => ReportKind::Ready,
+            b't' => ReportKind::Taken,
             _ => ReportKind::Nothing,
         }
     }
 }
 
-/// A report: of what, and its bytes.
+/// A report: of what, of which rank, and its bytes.
 #[derive(Clone, Copy, Debug)]
 pub struct Report<'a> {
     /// What it is of.
     pub kind: ReportKind,
+    /// The rank that it is of.
+    pub rank: u16,
     /// Its bytes.
     pub bytes: &'a [u8],
 }
@@ -72,7 +84,7 @@ impl Report<'_> {
         ensures { result ≡ ending_told self.now.kind (first_byte self.now.bytes.now) }
     {
         match self.kind {
-            ReportKind::Output | ReportKind::Errors => None,
+            ReportKind::Output | ReportKind::Errors | ReportKind::Ready | ReportKind::Taken => None,
             ReportKind::Status => Some(ProgramEnding::Status(self.number())),
             ReportKind::Signal => Some(ProgramEnding::Signal(self.number())),
             ReportKind::Nothing => Some(ProgramEnding::NotStarted),
@@ -91,41 +103,31 @@ pub fn told_end(ending: ProgramEnding) -> (ReportKind, u8)
     }
 }
 
-/// Adds a report to a text: the byte of its kind, how many bytes it has as four bytes, the highest first, and these.
-/// Only want of memory is an error.
-pub fn push_report(text: &mut Vec<u8>, kind: ReportKind, bytes: &[u8]) -> Result<(), AllocError>
+/// Adds a report to a text: the byte of its kind, its rank as two bytes and how many bytes it has as four, the highest
+/// first, and these. Only want of memory is an error.
+pub fn push_report(
+    text: &mut Vec<u8>,
+    kind: ReportKind,
+    rank: u16,
+    bytes: &[u8],
+) -> Result<(), AllocError>
     requires { length bytes.now < 2 ^ 32 }
-    ensures { OnOk result (text.new.items ≡ text.old.items ++ report_text kind bytes.now) }
+    ensures { OnOk result (text.new.items ≡ text.old.items ++ report_text kind rank bytes.now) }
 {
-    let size = bytes.len() as u32;
-    text.push(kind.code())?;
-    text.extend_from_slice(&size.to_be_bytes())?;
-    text.extend_from_slice(bytes)?;
-    Ok(())
-}
-
-/// How many bytes the report has that begins here; none where that isn't there yet.
-fn size_in(text: &[u8]) -> Option<usize>
-    ensures { MatchOption result (length text.now < 5) (λ size. (5 ≤ length text.now) × (size ≡ said_size text.now)) }
-{
-    if text.len() < 5 {
-        return None;
-    }
-    let size = u32::from_be_bytes([text[1], text[2], text[3], text[4]]);
-    Some(size as usize)
+    push_frame(text, kind.code(), rank, bytes)
 }
 
 /// The report that stands whole at the front of a text, and what stands behind it; none where it isn't whole yet.
 pub fn next_report(text: &[u8]) -> Option<(Report<'_>, &[u8])>
-    ensures { MatchOption result (HasNoReport text.now)
-        (λ found. IsFirstReport text.now found.0.kind found.0.bytes.now found.1.now) }
+    ensures { MatchOption result (HasNoFrame text.now)
+        (λ found. IsFirstReport text.now found.0.kind found.0.rank found.0.bytes.now found.1.now) }
 {
-    let size = size_in(text)?;
-    let (head, behind) = text.split_at(5);
-    if behind.len() < size {
-        return None;
-    }
-    let (bytes, rest) = behind.split_at(size);
-    let kind = ReportKind::of_code(head[0]);
-    Some((Report { kind, bytes }, rest))
+    let (frame, rest) = next_frame(text)?;
+    let kind = ReportKind::of_code(frame.code);
+    let report = Report {
+        kind,
+        rank: frame.rank,
+        bytes: frame.bytes,
+    };
+    Some((report, rest))
 }

@@ -12,8 +12,8 @@ use Rattle.rank_findings.specs.declared.finding.Finding.TheVariants.{MessagesTak
 use Rattle.rank_findings.specs.declared.finding.Finding.TheVariants.{AsksForEver, InFinalize, Cycle, Differs}
 use Rattle.rank_findings.specs.declared.finding.Finding.TheVariants.{NeverEntered, CallFailed, ErrorReturned, Aborted}
 use Rattle.rank_findings.specs.declared.finding.Finding.TheVariants.{Silent, Killed, NoFinalize, OtherStatus}
-use Rattle.rank_findings.specs.declared.finding.Finding.TheVariants.{RecordEnds, CancelRaces, StoodThere, CantExplore}
-use Rattle.rank_findings.specs.declared.finding.Finding.TheVariants.{ReadyEarly}
+use Rattle.rank_findings.specs.declared.finding.Finding.TheVariants.{RecordEnds, CancelRaces, BufferMisused, StoodThere}
+use Rattle.rank_findings.specs.declared.finding.Finding.TheVariants.{CantExplore, ReadyEarly}
 
 -- one more number is looked at
 pub largest_next : (most w h all : ℕ) → max most (max w h) ≡ all → max (max w most) h ≡ all
@@ -41,6 +41,7 @@ weight_is NoFinalize = refl
 weight_is OtherStatus = refl
 weight_is RecordEnds = refl
 weight_is CancelRaces = refl
+weight_is BufferMisused = refl
 weight_is StoodThere = refl
 weight_is CantExplore = refl
 weight_is ReadyEarly = refl

@@ -6,8 +6,8 @@ use Rattle.rank_findings.specs.declared.finding.Finding.TheVariants.{MessagesTak
 use Rattle.rank_findings.specs.declared.finding.Finding.TheVariants.{AsksForEver, InFinalize, Cycle, Differs}
 use Rattle.rank_findings.specs.declared.finding.Finding.TheVariants.{NeverEntered, CallFailed, ErrorReturned, Aborted}
 use Rattle.rank_findings.specs.declared.finding.Finding.TheVariants.{Silent, Killed, NoFinalize, OtherStatus}
-use Rattle.rank_findings.specs.declared.finding.Finding.TheVariants.{RecordEnds, CancelRaces, StoodThere, CantExplore}
-use Rattle.rank_findings.specs.declared.finding.Finding.TheVariants.{ReadyEarly}
+use Rattle.rank_findings.specs.declared.finding.Finding.TheVariants.{RecordEnds, CancelRaces, BufferMisused, StoodThere}
+use Rattle.rank_findings.specs.declared.finding.Finding.TheVariants.{CantExplore, ReadyEarly}
 
 abbrev pub finding_number : Finding → ℕ
 finding_number RequestLeft = 1
@@ -31,9 +31,10 @@ finding_number NoFinalize = 18
 finding_number OtherStatus = 19
 finding_number RecordEnds = 20
 finding_number CancelRaces = 21
-finding_number StoodThere = 26
-finding_number CantExplore = 27
-finding_number ReadyEarly = 28
+finding_number BufferMisused = 22
+finding_number StoodThere = 23
+finding_number CantExplore = 24
+finding_number ReadyEarly = 25
 
 -- the finding that a number names
 abbrev pub finding_at : ℕ → Option Finding
@@ -46,11 +47,12 @@ finding_at n =
     (if n == 14 then Some ErrorReturned else (if n == 15 then Some Aborted else (if n == 16 then Some Silent else
     (if n == 17 then Some Killed else (if n == 18 then Some NoFinalize else (if n == 19 then Some OtherStatus else
     (if n == 20 then Some RecordEnds else (if n == 21 then Some CancelRaces else
-    (if n == 26 then Some StoodThere else (if n == 27 then Some CantExplore else
-    (if n == 28 then Some ReadyEarly else None)))))))))))))))))))))))
+    (if n == 22 then Some BufferMisused else (if n == 23 then Some StoodThere else (if n == 24 then Some CantExplore else
+    (if n == 25 then Some ReadyEarly else None))))))))))))))))))))))))
 
 -- the program is wrong: somebody waits and nobody can go on, a call fails, a process dies or makes no call, members enter
--- a collective differently or not at all, the time is over, a ready send may come before its receive
+-- a collective differently or not at all, a buffer is used that an operation has, the time is over, a ready send may come
+-- before its receive
 abbrev pub is_fault : Finding → Bool
 is_fault Waits = true
 is_fault AsksForEver = true
@@ -63,6 +65,7 @@ is_fault Aborted = true
 is_fault Silent = true
 is_fault Killed = true
 is_fault NoFinalize = true
+is_fault BufferMisused = true
 is_fault StoodThere = true
 is_fault ReadyEarly = true
 is_fault f = false

@@ -49,6 +49,8 @@ pub enum Finding {
     RecordEnds,
     /// Whether a message or the cancel of its receive comes first isn't tried both ways.
     CancelRaces,
+    /// The program uses a buffer that an operation has.
+    BufferMisused,
     /// A rank stood in a call, or between two, when the time was over.
     StoodThere,
     /// A rank made a call that can't be explored.
@@ -84,9 +86,10 @@ impl Finding {
             19 => Some(Finding::OtherStatus),
             20 => Some(Finding::RecordEnds),
             21 => Some(Finding::CancelRaces),
-            26 => Some(Finding::StoodThere),
-            27 => Some(Finding::CantExplore),
-            28 => Some(Finding::ReadyEarly),
+            22 => Some(Finding::BufferMisused),
+            23 => Some(Finding::StoodThere),
+            24 => Some(Finding::CantExplore),
+            25 => Some(Finding::ReadyEarly),
             _ => None,
         }
     }
@@ -118,20 +121,23 @@ impl Finding {
             Finding::OtherStatus => 19,
             Finding::RecordEnds => 20,
             Finding::CancelRaces => 21,
-            Finding::StoodThere => 26,
-            Finding::CantExplore => 27,
-            Finding::ReadyEarly => 28,
+            Finding::BufferMisused => 22,
+            Finding::StoodThere => 23,
+            Finding::CantExplore => 24,
+            Finding::ReadyEarly => 25,
         }
     }
 
     /// Whether the program is wrong: somebody waits and nobody can go on, a call fails, a process dies or makes no call,
-    /// members enter a collective differently or not at all, the time is over, or a ready send may come too early.
+    /// members enter a collective differently or not at all, a buffer is used that an operation has, the time is over,
+    /// or a ready send may come too early.
     pub fn is_fault(self) -> bool
         ensures { result ≡ is_fault self }
     {
         match self {
             Finding::Waits | Finding::AsksForEver | Finding::InFinalize | Finding::Cycle => true,
             Finding::Differs | Finding::NeverEntered | Finding::Aborted => true,
+            Finding::BufferMisused => true,
             Finding::CallFailed | Finding::Silent | Finding::Killed | Finding::NoFinalize => true,
             Finding::StoodThere | Finding::ReadyEarly => true,
             _ => false,

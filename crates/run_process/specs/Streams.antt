@@ -17,3 +17,5 @@ stream_of kinds.Errors = Some streams.Error
 stream_of kinds.Status = None
 stream_of kinds.Signal = None
 stream_of kinds.Nothing = None
+stream_of kinds.Ready = None
+stream_of kinds.Taken = None

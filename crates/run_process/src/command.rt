@@ -119,7 +119,11 @@ fn planned<R: Eprint + AllocGlobal>(
 
 /// Starts the ranks of a plan, and follows them to their ends. Answers the status.
 fn follow<
-    R: Eprint + AllocGlobal + Files + Clock + Processes<Started: OpenProcess<Stderr: AsRawFd>>,
+    R: Eprint
+        + AllocGlobal
+        + Files
+        + Clock
+        + Processes<Started: OpenProcess<Stdin: AsRawFd, Stderr: AsRawFd>>,
 >(rt: &R, setup: &Setup, plan: &Plan) -> io::Result<u8> {
     let mut job = Job::new(rt, setup, plan)?;
     let followed = match job.start_all() {
@@ -223,7 +227,7 @@ fn follow_on_hosts<
         + Eprint
         + AllocGlobal
         + Clock
-        + Processes<Started: OpenProcess<Stderr: AsRawFd>>,
+        + Processes<Started: OpenProcess<Stdin: AsRawFd, Stderr: AsRawFd>>,
 >(rt: &R, words: &[Word], request: &RunRequest, front: Front, plan: &Plan) -> io::Result<u8> {
     let options = match with_own_frame(rt, request.options) {
         Ok(options) => options,
@@ -268,7 +272,7 @@ fn launch<
         + Eprint
         + AllocGlobal
         + Clock
-        + Processes<Started: OpenProcess<Stderr: AsRawFd>>,
+        + Processes<Started: OpenProcess<Stdin: AsRawFd, Stderr: AsRawFd>>,
 >(rt: &R, words: &[Word], request: &RunRequest, front: Front) -> io::Result<u8> {
     let job = match request.options.job {
         Some(job) => job,
@@ -376,7 +380,7 @@ fn launch_to_end<
         + Eprint
         + AllocGlobal
         + Clock
-        + Processes<Started: OpenProcess<Stderr: AsRawFd>>,
+        + Processes<Started: OpenProcess<Stdin: AsRawFd, Stderr: AsRawFd>>,
 >(rt: &R, words: &[Word], request: &RunRequest, front: Front) -> u8 {
     match launch(rt, words, request, front) {
         Ok(status) => status,
@@ -397,7 +401,7 @@ pub fn run_words<
         + AllocGlobal
         + Clock
         + Threads
-        + Processes<Started: OpenProcess<Stderr: AsRawFd>>,
+        + Processes<Started: OpenProcess<Stdin: AsRawFd, Stderr: AsRawFd>>,
 >(rt: &R, words: &[Word]) -> u8 {
     let Ok(closed) = open_closed_streams() else {
         return FAILED;
@@ -428,7 +432,7 @@ pub fn run<
         + AllocGlobal
         + Clock
         + Threads
-        + Processes<Started: OpenProcess<Stderr: AsRawFd>>,
+        + Processes<Started: OpenProcess<Stdin: AsRawFd, Stderr: AsRawFd>>,
 >(rt: &R) -> u8 {
     match words_of(rt) {
         Ok(words) => run_words(rt, &words),

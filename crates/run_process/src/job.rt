@@ -4,15 +4,18 @@ ghost use Rattle.std.specs.Prelude.{◌≡◌};
 ghost use Rattle.run_plan.specs.Ends.{job_status};
 
 use crate::guard::Guard;
-use crate::printing::{Printer, Stream, asked};
+use crate::link::Link;
+use crate::own_input::{OwnInput, PIECE, Read};
+use crate::printing::{Printer, Stream, asked, asked_to_write, is_ready};
 use crate::rank::Rank;
 use crate::setup::Setup;
 use crate::shell::terminate;
 use crate::sought::{Sought, fault_of};
 use crate::waits::cycle_text;
 use crate::wish::Wish;
+use host_keepers::{OrderKind, Report, ReportKind, may_connect, next_report};
 use launch_decisions::{Failure, Next, Start, ending_of, first_failure};
-use launch_keeper::{After, EndingLine, LostKeeperLine, ProgramEnding, Word};
+use launch_keeper::{After, EndingLine, LostKeeperLine, ProgramEnding};
 use launch_plan::Plan;
 use libc::net::poll;
 use libc::types::pollfd;
@@ -24,7 +27,7 @@ use run_plan::{
 };
 use std::alloc::{AllocError, Global};
 use std::io;
-use std::os::fd::AsRawFd;
+use std::os::fd::{AsRawFd, RawFd};
 use std::process::{OpenProcess, Processes};
 use std::rt::Files;
 use std::time::{Clock, Instant};
@@ -38,6 +41,22 @@ const LATEST_LOOK: u128 = 50;
 /// The same, where one has closed what it writes to.
 const SOON: i32 = 2;
 
+/// How many descriptors of a rank are asked, and of a connection.
+const RANK_STREAMS: usize = 2;
+
+const LINK_STREAMS: usize = 3;
+
+/// How often what an ended connection left is read.
+const MOST_READS: usize = 4_096;
+
+/// How many milliseconds a keeper has to kill its programs, before the connection is cut.
+const LINK_GRACE: u64 = 1_000;
+
+/// How many milliseconds a connection has to end whose ranks have all ended, and then to end where it is killed.
+const CLOSING: u64 = 2_000;
+
+const CUTTING: u64 = 4_000;
+
 /// The status of a rank that gave up waiting.
 const PATIENCE: u8 = 4;
 
@@ -49,12 +68,18 @@ pub struct Job<'a, R: Processes> {
     rt: &'a R,
     setup: &'a Setup<'a>,
     ranks: Vec<Rank<'a, R::Started>>,
+    /// The connections to other hosts.
+    links: Vec<Link<R::Started>>,
+    /// The standard input of this process, where rank 0 is on another host.
+    input: OwnInput,
     guard: Guard<R::Started>,
     printer: Printer,
     /// The first rank that failed for good.
     began: Option<Failure>,
     /// When the programs were asked to end.
     asked: Option<Instant>,
+    /// When the keepers were told to kill them.
+    killed: Option<Instant>,
     /// How the user asks for the end of the job.
     wish: Wish,
     /// Whether the job was interrupted.
@@ -71,16 +96,20 @@ impl<'a, R: Processes> Drop for Job<'a, R> {
             rt: _,
             setup: _,
             ranks,
+            links,
+            input: _,
             guard,
             printer,
             began: _,
             asked: _,
+            killed: _,
             wish: _,
             is_interrupted: _,
             start: _,
             is_late: _,
         } = self;
         drop(ranks);
+        drop(links);
         drop(guard);
         drop(printer);
     }
@@ -123,7 +152,11 @@ fn told_ending(
 
 impl<
     'a,
-    R: Eprint + AllocGlobal + Files + Clock + Processes<Started: OpenProcess<Stderr: AsRawFd>>,
+    R: Eprint
+        + AllocGlobal
+        + Files
+        + Clock
+        + Processes<Started: OpenProcess<Stdin: AsRawFd, Stderr: AsRawFd>>,
 > Job<'a, R> {
     /// The job of a plan, of which nothing runs yet.
     pub fn new(rt: &'a R, setup: &'a Setup<'a>, plan: &'a Plan) -> io::Result<Job<'a, R>> {
@@ -133,14 +166,25 @@ impl<
                 .push(Rank::new(rt.alloc(), Start::first(plan, rank)))
                 .map_err(AllocError::from)?;
         }
+        let mut links = Vec::new(rt.alloc());
+        let count = match setup.hosts {
+            Some(hosts) => hosts.keeper_count(),
+            None => 0,
+        };
+        for _ in 0..count {
+            links.push(Link::new(rt.alloc())).map_err(AllocError::from)?;
+        }
         Ok(Job {
             rt,
             setup,
             ranks,
+            links,
+            input: OwnInput::new(),
             guard: Guard::new(rt),
             printer: Printer::new(rt.alloc(), setup.options.marks_lines),
             began: None,
             asked: None,
+            killed: None,
             wish: Wish::new(setup.front),
             is_interrupted: false,
             start: Instant::now(rt)?,
@@ -148,34 +192,37 @@ impl<
         })
     }
 
-    /// Starts a keeper of a rank's program on this host. Answers whether it runs.
-    fn spawn_keeper(&mut self, rank: usize, host: &Word) -> io::Result<bool> {
-        let alloc = self.rt.alloc();
-        let Some(one) = self.ranks.get_mut(rank) else {
-            return Ok(true);
-        };
-        let message = self.setup.message(alloc, &one.start)?;
-        let command = self.setup.keeper_command(alloc, host)?;
-        match self.guard.spawn(self.rt, command) {
-            Ok((child, output)) => {
-                one.is_kept_by(child, output, &message);
-                Ok(true)
-            }
-            Err(error) => {
-                one.fault = fault_of(&error);
-                Ok(false)
-            }
-        }
+    /// The place of a rank's keeper among the connections, where it is on another host.
+    fn keeper_of(&self, rank: usize) -> Option<usize> {
+        self.setup.hosts?.keeper_of(rank)
     }
 
-    /// Starts the program of a rank once, on its host. Answers whether it runs.
-    fn spawn(&mut self, rank: usize) -> io::Result<bool> {
-        let host = match self.setup.hosts {
-            Some(hosts) => hosts.keeper_host(rank),
-            None => None,
+    /// Lets the keeper at this place start the program of a rank, once it is there.
+    fn order_start(&mut self, rank: usize, place: usize) -> io::Result<()> {
+        let alloc = self.rt.alloc();
+        let (Some(one), Some(link)) = (self.ranks.get_mut(rank), self.links.get_mut(place)) else {
+            return Ok(());
         };
-        match host {
-            Some(host) => self.spawn_keeper(rank, host),
+        let message = self.setup.message(alloc, &one.start)?;
+        one.is_kept_far();
+        if rank != 0 {
+            return link.order(OrderKind::Start, rank, &message);
+        }
+        link.order(OrderKind::StartWithInput, rank, &message)?;
+        self.input.is_taken();
+        if !self.input.is_open() {
+            link.order(OrderKind::InputEnd, rank, &[])?;
+        }
+        Ok(())
+    }
+
+    /// Starts the program of a rank once, on its host. Answers whether it runs, or is to be started there.
+    fn spawn(&mut self, rank: usize) -> io::Result<bool> {
+        match self.keeper_of(rank) {
+            Some(place) => {
+                self.order_start(rank, place)?;
+                Ok(true)
+            }
             None => self.spawn_here(rank),
         }
     }
@@ -224,7 +271,29 @@ impl<
         self.ranks
             .iter()
             .enumerate()
-            .any(|(other, one)| other != rank && one.child.is_some())
+            .any(|(other, one)| other != rank && one.runs_anywhere())
+    }
+
+    /// Asks the keepers on other hosts to end their programs. Those of hosts to which no connection has begun never start.
+    fn ask_keepers(&mut self) -> io::Result<()> {
+        for place in 0..self.links.len() {
+            let Some(link) = self.links.get_mut(place) else {
+                break;
+            };
+            if link.runs() {
+                link.order(OrderKind::Ask, 0, &[])?;
+                continue;
+            }
+            link.forget();
+            for rank in 0..self.ranks.len() {
+                if self.keeper_of(rank) == Some(place) {
+                    if let Some(one) = self.ranks.get_mut(rank) {
+                        one.is_let_go();
+                    }
+                }
+            }
+        }
+        Ok(())
     }
 
     /// Asks all programs that run to end. Where the job was interrupted, a rank of a script is told by the end of its
@@ -234,9 +303,10 @@ impl<
             return Ok(());
         }
         self.asked = Some(Instant::now(self.rt)?);
+        self.ask_keepers()?;
         let mut running = Vec::new(self.rt.alloc());
         for one in self.ranks.iter_mut() {
-            if one.asks_keeper() || (self.is_interrupted && one.closes_input()) {
+            if self.is_interrupted && one.closes_input() {
                 continue;
             }
             if let Some(child) = &one.child {
@@ -247,13 +317,34 @@ impl<
         Ok(())
     }
 
-    /// Kills all programs that run.
+    /// Kills all programs that run on this machine.
     pub fn kill_all(&mut self) {
         for one in self.ranks.iter_mut() {
             if let Some(child) = &mut one.child {
                 let _ = child.kill();
             }
         }
+    }
+
+    /// Kills all programs: those on other hosts by their keepers. A connection that hasn't come about is cut, and one whose
+    /// keeper doesn't do so in time.
+    fn kill_everywhere(&mut self) -> io::Result<()> {
+        self.kill_all();
+        let is_over = match self.killed {
+            Some(killed) => milliseconds_since(self.rt, &killed)? >= LINK_GRACE,
+            None => false,
+        };
+        for link in self.links.iter_mut() {
+            if is_over || link.is_beginning() {
+                link.kill();
+            } else if self.killed.is_none() && link.runs() {
+                link.order(OrderKind::Kill, 0, &[])?;
+            }
+        }
+        if self.killed.is_none() {
+            self.killed = Some(Instant::now(self.rt)?);
+        }
+        Ok(())
     }
 
     /// Tells that a rank failed, and what follows.
@@ -340,8 +431,22 @@ impl<
         if let Some(child) = one.child.take() {
             self.guard.ends(self.rt, child.id());
         }
-        let ending = one.ending(ending_of(status));
-        if one.has_lost_keeper() {
+        if self.take_in(rank, ending_of(status))? {
+            self.start(rank)?;
+        }
+        Ok(())
+    }
+
+    /// Takes in that a rank's program on another host has ended, as its keeper reported, or is lost with its keeper.
+    fn end_far(&mut self, rank: usize) -> io::Result<()> {
+        let Some(one) = self.ranks.get_mut(rank) else {
+            return Ok(());
+        };
+        one.drain(self.rt, rank, &mut self.printer)?;
+        let ending = one.ending(ProgramEnding::WithoutStatus);
+        let is_lost = one.has_lost_keeper();
+        one.is_let_go();
+        if is_lost {
             self.tell_lost(rank);
         }
         if self.take_in(rank, ending)? {
@@ -350,7 +455,242 @@ impl<
         Ok(())
     }
 
-    /// What to ask of all streams, those of a rank side by side, and of what tells the user's wish behind them.
+    /// The keeper at this place is gone, or couldn't be started for this reason: so are its ranks.
+    fn lose_keeper(&mut self, place: usize, fault: Option<StartFault>) -> io::Result<()> {
+        for rank in 0..self.ranks.len() {
+            if self.keeper_of(rank) != Some(place) {
+                continue;
+            }
+            let Some(one) = self.ranks.get_mut(rank) else {
+                continue;
+            };
+            if !one.is_kept() {
+                continue;
+            }
+            if let Some(fault) = fault {
+                one.has_no_keeper(fault);
+            }
+            self.end_far(rank)?;
+        }
+        Ok(())
+    }
+
+    /// Begins the connection at this place.
+    fn connect_to(&mut self, place: usize) -> io::Result<()> {
+        let Some(hosts) = self.setup.hosts else {
+            return Ok(());
+        };
+        let Some(host) = hosts.keeper_host(place) else {
+            return Ok(());
+        };
+        let command = self.setup.keeper_command(self.rt.alloc(), host)?;
+        let spawned = self.guard.spawn(self.rt, command);
+        let Some(link) = self.links.get_mut(place) else {
+            return Ok(());
+        };
+        match spawned {
+            Ok((child, output)) => {
+                link.begins(child, output);
+                Ok(())
+            }
+            Err(error) => {
+                link.forget();
+                self.lose_keeper(place, Some(fault_of(&error)))
+            }
+        }
+    }
+
+    /// Begins the connections that are wanted, a few at a time.
+    fn connect(&mut self) -> io::Result<()> {
+        for place in 0..self.links.len() {
+            let is_wanted = match self.links.get(place) {
+                Some(link) => link.is_wanted(),
+                None => false,
+            };
+            if is_wanted
+                && may_connect(self.links.iter().filter(|one| one.is_beginning()).count())
+            {
+                self.connect_to(place)?;
+            }
+        }
+        Ok(())
+    }
+
+    /// Takes in what the keeper at this place reports.
+    fn take_report(&mut self, place: usize, report: &Report<'_>) -> io::Result<()> {
+        let rank = usize::from(report.rank);
+        match report.kind {
+            ReportKind::Ready => {
+                if let Some(link) = self.links.get_mut(place) {
+                    link.is_there();
+                }
+                return Ok(());
+            }
+            ReportKind::Taken => {
+                self.input.is_taken();
+                return Ok(());
+            }
+            _ => {}
+        }
+        if self.keeper_of(rank) != Some(place) {
+            return Ok(());
+        }
+        let Some(one) = self.ranks.get_mut(rank) else {
+            return Ok(());
+        };
+        if !one.is_kept() {
+            return Ok(());
+        }
+        one.take_report(self.rt, report, rank, &mut self.printer)?;
+        if one.has_reported() {
+            self.end_far(rank)?;
+        }
+        Ok(())
+    }
+
+    /// Reads what came of the keeper at this place, and takes in the reports that came whole.
+    fn hear_keeper(&mut self, place: usize) -> io::Result<()> {
+        let alloc = self.rt.alloc();
+        let Some(link) = self.links.get_mut(place) else {
+            return Ok(());
+        };
+        link.read()?;
+        let text = link.take_reports(alloc);
+        let mut rest = text.as_slice();
+        for _ in 0..u64::MAX {
+            let Some((report, behind)) = next_report(rest) else {
+                break;
+            };
+            self.take_report(place, &report)?;
+            rest = behind;
+        }
+        match self.links.get_mut(place) {
+            Some(link) => link.leave_reports(alloc, rest),
+            None => Ok(()),
+        }
+    }
+
+    /// Reads what the process says itself that leads to the keeper at this place, and prints it as the errors of the first
+    /// rank there.
+    fn hear_link(&mut self, place: usize) -> io::Result<()> {
+        let Some(hosts) = self.setup.hosts else {
+            return Ok(());
+        };
+        let rank = hosts.first_rank(place);
+        let (Some(link), Some(one)) = (self.links.get_mut(place), self.ranks.get_mut(rank)) else {
+            return Ok(());
+        };
+        let bytes = link.read_errors(self.rt.alloc())?;
+        one.tell_of_link(self.rt, &bytes, rank, &mut self.printer)
+    }
+
+    /// Takes in that the process has ended that leads to the keeper at this place.
+    fn end_link(&mut self, place: usize) -> io::Result<()> {
+        for _ in 0..MOST_READS {
+            let fd = match self.links.get(place) {
+                Some(link) => link.output_descriptor(),
+                None => -1,
+            };
+            if !is_ready(fd) {
+                break;
+            }
+            self.hear_keeper(place)?;
+        }
+        for _ in 0..MOST_READS {
+            let fd = match self.links.get(place) {
+                Some(link) => link.error_descriptor(),
+                None => -1,
+            };
+            if !is_ready(fd) {
+                break;
+            }
+            self.hear_link(place)?;
+        }
+        if let Some(link) = self.links.get_mut(place) {
+            if let Some(id) = link.ends() {
+                self.guard.ends(self.rt, id);
+            }
+        }
+        self.drain_link(place)?;
+        self.lose_keeper(place, None)
+    }
+
+    /// Prints what is left of what the process said itself that led to the keeper at this place.
+    fn drain_link(&mut self, place: usize) -> io::Result<()> {
+        let Some(hosts) = self.setup.hosts else {
+            return Ok(());
+        };
+        let rank = hosts.first_rank(place);
+        match self.ranks.get_mut(rank) {
+            Some(one) => one.drain(self.rt, rank, &mut self.printer),
+            None => Ok(()),
+        }
+    }
+
+    /// Looks at the processes that lead to keepers: at those that closed what they write to, or at all of them.
+    fn look_at_links(&mut self, all: bool) -> io::Result<()> {
+        for place in 0..self.links.len() {
+            let ended = match self.links.get_mut(place) {
+                Some(link) if all || link.is_closed() => link.look()?,
+                _ => None,
+            };
+            if ended.is_some() {
+                self.end_link(place)?;
+            }
+        }
+        Ok(())
+    }
+
+    /// Ends the connections, since all ranks have ended, and waits for that.
+    fn close_links(&mut self) -> io::Result<()> {
+        for link in self.links.iter_mut() {
+            link.close();
+        }
+        let begun = Instant::now(self.rt)?;
+        for _ in 0..u64::MAX {
+            let passed = milliseconds_since(self.rt, &begun)?;
+            if passed >= CUTTING || !self.links.iter().any(|one| one.runs()) {
+                break;
+            }
+            if passed >= CLOSING {
+                for link in self.links.iter_mut() {
+                    link.kill();
+                }
+            }
+            let _heard = self.hear_all()?;
+            self.look_at_links(true)?;
+        }
+        Ok(())
+    }
+
+    /// Where the own standard input is to be read now, which rank 0 on another host gets; else -1.
+    fn input_descriptor(&self) -> RawFd {
+        let is_kept = self.ranks.first().is_some_and(|one| one.is_kept());
+        if is_kept && self.asked.is_none() {
+            self.input.descriptor()
+        } else {
+            -1
+        }
+    }
+
+    /// Hands a piece of the own standard input on to rank 0 on its host.
+    fn hand_input_on(&mut self) -> io::Result<()> {
+        let Some(place) = self.keeper_of(0) else {
+            return Ok(());
+        };
+        let Some(link) = self.links.get_mut(place) else {
+            return Ok(());
+        };
+        let mut room = [0u8; PIECE];
+        match self.input.read(&mut room) {
+            Read::Nothing => Ok(()),
+            Read::Bytes(count) => link.order(OrderKind::Input, 0, &room[..count.min(PIECE)]),
+            Read::End => link.order(OrderKind::InputEnd, 0, &[]),
+        }
+    }
+
+    /// What to ask of all streams: those of a rank side by side, what tells the user's wish, those of a connection side by
+    /// side, and the own standard input.
     fn streams(&self) -> io::Result<Vec<pollfd>> {
         let mut all = Vec::with_capacity(self.rt.alloc(), self.ranks.len().saturating_mul(2))?;
         for one in &self.ranks {
@@ -361,27 +701,65 @@ impl<
         }
         all.push(asked(self.wish.descriptor()))
             .map_err(AllocError::from)?;
+        for one in &self.links {
+            all.push(asked(one.output_descriptor()))
+                .map_err(AllocError::from)?;
+            all.push(asked(one.error_descriptor()))
+                .map_err(AllocError::from)?;
+            all.push(asked_to_write(one.input_descriptor()))
+                .map_err(AllocError::from)?;
+        }
+        all.push(asked(self.input_descriptor()))
+            .map_err(AllocError::from)?;
         Ok(all)
+    }
+
+    /// Does what is due at a stream of a connection, which is ready, or at the own standard input behind all of them.
+    fn attend_link(&mut self, place: usize) -> io::Result<()> {
+        let (place, stream) = (place / LINK_STREAMS, place % LINK_STREAMS);
+        let Some(link) = self.links.get_mut(place) else {
+            return self.hand_input_on();
+        };
+        match stream {
+            0 => self.hear_keeper(place),
+            1 => self.hear_link(place),
+            _ => {
+                link.hand_over();
+                Ok(())
+            }
+        }
+    }
+
+    /// Does what is due at a stream, which is ready.
+    fn attend_stream(&mut self, place: usize) -> io::Result<()> {
+        let rank = place / RANK_STREAMS;
+        if let Some(one) = self.ranks.get_mut(rank) {
+            let stream = if place % RANK_STREAMS == 0 {
+                Stream::Output
+            } else {
+                Stream::Error
+            };
+            return one.hear(self.rt, stream, rank, &mut self.printer);
+        }
+        let front = self.ranks.len().saturating_mul(RANK_STREAMS);
+        match place.checked_sub(front.saturating_add(1)) {
+            Some(behind) => self.attend_link(behind),
+            None => Ok(()),
+        }
     }
 
     /// Waits until a rank has written something, or it is time to look at the programs, and prints what came. Answers
     /// whether something was to be read.
     fn hear_all(&mut self) -> io::Result<bool> {
         let mut streams = self.streams()?;
-        let is_soon = self.ranks.iter().any(|one| one.is_closed());
+        let is_soon = self.ranks.iter().any(|one| one.is_closed())
+            || self.links.iter().any(|one| one.is_closed());
         if poll(&mut streams, if is_soon { SOON } else { LOOK }) <= 0 {
             return Ok(false);
         }
         for (place, asked) in streams.iter().enumerate() {
             if asked.revents != 0 {
-                let stream = if place % 2 == 0 {
-                    Stream::Output
-                } else {
-                    Stream::Error
-                };
-                if let Some(one) = self.ranks.get_mut(place / 2) {
-                    one.hear(self.rt, stream, place / 2, &mut self.printer)?;
-                }
+                self.attend_stream(place)?;
             }
         }
         Ok(true)
@@ -426,6 +804,11 @@ impl<
                 let _ = eprintln!(self.rt;
                     "mpirun: rank {rank} doesn't end: its process {id} is left"
                 );
+            } else if one.is_kept() {
+                one.is_let_go();
+                let _ = eprintln!(self.rt;
+                    "mpirun: rank {rank} doesn't end: its process on another host is left"
+                );
             }
         }
     }
@@ -442,7 +825,7 @@ impl<
         match end_step(self.wish.requests(), passed) {
             EndStep::Wait => {}
             EndStep::Ask => self.interrupt()?,
-            EndStep::Kill => self.kill_all(),
+            EndStep::Kill => self.kill_everywhere()?,
             EndStep::Leave => self.leave_all(),
         }
         Ok(())
@@ -464,13 +847,14 @@ impl<
 
     /// Whether a program runs.
     fn some_run(&self) -> bool {
-        self.ranks.iter().any(|one| one.child.is_some())
+        self.ranks.iter().any(|one| one.runs_anywhere())
     }
 
     /// Follows the ranks until all have ended.
     pub fn follow(&mut self) -> io::Result<()> {
         let mut last = Instant::now(self.rt)?;
         for _ in 0..u64::MAX {
+            self.connect()?;
             if !self.some_run() {
                 break;
             }
@@ -481,9 +865,10 @@ impl<
                 self.hand_on_all()?;
             }
             self.look_at(is_time)?;
+            self.look_at_links(is_time)?;
             self.attend()?;
         }
-        Ok(())
+        self.close_links()
     }
 
     /// Tells which stream couldn't be written, and why, if there is one. Answers whether there is.

@@ -3,6 +3,7 @@
 use host_files::{
     FileFault, Host, hosts_in_list, hosts_of, hosts_of_more_ranks, hosts_of_ranks, slot_count,
 };
+use host_keepers::keeper_of;
 use launch_keeper::Word;
 use process_commands::text_of;
 use rank_addresses::list_text;
@@ -26,19 +27,38 @@ const MOST_RANKS: u16 = 1_024;
 /// The hosts of a job.
 #[derive(Drop)]
 pub struct JobHosts {
-    /// The name of each rank's host; none where its program starts without help, since it is this machine.
-    names: Vec<Option<Word>>,
+    /// The keeper of each rank, by its place; none where its program starts without help, since it is on this machine.
+    keepers: Vec<Option<usize>>,
+    /// The name of each keeper's host.
+    names: Vec<Word>,
+    /// The first rank of each keeper.
+    firsts: Vec<usize>,
     /// The text that lists the address of each rank.
     pub list: Word,
 }
 
 impl JobHosts {
-    /// The name of a rank's host, where its program is started there by a keeper.
-    pub fn keeper_host(&self, rank: usize) -> Option<&Word> {
-        match self.names.get(rank) {
-            Some(Some(name)) => Some(name),
-            _ => None,
+    /// The place of a rank's keeper, where its program is started by one.
+    pub fn keeper_of(&self, rank: usize) -> Option<usize> {
+        match self.keepers.get(rank) {
+            Some(place) => *place,
+            None => None,
         }
+    }
+
+    /// How many keepers there are: one for each other host.
+    pub fn keeper_count(&self) -> usize {
+        self.names.len()
+    }
+
+    /// The name of the host of the keeper at this place.
+    pub fn keeper_host(&self, place: usize) -> Option<&Word> {
+        self.names.get(place)
+    }
+
+    /// The first rank of the keeper at this place.
+    pub fn first_rank(&self, place: usize) -> usize {
+        self.firsts.get(place).copied().unwrap_or(0)
     }
 }
 
@@ -95,6 +115,24 @@ fn addresses_of<R: Net + Eprint + AllocGlobal>(
     Ok(addresses)
 }
 
+/// The place of the keeper of a rank on this host, which has one from now on.
+fn keeper_on(
+    alloc: Global,
+    names: &mut Vec<Word>,
+    firsts: &mut Vec<usize>,
+    host: &[u8],
+    rank: usize,
+) -> io::Result<usize> {
+    if let Some(place) = keeper_of(names, host) {
+        return Ok(place);
+    }
+    let place = names.len();
+    let name = Word::from_slice(alloc, host)?;
+    names.push(name).map_err(AllocError::from)?;
+    firsts.push(rank).map_err(AllocError::from)?;
+    Ok(place)
+}
+
 /// The hosts of ranks, each of which is on the host at its place of these.
 fn placed(
     alloc: Global,
@@ -102,22 +140,27 @@ fn placed(
     addresses: &[Ipv4Addr],
     places: &[usize],
 ) -> io::Result<JobHosts> {
-    let mut names = Vec::new(alloc);
-    let mut listed = Vec::new(alloc);
-    for place in places {
+    let (mut keepers, mut listed) = (Vec::new(alloc), Vec::new(alloc));
+    let (mut names, mut firsts) = (Vec::new(alloc), Vec::new(alloc));
+    for (rank, place) in places.iter().enumerate() {
         let (Some(host), Some(address)) = (hosts.get(*place), addresses.get(*place)) else {
             return Err(io::Error::from(ErrorKind::InvalidInput));
         };
-        let name = if host.is_local {
+        let keeper = if host.is_local {
             None
         } else {
-            Some(Word::from_slice(alloc, host.name)?)
+            Some(keeper_on(alloc, &mut names, &mut firsts, host.name, rank)?)
         };
-        names.push(name).map_err(AllocError::from)?;
+        keepers.push(keeper).map_err(AllocError::from)?;
         listed.push(*address).map_err(AllocError::from)?;
     }
     let list = Word::from_vec(list_text(alloc, &listed)?);
-    Ok(JobHosts { names, list })
+    Ok(JobHosts {
+        keepers,
+        names,
+        firsts,
+        list,
+    })
 }
 
 /// Tells which of so many hosts the ranks of others can't reach, if there is one: an address of this machine alone

@@ -1,271 +1,328 @@
-//! The keeper of a rank on another host. It is handed the words of the rank's program over its standard input, reports
-//! what the program writes and how it ends over its standard output, and ends the program where the launcher asks for it
+//! The keeper on another host. It starts the programs of the ranks there, whose words it is handed over its standard
+//! input, reports what they write and how they end over its standard output, and ends them where the launcher asks for it
 //! or is gone.
 
 ghost use Rattle.std.specs.Prelude.{◌≡◌, Some, true, is_some, IfSome, OnOk};
 
 use crate::guard::Guard;
 use crate::job::milliseconds_since;
-use crate::kept_words::command_by;
-use crate::printing::{asked, is_ready, write_all};
+use crate::kept::{Kept, report, started};
+use crate::printing::{asked, asked_to_write};
 use crate::shell::terminate;
-use crate::sought::Sought;
-use host_keepers::{FoundWords, ReportKind, push_report, told_end, words_in};
-use launch_decisions::{ending_of, is_grace_over};
-use launch_keeper::Words;
+use host_keepers::{FoundWords, Order, OrderKind, ReportKind, next_order, words_in};
+use launch_decisions::is_grace_over;
 use libc::net::poll;
-use std::alloc::Global;
-use std::io;
-use std::io::{ErrorKind, PipeReader, Read};
+use libc::types::pollfd;
+use std::alloc::AllocError;
+use std::io::ErrorKind;
 use std::os::fd::{AsRawFd, RawFd};
-use std::process::{Child, ExitStatus, OpenProcess, Processes, Stdio};
+use std::process::{OpenProcess, Processes};
 use std::rt::Files;
 use std::time::{Clock, Instant};
+use std::{io, mem};
 
 /// The one word of a keeper.
 pub const KEEPER: &str = "-keeper";
 
-/// The launcher's end of this descriptor is closed when the launcher ends, however it ends. What it writes there behind
-/// the words asks for the program's end.
+/// The launcher's end of this descriptor is closed when the launcher ends, however it ends.
 const LAUNCHER: RawFd = 0;
 
-/// Where reports go.
-const REPORTS: RawFd = 1;
-
-/// How many bytes are read at a time.
+/// How many bytes of orders are read at a time.
 const ROOM: usize = 65_536;
 
-/// How many bytes of words are read at most.
-const MOST_WORDS: usize = 16_777_216;
+/// How many bytes one order has at most.
+const MOST_BYTES: usize = 16_777_216;
 
-/// The time between two looks at the program, in milliseconds.
+/// The time between two looks at the programs, in milliseconds.
 const LOOK: i32 = 50;
 
-/// The same, where it has closed what it writes to, or was asked to end.
+/// The same, for output that never pauses.
+const LATEST_LOOK: u128 = 50;
+
+/// The same, where one has closed what it writes to, or all were asked to end.
 const SOON: i32 = 2;
 
-/// How often what a program left behind is read once it has ended.
-const MOST_READS: usize = 4_096;
+/// How many descriptors of a program are asked.
+const STREAMS: usize = 3;
 
 /// The status of a keeper that couldn't do its work.
 const FAILED: u8 = 3;
 
-/// Writes a report.
-fn report(alloc: Global, kind: ReportKind, bytes: &[u8]) -> io::Result<()> {
-    let mut text = Vec::new(alloc);
-    let (bytes, _) = bytes.split_at(bytes.len().min(ROOM));
-    push_report(&mut text, kind, bytes)?;
-    write_all(REPORTS, &text)
-}
-
-/// The words that the launcher hands over. An error where it is gone before.
-fn await_words(alloc: Global) -> io::Result<Words> {
-    let mut text = Vec::new(alloc);
-    let mut room = [0u8; 4_096];
-    for _ in 0..u64::MAX {
-        let count = usize::try_from(libc::read(LAUNCHER, &mut room)).unwrap_or(0);
-        if count == 0 || text.len() > MOST_WORDS {
-            break;
-        }
-        text.extend_from_slice(&room[..count.min(4_096)])?;
-        match words_in(alloc, &text)? {
-            FoundWords::Whole(words) => return Ok(words),
-            FoundWords::Unfinished => {}
-            FoundWords::Faulty => break,
-        }
-    }
-    Err(io::Error::from(ErrorKind::InvalidData))
-}
-
-/// A program that is kept.
-struct Kept<'a, R, P: OpenProcess> {
+/// A keeper while it keeps programs.
+struct Keeper<'a, R: Processes> {
     rt: &'a R,
-    child: Child<P>,
-    output: Option<PipeReader>,
-    errors: Option<P::Stderr>,
-    /// When the launcher asked for its end.
+    guard: Guard<R::Started>,
+    kept: Vec<Kept<R::Started>>,
+    /// What came of the launcher's orders and wasn't followed.
+    orders: Vec<u8>,
+    /// When the launcher asked for the end of all programs.
     asked: Option<Instant>,
+    /// Whether the launcher is gone, or hands over nothing more.
+    is_left: bool,
 }
 
-impl<'a, R, P: OpenProcess + Drop> Drop for Kept<'a, R, P> {
+impl<'a, R: Processes> Drop for Keeper<'a, R> {
     fn drop(self) {
         let Self {
             rt: _,
-            child,
-            output,
-            errors,
+            guard,
+            kept,
+            orders,
             asked: _,
+            is_left: _,
         } = self;
-        drop(child);
-        drop(output);
-        drop(errors);
+        drop(guard);
+        drop(kept);
+        drop(orders);
     }
 }
 
-/// The descriptor of a pipe; -1 where it is closed.
-fn descriptor_of<S: AsRawFd>(pipe: &Option<S>) -> RawFd {
-    match pipe {
-        Some(pipe) => pipe.as_raw_fd(),
-        None => -1,
-    }
+/// The error of orders that no launcher gives.
+fn faulty() -> io::Error {
+    io::Error::from(ErrorKind::InvalidData)
 }
 
-/// Reads from a pipe that is ready, if it is open, and reports what came. Where the pipe has ended it is closed.
-fn pass_on<S: Read + Drop>(
-    alloc: Global,
-    pipe: &mut Option<S>,
-    kind: ReportKind,
-) -> io::Result<()> {
-    let mut room = [0u8; ROOM];
-    let Some(open) = pipe else {
-        return Ok(());
-    };
-    match open.read(&mut room) {
-        Ok(0) => {
-            *pipe = None;
-            Ok(())
-        }
-        Ok(count) => report(alloc, kind, &room[..count]),
-        Err(error) if error.kind() == ErrorKind::Interrupted => Ok(()),
-        Err(error) => Err(error),
-    }
-}
-
-/// Reports how a program ended.
-fn report_end(alloc: Global, status: ExitStatus) -> io::Result<()> {
-    let (kind, number) = told_end(ending_of(status));
-    report(alloc, kind, &[number])
-}
-
-impl<'a, R: AllocGlobal + Clock + Processes, P: OpenProcess<Stderr: AsRawFd> + Drop> Kept<
+impl<
     'a,
-    R,
-    P,
-> {
-    /// Takes in what the launcher says: the program's time to end begins with the first word. An error where it is
-    /// gone.
-    fn listen(&mut self) -> io::Result<()>
+    R: AllocGlobal
+        + Clock
+        + Files
+        + Processes<Started: OpenProcess<Stdin: AsRawFd, Stderr: AsRawFd>>,
+> Keeper<'a, R> {
+    /// Starts a rank's program by the words of an order.
+    fn start(&mut self, order: &Order<'_>, has_input: bool) -> io::Result<()> {
+        match words_in(self.rt.alloc(), order.bytes)? {
+            FoundWords::Whole(words) => {
+                if let Some(kept) = started(
+                    self.rt,
+                    &mut self.guard,
+                    order.rank,
+                    &words,
+                    has_input,
+                )? {
+                    self.kept.push(kept).map_err(AllocError::from)?;
+                }
+                Ok(())
+            }
+            FoundWords::Unfinished | FoundWords::Faulty => Err(faulty()),
+        }
+    }
+
+    /// The launcher asks for the end of all programs: their time to end begins with the first time that it does.
+    fn ask(&mut self) -> io::Result<()>
         ensures asked { OnOk result (is_some self.new.asked ≡ true) }
         ensures first { IfSome self.old.asked (λ asked. self.new.asked ≡ Some asked) }
     {
-        let mut word = [0u8; 16];
-        if libc::read(LAUNCHER, &mut word) <= 0 {
-            return Err(io::Error::from(ErrorKind::BrokenPipe));
-        }
         if self.asked.is_none() {
             self.asked = Some(Instant::now(self.rt)?);
-            terminate(self.rt, &[self.child.id()]);
+            let mut running = Vec::new(self.rt.alloc());
+            for one in &self.kept {
+                running.push(one.id()).map_err(AllocError::from)?;
+            }
+            terminate(self.rt, &running);
         }
         Ok(())
     }
 
-    /// Kills a program that was asked to end and had the time to.
+    /// Kills all programs.
+    fn kill(&mut self) {
+        for one in self.kept.iter_mut() {
+            one.kill();
+        }
+    }
+
+    /// Hands a piece of standard input to the program of its rank, or, where none are told, that it has ended.
+    fn hand_on(&mut self, rank: u16, bytes: Option<&[u8]>) -> io::Result<()> {
+        for one in self.kept.iter_mut() {
+            if one.rank == rank {
+                match bytes {
+                    Some(bytes) => one.is_handed(self.rt.alloc(), bytes)?,
+                    None => one.is_handed_all(),
+                }
+            }
+        }
+        Ok(())
+    }
+
+    /// Follows an order.
+    fn follow_order(&mut self, order: &Order<'_>) -> io::Result<()> {
+        match order.kind {
+            Some(OrderKind::Start) => self.start(order, false),
+            Some(OrderKind::StartWithInput) => self.start(order, true),
+            Some(OrderKind::Input) => self.hand_on(order.rank, Some(order.bytes)),
+            Some(OrderKind::InputEnd) => self.hand_on(order.rank, None),
+            Some(OrderKind::Ask) => self.ask(),
+            Some(OrderKind::Kill) => {
+                self.kill();
+                Ok(())
+            }
+            None => Err(faulty()),
+        }
+    }
+
+    /// Follows the orders that came whole.
+    fn follow_orders(&mut self) -> io::Result<()> {
+        let text = mem::replace(&mut self.orders, Vec::new(self.rt.alloc()));
+        let mut rest = text.as_slice();
+        for _ in 0..u64::MAX {
+            let Some((order, behind)) = next_order(rest) else {
+                break;
+            };
+            self.follow_order(&order)?;
+            rest = behind;
+        }
+        if rest.len() > MOST_BYTES {
+            return Err(faulty());
+        }
+        self.orders = Vec::from_slice(self.rt.alloc(), rest)?;
+        Ok(())
+    }
+
+    /// Takes in what the launcher says.
+    fn listen(&mut self) -> io::Result<()> {
+        let mut room = [0u8; ROOM];
+        let count = usize::try_from(libc::read(LAUNCHER, &mut room)).unwrap_or(0);
+        if count == 0 {
+            self.is_left = true;
+            return Ok(());
+        }
+        self.orders.extend_from_slice(&room[..count.min(ROOM)])?;
+        self.follow_orders()
+    }
+
+    /// Kills programs that were asked to end and had the time to.
     fn hurry(&mut self) -> io::Result<()> {
         if let Some(asked) = self.asked {
             if is_grace_over(milliseconds_since(self.rt, &asked)?) {
-                let _ = self.child.kill();
+                self.kill();
             }
         }
         Ok(())
     }
 
-    /// Waits until something can be read, or it is time to look at the program, and passes on what came.
-    fn attend(&mut self) -> io::Result<()> {
-        let mut all = [
-            asked(LAUNCHER),
-            asked(descriptor_of(&self.output)),
-            asked(descriptor_of(&self.errors)),
-        ];
-        let is_soon = self.asked.is_some() || (self.output.is_none() && self.errors.is_none());
-        let found = poll(&mut all, if is_soon { SOON } else { LOOK });
-        let is_found = |place: usize| found > 0 && all[place.min(2)].revents != 0;
-        let (speaks, writes, errs) = (is_found(0), is_found(1), is_found(2));
-        if speaks {
-            self.listen()?;
+    /// What to ask of all streams: those of each program side by side, and what the launcher says behind them.
+    fn streams(&self) -> io::Result<Vec<pollfd>> {
+        let mut all = Vec::new(self.rt.alloc());
+        for one in &self.kept {
+            all.push(asked(one.output_descriptor()))
+                .map_err(AllocError::from)?;
+            all.push(asked(one.error_descriptor()))
+                .map_err(AllocError::from)?;
+            all.push(asked_to_write(one.input_descriptor()))
+                .map_err(AllocError::from)?;
         }
-        if writes {
-            pass_on(self.rt.alloc(), &mut self.output, ReportKind::Output)?;
-        }
-        if errs {
-            pass_on(self.rt.alloc(), &mut self.errors, ReportKind::Errors)?;
-        }
-        self.hurry()
+        all.push(asked(LAUNCHER)).map_err(AllocError::from)?;
+        Ok(all)
     }
 
-    /// Passes on what is left of an ended program's writing.
-    fn drain(&mut self) -> io::Result<()> {
-        for _ in 0..MOST_READS {
-            if !is_ready(descriptor_of(&self.output)) {
-                break;
-            }
-            pass_on(self.rt.alloc(), &mut self.output, ReportKind::Output)?;
+    /// Does what is due at a program's stream, which is ready.
+    fn attend_stream(&mut self, place: usize) -> io::Result<()> {
+        let alloc = self.rt.alloc();
+        let Some(one) = self.kept.get_mut(place / STREAMS) else {
+            return self.listen();
+        };
+        match place % STREAMS {
+            0 => one.pass_output(alloc),
+            1 => one.pass_errors(alloc),
+            _ => one.hand_on(alloc),
         }
-        for _ in 0..MOST_READS {
-            if !is_ready(descriptor_of(&self.errors)) {
-                break;
+    }
+
+    /// Waits until something can be read or written, or it is time to look at the programs, and passes on what came.
+    /// Answers whether something was to be done.
+    fn attend(&mut self) -> io::Result<bool> {
+        let mut streams = self.streams()?;
+        let is_soon = self.asked.is_some() || self.kept.iter().any(|one| one.is_closed());
+        if poll(&mut streams, if is_soon { SOON } else { LOOK }) <= 0 {
+            return Ok(false);
+        }
+        for (place, asked) in streams.iter().enumerate() {
+            if asked.revents != 0 {
+                self.attend_stream(place)?;
             }
-            pass_on(self.rt.alloc(), &mut self.errors, ReportKind::Errors)?;
+        }
+        Ok(true)
+    }
+
+    /// Looks at the programs, at those that closed what they write to or at all of them, and reports which have ended.
+    fn look(&mut self, all: bool) -> io::Result<()> {
+        let mut place = 0;
+        for _ in 0..self.kept.len() {
+            let Some(one) = self.kept.get_mut(place) else {
+                break;
+            };
+            let ended = if all || one.is_closed() {
+                one.look()?
+            } else {
+                None
+            };
+            match ended {
+                Some(status) => {
+                    one.report_end(self.rt.alloc(), status)?;
+                    self.guard.ends(self.rt, one.id());
+                    if place < self.kept.len() {
+                        drop(self.kept.remove(place));
+                    }
+                }
+                None => place = place.saturating_add(1),
+            }
         }
         Ok(())
     }
 
-    /// Follows the program to its end, and reports that. An error where the launcher is gone.
+    /// Keeps programs until the launcher hands over nothing more. An error where some run then: it is gone.
     fn follow(&mut self) -> io::Result<()> {
+        let mut last = Instant::now(self.rt)?;
         for _ in 0..u64::MAX {
-            if let Some(status) = self.child.try_wait()? {
-                self.drain()?;
-                return report_end(self.rt.alloc(), status);
+            let has_heard = self.attend()?;
+            if self.is_left {
+                break;
             }
-            self.attend()?;
+            let is_time = !has_heard || last.elapsed(self.rt)?.as_millis() >= LATEST_LOOK;
+            if is_time {
+                last = Instant::now(self.rt)?;
+            }
+            self.look(is_time)?;
+            self.hurry()?;
         }
-        Ok(())
+        if self.kept.is_empty() {
+            Ok(())
+        } else {
+            Err(io::Error::from(ErrorKind::BrokenPipe))
+        }
+    }
+
+    /// Ends all programs at once.
+    fn end_all(&mut self) {
+        for one in self.kept.iter_mut() {
+            one.end();
+            self.guard.ends(self.rt, one.id());
+        }
+        self.guard.close();
     }
 }
 
-/// Starts the program of these words, and keeps it to its end.
-fn keep_program<R: Files + AllocGlobal + Clock + Processes<Started: OpenProcess<Stderr: AsRawFd>>>(
-    rt: &R,
-    words: &Words,
-) -> io::Result<()> {
-    let mut guard = Guard::new(rt);
-    let mut command = command_by(rt.alloc(), words.as_slice())?;
-    command.stdin(Stdio::null());
-    command.stderr(Stdio::piped());
-    let sought = Sought::by(rt, &command);
-    let (mut child, output) = match guard.spawn(rt, command) {
-        Ok(started) => started,
-        Err(error) => {
-            guard.close();
-            let number = sought.fault(&error).number();
-            return report(rt.alloc(), ReportKind::Nothing, &[number]);
-        }
-    };
-    let id = child.id();
-    let mut kept = Kept {
-        rt,
-        output: Some(output),
-        errors: child.stderr.take(),
-        child,
-        asked: None,
-    };
-    let followed = kept.follow();
-    if followed.is_err() {
-        let _ = kept.child.kill();
-        let _ = kept.child.wait();
-    }
-    guard.ends(rt, id);
-    guard.close();
-    followed
-}
-
-/// Keeps the program whose words the launcher hands over. Answers the status.
+/// Keeps the programs that the launcher lets it start. Answers the status.
 pub fn run_keeper<
-    R: Files + AllocGlobal + Clock + Processes<Started: OpenProcess<Stderr: AsRawFd>>,
+    R: Files
+        + AllocGlobal
+        + Clock
+        + Processes<Started: OpenProcess<Stdin: AsRawFd, Stderr: AsRawFd>>,
 >(rt: &R) -> u8 {
-    let Ok(words) = await_words(rt.alloc()) else {
+    if report(rt.alloc(), ReportKind::Ready, 0, &[]).is_err() {
         return FAILED;
+    }
+    let mut keeper = Keeper {
+        rt,
+        guard: Guard::new(rt),
+        kept: Vec::new(rt.alloc()),
+        orders: Vec::new(rt.alloc()),
+        asked: None,
+        is_left: false,
     };
-    match keep_program(rt, &words) {
+    let followed = keeper.follow();
+    keeper.end_all();
+    match followed {
         Ok(()) => 0,
         Err(_) => FAILED,
     }

@@ -46,6 +46,15 @@ pub fn asked(fd: RawFd) -> pollfd {
     }
 }
 
+/// What to ask of a descriptor that is to be written; one below 0 is never ready.
+pub fn asked_to_write(fd: RawFd) -> pollfd {
+    pollfd {
+        fd,
+        events: POLLOUT,
+        revents: 0,
+    }
+}
+
 /// Whether the descriptor can be read now.
 pub fn is_ready(fd: RawFd) -> bool {
     let mut asked = [asked(fd)];
@@ -54,11 +63,7 @@ pub fn is_ready(fd: RawFd) -> bool {
 
 /// Waits until the descriptor takes something, a second at most.
 fn wait_to_write(fd: RawFd) {
-    let mut asked = [pollfd {
-        fd,
-        events: POLLOUT,
-        revents: 0,
-    }];
+    let mut asked = [asked_to_write(fd)];
     let _found = poll(&mut asked, 1_000);
 }
 

@@ -7,18 +7,18 @@ ghost use Rattle.run_process.specs.Kept.{told_behind};
 ghost use Rattle.run_process.specs.Streams.{stream_of};
 
 use crate::printing::{Printer, Stream, is_ready};
-use host_keepers::{Report, ReportKind, next_report};
+use host_keepers::{Report, ReportKind};
 use launch_decisions::Start;
 use launch_keeper::ProgramEnding;
 use process_commands::StartFault;
 use rank_lines::LineBuffer;
 use run_plan::rank_ending;
 use std::alloc::Global;
-use std::io::{ErrorKind, PipeReader, Read, Write};
+use std::io;
+use std::io::{ErrorKind, PipeReader, Read};
 use std::os::fd::{AsRawFd, RawFd};
 use std::process::{Child, ExitStatus, OpenProcess};
 use std::time::{Clock, Instant};
-use std::{io, mem};
 
 /// How many bytes are read at a time.
 const ROOM: usize = 65_536;
@@ -91,7 +91,7 @@ impl Written {
 pub struct Rank<'a, P: OpenProcess> {
     /// The start of what runs, or ran last.
     pub start: Start<'a>,
-    /// What runs.
+    /// What runs of it on this machine.
     pub child: Option<Child<P>>,
     /// Why it couldn't be started.
     pub fault: StartFault,
@@ -99,10 +99,8 @@ pub struct Rank<'a, P: OpenProcess> {
     errors: Option<P::Stderr>,
     written: Written,
     told: Written,
-    /// Whether what runs is the keeper of a program on another host.
+    /// Whether its program runs on another host, where a keeper keeps it, or is to be started there.
     is_kept: bool,
-    /// The beginning of a report of the keeper.
-    reports: Vec<u8>,
     /// How the program ended that the keeper keeps, once it has reported that.
     reported: Option<ProgramEnding>,
 }
@@ -118,7 +116,6 @@ impl<'a, P: OpenProcess + Drop> Drop for Rank<'a, P> {
             written,
             told,
             is_kept: _,
-            reports,
             reported: _,
         } = self;
         drop(child);
@@ -126,7 +123,6 @@ impl<'a, P: OpenProcess + Drop> Drop for Rank<'a, P> {
         drop(errors);
         drop(written);
         drop(told);
-        drop(reports);
     }
 }
 
@@ -159,11 +155,15 @@ fn stream_of(kind: ReportKind) -> Option<Stream>
     match kind {
         ReportKind::Output => Some(Stream::Output),
         ReportKind::Errors => Some(Stream::Error),
-        ReportKind::Status | ReportKind::Signal | ReportKind::Nothing => None,
+        ReportKind::Status
+        | ReportKind::Signal
+        | ReportKind::Nothing
+        | ReportKind::Ready
+        | ReportKind::Taken => None,
     }
 }
 
-impl<'a, P: OpenProcess<Stderr: AsRawFd> + Drop> Rank<'a, P> {
+impl<'a, P: OpenProcess<Stdin: AsRawFd, Stderr: AsRawFd> + Drop> Rank<'a, P> {
     /// A rank of which nothing runs yet.
     pub fn new(alloc: Global, start: Start<'a>) -> Rank<'a, P> {
         Rank {
@@ -175,7 +175,6 @@ impl<'a, P: OpenProcess<Stderr: AsRawFd> + Drop> Rank<'a, P> {
             written: Written::new(alloc),
             told: Written::new(alloc),
             is_kept: false,
-            reports: Vec::new(alloc),
             reported: None,
         }
     }
@@ -188,30 +187,36 @@ impl<'a, P: OpenProcess<Stderr: AsRawFd> + Drop> Rank<'a, P> {
         self.is_kept = false;
     }
 
-    /// This keeper runs now, this is its output, and it is handed this message.
-    pub fn is_kept_by(&mut self, child: Child<P>, output: PipeReader, message: &[u8]) {
-        self.runs(child, output);
+    /// The keeper on its host is told to start its program.
+    pub fn is_kept_far(&mut self) {
         self.is_kept = true;
-        self.reports.clear();
         self.reported = None;
-        self.tell_keeper(message);
     }
 
-    /// Writes to its keeper. Where that can't be done it is gone, or will be seen to be.
-    fn tell_keeper(&mut self, text: &[u8]) {
-        if let Some(child) = &mut self.child {
-            if let Some(input) = &mut child.stdin {
-                let _ = input.write_all(text);
-            }
-        }
-    }
-
-    /// Asks its keeper, if it has one, to end its program. Answers whether it has one.
-    pub fn asks_keeper(&mut self) -> bool {
-        if self.is_kept {
-            self.tell_keeper(b"t");
-        }
+    /// Whether its program is kept on another host.
+    pub fn is_kept(&self) -> bool {
         self.is_kept
+    }
+
+    /// Its program is kept there no more.
+    pub fn is_let_go(&mut self) {
+        self.is_kept = false;
+    }
+
+    /// Its program couldn't be started on its host, for this reason.
+    pub fn has_no_keeper(&mut self, fault: StartFault) {
+        self.reported = Some(ProgramEnding::NotStarted);
+        self.fault = fault;
+    }
+
+    /// Whether its program runs, here or on another host.
+    pub fn runs_anywhere(&self) -> bool {
+        self.child.is_some() || self.is_kept
+    }
+
+    /// Whether its keeper has reported its program's end.
+    pub fn has_reported(&self) -> bool {
+        self.is_kept && self.reported.is_some()
     }
 
     /// Lets its program's standard input end, where this process holds the other end. Answers whether it does.
@@ -222,7 +227,7 @@ impl<'a, P: OpenProcess<Stderr: AsRawFd> + Drop> Rank<'a, P> {
         }
     }
 
-    /// Whether what ended was a keeper that reported no end.
+    /// Whether it had a keeper, which reported no end.
     pub fn has_lost_keeper(&self) -> bool
         ensures { result ≡ (self.now.is_kept && is_none self.now.reported) }
     {
@@ -247,8 +252,8 @@ impl<'a, P: OpenProcess<Stderr: AsRawFd> + Drop> Rank<'a, P> {
         }
     }
 
-    /// Takes in a report of its keeper.
-    fn take_report<R: AllocGlobal + Clock>(
+    /// Takes in what its keeper reports of it.
+    pub fn take_report<R: AllocGlobal + Clock>(
         &mut self,
         rt: &R,
         report: &Report,
@@ -269,49 +274,16 @@ impl<'a, P: OpenProcess<Stderr: AsRawFd> + Drop> Rank<'a, P> {
         printer.print(rt.alloc(), stream, rank, lines)
     }
 
-    /// Takes in the reports that came whole.
-    fn take_reports<R: AllocGlobal + Clock>(
+    /// Prints what the process says itself that leads to its host.
+    pub fn tell_of_link<R: AllocGlobal + Clock>(
         &mut self,
         rt: &R,
+        bytes: &[u8],
         rank: usize,
         printer: &mut Printer,
     ) -> io::Result<()> {
-        let text = mem::replace(&mut self.reports, Vec::new(rt.alloc()));
-        let mut rest = text.as_slice();
-        for _ in 0..u64::MAX {
-            let Some((report, behind)) = next_report(rest) else {
-                break;
-            };
-            self.take_report(rt, &report, rank, printer)?;
-            rest = behind;
-        }
-        self.reports = Vec::from_slice(rt.alloc(), rest)?;
-        Ok(())
-    }
-
-    /// Reads from its keeper, which is ready, and takes in the reports that came whole.
-    fn hear_keeper<R: AllocGlobal + Clock>(
-        &mut self,
-        rt: &R,
-        rank: usize,
-        printer: &mut Printer,
-    ) -> io::Result<()> {
-        let mut room = [0u8; ROOM];
-        let Some(open) = &mut self.output else {
-            return Ok(());
-        };
-        match open.read(&mut room) {
-            Ok(0) => {
-                self.output = None;
-                Ok(())
-            }
-            Ok(count) => {
-                self.reports.extend_from_slice(&room[..count])?;
-                self.take_reports(rt, rank, printer)
-            }
-            Err(error) if error.kind() == ErrorKind::Interrupted => Ok(()),
-            Err(error) => Err(error),
-        }
+        let lines = self.told.take(rt, bytes)?;
+        printer.print(rt.alloc(), Stream::Error, rank, lines)
     }
 
     /// The descriptor of what it prints; -1 where that is closed.
@@ -344,7 +316,6 @@ impl<'a, P: OpenProcess<Stderr: AsRawFd> + Drop> Rank<'a, P> {
         printer: &mut Printer,
     ) -> io::Result<()> {
         let lines = match stream {
-            Stream::Output if self.is_kept => return self.hear_keeper(rt, rank, printer),
             Stream::Output => read_lines(rt, &mut self.output, &mut self.written)?,
             Stream::Error => read_lines(rt, &mut self.errors, &mut self.told)?,
         };
