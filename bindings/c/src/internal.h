@@ -210,6 +210,8 @@ int check_request(const char *call, const MPI_Request *handle, struct request **
 /* The requests that have handles: how many places there are, and what is at one of them, or NULL. */
 int request_places(void);
 struct request *request_at(int place);
+/* The place of the request that has this handle. */
+uint32_t place_of_request(MPI_Request handle);
 /* The same, or NULL of a request that is inactive, too. */
 struct request *active_of(MPI_Request handle);
 /* Tells the functions of the program's of its end: its code. `end` has all that is known of it then. Where the code is
