@@ -104,7 +104,9 @@ static void send_from(struct carried *own, bool kept_too) {
         size_t room;
         unsigned char *into = device_room(&room);
         len = kombazily_next(&own->rank, device_most(), kept_too, &out, into, room);
-        if (len != 0) device_put((uint16_t)first_rank(own->world, out.target), out.count, out.each, len);
+        const int target = len == 0 ? -1 : first_rank(own->world, out.target);
+        /* Another program may have its port until then, and so would learn the job's number. */
+        if (target >= 0 && is_there(target)) device_put((uint16_t)target, out.count, out.each, len);
     }
     own->is_due = false;
     own->kept_until = out.kept_until;

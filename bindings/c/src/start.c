@@ -9,9 +9,13 @@
 #include "pmi.h"
 
 #include <errno.h>
+#include <limits.h>
+#include <poll.h>
+#include <signal.h>
 #include <stdio.h>
 #include <stdlib.h>
 #include <string.h>
+#include <sys/prctl.h>
 #include <sys/random.h>
 #include <unistd.h>
 
@@ -181,6 +185,22 @@ void find_place(int *argc, char ***argv, struct addresses *job) {
     process.is_apart = !are_together(job);
 }
 
+/* Whether the standard output is a pipe that nobody reads any more. */
+static bool is_unread(void) {
+    struct pollfd output = {.fd = STDOUT_FILENO};
+    return poll(&output, 1, 0) == 1 && (output.revents & POLLERR) != 0;
+}
+
+void follow_keeper(void) {
+    const char *text = getenv("KOMBAZILY_KEEPER");
+    uint64_t keeper;
+    if (text == NULL || !read_number(text, INT_MAX, &keeper)) return;
+    const bool is_own = getppid() == (pid_t)keeper;
+    if (is_own && prctl(PR_SET_PDEATHSIG, SIGKILL) == 0 && getppid() == (pid_t)keeper) return;
+    /* It is gone already, or somebody stands between, or it is seen under another number from here. */
+    if (is_own || (kill((pid_t)keeper, 0) != 0 && errno == ESRCH && is_unread())) raise(SIGKILL);
+}
+
 void keep_place_from_children(void) {
     static const char *const names[] = {"KOMBAZILY_RANK",
                                         "KOMBAZILY_SIZE",
@@ -191,6 +211,8 @@ void keep_place_from_children(void) {
                                         "KOMBAZILY_PATIENCE",
                                         "KOMBAZILY_FRAME",
                                         "KOMBAZILY_STANDSTILL",
+                                        "KOMBAZILY_TOGETHER",
+                                        "KOMBAZILY_KEEPER",
                                         "PMI_FD",
                                         "PMI_RANK",
                                         "PMI_SIZE",

@@ -40,6 +40,11 @@ impl JobHosts {
             _ => None,
         }
     }
+
+    /// Whether the programs of all ranks start on this machine without help.
+    pub fn are_here(&self) -> bool {
+        self.names.iter().all(|name| name.is_none())
+    }
 }
 
 /// The first IPv4 address of a name, or the one that is written there.
