@@ -191,6 +191,19 @@ static bool is_unread(void) {
     return poll(&output, 1, 0) == 1 && (output.revents & POLLERR) != 0;
 }
 
+/* Whether a process is gone, or has ended and nobody has asked how. */
+static bool has_ended(pid_t other) {
+    char name[32], text[512];
+    snprintf(name, sizeof name, "/proc/%d/stat", (int)other);
+    FILE *file = fopen(name, "r");
+    if (file == NULL) return kill(other, 0) != 0 && errno == ESRCH;
+    text[fread(text, 1, sizeof text - 1, file)] = '\0';
+    fclose(file);
+    /* The name of its program, which may have anything in it, stands in brackets in front of its state. */
+    const char *end = strrchr(text, ')');
+    return end != NULL && (strncmp(end, ") Z", 3) == 0 || strncmp(end, ") X", 3) == 0);
+}
+
 void follow_keeper(void) {
     const char *text = getenv("KOMBAZILY_KEEPER");
     uint64_t keeper;
@@ -198,7 +211,7 @@ void follow_keeper(void) {
     const bool is_own = getppid() == (pid_t)keeper;
     if (is_own && prctl(PR_SET_PDEATHSIG, SIGKILL) == 0 && getppid() == (pid_t)keeper) return;
     /* It is gone already, or somebody stands between, or it is seen under another number from here. */
-    if (is_own || (kill((pid_t)keeper, 0) != 0 && errno == ESRCH && is_unread())) raise(SIGKILL);
+    if (is_own || (is_unread() && has_ended((pid_t)keeper))) raise(SIGKILL);
 }
 
 void keep_place_from_children(void) {
