@@ -58,10 +58,10 @@ static bool is_gone(int rank, char mark) {
 /* Whether nothing more is to come of a rank. */
 static bool is_out(int rank, char mark) { return mark == MARK_ENDED || mark == MARK_LEFT || is_gone(rank, mark); }
 
-/* The first rank that is gone or never began, or -1; and the first one of which more is to come, which tells it. */
+/* The first rank that is gone, or -1; and the first one of which more is to come, which tells it. */
 static int first_gone(const char *marks) {
     int rank = 0;
-    while (rank < process.size && marks[rank] != MARK_ENDED && !is_gone(rank, marks[rank])) rank++;
+    while (rank < process.size && !is_gone(rank, marks[rank])) rank++;
     return rank < process.size ? rank : -1;
 }
 static bool is_first_left(const char *marks) {
@@ -147,20 +147,18 @@ static void add_outlook(struct line *line, bool is_end) {
 
 static void tell(const char *marks) {
     struct line line = {.length = 0};
-    const int gone = first_gone(marks);
-    const bool never_began = gone >= 0 && marks[gone] == MARK_ENDED;
+    const int unbegun = first_marked(marks, process.size, MARK_ENDED), gone = first_gone(marks);
     add_text(&line, "rank %d: ", process.rank);
-    if (gone < 0) add_text(&line, "all ranks wait");
-    else if (never_began) add_text(&line, "rank %d has ended before MPI_Init; all others wait", gone);
-    else add_text(&line, "rank %d has ended without MPI_Finalize; all others wait", gone);
+    if (unbegun >= 0) add_text(&line, "rank %d has ended before MPI_Init; all others wait", unbegun);
+    else if (gone >= 0) add_text(&line, "rank %d has ended without MPI_Finalize; all others wait", gone);
+    else add_text(&line, "all ranks wait");
     add_text(&line, ", and nothing has moved for ");
     add_time(&line, SOON);
-    add_outlook(&line, never_began);
+    add_outlook(&line, unbegun >= 0);
     write_line(&line);
 }
 
-/* Ends this rank, where one never begins for which all that are left wait: behind the first of these, which tells it.
- */
+/* Ends this rank, where one never begins for which the others wait: behind the first of these, which tells it. */
 static void end_unbegun(const char *marks) {
     const bool is_known = first_marked(marks, process.size, MARK_LEFT) >= 0;
     if (!is_known && !is_first_left(marks)) return;
