@@ -18,6 +18,7 @@
 enum {
     SOON = 1000,          /* milliseconds behind which a rank waits in vain */
     LONGEST_START = 1000, /* so many a rank waits for others that begin */
+    RARELY = 100,         /* so many pass between two looks at the system's list of ports */
 };
 
 static int file = -1;
@@ -118,12 +119,23 @@ void await_begun(void) {
         nanosleep(&moment, NULL);
 }
 
+/* Whether a rank that made no mark has its port nevertheless, since it sees no such file, as in a namespace of its own.
+ * That is rare, and so looked at late and seldom. */
+static bool is_unmarked(int rank) {
+    static uint64_t due;
+    const uint64_t now = device_nanoseconds();
+    if (due == 0) due = now + (uint64_t)5 * LONGEST_START * 1000000;
+    if (now < due) return false;
+    due = now + (uint64_t)RARELY * 1000000;
+    return device_is_held(rank);
+}
+
 bool is_there(int rank) {
     char marks[MOST_RANKS];
     if (file < 0 || have_all_begun || has_begun[rank]) return true;
     if (!read_marks(marks)) return false;
     have_all_begun = have_all_ports(marks, process.size);
-    has_begun[rank] = has_port(marks[rank]);
+    has_begun[rank] = has_port(marks[rank]) || (marks[rank] == '\0' && is_unmarked(rank));
     return has_begun[rank];
 }
 
