@@ -362,7 +362,7 @@ def command_of_c(request):
         c_programs.build_with(say, ["mpirun"])
     mpirun = launchers.made(find(["mpirun"], request)["mpirun"])
     program = c_programs.compiled(say, request.file, request.is_proved)
-    os.environ["KOMBAZILY_STANDSTILL"] = "/proc/%d/fd/%d" % (os.getpid(), os.memfd_create("standstill", 0))
+    os.environ["KOMBAZILY_TOGETHER"] = "1"
     options = {"-patience": PATIENCE_OF_C, **request.options}
     told = [str(it) for option in options.items() for it in option]
     return [short(mpirun), "-prefix", *told, "-n", str(request.ranks or 2), short(program), *request.words]

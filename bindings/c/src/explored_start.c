@@ -121,11 +121,25 @@ static void be_mould(void) {
 
 /* ---- the beginning and the end ---- */
 
+/* Ends a process that no explorer has started. */
+static _Noreturn void refuse_explorer(const char *where) {
+    fflush(stdout);
+    fprintf(stderr, "MPI_Init: its place is told wrongly: KOMBAZILY_EXPLORER=%s is no socket of an explorer\n", where);
+    explored_lose();
+}
+
+static bool is_socket(int descriptor) {
+    int type;
+    socklen_t len = sizeof type;
+    return getsockopt(descriptor, SOL_SOCKET, SO_TYPE, &type, &len) == 0;
+}
+
 bool explored_open(void) {
     const char *where = getenv("KOMBAZILY_EXPLORER");
     uint64_t number;
     if (where == NULL || !read_number(where, 1023, &number)) return false;
     explorer = (int)number;
+    if (!is_socket(explorer)) refuse_explorer(where);
     tells_places = getenv("KOMBAZILY_EXPLORER_PLACES") != NULL;
     leaves_early = getenv("KOMBAZILY_EXPLORER_LEAVES") != NULL;
     if (getenv("KOMBAZILY_EXPLORER_COPIES") != NULL) be_mould();

@@ -144,7 +144,9 @@ static void note_kept(struct carried *own, uint64_t until) {
     if (until != 0) put_into(KEEPING, own);
 }
 
+/* Another program may have the port of a rank until that one has begun, and so would learn the job's number. */
 static void send_to(int rank, const struct engine_outgoing *out, size_t len) {
+    if (!is_there(rank)) return;
     note_sent(&known, rank, told);
     device_put((uint16_t)rank, out->count, out->each, len);
 }

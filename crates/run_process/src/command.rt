@@ -18,6 +18,7 @@ use process_commands::{ClosedStreams, open_closed_streams, text_of};
 use rank_environment::frame_in;
 use run_plan::{RunOptions, RunRequest, USUAL_LAUNCHER, Wanted, plan_words, request_of};
 use shown_words::Shown;
+use start_marks::MarkFile;
 use std::alloc::AllocError;
 use std::io::ErrorKind;
 use std::net::Net;
@@ -206,6 +207,14 @@ fn can_enter<R: Files + Eprint + AllocGlobal>(
     }
 }
 
+/// A file for the marks of the ranks of a plan, where all of them start on this machine; none where there can't be any.
+fn marks_of<R: AllocGlobal>(rt: &R, hosts: Option<&JobHosts>, plan: &Plan) -> Option<MarkFile> {
+    match hosts {
+        Some(hosts) if !hosts.are_here() => None,
+        _ => MarkFile::new(rt.alloc(), plan.size()).ok(),
+    }
+}
+
 /// Starts the ranks of a plan on their hosts, and follows them to their ends. Answers the status.
 fn follow_on_hosts<
     R: Net
@@ -237,6 +246,7 @@ fn follow_on_hosts<
             return Ok(FAILED);
         }
     };
+    let marks = marks_of(rt, hosts.as_ref(), plan);
     let told = env::var(rt, UNASKED).ok();
     let unasked = told.as_ref().map(|text| text.as_str());
     let is_of_slurm = hosts.as_ref().is_some_and(|hosts| hosts.is_of_slurm);
@@ -254,6 +264,7 @@ fn follow_on_hosts<
         itself: itself.as_str(),
         folder: folder.as_str(),
         unasked,
+        marks,
     };
     follow(rt, &setup, plan)
 }

@@ -64,6 +64,11 @@ impl JobHosts {
     pub fn first_rank(&self, place: usize) -> usize {
         self.firsts.get(place).copied().unwrap_or(0)
     }
+
+    /// Whether the programs of all ranks start on this machine without help.
+    pub fn are_here(&self) -> bool {
+        self.names.is_empty()
+    }
 }
 
 /// The first IPv4 address of a name, or the one that is written there.

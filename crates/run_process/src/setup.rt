@@ -9,6 +9,7 @@ use launch_decisions::Start;
 use launch_keeper::Word;
 use process_commands::{command_of, text_of};
 use run_plan::{RunOptions, launcher_words, rank_command, set_frame, set_hosts};
+use start_marks::{MarkFile, VARIABLE};
 use std::alloc::Global;
 use std::io;
 use std::io::ErrorKind;
@@ -53,6 +54,8 @@ pub struct Setup<'a> {
     pub folder: &'a str,
     /// What its environment says of [`UNASKED`], if it does.
     pub unasked: Option<&'a str>,
+    /// The marks of its ranks, where all are started on this machine without help.
+    pub marks: Option<MarkFile>,
 }
 
 /// What stands in a line behind the name of the other launcher, with which it begins.
@@ -140,6 +143,7 @@ impl<'a> Setup<'a> {
         let mut command = command_of(alloc, words.as_slice())?;
         command.arg(self.itself)?;
         command.arg(KEEPER)?;
+        let _removed = command.env_remove(VARIABLE)?;
         command.stdin(Stdio::piped());
         command.stderr(Stdio::piped());
         Ok(command)
@@ -149,6 +153,14 @@ impl<'a> Setup<'a> {
     pub fn command(&self, alloc: Global, rank: usize, start: &Start) -> io::Result<Command> {
         let mut command = self.own_command(alloc, start)?;
         self.set_folder(&mut command)?;
+        match self.marks {
+            Some(marks) => {
+                let _set = command.env(VARIABLE, marks.name(alloc)?.as_str())?;
+            }
+            None => {
+                let _removed = command.env_remove(VARIABLE)?;
+            }
+        }
         if is_script_program(command.get_program()) {
             let _set = command.env(STOPS_WITH_INPUT, "1")?;
             command.stdin(Stdio::piped());
