@@ -4,7 +4,7 @@ use crate::allocation::{SRUN, has_srun};
 use crate::claim::{Claim, claim_ports, random_number};
 use crate::front::{LAUNCH, LED, run_front};
 use crate::job::{FAILED, Job};
-use crate::job_hosts::hosts_by;
+use crate::job_hosts::{JobHosts, hosts_by};
 use crate::keeper::{KEEPER, run_keeper};
 use crate::own_words::{MOST_RANKS, REFUSED, own_words_of, tell_fault};
 use crate::setup::{Setup, UNASKED, tell_as_own};
