@@ -13,6 +13,7 @@ use run_words::{
 use shown_words::Shown;
 use std::alloc::AllocError;
 use std::env;
+use std::io::ErrorKind;
 use std::net::Net;
 use std::rt::{Env, Files};
 use std::thread::{Threads, available_parallelism};
@@ -79,11 +80,15 @@ fn tell_word<R: Eprint + AllocGlobal>(rt: &R, word: &Word, trouble: Trouble) {
     };
 }
 
-/// Prints a text that was asked for in place of a job; tells where it can't be written. Answers the status.
+/// Prints a text that was asked for in place of a job; tells where it can't be written. Whoever reads no further, as
+/// `mpirun --help | head`, has what it wants. Answers the status.
 fn show<R: Print + Eprint>(rt: &R, text: &str) -> u8 {
     match println!(rt; "{text}") {
         Ok(()) => 0,
         Err(error) => {
+            if error.kind() == ErrorKind::BrokenPipe {
+                return 0;
+            }
             let _ = eprintln!(rt; "mpirun: the output can't be written: {error}");
             FAILED
         }
