@@ -10,6 +10,7 @@ usage: ./run                            two ranks play ping-pong
        ./run --explore [-n N] SCRIPT    plays a script by the schedules that can matter: what may go wrong
        ./run --explore [-n N] FILE.c    compiles a C program and runs it again and again, by other choices each time
        ./run check -n N [..] PROGRAM    explores a C program that is compiled (tools/mpicc); ./run check --help has all options
+       ./run check -n N [..] FILE.c ..  the same of one that is compiled first, of one file or several
        ./run grade FOLDER EXERCISE      grades the C programs of a folder by an exercise of examples/lab; ./run grade --help
        ./run .. -                       what stands on the standard input, in place of a file
        ./run [-n N] FILE.c [WORD ..]    compiles a C program (tools/mpicc) and runs it with these words; without -n 2 ranks.
@@ -43,6 +44,7 @@ What `run` itself says stands on standard error behind 'run:'. The status is tha
 mpisim, mpidraw, mpiexplore or kombazily-check; 125 where `run` itself fails. Begin with docs/TUTORIAL.md.
 """
 
+import itertools
 import os
 import re
 import shlex
@@ -76,9 +78,9 @@ SHOWING = {
     "--svg": {"--datagrams": 0},
 }
 # The same of a C program that is explored.
-EXPLORING_C = {"--most": 1, "--results": 1, "--out": 1, "--html": 1, "--seconds": 1, "--random": 1, "--noes": 1, "--mix": 1, "--replay": 1,
-               "--debug": 1, "--patience": 1, "--stdin": 1, "--both": 0, "--only-buffered": 0, "--synchronous": 0, "--each": 0,
-               "--buffered": 1, "--fork": 0, "--go-on": 0, "--output": 0, "--quiet": 0, "--count": 0}
+EXPLORING_C = {"--most": 1, "--results": 1, "--out": 1, "--html": 1, "--format": 1, "--sarif": 1, "--junit": 1,
+               "--seconds": 1, "--random": 1, "--noes": 1, "--mix": 1, "--replay": 1, "--debug": 1, "--patience": 1,
+               "--stdin": 1, "--both": 0, "--only-buffered": 0, "--synchronous": 0, "--each": 0, "--buffered": 1, "--fork": 0, "--go-on": 0, "--output": 0, "--quiet": 0, "--count": 0}
 OPTIONS_OF_C = ("-n", "-np")
 # Milliseconds for which all ranks of a C program may wait for one another.
 PATIENCE_OF_C = 10000
@@ -360,7 +362,7 @@ def command_of_c(request):
         c_programs.build_with(say, ["mpirun"])
     mpirun = launchers.made(find(["mpirun"], request)["mpirun"])
     program = c_programs.compiled(say, request.file, request.is_proved)
-    os.environ["KOMBAZILY_STANDSTILL"] = "/proc/%d/fd/%d" % (os.getpid(), os.memfd_create("standstill", 0))
+    os.environ["KOMBAZILY_TOGETHER"] = "1"
     options = {"-patience": PATIENCE_OF_C, **request.options}
     told = [str(it) for option in options.items() for it in option]
     return [short(mpirun), "-prefix", *told, "-n", str(request.ranks or 2), short(program), *request.words]
@@ -377,11 +379,24 @@ def exploration_of_c(request):
     return [short(explorer.taken(say)), *request.shown, "-n", str(request.ranks or 2), short(program), *request.words]
 
 
+def with_program(words):
+    """The words of `check`, with a program where source files stand: they are compiled."""
+    at = recorded.place_of_program(words)
+    files = [Path(it) for it in itertools.takewhile(is_program, words[at:])]
+    if not files:
+        return words
+    for file in files:
+        if not file.is_file():
+            raise c_programs.Fault("%s can't be read" % file)
+    return [*words[:at], short(c_programs.compiled(say, files[0], False, files[1:])), *words[at + len(files):]]
+
+
 def check(words):
-    """Explores a C program that is compiled."""
+    """Explores a C program, which is compiled first where its source is named."""
     if words in (["-h"], ["--help"]) and not programs.RELEASED:
         return written(explorer.usage(), 0)
     try:
+        words = with_program(words)
         named = recorded.program_of(words)
         if named and Path(named).is_file() and not os.access(named, os.X_OK):
             raise recorded.Fault(recorded.START, "%s is no program: '%s --explore' takes a script or FILE.c" % (named, CALLED))

@@ -9,11 +9,14 @@ import re
 import select
 import shutil
 import signal
+import socket
 import subprocess
 import tempfile
 import termios
 import time
 from pathlib import Path
+
+import ports
 
 TESTS = Path(__file__).resolve().parents[2] / "bindings" / "c" / "tests"
 LONGEST = 60
@@ -92,6 +95,15 @@ DIFFERING.update({it: (19, "MPI_%s: request 0 of 1: %s" % (it, SHORT)) for it in
 DIFFERING["Request_free_receive"] = (15, "MPI_Request_free: a message of 40 bytes from rank 0 with tag 1 is longer than its receive of "
                                          "4 bytes")
 KEPT = ("crash", "kill", "abort", "error")
+# How rank 1 of three ends before MPI_Init, by the word, and with which words of mpirun: the status, and what is said.
+NEVER = "rank 0: rank 1 has ended before MPI_Init; all others wait, and nothing has moved for 1 s; the job ends"
+UNBEGUN = {
+    ("never",): (16, [NEVER, "mpirun: rank 0 ended with status 16; the other ranks are ended"]),
+    ("lacks",): (3, ["mpirun: rank 1 ended with status 3; the other ranks are ended"]),
+    ("lacks", "-keep-going"): (3, [NEVER, "mpirun: rank 0 ended with status 16", "mpirun: rank 1 ended with status 3",
+                                   "mpirun: rank 2 ended with status 16"]),
+    ("help",): (0, []),
+}
 # What rank 0 says behind a second without any movement, where no patience was told: on a slow machine before an interrupt, too.
 STANDS = "rank 0: all ranks wait, and nothing has moved for 1 s; Ctrl-C ends the job and tells what each waits for"
 # What stands behind it that a rank is gone.
@@ -129,6 +141,14 @@ def await_end_of_all(program):
     until = time.monotonic() + 10
     while names_of_files(program) and time.monotonic() < until:
         time.sleep(0.05)
+
+
+def is_running(process):
+    """Whether a process is there, and hasn't ended."""
+    try:
+        return (Path("/proc") / str(process) / "stat").read_text().rpartition(")")[2].split()[0] not in "ZX"
+    except OSError:
+        return False
 
 
 def is_below(process, other):
@@ -243,6 +263,70 @@ class Ends:
             is_so = (found[0], found[1], sorted(map(without_source, found[2]))) == (status, [], wanted)
             self.add("a collective whose members differ, by " + word, is_so, found)
 
+    def unbegun(self):
+        """A rank that ends before MPI_Init isn't waited for, unless it is all of them that do."""
+        for (word, *options), (status, said) in UNBEGUN.items():
+            found = self.run(3, "leaves", word, options=options)
+            is_so = (found[0], found[1], sorted(found[2])) == (status, [], sorted(said))
+            self.add("rank 1 ends before MPI_Init: %s" % " ".join((word, *options)), is_so, found)
+
+    def by_hand(self, program, *words, **variables):
+        """Two ranks that are started without a launcher, with a patience: their statuses."""
+        with ports.of_job(2) as port:
+            place = {"KOMBAZILY_SIZE": "2", "KOMBAZILY_INCARNATION": "0", "KOMBAZILY_JOB": "7", "KOMBAZILY_PORT": str(port),
+                     "KOMBAZILY_PATIENCE": "700", **variables}
+            ran = [subprocess.Popen([str(self.library.program(program)), *words], stdin=subprocess.DEVNULL, stdout=subprocess.DEVNULL,
+                                    stderr=subprocess.DEVNULL, env={**os.environ, **place, "KOMBAZILY_RANK": str(it)}) for it in range(2)]
+            return [it.wait(LONGEST) for it in ran]
+
+    def foreign(self):
+        """A file that no launcher made is left as it is."""
+        with tempfile.NamedTemporaryFile() as file:
+            file.write(b"hi")
+            file.flush()
+            found = self.by_hand("stuck", "receive", KOMBAZILY_STANDSTILL=file.name)
+            left = Path(file.name).read_bytes()
+        self.add("a file of the user is left as it is", (found, left) == ([4, 4], b"hi"), (found, left))
+        variables = {**os.environ, "KOMBAZILY_EXPLORER": "7"}
+        told = subprocess.run([str(self.library.program("stuck"))], stdin=subprocess.DEVNULL, capture_output=True, text=True, env=variables)
+        wanted = "MPI_Init: its place is told wrongly: KOMBAZILY_EXPLORER=7 is no socket of an explorer\n"
+        self.add("an explorer that isn't there is told", (told.returncode, told.stderr) == (125, wanted), (told.returncode, told.stderr))
+
+    def doors(self):
+        """Whoever has the port of a rank that hasn't begun hears nothing, and so doesn't learn the job's number."""
+        for options in ((), ("-patience", "20000")):
+            with ports.of_job(2) as port, socket.socket(socket.AF_INET, socket.SOCK_DGRAM) as other:
+                other.bind(("127.0.0.1", port + 1))
+                words = self.words(2, "begins", "later", options=("-baseport", port, *options))
+                with subprocess.Popen(words, stdin=subprocess.DEVNULL, stdout=subprocess.PIPE, stderr=subprocess.STDOUT, text=True) as ran:
+                    heard = select.select([other], [], [], 2.5)[0]
+                    other.close()
+                    found = (ran.communicate(timeout=LONGEST)[0], ran.returncode)
+            is_so = not heard and found == ("it came soon\n", 0)
+            self.add("a port hears nothing before its rank has it%s" % "".join(" " + it for it in options), is_so, (heard, found))
+
+    def keeper(self):
+        """A rank doesn't outlive the keeper that started it, here a shell, which is killed once the rank has begun or before."""
+        for rank, (program, *words) in enumerate((("stuck", "receive"), ("begins",))):
+            with ports.of_job(2) as port:
+                place = {"KOMBAZILY_SIZE": "2", "KOMBAZILY_INCARNATION": "0", "KOMBAZILY_JOB": "7", "KOMBAZILY_PORT": str(port),
+                         "KOMBAZILY_RANK": str(rank)}
+                starts = ["sh", "-c", 'KOMBAZILY_KEEPER=$$ "$@" & echo $!; wait', "sh", str(self.library.program(program)), *words]
+                pipes = {"stdin": subprocess.DEVNULL, "stdout": subprocess.PIPE, "text": True}
+                with subprocess.Popen(starts, env={**os.environ, **place}, **pipes) as ran:
+                    own = int(ran.stdout.readline())
+                    begun = ran.stdout.readline() if rank == 0 else "rank 1 sleeps"
+                    ran.kill()
+                    ran.stdout.close()
+                    ran.wait()
+                    until = time.monotonic() + 5
+                    while is_running(own) and time.monotonic() < until:
+                        time.sleep(0.05)
+                    lives = is_running(own)
+                    if lives:
+                        os.kill(own, signal.SIGKILL)
+            self.add("a rank doesn't outlive its keeper: %s" % program, begun and not lives, (begun, lives))
+
     def interrupted(self, word, options=()):
         """What the ranks of a program say that is interrupted once they wait."""
         with subprocess.Popen(self.words(2, "stuck", word, options=options), stdin=subprocess.DEVNULL, stdout=subprocess.PIPE,
@@ -300,15 +384,13 @@ class Ends:
             self.add("misused buffers with KOMBAZILY_CHECK=" + " ".join((wanted, *words)), is_so, (status, errors))
 
     def standstill(self):
-        """With a file in which ranks say that they wait: rank 0 tells it once, and they give up; while one computes nobody does."""
-        with tempfile.NamedTemporaryFile() as file:
-            status, _, errors = self.run(2, "stuck", "receive", options=("-patience", "1500"), KOMBAZILY_STANDSTILL=file.name)
+        """With a patience of all: rank 0 tells once that all wait, and they give up; while one computes nobody does."""
+        status, _, errors = self.run(2, "stuck", "receive", options=("-patience", "1500"), KOMBAZILY_TOGETHER="1")
         told = "rank 0: all ranks wait, and nothing has moved for 1 s: after 1500 ms they give up (-patience MS)"
         waits = sorted(without_source(it).split(";")[0] for it in errors if is_wait(it))
         is_so = status == 4 and errors.count(told) == 1 and waits == wanted_lines(STUCK["receive"])
         self.add("a standstill", is_so, (status, errors))
-        with tempfile.NamedTemporaryFile() as file:
-            found = self.run(3, "speaks", "lines", options=("-patience", "700"), KOMBAZILY_STANDSTILL=file.name)
+        found = self.run(3, "speaks", "lines", options=("-patience", "700"), KOMBAZILY_TOGETHER="1")
         self.add("no standstill while a rank computes", found == (0, ["one 1", "two", "three"], []), found)
 
     def hang(self, word, seconds, starter=()):
@@ -324,12 +406,12 @@ class Ends:
         return told.decode().splitlines(), names, rest.decode().splitlines()
 
     def hangs(self):
-        """Where no patience was told rank 0 says once that all wait; the file by which it knows has no name any more."""
+        """Where no patience was told rank 0 says once that all wait; the file by which it knows has no name."""
         told, names, rest = self.hang("receive", 20)
         waits = sorted(without_source(it) for it in rest if is_wait(it))
         is_so = told == [STANDS] and STANDS not in rest and waits == wanted_lines(STUCK["receive"])
         self.add("a job that hangs says so", is_so, (told, rest))
-        self.add("a standstill leaves no file", len(names) == 2 and all(it.endswith(" (deleted)") for it in names), names)
+        self.add("the file of a standstill has no name", len(names) == 2 and all(it.endswith(" (deleted)") for it in names), names)
         told, names, _ = self.hang("receive", 20, ("sh", "-c", '[ $KOMBAZILY_RANK != 0 ] || sleep 1; exec "$@"', "sh"))
         is_so = told == [STANDS] and len(names) == 2 and all(it.endswith(" (deleted)") for it in names)
         self.add("nor where rank 0 comes last", is_so, (told, names))
@@ -344,9 +426,8 @@ class Ends:
         """The first message comes at once to a rank that begins late, though its sender is in no call behind it."""
         found = self.run(2, "begins")
         self.add("the first message comes to a rank that begins late", found == (0, ["it came soon"], []), found)
-        with tempfile.NamedTemporaryFile() as file:
-            found = self.run(2, "begins", options=("-patience", "10000"), KOMBAZILY_STANDSTILL=file.name)
-        self.add("the same with a patience for all", found == (0, ["it came soon"], []), found)
+        found = self.run(2, "begins", options=("-patience", "10000"))
+        self.add("the same with a patience", found == (0, ["it came soon"], []), found)
 
     def synchronous(self):
         """With every send synchronous two that send first wait for one another, which else go on."""
@@ -419,6 +500,6 @@ def tells(library, mpirun, names, longest):
 def all_rows(mode, library, mpirun, verdict, side_by_side):
     it = Ends(mode, library, mpirun, verdict)
     rows = [it.lines, it.beginning, it.standstill, it.hangs, it.prompts, it.kept, it.leaving, it.differing, it.patience, it.left,
-            it.misused, it.synchronous, it.bounded, it.too_early, it.terminal, it.source]
+            it.misused, it.synchronous, it.bounded, it.too_early, it.terminal, it.source, it.unbegun, it.foreign, it.doors, it.keeper]
     side_by_side(lambda row: row(), rows)
     side_by_side(it.stuck, list(STUCK))

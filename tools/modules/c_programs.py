@@ -190,9 +190,10 @@ def run_make(folder, out, what, *words):
         raise Fault("%s wasn't made:\n%s" % (what, made.stdout.decode(errors="replace")))
 
 
-def compiled(say, source, wants_proved=False):
-    """Compiles a program in C or Fortran, and returns where it stands."""
-    name = COMPILERS[source.suffix]
+def compiled(say, source, wants_proved=False, further=()):
+    """Compiles a program in C or Fortran, of one file or several, and returns where it stands: it has the name of the first one."""
+    sources = [source, *further]
+    name = max((COMPILERS[it.suffix] for it in sources), key=lambda it: it == "mpifort")
     if programs.RELEASED:
         compiler, folder = programs.RELEASED / name, Path(os.environ.get("XDG_CACHE_HOME") or Path.home() / ".cache") / "kombazily"
     else:
@@ -200,7 +201,7 @@ def compiled(say, source, wants_proved=False):
         compiler, folder = TOP / "tools" / name, OUT / "programs"
     program = folder / source.stem
     folder.mkdir(parents=True, exist_ok=True)
-    made = subprocess.run([compiler, "-O2", "-g", "-Wall", source, "-o", program, "-lm"], stdout=subprocess.DEVNULL)
+    made = subprocess.run([compiler, "-O2", "-g", "-Wall", *sources, "-o", program, "-lm"], stdout=subprocess.DEVNULL)
     if made.returncode != 0:
-        raise Fault("%s wasn't compiled" % source)
+        raise Fault("%s wasn't compiled" % ", ".join(map(str, sources)))
     return program

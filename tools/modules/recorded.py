@@ -27,7 +27,7 @@ PLAYER = "kombazily-play"
 MATCH, SEE = 1, 2
 OPEN, RUN_ENDED = "open", "the run ended there"
 NOT_SURE = r"  (rank \d+ (waits|asks for ever|is in MPI_Finalize)|what was recorded of rank )"
-WORTH_KNOWING = r".*(ended with a communicator never freed|ended with \d+ (types?|persistent requests?) never freed|is left to chance, and not tried both ways)"
+WORTH_KNOWING = r".*(ended with a communicator never freed|ended with \d+ (types?|persistent requests?) never freed|is not tried both ways)"
 WITH_WAITS = "with sends and collectives that wait"
 # What the explorer says where some sends were longer than is buffered.
 HINT = "sends of more than "
@@ -207,15 +207,21 @@ class Words:
         return [it for it in self.PASSES if it in self.flags]
 
 
-OWN_TEXTS = {"--stdin", "--html", "--replay", "--out"}
+OWN_TEXTS = {"--stdin", "--html", "--replay", "--out", "--format", "--sarif", "--junit"}
 TAKE_ONE = OWN_TEXTS | {"--debug", "--random", "--noes", "--mix"} | set(Words.NUMBERS) | set(Words.TEXTS)
+
+
+def place_of_program(words):
+    """The place of the program among the words of `check`, or how many there are."""
+    at = 0
+    while at < len(words) and words[at].startswith("-"):
+        at += 2 if words[at] in TAKE_ONE else 1
+    return min(at, len(words))
 
 
 def program_of(words):
     """The program among the words of `check`, or None."""
-    rest = list(words)
-    while rest and rest[0].startswith("-"):
-        rest = rest[2 if rest[0] in TAKE_ONE else 1:]
+    rest = words[place_of_program(words):]
     if not rest:
         return None
     return rest[0] if "/" in rest[0] or os.access(rest[0], os.X_OK) else shutil.which(rest[0]) or rest[0]

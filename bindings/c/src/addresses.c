@@ -2,7 +2,7 @@
 #include "addresses.h"
 
 /* Where a datagram has its sender's rank, in two bytes, and its job's number, in eight; both big-endian. */
-enum { NUMBERS = 4, LARGEST = 255, SENDER = 6, JOB = 16, JOB_BYTES = 8 };
+enum { NUMBERS = 4, LARGEST = 255, KIND = 5, ACKNOWLEDGEMENT = 2, SENDER = 6, JOB = 16, JOB_BYTES = 8 };
 
 /* Reads a number from 0 to 255 without leading zeros: what stands behind it, or NULL. */
 static const char *read_part(const char *text, uint32_t *part) {
@@ -60,6 +60,10 @@ bool is_of_some(const struct addresses *job, uint32_t address, uint16_t port) {
     for (int rank = 0; rank < job->size; rank++)
         if (is_at(job, rank, address, port)) return true;
     return false;
+}
+
+bool is_acknowledgement(const unsigned char *datagram, size_t len) {
+    return len > KIND && datagram[KIND] == ACKNOWLEDGEMENT;
 }
 
 int sender_of(const unsigned char *datagram, size_t len) {

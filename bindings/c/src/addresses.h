@@ -34,6 +34,9 @@ bool is_at(const struct addresses *job, int rank, uint32_t address, uint16_t por
 /* Whether some rank has them. */
 bool is_of_some(const struct addresses *job, uint32_t address, uint16_t port);
 
+/* Whether a datagram is an acknowledgement (docs/FORMAT.md). */
+bool is_acknowledgement(const unsigned char *datagram, size_t len);
+
 /* The rank that a datagram names as its sender (docs/FORMAT.md), or -1 where it is too short for that. */
 int sender_of(const unsigned char *datagram, size_t len);
 

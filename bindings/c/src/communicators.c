@@ -204,6 +204,8 @@ static uint32_t most_in_engine(const struct communicator *own) {
     return own->depth < sizeof most / sizeof *most ? most[own->depth] : 0;
 }
 
+static const char most_were_made[] = "4,094 communicators were made, or no number is left for another one";
+
 int make_communicator(MPI_Comm comm, const char *call, struct engine_call *entry, MPI_Comm *newcomm) {
     struct communicator *own = communicator_of(comm);
     MPI_Comm handle;
@@ -226,7 +228,8 @@ int make_communicator(MPI_Comm comm, const char *call, struct engine_call *entry
     if (!is_none && number == 0) *newcomm = handle;
     else drop_communicator(handle);
     if (number == 0) return MPI_SUCCESS;
-    return raise_limited(comm, call, number, "4,094 communicators were made, or no number is left for another one");
+    if (number == NUMBER_LIMIT) explored_refuse(call, most_were_made);
+    return raise_limited(comm, call, number, most_were_made);
 }
 
 int copy_communicator(MPI_Comm comm, const char *call, MPI_Comm *newcomm) {
@@ -274,6 +277,7 @@ int MPI_Comm_free(MPI_Comm *comm) {
     if (own->place <= ENGINE_SELF) return raise_on(*comm, call, MPI_ERR_COMM, "%s can't be freed", own->name);
     class = delete_values(*comm, call);
     if (class != MPI_SUCCESS) return class;
+    explored_freed(own->place);
     drop_communicator(*comm);
     *comm = MPI_COMM_NULL;
     return MPI_SUCCESS;

@@ -10,6 +10,7 @@
 #include <netinet/udp.h>
 #include <poll.h>
 #include <sched.h>
+#include <stdio.h>
 #include <string.h>
 #include <sys/eventfd.h>
 #include <sys/resource.h>
@@ -266,6 +267,21 @@ static bool hand_on(device_hearer *hearer, int packet) {
 }
 
 bool device_is_at(int rank, uint32_t address, uint16_t port) { return is_at(addresses, rank, address, port); }
+
+const struct addresses *device_ranks(void) { return addresses; }
+
+bool device_is_held(int rank) {
+    char line[512];
+    unsigned address, port, user;
+    bool is_held = false;
+    const struct sockaddr_in wanted = address_of(rank);
+    FILE *list = fopen("/proc/net/udp", "r");
+    while (list != NULL && !is_held && fgets(line, sizeof line, list) != NULL)
+        is_held = sscanf(line, " %*d: %x:%x %*x:%*x %*x %*x:%*x %*x:%*x %*x %u", &address, &port, &user) == 3 &&
+                  address == wanted.sin_addr.s_addr && port == ntohs(wanted.sin_port) && user == geteuid();
+    if (list != NULL) fclose(list);
+    return is_held;
+}
 
 bool device_knows(uint32_t address, uint16_t port) { return is_of_some(addresses, address, port); }
 

@@ -43,6 +43,10 @@ typedef bool device_hearer(uint32_t address, uint16_t port, const unsigned char 
 bool device_hear(device_hearer *hearer);
 /* Whether there is such a rank, and it has this address and port. */
 bool device_is_at(int rank, uint32_t address, uint16_t port);
+/* Where the ranks are to which it is open. */
+const struct addresses *device_ranks(void);
+/* Whether a socket of this user has the port of a rank now, as far as the system tells. */
+bool device_is_held(int rank);
 /* Whether some rank has them. */
 bool device_knows(uint32_t address, uint16_t port);
 /* Waits until something comes, or so many milliseconds. */

@@ -43,6 +43,7 @@ struct engine_place {
     uint16_t rank;        /* in `world`, below the size */
     uint16_t size;        /* 1 to 1,024 */
     uint16_t incarnation; /* 0 at first, one more with each restart of this rank */
+    bool is_near; /* all ranks are on one machine: what isn't acknowledged there is late, and hardly ever lost */
     uint32_t frame_limit; /* the most bytes of data of a frame: 1,024 to 61,440, a multiple of 8; one for all ranks */
     uint32_t room;        /* how many bytes that came the socket of a rank keeps: what is on its way to each is bounded
                              by that, and has a congestion window; 0: neither */
@@ -223,12 +224,38 @@ size_t kombazily_take(struct engine_rank *rank, uint64_t first, uint8_t *into, s
  * (it was for a former incarnation of this rank) has a RESET go out. */
 uint32_t kombazily_datagram(struct engine_rank *rank, const uint8_t *bytes, size_t length);
 
-/* The clock says `now`, in nanoseconds; its start is C's choice. The engine is told whole milliseconds, each once;
- * round trips are measured by it. So C tells the time before a call that may send something and before datagrams that
- * came, and each few milliseconds as long as the rank isn't idle. What isn't acknowledged within the time of RFC 6298
- * goes out again (20 ms to a second, by the round trips to its rank), and an acknowledgement that was kept back for 1
- * ms goes. 0, or 41 (an earlier call said more), 14, 81. */
-uint32_t kombazily_tick(struct engine_rank *rank, uint64_t now);
+/* The clock says `now`, in nanoseconds; its start is C's choice. The engine is told whole milliseconds; round trips are
+ * measured by it. So C tells the time before a call that may send something and before datagrams that came, and each
+ * few milliseconds as long as the rank isn't idle. Where frames may go again, what isn't acknowledged within the time
+ * of RFC 6298 goes out again (20 ms to a second, by the round trips to its rank); else nothing does. An acknowledgement
+ * that was kept back for 1 ms goes. 0, or 41 (an earlier call said more), 14, 81. */
+uint32_t kombazily_tick(struct engine_rank *rank, uint64_t now, bool may_repeat);
+
+/* How long frames take to a rank and back, in microseconds: the smoothed time and its variation (RFC 6298). At first
+ * both are 0. */
+struct engine_estimate {
+    uint64_t smoothed, variation;
+};
+
+/* Several engines may have to do with one process: what one learned of it the others may learn. Frames to the rank
+ * `peer`, or to all, take as long as this says; and puts what was learned of it, where something was. */
+void kombazily_learn(struct engine_rank *rank, uint16_t peer, const struct engine_estimate *estimate);
+void kombazily_learn_all(struct engine_rank *rank, const struct engine_estimate *estimate);
+void kombazily_learned(struct engine_rank *rank, uint16_t peer, struct engine_estimate *estimate);
+
+/* The same of ranks on one machine, which are late where its processors are busy, and so all of them are: what an
+ * engine learned takes the place of what was known at once where it is higher, else 10 ms after the last time. At first
+ * those that share a processor are thought to have their turns behind one another. Times are in nanoseconds. */
+struct engine_lateness {
+    struct engine_estimate estimate;
+    uint64_t since;
+};
+void kombazily_begin_lateness(uint32_t ranks, uint32_t processors, uint64_t now, struct engine_lateness *late);
+void kombazily_note_lateness(struct engine_lateness *late, const struct engine_estimate *learned, uint64_t now);
+
+/* How many of so many engines of a process are told that frames may go again, once so many milliseconds have passed
+ * since some were told last: all of up to 64 each millisecond, and all of any number within 20. */
+uint64_t kombazily_told_at_once(uint64_t count, uint64_t passed);
 
 /* Hands out what is to be sent next: at most `most` datagrams (1 where the kernel doesn't cut them apart), as many as
  * fit. How many bytes it put; 0 where nothing is to go, or where `length` is too short for the next datagram, which

@@ -27,6 +27,7 @@ FIELD(engine_place, message_limit, 8, 8);
 FIELD(engine_place, rank, 16, 2);
 FIELD(engine_place, size, 18, 2);
 FIELD(engine_place, incarnation, 20, 2);
+FIELD(engine_place, is_near, 22, 1);
 FIELD(engine_place, frame_limit, 24, 4);
 FIELD(engine_place, room, 28, 4);
 
@@ -114,6 +115,14 @@ FIELD(byte_run, at, 0, 8);
 FIELD(byte_run, length, 8, 8);
 FIELD(byte_run, count, 16, 8);
 FIELD(byte_run, stride, 24, 8);
+
+RECORD(engine_estimate, 16, 8);
+FIELD(engine_estimate, smoothed, 0, 8);
+FIELD(engine_estimate, variation, 8, 8);
+
+RECORD(engine_lateness, 24, 8);
+FIELD(engine_lateness, estimate, 0, 16);
+FIELD(engine_lateness, since, 16, 8);
 
 RECORD(type_numbers, 80, 8);
 FIELD(type_numbers, size, 0, 8);
@@ -279,7 +288,13 @@ void kombazily_free(struct engine_rank *);
 void kombazily_call(struct engine_rank *, const struct engine_call *, const uint8_t *, size_t, struct engine_answer *);
 size_t kombazily_take(struct engine_rank *, uint64_t, uint8_t *, size_t);
 uint32_t kombazily_datagram(struct engine_rank *, const uint8_t *, size_t);
-uint32_t kombazily_tick(struct engine_rank *, uint64_t);
+uint32_t kombazily_tick(struct engine_rank *, uint64_t, bool);
+void kombazily_learn(struct engine_rank *, uint16_t, const struct engine_estimate *);
+void kombazily_learn_all(struct engine_rank *, const struct engine_estimate *);
+void kombazily_learned(struct engine_rank *, uint16_t, struct engine_estimate *);
+void kombazily_begin_lateness(uint32_t, uint32_t, uint64_t, struct engine_lateness *);
+void kombazily_note_lateness(struct engine_lateness *, const struct engine_estimate *, uint64_t);
+uint64_t kombazily_told_at_once(uint64_t, uint64_t);
 size_t kombazily_next(struct engine_rank *, uint32_t, bool, struct engine_outgoing *, uint8_t *, size_t);
 bool kombazily_is_idle(struct engine_rank *);
 uint32_t kombazily_grid_places(const uint32_t *, size_t, uint32_t *);

@@ -40,7 +40,6 @@ static thrd_t main_thread;
 _Noreturn void end_job(int status) {
     int code = status & 255 ? status & 255 : 1;
     fflush(NULL);
-    standstill_drop();
     pmi_abort(code);
     _exit(code);
 }
@@ -102,9 +101,10 @@ static int begin(const char *call, int *argc, char ***argv, int required) {
     find_place(argc, argv, &addresses);
     const bool has_explorer = explored_open();
     print_by_lines();
+    follow_keeper();
     if (process.size > 1) watch_end();
     watch_signals();
-    standstill_open(!has_explorer && are_together(&addresses), addresses.first_port);
+    standstill_open(!has_explorer && are_together(&addresses));
     process.sends_wait = is_wanted("KOMBAZILY_SYNCHRONOUS");
     process.checks = is_wanted("KOMBAZILY_CHECK");
     watches_open();

@@ -128,6 +128,7 @@ void explored_leave(uint32_t plan) {
 static void tell(struct explorer_ask *ask, const struct explorer_entry *entries, const void *bytes) {
     uint64_t frames[EXPLORER_FRAMES];
     const char *name = process.call;
+    ask->calls = (uint32_t)process.calls;
     if (kombazily_played_place != NULL) ask->frame_count = kombazily_played_place(frames, &name);
     else ask->frame_count = explored_frames(frames);
     strncpy(ask->name, name, sizeof ask->name - 1);
@@ -157,11 +158,22 @@ static void take_bytes(size_t length) {
     get(data.own, length);
 }
 
+/* Takes an answer in. Where the explorer wants to know where the rank stands, it is told that before. */
+static void take_answer(void) {
+    for (;;) {
+        get(&told, sizeof told);
+        if (!told.wants_place) return;
+        explored_want_places();
+        tell(&(struct explorer_ask){.kind = ASK_PLACE}, NULL, NULL);
+        flush_out();
+    }
+}
+
 const struct explorer_answer *explored_ask(struct explorer_ask *ask, const struct explorer_entry *entries,
                                            const void *bytes, const uint32_t **found) {
     tell(ask, entries, bytes);
     flush_out();
-    get(&told, sizeof told);
+    take_answer();
     if (told.count > 0) take_places(told.count);
     if (told.answer.bytes > 0) {
         take_bytes(told.answer.bytes);
@@ -205,6 +217,10 @@ size_t explored_received(const struct explorer_entry *sends, size_t count) {
     return (size_t)explored_ask(&ask, sends, NULL, NULL)->answer.fact;
 }
 
+static bool is_next_ready;
+
+void explored_note_ready(bool is_ready) { is_next_ready = is_ready; }
+
 void explored_call(const struct engine_call *call, uint32_t plan, const void *bytes, size_t len,
                    struct engine_answer *answer) {
     struct explorer_ask ask = {.kind = ASK_CALL, .plan = plan, .call = *call, .length = len};
@@ -212,6 +228,8 @@ void explored_call(const struct engine_call *call, uint32_t plan, const void *by
     if (call->kind == ENGINE_ISEND || call->kind == ENGINE_ISSEND || call->kind == ENGINE_IRECV || is_later_copy) {
         ask.kind = ASK_POST;
         ask.call.request = new_request();
+        ask.is_ready = is_next_ready && plan == 0 && call->kind != ENGINE_IRECV;
+        is_next_ready = false;
         tell(&ask, NULL, bytes);
         *answer = (struct engine_answer){.kind = ENGINE_STARTED, .request = ask.call.request};
         return;
@@ -241,6 +259,22 @@ bool explored_error(enum explorer_ask_kind kind, const char *call, int class, co
     process.call = call;
     struct explorer_ask ask = {.kind = kind, .call.order = class, .length = strlen(text)};
     return explored_ask(&ask, NULL, text, NULL)->answer.fact == 1;
+}
+
+void explored_made(enum made_kind kind, uint32_t number) {
+    struct explorer_ask ask = {.kind = ASK_MADE, .call.order = (int32_t)kind, .call.peer = (int32_t)number};
+    if (is_explored && explored_socket() >= 0) tell(&ask, NULL, NULL);
+}
+
+void explored_freed(uint32_t communicator) {
+    struct explorer_ask ask = {.kind = ASK_FREED, .call.communicator = communicator};
+    if (is_explored && explored_socket() >= 0) tell(&ask, NULL, NULL);
+}
+
+void explored_refuse(const char *call, const char *cause) {
+    if (!is_explored) return;
+    (void)explored_error(ASK_UNSUPPORTED, call, 0, cause);
+    explored_lose();
 }
 
 void explored_abort(int code) {

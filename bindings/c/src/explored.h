@@ -25,14 +25,21 @@ void explored_start(void);
 _Noreturn void explored_lose(void);
 /* The descriptor of the explorer's socket. */
 int explored_socket(void);
-/* Whether the explorer wants to know where calls stand; and where the last one does, innermost first: how many. */
+/* Where the last call stands, innermost first, where the explorer wants to know it: how many. From now on it does. */
 uint32_t explored_frames(uint64_t frames[EXPLORER_FRAMES]);
+void explored_want_places(void);
 /* A program that plays calls of another one (bindings/record/player) has this function: where the call stands in that
  * program, and its name. */
 extern uint32_t kombazily_played_place(uint64_t frames[EXPLORER_FRAMES], const char **name) __attribute__((weak));
 
 /* ---- explored.c ---- */
 
+/* Whether the next send that begins is a ready one. */
+void explored_note_ready(bool is_ready);
+/* The program has made something of this number, which is another one's once it is freed; it has freed a communicator.
+ * Nothing happens without an explorer. */
+void explored_made(enum made_kind kind, uint32_t number);
+void explored_freed(uint32_t communicator);
 /* As kombazily_call and kombazily_take. A call about a collective's send or receive names the collective by `plan`. */
 void explored_call(const struct engine_call *call, uint32_t plan, const void *data, size_t len,
                    struct engine_answer *answer);
@@ -59,6 +66,8 @@ void explored_pause(void);
 void explored_probe(const struct engine_call *probe, bool waits, struct engine_answer *answer);
 /* Tells of an error that ends the program, or that a call returned: whether the program is to go on. */
 bool explored_error(enum explorer_ask_kind kind, const char *call, int class, const char *text);
+/* Tells of a call that can't be explored, by which the run ends; nothing happens without an explorer. */
+void explored_refuse(const char *call, const char *cause);
 void explored_abort(int code);
 /* Where the call of now stands; and tells how the buffer of an operation is misused that was begun there. */
 struct begun {
@@ -89,8 +98,8 @@ int explored_some(bool waits, int count, const MPI_Request list[]);
 struct explorer_entry explored_entry(struct request *request);
 /* The requests that have handles, as entries, which the caller frees. */
 struct explorer_entry *explored_left(uint32_t *count);
-/* Persistent requests that aren't active and weren't freed. */
-uint32_t count_persistent(void);
+/* The numbers of persistent requests that aren't active and weren't freed: how many; up to `room` are put there. */
+uint32_t persistent_left(uint32_t *numbers, uint32_t room);
 /* Whether the program is told of the end of this one now, behind such a call. */
 bool is_told(struct request *request);
 #endif

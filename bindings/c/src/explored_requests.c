@@ -124,11 +124,13 @@ int explored_some(bool waits, int count, const MPI_Request list[]) {
 
 /* ---- what is left ---- */
 
-uint32_t count_persistent(void) {
+uint32_t persistent_left(uint32_t *numbers, uint32_t room) {
     uint32_t count = 0;
     for (int place = 0; place < request_places(); place++) {
         const struct request *it = request_at(place);
-        count += it != NULL && it->is_inactive;
+        if (it == NULL || !it->is_inactive) continue;
+        if (count < room) numbers[count] = (uint32_t)place;
+        count++;
     }
     return count;
 }

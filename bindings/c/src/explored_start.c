@@ -45,6 +45,8 @@ static int note_program(struct dl_phdr_info *info, size_t size, void *nothing) {
     return 1; /* the program itself comes first */
 }
 
+void explored_want_places(void) { tells_places = true; }
+
 uint32_t explored_frames(uint64_t frames[EXPLORER_FRAMES]) {
     void *all[EXPLORER_FRAMES];
     uint32_t count = 0;
@@ -119,11 +121,25 @@ static void be_mould(void) {
 
 /* ---- the beginning and the end ---- */
 
+/* Ends a process that no explorer has started. */
+static _Noreturn void refuse_explorer(const char *where) {
+    fflush(stdout);
+    fprintf(stderr, "MPI_Init: its place is told wrongly: KOMBAZILY_EXPLORER=%s is no socket of an explorer\n", where);
+    explored_lose();
+}
+
+static bool is_socket(int descriptor) {
+    int type;
+    socklen_t len = sizeof type;
+    return getsockopt(descriptor, SOL_SOCKET, SO_TYPE, &type, &len) == 0;
+}
+
 bool explored_open(void) {
     const char *where = getenv("KOMBAZILY_EXPLORER");
     uint64_t number;
     if (where == NULL || !read_number(where, 1023, &number)) return false;
     explorer = (int)number;
+    if (!is_socket(explorer)) refuse_explorer(where);
     tells_places = getenv("KOMBAZILY_EXPLORER_PLACES") != NULL;
     leaves_early = getenv("KOMBAZILY_EXPLORER_LEAVES") != NULL;
     if (getenv("KOMBAZILY_EXPLORER_COPIES") != NULL) be_mould();
@@ -132,25 +148,37 @@ bool explored_open(void) {
     return true;
 }
 
+/* So many of a kind are told of what is left. */
+enum { MOST_LEFT = 64 };
+
 /* What is told of what is left, beside requests. */
 static struct {
     struct explorer_left left;
-    uint32_t communicators[8];
+    uint32_t numbers[3 * MOST_LEFT];
 } rest;
-static uint32_t communicator_count;
 
 static void note_communicator(const struct communicator *it) {
-    const uint32_t most = sizeof rest.communicators / sizeof *rest.communicators;
-    if (it->place > ENGINE_SELF && it->place != ENGINE_NO_COMMUNICATOR && communicator_count < most)
-        rest.communicators[communicator_count++] = it->place;
+    if (it->place > ENGINE_SELF && it->place != ENGINE_NO_COMMUNICATOR && rest.left.communicators < MOST_LEFT)
+        rest.numbers[rest.left.communicators++] = it->place;
+}
+
+/* So many numbers stand there. */
+static uint32_t note_left(void) {
+    rest.left = (struct explorer_left){.messages = count_messages()};
+    each_communicator(note_communicator);
+    uint32_t count = rest.left.communicators;
+    const uint32_t types = types_left(rest.numbers + count, MOST_LEFT);
+    rest.left.types = types < MOST_LEFT ? types : MOST_LEFT;
+    count += rest.left.types;
+    const uint32_t persistent = persistent_left(rest.numbers + count, MOST_LEFT);
+    rest.left.persistent = persistent < MOST_LEFT ? persistent : MOST_LEFT;
+    return count + rest.left.persistent;
 }
 
 void explored_finalize(void) {
     struct explorer_ask ask = {.kind = ASK_FINALIZE};
     struct explorer_entry *requests = explored_left(&ask.count);
-    rest.left = (struct explorer_left){count_types(), count_messages(), count_persistent()};
-    each_communicator(note_communicator);
-    ask.length = sizeof rest.left + communicator_count * sizeof *rest.communicators;
+    ask.length = sizeof rest.left + note_left() * sizeof *rest.numbers;
     (void)explored_ask(&ask, requests, &rest, NULL);
     free(requests);
     close(explorer);

@@ -11,7 +11,8 @@ enum { EXPLORER_FRAMES = 24, EXPLORER_NAME = 32 };
 enum explorer_ask_kind {
     ASK_CALL = 1, /* call, bytes: the engine's call. A collective, or the receive of a message that was taken out, is
                      answered once it is at its end; a LOOK says whether a request is, and what waits may go on by it */
-    ASK_POST,     /* call, bytes: a send or a receive begins, as call.request. It is answered by nothing */
+    ASK_POST,     /* call, bytes: a send or a receive begins, as call.request; is_ready: a ready send (MPI 3.1, 3.4). It
+                     is answered by nothing */
     ASK_WAIT,     /* call.request: answered once it is at its end, as its test is */
     ASK_WAITALL,  /* entries: answered once all are at their ends, by their answers and their data in a row */
     ASK_WAITANY,  /* entries: fact 1 and the place of one, once one is at its end */
@@ -32,8 +33,13 @@ enum explorer_ask_kind {
                   an explorer_block. Answered by nothing */
     ASK_KEPT,  /* entries: sends of MPI_Bsend, in their order. The fact: of so many of the first ones this rank knows
                   that they were received: no run may have them in the buffer still */
+    ASK_PLACE, /* told where a rank was asked for its place, which waits on: nothing but frames stands behind it */
+    ASK_MADE,  /* call.order: a made_kind, call.peer: its number among those that live. Answered by nothing */
+    ASK_FREED, /* call.communicator: freed by the program. Answered by nothing */
+    ASK_UNSUPPORTED, /* bytes: the error of a call that can't be explored, whether it would be returned or not */
     ASK_FINALIZE, /* entries: the requests that are left; bytes: an explorer_left, then the places of the communicators
-                     that are left. Answered once all ranks are there */
+                     that are left, the numbers of the types, and those of the persistent requests. Answered once all
+                     ranks are there */
     ASK_MISUSE    /* bytes: an explorer_begun. The buffer of that operation is misused, as call.order says, which is a
                      misuse: seen in the call that asks. It is no call by itself */
 };
@@ -68,7 +74,7 @@ struct explorer_entry {
 enum { EXPLORER_AGAIN = 2 };
 
 /* These records as a program and its explorer know them. */
-enum { EXPLORER_VERSION = 4 };
+enum { EXPLORER_VERSION = 5 };
 
 /* A block of a collective: its bytes, and the type of the engine that they are of. */
 struct explorer_block {
@@ -77,11 +83,15 @@ struct explorer_block {
 };
 enum { EXPLORER_NO_ROOT = -1, EXPLORER_OWN_OPERATION = 1000 };
 
-/* What a program leaves over at MPI_Finalize, beside requests and communicators. */
+/* What has a place where it was made, and a number of its own kind as long as it lives. */
+enum made_kind { MADE_TYPE, MADE_PERSISTENT, MADE_KINDS };
+
+/* What a program leaves over at MPI_Finalize, beside requests. */
 struct explorer_left {
-    uint32_t types;      /* made and never freed */
-    uint32_t messages;   /* taken out and never received */
-    uint32_t persistent; /* requests that may be started again and were never freed */
+    uint32_t communicators; /* so many places stand behind it, */
+    uint32_t types;         /* and numbers of types that were made and never freed, */
+    uint32_t persistent;    /* and of requests that may be started again and were never freed */
+    uint32_t messages;      /* taken out and never received */
 };
 
 /* An ask. Behind it stand `frame_count` addresses of 64 bits, then `count` entries, then `length` bytes. */
@@ -91,6 +101,8 @@ struct explorer_ask {
     uint32_t is_waiting;
     uint32_t frame_count; /* where it was called from: addresses within the program's file, innermost first */
     uint32_t plan;        /* of a send or a receive of a collective's: the number by which ASK_ENTER told it; else 0 */
+    uint32_t calls;       /* so many calls of MPI its rank has made, with this one */
+    uint32_t is_ready;
     uint32_t unused;
     struct engine_call call;
     uint64_t length;
@@ -102,6 +114,8 @@ struct explorer_answer {
     struct engine_answer answer;
     uint32_t count;
     uint32_t place;
+    uint32_t wants_place; /* it is no answer: the rank tells its place, and waits on */
+    uint32_t unused;
 };
 
 /* What a process that is copied for each run is handed with the two descriptors of a run. */

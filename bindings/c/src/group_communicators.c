@@ -1,5 +1,6 @@
 /* Communicators that a group makes alone (MPI 3.1, 6.4.2 and 6.6.2): each has a world of its own (worlds.h). */
 #include "errors.h"
+#include "explored.h"
 #include "group_lists.h"
 #include "groups.h"
 #include "intercommunicators.h"
@@ -81,7 +82,7 @@ int MPI_Comm_create_group(MPI_Comm comm, MPI_Group group, int tag, MPI_Comm *new
     struct members members;
     check_running(call);
     int class = check_comm(comm, call, &own);
-    if (class == MPI_SUCCESS) class = check_unexplored(comm, call);
+    if (class == MPI_SUCCESS) explored_refuse(call, "a communicator that a group makes alone");
     if (class == MPI_SUCCESS) class = check_intra(comm, call, own);
     if (class == MPI_SUCCESS) class = check_result(comm, call, newcomm, "newcomm");
     if (class == MPI_SUCCESS) class = check_members(call, group, &members);
@@ -203,7 +204,7 @@ int MPI_Intercomm_create(MPI_Comm local_comm, int local_leader, MPI_Comm peer_co
     struct communicator *own;
     check_running(create_call);
     int class = check_comm(local_comm, create_call, &own);
-    if (class == MPI_SUCCESS) class = check_unexplored(local_comm, create_call);
+    if (class == MPI_SUCCESS) explored_refuse(create_call, "an intercommunicator");
     if (class == MPI_SUCCESS) class = check_intra(local_comm, create_call, own);
     if (class == MPI_SUCCESS) class = check_root(local_comm, create_call, own, local_leader);
     if (class == MPI_SUCCESS) class = check_result(local_comm, create_call, newintercomm, "newintercomm");

@@ -71,6 +71,10 @@ _Noreturn void end_job(int status);
 
 /* ---- progress.c ---- */
 
+/* The lowest rank of another host from which nothing has ever come, though something was sent to it long ago, while
+ * this rank waits; -1 where there is none. */
+int never_heard(void);
+
 /* Asks the engine of the world that the call's communicator or request is of (worlds.h), once it is free: see
  * matched_receives.c. Data may be NULL where there are none. */
 void call_engine(const struct engine_call *call, const void *data, size_t len, struct engine_answer *answer);
@@ -206,6 +210,8 @@ int check_request(const char *call, const MPI_Request *handle, struct request **
 /* The requests that have handles: how many places there are, and what is at one of them, or NULL. */
 int request_places(void);
 struct request *request_at(int place);
+/* The place of the request that has this handle. */
+uint32_t place_of_request(MPI_Request handle);
 /* The same, or NULL of a request that is inactive, too. */
 struct request *active_of(MPI_Request handle);
 /* Tells the functions of the program's of its end: its code. `end` has all that is known of it then. Where the code is

@@ -2,7 +2,6 @@
 #include "invitations.h"
 
 #include "errors.h"
-#include "explored.h"
 #include "internal.h"
 #include "plan_runs.h"
 #include "wait_lines.h"
@@ -157,10 +156,4 @@ uint32_t open_group(uint64_t number, uint16_t *members, int size, const struct c
         *made = MPI_COMM_NULL;
     }
     return refusal;
-}
-
-int check_unexplored(MPI_Comm comm, const char *call) {
-    if (!is_explored) return MPI_SUCCESS;
-    return raise_on(comm, call, MPI_ERR_UNSUPPORTED_OPERATION,
-                    "an explorer knows no intercommunicators, and none that a group makes alone");
 }

@@ -34,7 +34,4 @@ uint32_t open_group(uint64_t number, uint16_t *members, int size, const struct c
 uint32_t place_in_group(struct communicator *made, uint64_t number, uint16_t *members, int size,
                         const struct communicator *parent);
 
-/* That no explorer answers the calls, which knows no such communicators: 0, or the class of an error that was told. */
-int check_unexplored(MPI_Comm comm, const char *call);
-
 #endif

@@ -1,6 +1,7 @@
 /* Persistent requests (MPI 3.1, 3.9): what is begun again and again with the same arguments. Here stand those of sends
  * and receives; MPI_Start and MPI_Startall begin those of every kind. */
 #include "errors.h"
+#include "explored.h"
 #include "transfers.h"
 #include "types.h"
 
@@ -41,6 +42,7 @@ static int make_persistent(const struct argument *it, enum transfer_kind kind, M
                                         .is_persistent = true,
                                         .is_inactive = true,
                                         .comm = made.comm};
+    explored_made(MADE_PERSISTENT, place_of_request(own));
     return hand_over(MPI_SUCCESS, own, request);
 }
 
@@ -62,7 +64,7 @@ int MPI_Rsend_init(const void *buf, int count, MPI_Datatype datatype, int dest, 
                    MPI_Request *request) {
     NOTE_CALLER();
     const struct argument it = {"MPI_Rsend_init", (void *)buf, count, datatype, dest, tag, comm};
-    return make_persistent(&it, TRANSFER_SEND, request);
+    return make_persistent(&it, TRANSFER_READY, request);
 }
 
 int MPI_Bsend_init(const void *buf, int count, MPI_Datatype datatype, int dest, int tag, MPI_Comm comm,

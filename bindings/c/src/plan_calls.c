@@ -151,7 +151,9 @@ int carry_out(const struct asked *asked, struct plan_call *call) {
         return drop_call(call, no_memory(asked));
     }
     own->is_persistent = own->is_inactive = asked->is_persistent;
-    if (!asked->is_persistent) {
+    if (asked->is_persistent) {
+        explored_made(MADE_PERSISTENT, place_of_request(handle));
+    } else {
         watch_plan(own, call);
         start_plan(own->state);
     }

@@ -410,7 +410,7 @@ void plan_goes_on(struct plan_run *run) {
     take_off_way(run);
 }
 
-/* A function of the program may be called here, which may not call MPI (5.9.5). */
+/* A function of the program may be called here, which asks about its type at most: it may not communicate (5.9.5). */
 void plans_go_on(void) {
     static bool is_going;
     if (is_going) return;

@@ -93,6 +93,7 @@ static uint32_t send_own(const struct transfer *it, struct request *request) {
     const bool is_synchronous = it->kind == TRANSFER_SYNCHRONOUS || process.sends_wait;
     const bool is_to_a_rank = it->peer != MPI_PROC_NULL && !is_explored;
     const int rank = is_to_a_rank ? world_rank(it->comm, member_of(it->comm, it->peer)) : process.rank;
+    explored_note_ready(it->kind == TRANSFER_READY);
     if (rank != process.rank) return send_to_other(it, is_synchronous, rank, request);
     return begin_send(request, it->comm, is_synchronous, it->buf, it->count, it->type, it->peer, it->tag);
 }
@@ -185,7 +186,7 @@ int MPI_Ssend(const void *buf, int count, MPI_Datatype datatype, int dest, int t
 int MPI_Rsend(const void *buf, int count, MPI_Datatype datatype, int dest, int tag, MPI_Comm comm) {
     NOTE_CALLER();
     const struct argument it = {"MPI_Rsend", (void *)buf, count, datatype, dest, tag, comm};
-    return send_and_wait(&it, TRANSFER_SEND);
+    return send_and_wait(&it, TRANSFER_READY);
 }
 
 int MPI_Isend(const void *buf, int count, MPI_Datatype datatype, int dest, int tag, MPI_Comm comm,
@@ -206,7 +207,7 @@ int MPI_Irsend(const void *buf, int count, MPI_Datatype datatype, int dest, int 
                MPI_Request *request) {
     NOTE_CALLER();
     const struct argument it = {"MPI_Irsend", (void *)buf, count, datatype, dest, tag, comm};
-    return begin_later(&it, TRANSFER_SEND, request);
+    return begin_later(&it, TRANSFER_READY, request);
 }
 
 int MPI_Recv(void *buf, int count, MPI_Datatype datatype, int source, int tag, MPI_Comm comm, MPI_Status *status) {

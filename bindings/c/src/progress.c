@@ -4,88 +4,128 @@
 #include "explored.h"
 #include "internal.h"
 #include "plan_runs.h"
+#include "silence.h"
 #include "standstill.h"
 #include "wait_lines.h"
 #include "worlds.h"
 
 #include <stdio.h>
+#include <stdlib.h>
 #include <string.h>
 
 enum {
-    MILLISECOND = 1000000,   /* the following are in nanoseconds but where it is said */
-    LONGEST_SPIN = 100000,   /* so long a rank that waits asks again and again before it sleeps */
-    SHORTEST_SPIN = 12000,   /* so long at least, where nobody else wants its processor */
-    LONG_WAIT = 20000,       /* behind a wait of so long it looks whether others had the processor */
-    MODEST_WAITS = 100,      /* for so many waits it then asks but once */
-    CROWDED_SPIN = 12000,    /* the longest where there are more ranks than processors */
-    SHORT_SLEEP = 5,         /* milliseconds, where something is to go again if it isn't acknowledged */
-    LONG_SLEEP = 100,        /* the same where nothing is: a datagram that comes wakes a rank in any case */
-    LAST_WORDS = 2000000000, /* so long a rank that ends waits for the last acknowledgements at most */
-    COPIES_OF_LAST = 3       /* so often a rank that ends says what it says: it may be gone before it is asked again */
+    MILLISECOND = 1000000,       /* the following are in nanoseconds but where it is said */
+    LONGEST_SPIN = 100000,       /* so long a rank that waits asks again and again before it sleeps */
+    SHORTEST_SPIN = 12000,       /* so long at least, where nobody else wants its processor */
+    LONG_WAIT = 20000,           /* behind a wait of so long it looks whether others had the processor */
+    MODEST_WAITS = 100,          /* for so many waits it then asks but once */
+    CROWDED_SPIN = 12000,        /* the longest where there are more ranks than processors */
+    SHORT_SLEEP = 5,             /* milliseconds, where something is to go again if it isn't acknowledged */
+    LONG_SLEEP = 100,            /* the same where nothing is: a datagram that comes wakes a rank in any case */
+    LONGEST_PUT_OFF = 100000000, /* so long it takes in what has come before anything goes again */
+    LAST_WORDS = 2000000000,     /* so long a rank that ends waits for the last acknowledgements at most */
+    COPIES_OF_LAST = 3 /* so often a rank that ends says what it says: it may be gone before it is asked again */
 };
 
-/* What the engines were told last, in nanoseconds, and until when one keeps an acknowledgement back (0: none does). */
-static uint64_t told, kept_until;
-/* When an engine took a datagram last. */
-static uint64_t heard;
+/* The time that was read last, and that by which engines were told that frames may go again, in nanoseconds. */
+static uint64_t told, asked;
+/* Since when what came puts that off; 0: it doesn't. */
+static uint64_t put_off;
+/* When an engine took a datagram last, and when the wait began that lasts. */
+static uint64_t heard, wait_begun;
+/* Which ranks were sent something, and which have ever been heard. */
+static struct silence known;
 /* So long it asks again and again before it sleeps. */
 static uint64_t spin_time, longest_spin;
 /* So often all is sent that goes out. */
 static int copies = 1;
 
+/* What is known of round trips, which all engines learn: of ranks on one machine at once, else of each process, once
+ * there are several worlds. */
+static struct engine_lateness machine;
+static struct engine_estimate *processes;
+
 void progress_open(void) {
     longest_spin = process.size > device_processors() ? CROWDED_SPIN : LONGEST_SPIN;
     spin_time = longest_spin;
     heard = device_nanoseconds();
-    told = 0;
-    kept_until = 0;
+    told = asked = put_off = 0;
+    kombazily_begin_lateness((uint32_t)process.size, (uint32_t)device_processors(), heard, &machine);
 }
 
-/* The engines in which something goes on. Of the others nothing is to go out, all is acknowledged, and so they needn't
- * be told the time. */
-static struct carried *busy;
+/* An engine learns what others did of its ranks. */
+static void learn_of_all(struct carried *own) {
+    if (!process.is_apart) kombazily_learn_all(&own->rank, &machine.estimate);
+    for (int rank = 0; processes != NULL && rank < own->world->size; rank++)
+        kombazily_learn(&own->rank, (uint16_t)rank, &processes[first_rank(own->world, rank)]);
+}
 
-/* Tells an engine the time. For want of memory nothing goes out again now: it does the next time. */
-static void tick(struct carried *own) {
-    (void)kombazily_tick(&own->rank, told);
+/* Tells an engine the time, and whether frames may go again by it. For want of memory nothing goes out again now: it
+ * does the next time. */
+static void tick(struct carried *own, bool may_repeat) {
+    (void)kombazily_tick(&own->rank, told, may_repeat);
     own->told = told;
-    own->is_due = true;
+    put_into(OUTGOING, own);
 }
 
-/* The engines are told the time, each millisecond once, and when what one keeps back is to go: whether they were. */
-static bool tell_time(void) {
-    uint64_t now = device_nanoseconds();
-    bool is_due = kept_until != 0 && now >= kept_until;
-    if (!is_due && now / MILLISECOND == told / MILLISECOND) return false;
-    told = now;
-    for (struct carried *it = busy; it != NULL; it = it->next) tick(it);
-    return true;
+/* Engines that keep an acknowledgement back are told the time once it is to go: whether some were. */
+static bool tell_keeping(void) {
+    struct carried *it = first_of(KEEPING);
+    const bool is_late = it != NULL && it->kept_until <= told;
+    for (; it != NULL && it->kept_until <= told; it = next_in(KEEPING, it)) tick(it, false);
+    return is_late;
+}
+
+/* Frames go again that weren't acknowledged in time: each millisecond once, in engines in turn. Where something came
+ * just now more may have come, acknowledgements among it, and that is taken in first; it puts them off for no longer
+ * than a while. Whether some engine was told so. */
+static bool ask_again(bool has_come) {
+    const uint64_t passed = told / MILLISECOND - asked / MILLISECOND;
+    if (passed == 0) return false;
+    if (put_off == 0) put_off = told;
+    if (has_come && told - put_off < LONGEST_PUT_OFF) return false;
+    put_off = 0;
+    uint64_t count = kombazily_told_at_once(count_of(UNANSWERED), passed);
+    asked = told;
+    const bool is_some = count > 0;
+    for (; count > 0; count--) {
+        learn_of_all(first_of(UNANSWERED));
+        tick(first_of(UNANSWERED), true);
+        turn_list(UNANSWERED);
+    }
+    return is_some;
+}
+
+/* The engines are told the time that is due for it: whether some were. */
+static bool tell_time(bool has_come) {
+    told = device_nanoseconds();
+    const bool is_late = tell_keeping();
+    return ask_again(has_come) || is_late;
 }
 
 /* One is told the time before whatever may make it send, and before datagrams that came: by that it measures round
- * trips. From now on something may go on in it. */
+ * trips. Nothing goes again by that. From now on something may go on in it. */
 static void tell_before(struct carried *own) {
-    tell_time();
-    if (own->told / MILLISECOND != told / MILLISECOND) tick(own);
-    own->is_due = true;
-    if (own->is_busy) return;
-    own->is_busy = true;
-    own->next = busy;
-    busy = own;
+    told = device_nanoseconds();
+    (void)tell_keeping();
+    if (own->told / MILLISECOND != told / MILLISECOND) tick(own, false);
+    put_into(OUTGOING, own);
+}
+
+void share_estimates(void) {
+    if (process.is_apart && processes == NULL) processes = calloc((size_t)process.size, sizeof *processes);
 }
 
 void drop_carried(struct carried *own) {
-    for (struct carried **at = &busy; own->is_busy && *at != NULL; at = &(*at)->next) {
-        if (*at != own) continue;
-        *at = own->next;
-        own->is_busy = false;
-        return;
-    }
+    for (enum carried_list list = 0; list < CARRIED_LISTS; list++) take_out_of(list, own);
 }
 
+/* Where something was to go out that isn't acknowledged, or may be. */
 static bool are_idle(void) {
-    for (struct carried *it = busy; it != NULL; it = it->next)
-        if (!kombazily_is_idle(&it->rank)) return false;
+    static const enum carried_list both[] = {OUTGOING, UNANSWERED};
+    for (size_t at = 0; at < sizeof both / sizeof *both; at++)
+        for (struct carried *it = first_of(both[at]); it != NULL; it = next_in(both[at], it))
+            if (!kombazily_is_idle(&it->rank)) return false;
     return true;
 }
 
@@ -96,37 +136,66 @@ static _Noreturn void refuse_device(int error) {
     end_job(STATUS_SOCKET);
 }
 
-/* Sends what is to go out of an engine, what it keeps back too, if it is said so; and notes until when it does. */
+/* From now on it keeps an acknowledgement back until this time, or, where that is 0, none. */
+static void note_kept(struct carried *own, uint64_t until) {
+    if (own->kept_until == until) return;
+    take_out_of(KEEPING, own);
+    own->kept_until = until;
+    if (until != 0) put_into(KEEPING, own);
+}
+
+/* Another program may have the port of a rank until that one has begun, and so would learn the job's number. */
+static void send_to(int rank, const struct engine_outgoing *out, size_t len) {
+    if (!is_there(rank)) return;
+    note_sent(&known, rank, told);
+    device_put((uint16_t)rank, out->count, out->each, len);
+}
+
+/* Sends what is to go out of an engine, what it keeps back too, if it is said so; and notes what goes on in it. */
 static void send_from(struct carried *own, bool kept_too) {
     struct engine_outgoing out = {.kept_until = own->kept_until};
-    size_t len = own->is_due || (kept_too && own->kept_until != 0);
-    while (len != 0) {
+    size_t len;
+    do {
         size_t room;
         unsigned char *into = device_room(&room);
         len = kombazily_next(&own->rank, device_most(), kept_too, &out, into, room);
-        if (len != 0) device_put((uint16_t)first_rank(own->world, out.target), out.count, out.each, len);
-    }
-    own->is_due = false;
-    own->kept_until = out.kept_until;
-    if (out.kept_until != 0 && (kept_until == 0 || out.kept_until < kept_until)) kept_until = out.kept_until;
+        if (len != 0) send_to(first_rank(own->world, out.target), &out, len);
+    } while (len != 0);
+    take_out_of(OUTGOING, own);
+    note_kept(own, out.kept_until);
+    if (kombazily_is_idle(&own->rank)) take_out_of(UNANSWERED, own);
+    else put_into(UNANSWERED, own);
 }
 
 /* Sends what is to go out of all; what is kept back too, if it is told so. */
 static void send_out(bool kept_too) {
+    struct carried *it;
     if (!device_is_open()) return;
-    kept_until = 0;
-    for (struct carried **at = &busy; *at != NULL;) {
-        struct carried *it = *at;
-        send_from(it, kept_too);
-        it->is_busy = it->kept_until != 0 || !kombazily_is_idle(&it->rank);
-        if (it->is_busy) at = &it->next;
-        else *at = it->next;
-    }
+    while ((it = first_of(OUTGOING)) != NULL) send_from(it, kept_too);
+    while (kept_too && (it = first_of(KEEPING)) != NULL) send_from(it, true);
     device_flush(copies);
     if (device_error() != 0) refuse_device(device_error());
 }
 
-void progress_out(void) { send_out(false); }
+/* Hands an acknowledgement of a rank to an engine: 0, or why it is refused. What it tells of round trips all engines
+ * learn. */
+static uint32_t hand_answer(struct carried *own, int from, const unsigned char *bytes, size_t len) {
+    struct engine_estimate *known = processes == NULL ? NULL : &processes[first_rank(own->world, from)];
+    struct engine_estimate learned = known != NULL ? *known : machine.estimate;
+    if (known == NULL && process.is_apart) return kombazily_datagram(&own->rank, bytes, len);
+    kombazily_learn(&own->rank, (uint16_t)from, &learned);
+    const uint32_t number = kombazily_datagram(&own->rank, bytes, len);
+    kombazily_learned(&own->rank, (uint16_t)from, &learned);
+    if (known != NULL) *known = learned;
+    else kombazily_note_lateness(&machine, &learned, told);
+    return number;
+}
+
+/* The same of any datagram. */
+static uint32_t hand_to(struct carried *own, int from, const unsigned char *bytes, size_t len) {
+    return is_acknowledgement(bytes, len) ? hand_answer(own, from, bytes, len)
+                                          : kombazily_datagram(&own->rank, bytes, len);
+}
 
 /* Hands a datagram to the engine that it is for, unless it comes from elsewhere than the rank that it names; the engine
  * refuses what comes again. One for an engine that may come soon is kept, where it comes from a rank of the job.
@@ -137,10 +206,12 @@ static bool hear_one(uint32_t address, uint16_t port, const unsigned char *bytes
     if (!read_job(bytes, len, &job)) return false;
     struct world *world = world_of_job(job, &kind);
     if (world == NULL && may_be_ours(job) && device_knows(address, port)) keep_datagram(address, port, bytes, len);
-    if (world == NULL || !device_is_at(first_rank(world, sender_of(bytes, len)), address, port)) return false;
+    const int from = world == NULL ? 0 : first_rank(world, sender_of(bytes, len));
+    if (world == NULL || !device_is_at(from, address, port)) return false;
+    note_came(&known, from);
     if (!need_engine(world, kind)) return false;
     tell_before(&world->engines[kind]);
-    if (kombazily_datagram(&world->engines[kind].rank, bytes, len) == 0) heard = told, note_news();
+    if (hand_to(&world->engines[kind], from, bytes, len) == 0) heard = told, note_news();
     return true;
 }
 
@@ -164,8 +235,21 @@ void take_kept(const struct world *world) {
 /* Whether something came in, which was handed to the engine. */
 static bool take_in(void) { return device_is_open() && device_hear(hear); }
 
+/* Takes in what has come, tells the time, and sends what is to go out by it: whether something came. */
+static bool go_round(void) {
+    const bool has_come = take_in();
+    if (tell_time(has_come)) send_out(false);
+    return has_come;
+}
+
+void progress_out(void) {
+    send_out(false);
+    /* A program may send for long, and never wait. */
+    if (!is_explored && told / MILLISECOND != asked / MILLISECOND) (void)go_round();
+}
+
 void progress(void) {
-    if (!is_explored) tell_time(), take_in();
+    if (!is_explored) (void)tell_time(take_in());
     plans_go_on();
     move_requests();
     worlds_go_on();
@@ -175,9 +259,8 @@ void progress(void) {
 /* Asks until some time whether something came: whether it did. */
 static bool spin(uint64_t until) {
     do {
-        if (tell_time()) send_out(false);
-        if (take_in()) return true;
-    } while (device_nanoseconds() < until);
+        if (go_round()) return true;
+    } while (told < until);
     return false;
 }
 
@@ -194,16 +277,28 @@ static void learn(uint64_t waited) {
 
 /* Sleeps until a datagram comes, or something may be due. */
 static void sleep_on(void) {
-    bool is_idle = are_idle();
-    device_sleep(is_idle ? LONG_SLEEP : SHORT_SLEEP);
-    if (!is_idle) tell_time();
-    take_in();
-    send_out(false);
+    device_sleep(are_idle() ? LONG_SLEEP : SHORT_SLEEP);
+    (void)go_round();
+}
+
+int never_heard(void) {
+    if (!device_is_open()) return -1;
+    return first_silent(&known, device_ranks(), process.rank, wait_begun, device_nanoseconds());
+}
+
+/* Tells once of a rank that was never heard. */
+static void tell_silence(void) {
+    static bool is_told;
+    const int rank = is_told ? -1 : never_heard();
+    if (rank < 0) return;
+    is_told = true;
+    tell_never_heard(rank);
 }
 
 /* A rank that was told a patience gives up where the engine took no datagram for so long. */
 static void lose_patience(void) {
     uint64_t quiet = (device_nanoseconds() - heard) / MILLISECOND;
+    tell_silence();
     if (process.patience == 0) {
         watch_standstill(quiet, are_idle());
         return;
@@ -230,16 +325,13 @@ static void wait_with_others(void) {
         return;
     }
     uint64_t begun = device_nanoseconds();
-    if (tell_time()) send_out(false);
-    if (take_in()) {
+    if (go_round()) {
         let_others_in();
         return;
     }
     send_out(true);
     await_datagram((long)spin_time, are_idle() ? LONG_SLEEP : SHORT_SLEEP);
-    tell_time();
-    take_in();
-    send_out(false);
+    (void)go_round();
     heed_signals();
     lose_patience();
     learn(device_nanoseconds() - begun);
@@ -257,6 +349,7 @@ void progress_wait(void) {
 void progress_begin_wait(void) {
     /* The program may have computed for long: that isn't waiting. */
     heard = device_nanoseconds();
+    wait_begun = heard;
 }
 
 void progress_until_idle(void) {

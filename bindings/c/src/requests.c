@@ -305,6 +305,8 @@ void close_request(MPI_Request *handle) {
 
 int request_places(void) { return requests.count; }
 
+uint32_t place_of_request(MPI_Request handle) { return (uint32_t)(intptr_t)handle & PLACE_MASK; }
+
 struct request *request_at(int place) {
     return requests.places[place].object;
 }

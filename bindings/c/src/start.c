@@ -9,9 +9,13 @@
 #include "pmi.h"
 
 #include <errno.h>
+#include <limits.h>
+#include <poll.h>
+#include <signal.h>
 #include <stdio.h>
 #include <stdlib.h>
 #include <string.h>
+#include <sys/prctl.h>
 #include <sys/random.h>
 #include <unistd.h>
 
@@ -181,23 +185,42 @@ void find_place(int *argc, char ***argv, struct addresses *job) {
     process.is_apart = !are_together(job);
 }
 
+/* Whether the standard output is a pipe that nobody reads any more. */
+static bool is_unread(void) {
+    struct pollfd output = {.fd = STDOUT_FILENO};
+    return poll(&output, 1, 0) == 1 && (output.revents & POLLERR) != 0;
+}
+
+/* Whether a process is gone, or has ended and nobody has asked how. */
+static bool has_ended(pid_t other) {
+    char name[32], text[512];
+    snprintf(name, sizeof name, "/proc/%d/stat", (int)other);
+    FILE *file = fopen(name, "r");
+    if (file == NULL) return kill(other, 0) != 0 && errno == ESRCH;
+    text[fread(text, 1, sizeof text - 1, file)] = '\0';
+    fclose(file);
+    /* The name of its program, which may have anything in it, stands in brackets in front of its state. */
+    const char *end = strrchr(text, ')');
+    return end != NULL && (strncmp(end, ") Z", 3) == 0 || strncmp(end, ") X", 3) == 0);
+}
+
+void follow_keeper(void) {
+    const char *text = getenv("KOMBAZILY_KEEPER");
+    uint64_t keeper;
+    if (text == NULL || !read_number(text, INT_MAX, &keeper)) return;
+    const bool is_own = getppid() == (pid_t)keeper;
+    if (is_own && prctl(PR_SET_PDEATHSIG, SIGKILL) == 0 && getppid() == (pid_t)keeper) return;
+    /* It is gone already, or somebody stands between, or it is seen under another number from here. */
+    if (is_own || (is_unread() && has_ended((pid_t)keeper))) raise(SIGKILL);
+}
+
 void keep_place_from_children(void) {
-    static const char *const names[] = {"KOMBAZILY_RANK",
-                                        "KOMBAZILY_SIZE",
-                                        "KOMBAZILY_INCARNATION",
-                                        "KOMBAZILY_JOB",
-                                        "KOMBAZILY_PORT",
-                                        "KOMBAZILY_HOSTS",
-                                        "KOMBAZILY_PATIENCE",
-                                        "KOMBAZILY_FRAME",
-                                        "KOMBAZILY_STANDSTILL",
-                                        "PMI_FD",
-                                        "PMI_RANK",
-                                        "PMI_SIZE",
-                                        "KOMBAZILY_EXPLORER",
-                                        "PMI_PORT",
-                                        "PMI_ID",
-                                        "PMI_JOBID",
+    static const char *const names[] = {"KOMBAZILY_RANK",     "KOMBAZILY_SIZE",   "KOMBAZILY_INCARNATION",
+                                        "KOMBAZILY_JOB",      "KOMBAZILY_PORT",   "KOMBAZILY_HOSTS",
+                                        "KOMBAZILY_PATIENCE", "KOMBAZILY_FRAME",  "KOMBAZILY_STANDSTILL",
+                                        "KOMBAZILY_TOGETHER", "KOMBAZILY_KEEPER", "PMI_FD",
+                                        "PMI_RANK",           "PMI_SIZE",         "KOMBAZILY_EXPLORER",
+                                        "PMI_PORT",           "PMI_ID",           "PMI_JOBID",
                                         "PMI_SPAWNED"};
     char rank[16];
     if (is_alone) return;

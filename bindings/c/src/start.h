@@ -9,6 +9,10 @@
  * is told wrongly the process ends. */
 void find_place(int *argc, char ***argv, struct addresses *job);
 
+/* From now on this process doesn't outlive the keeper of its launcher, where that one started it without help
+ * (KOMBAZILY_KEEPER has its number): nobody would hear of it any more. */
+void follow_keeper(void);
+
 /* Takes out of the environment what tells this process's place, so that a program that it starts is no rank of this
  * job: one that speaks MPI is a job of one rank (KOMBAZILY_PARENT says whose child it is). */
 void keep_place_from_children(void);

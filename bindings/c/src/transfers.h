@@ -15,8 +15,8 @@ struct argument {
     MPI_Comm comm;
 };
 
-/* A ready send does what a standard one does (3.4). */
-enum transfer_kind { TRANSFER_RECEIVE, TRANSFER_SEND, TRANSFER_SYNCHRONOUS, TRANSFER_BUFFERED };
+/* A ready send does what a standard one does (3.4); an explorer is told that it is one. */
+enum transfer_kind { TRANSFER_RECEIVE, TRANSFER_SEND, TRANSFER_READY, TRANSFER_SYNCHRONOUS, TRANSFER_BUFFERED };
 
 /* The same, checked. */
 struct transfer {

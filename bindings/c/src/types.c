@@ -4,6 +4,7 @@
 #include "attributes.h"
 #include "engine.h"
 #include "errors.h"
+#include "explored.h"
 #include "internal.h"
 #include "names.h"
 #include "table.h"
@@ -54,11 +55,13 @@ void release_type(const struct datatype *type) {
     while (list != NULL) list = give_back(list, list->next);
 }
 
-uint32_t count_types(void) {
+uint32_t types_left(uint32_t *numbers, uint32_t room) {
     uint32_t count = 0;
     for (int place = NAMED_TYPES; place < types.count; place++) {
         const struct datatype *own = types.places[place].object;
-        count += own != NULL && !own->is_predefined;
+        if (own == NULL || own->is_predefined) continue;
+        if (count < room) numbers[count] = (uint32_t)place;
+        count++;
     }
     return count;
 }
@@ -94,7 +97,9 @@ MPI_Datatype add_handle(struct datatype *type) {
     while (types.count < NAMED_TYPES)
         if (table_add(&types, &named_types[types.count]) == 0) return MPI_DATATYPE_NULL;
     int64_t number = table_add(&types, type);
-    if (number != 0) hold_type(type);
+    if (number == 0) return MPI_DATATYPE_NULL;
+    hold_type(type);
+    explored_made(MADE_TYPE, (uint32_t)number & PLACE_MASK);
     return (MPI_Datatype)(intptr_t)number;
 }
 

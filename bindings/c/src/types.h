@@ -89,8 +89,8 @@ static inline uint64_t engine_elements(const struct datatype *type, size_t bytes
 
 /* Gives all types back; the predefined ones stay. */
 void close_types(void);
-/* How many are left that the program made and never freed. */
-uint32_t count_types(void);
+/* The numbers of those that the program made and never freed: how many; up to `room` are put there. */
+uint32_t types_left(uint32_t *numbers, uint32_t room);
 
 /* ---- predefined_types.c ---- */
 

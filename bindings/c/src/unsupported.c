@@ -2,12 +2,14 @@
  * the null ones. */
 #include "unsupported.h"
 
+#include "explored.h"
 #include "lines.h"
 
 /* The handler of files that aren't open. */
 static MPI_Errhandler of_files = MPI_ERRORS_RETURN;
 
 int unsupported(MPI_Comm comm, const char *call, const char *cause) {
+    explored_refuse(call, cause);
     return raise_on(comm, call, MPI_ERR_UNSUPPORTED_OPERATION, "%s", cause);
 }
 
@@ -19,7 +21,9 @@ static int raise_of_file(const char *call, int class, const char *cause) {
 }
 
 int unsupported_of_file(const char *call) {
-    return raise_of_file(call, MPI_ERR_UNSUPPORTED_OPERATION, "files aren't supported");
+    static const char cause[] = "files aren't supported";
+    explored_refuse(call, cause);
+    return raise_of_file(call, MPI_ERR_UNSUPPORTED_OPERATION, cause);
 }
 
 static int check_file(const char *call, MPI_File file) {

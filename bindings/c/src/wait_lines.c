@@ -2,7 +2,9 @@
 #define _GNU_SOURCE
 #include "wait_lines.h"
 
+#include "device.h"
 #include "lines.h"
+#include "silence.h"
 #include "standstill.h"
 
 #include <signal.h>
@@ -31,7 +33,35 @@ static void add_list(struct line *line, const struct wait *it) {
     if (open > told) add_text(line, "; and %d more", open - told);
 }
 
+/* `rank 1 (10.0.0.2, UDP port 36401)`. */
+static void add_rank_place(struct line *line, int rank) {
+    const struct addresses *job = device_ranks();
+    const uint32_t own = job->of_rank[rank];
+    add_text(line, "rank %d (%u.%u.%u.%u, UDP port %d)", rank, own >> 24, own >> 16 & 255, own >> 8 & 255, own & 255,
+             port_at(job, rank));
+}
+
+void tell_never_heard(int rank) {
+    struct line line = {.length = 0};
+    add_text(&line, "rank %d: nothing has come from ", process.rank);
+    add_rank_place(&line, rank);
+    add_text(&line, " for ");
+    add_time(&line, LONG_SILENCE);
+    add_text(&line, ": a firewall?");
+    write_line(&line);
+}
+
+/* A rank that was never heard, in place of what is waited for: whether there is one. */
+static bool add_never_heard(struct line *line) {
+    const int rank = never_heard();
+    if (rank < 0) return false;
+    add_rank_place(line, rank);
+    add_text(line, ", from which nothing has come: a firewall?");
+    return true;
+}
+
 static void add_collective(struct line *line, const struct wait *it) {
+    if (add_never_heard(line)) return;
     add_text(line, "the other ranks of ");
     add_comm(line, communicator_at(it->place));
     if (it->root >= 0) add_text(line, " (root %d)", it->root);
@@ -65,7 +95,7 @@ static struct line wait_line(void) {
         add_collective(&line, it);
         break;
     case WAIT_SENT:
-        add_text(&line, "what it sent to be received");
+        if (!add_never_heard(&line)) add_text(&line, "what it sent to be received");
         break;
     }
     add_call_source(&line);

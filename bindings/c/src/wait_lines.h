@@ -46,6 +46,9 @@ void come_back_to_wait(const struct wait_state *state);
  * wait, where a signal asked for it. */
 void heed_signals(void);
 
+/* Says that nothing has come from this rank of another host, to which something was sent long ago. */
+void tell_never_heard(int rank);
+
 /* Ends the process behind the line of its wait, since it lost its patience. */
 _Noreturn void give_up(void);
 

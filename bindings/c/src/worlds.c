@@ -107,14 +107,15 @@ int rank_in(const struct world *world, int first) {
 
 uint32_t make_engine(struct world *world, int kind) {
     struct carried *own = &world->engines[kind];
-    const struct engine_place place = {.job = job_of(world, kind),
-                                       .message_limit = ENGINE_GREATEST_LIMIT,
-                                       .rank = (uint16_t)world->rank,
-                                       .size = (uint16_t)world->size,
-                                       .incarnation = (uint16_t)process.incarnation,
-                                       .frame_limit = process.frame,
-                                       .room = kombazily_room(process.is_apart, device_heard_room(),
-                                                               process.frame, (uint16_t)process.size)};
+    const struct engine_place place = {
+        .job = job_of(world, kind),
+        .message_limit = ENGINE_GREATEST_LIMIT,
+        .rank = (uint16_t)world->rank,
+        .size = (uint16_t)world->size,
+        .incarnation = (uint16_t)process.incarnation,
+        .is_near = !process.is_apart,
+        .frame_limit = process.frame,
+        .room = kombazily_room(process.is_apart, device_heard_room(), process.frame, (uint16_t)process.size)};
     uint32_t number = own->world != NULL ? 0 : kombazily_new(&own->rank, &place);
     if (number == 0) own->world = world;
     return number;
@@ -151,6 +152,7 @@ struct world *open_world(uint64_t number, uint16_t *members, int size) {
         return NULL;
     }
     places[place] = made;
+    share_estimates();
     made->next = *row_of(number);
     *row_of(number) = made;
     take_kept(made);

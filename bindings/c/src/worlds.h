@@ -8,24 +8,12 @@
 #ifndef KOMBAZILY_WORLDS_H
 #define KOMBAZILY_WORLDS_H
 
+#include "carried.h"
 #include "engine.h"
 
 #include <stdbool.h>
 #include <stddef.h>
 #include <stdint.h>
-
-struct world;
-
-/* An engine, and what progress knows of it. Times are in nanoseconds. */
-struct carried {
-    struct engine_rank rank;
-    const struct world *world; /* NULL: it isn't there */
-    struct carried *next;      /* among those in which something goes on */
-    bool is_busy;              /* it is among them */
-    bool is_due;               /* something may be to go out */
-    uint64_t told;             /* the time that it was told last */
-    uint64_t kept_until;       /* when an acknowledgement goes that it keeps back; 0: it keeps none */
-};
 
 enum { OF_PROGRAMS, OF_PLANS, ENGINES };
 
@@ -79,6 +67,8 @@ struct world *hold_world(struct world *world);
 /* Of progress.c: takes in what has come for a world that was just opened; and nothing goes on in an engine any more. */
 void take_kept(const struct world *world);
 void drop_carried(struct carried *own);
+/* From now on what an engine learns of the round trips to a process the others learn, too. */
+void share_estimates(void);
 
 /* The rank in MPI_COMM_WORLD of a rank of a world; and back, or -1. */
 int first_rank(const struct world *world, int rank);

@@ -174,6 +174,34 @@ static void *in_turn(void *given) {
     return NULL;
 }
 
+/* A function of the program, which asks about its type (5.9.5). */
+static void add_items(void *low, void *high, int *count, MPI_Datatype *type) {
+    MPI_Aint lower = -1, extent = -1;
+    int size = -1;
+    MPI_Type_size(*type, &size);
+    MPI_Type_get_extent(*type, &lower, &extent);
+    HOLDS(size == (int)sizeof(int) && lower == 0 && extent == (MPI_Aint)sizeof(int));
+    for (int at = 0; at < *count; at++) ((int *)high)[at] += ((int *)low)[at];
+}
+
+/* Each thread reduces by it in its communicator, while the others do. */
+static void *reduce_by_own(void *given) {
+    struct own *own = given;
+    MPI_Request request;
+    MPI_Op op;
+    MPI_Op_create(add_items, 1, &op);
+    for (int turn = 0; turn < 20; turn++) {
+        int number = turn + test_rank, all = -1, later = -1;
+        MPI_Iallreduce(&number, &later, 1, MPI_INT, op, own->comm, &request);
+        MPI_Wait(&request, MPI_STATUS_IGNORE);
+        MPI_Allreduce(&number, &all, 1, MPI_INT, op, own->comm);
+        HOLDS(all == test_size * turn + test_size * (test_size - 1) / 2 && later == all);
+    }
+    MPI_Op_free(&op);
+    own->errors = errors;
+    return NULL;
+}
+
 int main(int argc, char **argv) {
     int level = -1, is_main = 0;
     MPI_Comm comms[THREADS];
@@ -191,6 +219,7 @@ int main(int argc, char **argv) {
     for (int i = 0; i < THREADS; i++) MPI_Comm_dup(MPI_COMM_WORLD, &comms[i]);
     run(late_partner, comms, 2);
     run(collectives, comms, THREADS);
+    run(reduce_by_own, comms, THREADS);
     for (int i = 0; i < THREADS; i++) MPI_Comm_free(&comms[i]);
     return test_end();
 }

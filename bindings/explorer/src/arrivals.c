@@ -21,7 +21,8 @@ uint32_t log_sent(struct steps *s, int rank, const struct explorer_ask *ask) {
     if (of == NULL || target < 0 || s->sent_count == MOST_SENT) return NOT_SENT;
     s->sent = one_more(s->sent, s->sent_count, &s->sent_room, sizeof *s->sent);
     const uint64_t name = ask->plan == 0 ? of->name : ~of->name;
-    s->sent[s->sent_count] = (struct sent){name, rank, target, ask->call.tag, s->ranks[rank].place};
+    s->sent[s->sent_count] = (struct sent){name, rank, target, ask->call.tag, ask->is_ready != 0, s->ranks[rank].place};
+    if (ask->is_ready != 0) s->has_ready = true;
     log_event(s, rank, EVENT_SEND, (uint32_t)s->sent_count, 0);
     return (uint32_t)s->sent_count++;
 }

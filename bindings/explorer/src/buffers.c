@@ -30,8 +30,7 @@ static size_t find_message(const struct steps *s, const struct taking *it, const
     return count;
 }
 
-/* Finds which message each receive of a rank took, in the order in which they were begun. */
-static void find_messages(struct steps *s, int rank) {
+void find_messages(struct steps *s, int rank) {
     struct rank *own = &s->ranks[rank];
     int *all = room_for(NULL, s->sent_count, sizeof *all);
     size_t count = 0, first = 0;
@@ -88,11 +87,10 @@ static void go_on_by(const struct steps *s, struct spread *it, const struct even
     }
 }
 
-/* Whether what happened at this place among all events is known to a rank now. */
-static bool is_known(const struct steps *s, size_t from, int rank) {
+bool is_known_before(const struct steps *s, size_t from, size_t before, int rank) {
     struct spread it = {.tells = calloc(s->sent_count + 1, 1), .is_early = calloc(s->sent_count + 1, 1)};
     it.knows[s->events[from].rank] = true;
-    for (size_t at = from + 1; at < s->event_count && !it.knows[rank]; at++) go_on_by(s, &it, &s->events[at]);
+    for (size_t at = from + 1; at < before && !it.knows[rank]; at++) go_on_by(s, &it, &s->events[at]);
     free(it.tells), free(it.is_early), free(it.meetings);
     return it.knows[rank];
 }
@@ -104,7 +102,7 @@ static bool is_received(const struct steps *s, int rank, int message) {
     for (size_t at = 0; at < s->event_count; at++) {
         const struct event *e = &s->events[at];
         const struct taking *t = e->rank == target && e->kind == EVENT_END ? taking_at(other, e->id) : NULL;
-        if (t != NULL && !t->is_look && t->message == message) return is_known(s, at, rank);
+        if (t != NULL && !t->is_look && t->message == message) return is_known_before(s, at, s->event_count, rank);
     }
     return false;
 }

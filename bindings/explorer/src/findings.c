@@ -97,9 +97,7 @@ static void tell_request(struct steps *s, int rank, const struct explorer_entry 
 }
 
 /* The communicator whose number stands there among what a rank left behind. */
-static void tell_communicator(struct steps *s, int rank, const uint8_t *at) {
-    uint32_t place;
-    memcpy(&place, at, sizeof place);
+static void tell_communicator(struct steps *s, int rank, uint32_t place) {
     const struct members *of = members_of(s, rank, place);
     at_place(note(s, rank, COMMUNICATOR_LEFT, "rank %d ended with a communicator never freed, made at %%0", rank),
              of == NULL ? &s->ranks[rank].place : &of->made_at);
@@ -107,17 +105,12 @@ static void tell_communicator(struct steps *s, int rank, const uint8_t *at) {
 
 static const char *plural(uint32_t count) { return count == 1 ? "" : "s"; }
 
-/* Types and persistent requests: they are no fault, and their lines aren't known. */
-static void tell_unfreed(struct steps *s, int rank, const struct explorer_left *left) {
-    const struct place *end = &s->ranks[rank].place;
-    if (left->types > 0)
-        at_place(note(s, rank, TYPES_LEFT, "rank %d ended with %u type%s never freed, at %%0", rank, left->types,
-                      plural(left->types)),
-                 end);
-    if (left->persistent > 0)
-        at_place(note(s, rank, TYPES_LEFT, "rank %d ended with %u persistent request%s never freed, at %%0", rank,
-                      left->persistent, plural(left->persistent)),
-                 end);
+/* Types or persistent requests that were made at one place: they are no fault. */
+static void tell_made(struct steps *s, int rank, const struct made_left *left) {
+    const char *what = left->kind == MADE_TYPE ? "type" : "persistent request";
+    at_place(note(s, rank, TYPES_LEFT, "rank %d ended with %u %s%s never freed, made at %%0", rank, left->count, what,
+                  plural(left->count)),
+             left->place);
 }
 
 static void tell_taken(struct steps *s, int rank, const struct explorer_left *left) {
@@ -130,19 +123,25 @@ void tell_left(struct steps *s, int rank, const uint8_t *bytes) {
     const struct rank *own = &s->ranks[rank];
     const uint32_t requests = own->ask.count;
     struct explorer_left left = {0};
-    uint32_t communicators = 0, kind;
-    if (own->ask.length >= sizeof left) {
-        memcpy(&left, bytes, sizeof left);
-        communicators = (uint32_t)((own->ask.length - sizeof left) / sizeof(uint32_t));
-    }
-    const uint32_t unfreed = left.types > 0 ? left.types : left.persistent;
-    for (uint64_t at = 0; (kind = kombazily_leak_at(requests, communicators, unfreed, left.messages, at)) != 0; at++) {
+    uint32_t kind;
+    if (own->ask.length >= sizeof left) memcpy(&left, bytes, sizeof left);
+    const uint32_t count = left.communicators + left.types + left.persistent;
+    if (own->ask.length != sizeof left + count * sizeof(uint32_t)) return;
+    uint32_t *numbers = room_for(NULL, count, sizeof *numbers);
+    struct made_left *made = room_for(NULL, count, sizeof *made);
+    if (count > 0) memcpy(numbers, bytes + sizeof left, count * sizeof *numbers);
+    const uint32_t *types = numbers + left.communicators;
+    uint32_t places = count_made(own, MADE_TYPE, types, left.types, made, 0);
+    places = count_made(own, MADE_PERSISTENT, types + left.types, left.persistent, made, places);
+    for (uint64_t at = 0; (kind = kombazily_leak_at(requests, left.communicators, places, left.messages, at)) != 0;
+         at++) {
         if (kind == REQUEST_LEFT) tell_request(s, rank, &own->entries[at]);
-        else if (kind == COMMUNICATOR_LEFT)
-            tell_communicator(s, rank, bytes + sizeof left + (at - requests) * sizeof(uint32_t));
-        else if (kind == TYPES_LEFT) tell_unfreed(s, rank, &left);
+        else if (kind == COMMUNICATOR_LEFT) tell_communicator(s, rank, numbers[at - requests]);
+        else if (kind == TYPES_LEFT) tell_made(s, rank, &made[at - requests - left.communicators]);
         else tell_taken(s, rank, &left);
     }
+    free(numbers);
+    free(made);
 }
 
 void tell_unsafe(struct steps *s, const struct move *moves, int count) {
@@ -294,8 +293,7 @@ int steps_cycle(const struct steps *s, int ranks[MOST_RANKS]) {
     return s->cycle_length;
 }
 
-/* `rank 1`, or `ranks 1, 2 and 3`: how many. */
-static int say_ranks(const struct steps *s, uint64_t ranks, char *into, size_t room) {
+int say_ranks(const struct steps *s, uint64_t ranks, char *into, size_t room) {
     int count = 0, told = 0;
     for (int rank = 0; rank < s->options.size; rank++) count += ranks >> rank & 1;
     snprintf(into, room, "%s", count > 1 ? "ranks" : count == 1 ? "rank" : "");
@@ -421,6 +419,7 @@ static void tell_left_of(struct steps *s, int rank, uint32_t communicator, int s
 
 void steps_tell_rest(struct steps *s) {
     tell_absent(s);
+    tell_unfreed_members(s);
     for (int rank = 0; rank < s->options.size; rank++) {
         const struct rank *own = &s->ranks[rank];
         for (uint32_t at = 0; !own->is_in_engine && at < (uint32_t)own->members_count; at++)

@@ -37,7 +37,12 @@ static bool open_addr2line(void) {
 }
 
 /* Where the library's own calls stand. */
-static bool is_of_library(const char *file) { return strstr(file, "bindings/c/src/") != NULL; }
+static bool is_of_library(const char *file) {
+    static const char *const folders[] = {"bindings/c/src/", "bindings/fortran/src/", "bindings/fortran/../"};
+    for (size_t i = 0; i < sizeof folders / sizeof *folders; i++)
+        if (strstr(file, folders[i]) != NULL) return true;
+    return false;
+}
 
 /* Reads `file.c:12 (discriminator 3)`; the file's name may have blanks. */
 static void read_line(char *text, struct source_line *into) {
@@ -87,7 +92,7 @@ int source_lines(const uint64_t *frames, uint32_t count, struct source_line *lin
         const struct source_line *it = line_of(frames[i]);
         if (it->file[0] == '\0') continue;
         lines[found++] = *it;
-        if (strcmp(it->function, "main") == 0) break;
+        if (strcmp(it->function, "main") == 0 || strcmp(it->function, "MAIN__") == 0) break;
     }
     return found;
 }
@@ -96,7 +101,8 @@ void say_place(const uint64_t *frames, uint32_t count, char *into, size_t room) 
     struct source_line lines[2];
     int found = source_lines(frames, count, lines, 2);
     size_t length = 0;
-    if (found == 0) snprintf(into, room, "a place without lines (compile with -g)");
+    if (found == 0)
+        snprintf(into, room, "%s", count == 0 ? "a place that isn't known" : "a place without lines (compile with -g)");
     for (int i = 0; i < found && length < room; i++)
         length += (size_t)snprintf(into + length, room - length, "%s%s:%d (%s)", i > 0 ? ", called at " : "",
                                    lines[i].name, lines[i].line, lines[i].function);
@@ -133,15 +139,21 @@ void say_finding(const struct finding *finding, char *into, size_t room) {
     }
 }
 
+uint32_t frames_of_choice(const char *at, uint64_t frames[EXPLORER_FRAMES]) {
+    const char *end = at + strcspn(at, "\n");
+    uint32_t count = 0;
+    for (const char *p = strstr(at, " @"); p != NULL && p < end && count < EXPLORER_FRAMES; p = strstr(p + 2, " @"))
+        frames[count++] = strtoull(p + 2, NULL, 16);
+    return count;
+}
+
 size_t say_choice(const char *at, char *into, size_t room) {
     size_t length = strcspn(at, "\n");
     char line[1500], place[600];
     uint64_t frames[EXPLORER_FRAMES];
-    uint32_t count = 0;
+    const uint32_t count = frames_of_choice(at, frames);
     snprintf(line, sizeof line, "%.*s", (int)length, at);
     char *mark = strstr(line, " @");
-    for (char *p = mark; p != NULL && count < EXPLORER_FRAMES; p = strstr(p + 2, " @"))
-        frames[count++] = strtoull(p + 2, NULL, 16);
     if (mark != NULL) *mark = '\0';
     say_place(frames, count, place, sizeof place);
     char *words = strstr(line, "# "), *hole = strstr(line, "%0");

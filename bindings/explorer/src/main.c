@@ -1,7 +1,7 @@
 /* kombazily-check, which is `kombazily check`: runs a C program of MPI again and again, each rank a process, and makes
  * the choices that MPI leaves open each time otherwise. See shell.h. */
 #define _GNU_SOURCE
-#include "shell.h"
+#include "told.h"
 
 #include <errno.h>
 #include <math.h>
@@ -73,20 +73,29 @@ static void end_search(struct pass *pass) {
     if (pass->stopped != 0) close_moulds();
 }
 
-/* Runs once, and counts what it came to: false, the run was cut. */
-static bool run_and_note(struct pass *pass, enum choosing choosing) {
+/* Whether a run that was cut off is told of. A record comes to its end where it is given the time. */
+static bool is_cut_told(const struct pass *pass, const struct run *run) {
+    return asked_to_stop == 0 && set.played == NULL &&
+           kombazily_is_cut_told((uint64_t)pass->runs, run->asks, pass->most_asks);
+}
+
+/* Runs once, and counts what it came to. */
+static void run_and_note(struct pass *pass, enum choosing choosing) {
     struct run run;
+    pass->tries++;
     run_once(&run, pass->synchronous, choosing);
     if (run.is_astray)
         pass->astray =
             "stopped, since with the same choices other moves came up: the program depends on something else";
     if (run.ending == LATE) pass->is_late = true;
-    bool counts_there = !run.is_astray && run.ending != CUT && run.ending != LATE;
-    if (counts_there) note_run(&run, pass->runs);
+    const bool has_ended = !run.is_astray && run.ending != CUT && run.ending != LATE;
+    if (has_ended || (run.ending == LATE && is_cut_told(pass, &run))) note_run(&run, pass->tries);
     else free(run.choices), free(run.moves);
+    pass->runs += has_ended;
+    pass->cut += run.ending == CUT && !run.is_astray;
+    if (has_ended && run.asks > pass->most_asks) pass->most_asks = run.asks;
     steps_free(run.steps);
     close_outputs();
-    return counts_there;
 }
 
 static void explore(struct pass *pass) {
@@ -95,21 +104,17 @@ static void explore(struct pass *pass) {
     treat_signals(ask_to_stop);
     end_runs_at(began + set.seconds);
     for (;;) {
-        pass->runs++;
-        if (!run_and_note(pass, BY_SEARCH)) pass->cut++;
+        run_and_note(pass, BY_SEARCH);
         if (pass->astray != NULL || pass->is_late) break;
         const bool is_last = !search_next();
         pass->is_all = search_tried_all();
-        if (is_last || asked_to_stop != 0 || pass->runs >= set.most || now() - began > set.seconds) break;
-        say_progress(pass->runs, began);
+        if (is_last || asked_to_stop != 0 || pass->tries >= set.most || now() - began > set.seconds) break;
+        say_progress(pass->tries, began);
     }
     end_runs_at(INFINITY);
-    for (long i = 0; i < set.random && !pass->is_all && pass->astray == NULL && asked_to_stop == 0; i++) {
-        pass->runs++;
-        if (!run_and_note(pass, BY_CHANCE) && asked_to_stop != 0) pass->cut++;
-    }
+    for (long i = 0; i < set.random && !pass->is_all && pass->astray == NULL && asked_to_stop == 0; i++)
+        run_and_note(pass, BY_CHANCE);
     end_search(pass);
-    pass->runs -= pass->cut;
     pass->took = now() - began;
 }
 
@@ -121,17 +126,18 @@ static void replay(struct pass *pass) {
     pass->synchronous = set.synchronous;
     search_open();
     treat_signals(ask_to_stop);
+    if (set.debugged < 0) end_runs_at(began + set.seconds);
     force_moves(moves, count);
-    pass->runs = 1;
-    (void)run_and_note(pass, is_recorded ? BY_RECORD : BY_FILE);
+    run_and_note(pass, is_recorded ? BY_RECORD : BY_FILE);
     end_search(pass);
     if (pass->astray != NULL) pass->astray = "stopped, since the choices of the file don't fit the program";
     pass->took = now() - began;
     free(moves);
 }
 
-/* The signal that ended the last pass, or 0. */
+/* The signal that ended the last pass, or 0; and whether a call of some pass couldn't be explored. */
 static int stopped;
+static bool is_unexplored;
 /* Whether a pass that is over met a bound, and left runs out. */
 static bool has_rest;
 /* Whether a pass that is over made sends that are longer than is buffered, some of which other runs may buffer. */
@@ -145,8 +151,9 @@ static uint32_t make_pass(bool synchronous) {
     else explore(&pass);
     uint32_t weight = tell_results(&pass);
     has_mixture |= counts.has_long;
-    has_rest |= !pass.is_all && pass.astray == NULL && pass.stopped == 0;
+    has_rest |= !pass.is_all && pass.runs > 0 && pass.astray == NULL && pass.stopped == 0;
     stopped = pass.stopped;
+    is_unexplored |= counts.is_unexplored;
     if (set.html != NULL) page_add(&pass);
     free_results();
     return weight;
@@ -156,9 +163,10 @@ static uint32_t make_pass(bool synchronous) {
 static void say_hint(const uint32_t *passes, size_t count) {
     const bool is_one = set.replay != NULL || set.followed != NULL;
     const bool is_other = !has_mixture || set.each || is_one;
+    if (set.format != FORMAT_TEXT) return;
     if (has_rest && set.mix < 0 && !is_one && set.played == NULL)
         puts("--mix 2 makes fewer runs: those whose choices differ from the first ones at two places in a row at most");
-    if (kombazily_is_hint_told(passes, count, is_other))
+    if (kombazily_is_hint_told(passes, count, is_unexplored, is_other))
         printf("sends of more than %ld bytes were made: --each tries each send waiting and buffered, by choice\n",
                set.buffered);
 }
@@ -177,9 +185,12 @@ static void open_folder(const char *name) {
 /* What is asked for in files is refused before the first run where it can't be written. */
 static void open_files(void) {
     if (set.out != NULL) open_folder(set.out);
-    FILE *page = set.html == NULL ? NULL : fopen(set.html, "a");
-    if (set.html != NULL && page == NULL) fail(STATUS_WORDS, "it can't be written: ", set.html);
-    if (page != NULL) fclose(page);
+    const char *const files[] = {set.html, set.sarif, set.junit};
+    for (size_t i = 0; i < sizeof files / sizeof *files; i++) {
+        FILE *page = files[i] == NULL ? NULL : fopen(files[i], "a");
+        if (files[i] != NULL && page == NULL) fail(STATUS_WORDS, "it can't be written: ", files[i]);
+        if (page != NULL) fclose(page);
+    }
 }
 
 int main(int count, char **words) {
@@ -196,10 +207,12 @@ int main(int count, char **words) {
     close_moulds();
     search_close();
     if (set.html != NULL) page_write(set.html);
+    if (set.sarif != NULL) write_sarif(set.sarif);
+    if (set.junit != NULL) write_junit(set.junit);
     need_output();
     if (stopped != 0) {
         signal(stopped, SIG_DFL);
         raise(stopped);
     }
-    return (int)kombazily_status_of_check(passes, pass_count);
+    return (int)kombazily_status_of_check(passes, pass_count, is_unexplored);
 }

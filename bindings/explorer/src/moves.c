@@ -136,6 +136,7 @@ static bool is_any_running(const struct steps *s) {
 }
 
 int steps_moves(struct steps *s, struct move *moves, int room) {
+    if (cancel_all(s)) return -1;
     const int count = moves_here(s, moves, room);
     if (s->options.each) tell_unsafe(s, moves, count);
     if (count > 0 || s->options.synchronous || !enter_held(s)) return count;

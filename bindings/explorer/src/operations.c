@@ -45,7 +45,6 @@ static void begin_send(struct steps *s, int rank, const struct explorer_ask *ask
     struct engine_answer answer;
     it->op = ++own->sends;
     it->waits = is_to_wait(s, ask);
-    if (strcmp(ask->name, "MPI_Rsend") == 0 || strcmp(ask->name, "MPI_Irsend") == 0) s->has_ready = true;
     if (it->waits) call.kind = ENGINE_ISSEND;
     call_engine(s, ask->plan != 0, rank, &call, bytes, ask->length, &answer);
     /* The engine ends one at once that goes in a frame. */
@@ -95,20 +94,22 @@ void begin_operation(struct steps *s, int rank, const struct explorer_ask *ask, 
     else begin_send(s, rank, ask, bytes);
 }
 
+/* ---- cancels ---- */
+
 /* Which of a message and the cancel of its receive comes first is no choice of the search: told once a rank. */
 static void tell_cancel(struct steps *s, int rank) {
     struct rank *own = &s->ranks[rank];
     if (own->has_cancelled) return;
     own->has_cancelled = true;
     at_place(note(s, rank, CANCEL_RACES,
-                  "rank %d: %s at %%0: whether the message or the cancel comes first is left to chance, "
-                  "and not tried both ways",
-                  rank, own->ask.name),
+                  "rank %d: %s at %%0: whether the message or the cancel comes first is not tried both ways", rank,
+                  own->ask.name),
              &own->place);
 }
 
-void cancel_operation(struct steps *s, int rank, uint64_t key) {
+static void cancel_operation(struct steps *s, int rank) {
     struct rank *own = &s->ranks[rank];
+    const uint64_t key = own->ask.call.request.key;
     struct operation *it = operation_of(s, rank, key);
     struct engine_answer answer = {.kind = ENGINE_ACCEPTED};
     if (it != NULL && !it->is_send && it->plan == 0) tell_cancel(s, rank);
@@ -122,6 +123,27 @@ void cancel_operation(struct steps *s, int rank, uint64_t key) {
     }
     give(s, rank, &answer);
 }
+
+/* It waits until nobody else goes on, so that it doesn't hang on which process is faster what is cancelled: a message
+ * comes first where it is there by then. */
+void begin_cancel(struct steps *s, int rank) {
+    s->ranks[rank].state = RANK_BLOCKED;
+    s->ranks[rank].is_cancelling = true;
+}
+
+bool cancel_all(struct steps *s) {
+    bool has_cancelled = false;
+    for (int rank = 0; rank < s->options.size; rank++) {
+        struct rank *own = &s->ranks[rank];
+        if (own->state != RANK_BLOCKED || !own->is_cancelling) continue;
+        own->is_cancelling = false;
+        cancel_operation(s, rank);
+        has_cancelled = true;
+    }
+    return has_cancelled;
+}
+
+/* ---- ends ---- */
 
 bool is_done(struct steps *s, int rank, uint64_t key) {
     if (key == EXPLORER_ENDED || key == EXPLORER_MADE) return true;

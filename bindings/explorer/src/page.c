@@ -1,6 +1,7 @@
 /* The page of all that was found: one HTML file that needs nothing else. See shell.h. */
 #define _GNU_SOURCE
 #include "page.h"
+#include "told.h"
 
 #include "shell.h"
 
@@ -53,8 +54,7 @@ static void open_page(void) {
     fputs(head, page);
     put_arrowheads(page);
     fputs("<h1>What <code>", page);
-    const char *name = set.played != NULL ? set.played : set.program[0], *folder = strrchr(name, '/');
-    put_escaped(page, folder != NULL ? folder + 1 : name);
+    put_escaped(page, program_name());
     for (char **word = set.program + 1; set.played == NULL && *word != NULL; word++) {
         fputc(' ', page);
         put_escaped(page, *word);
@@ -113,10 +113,9 @@ static void put_places(const struct finding *it) {
 /* ---- results ---- */
 
 static void put_finding(const struct finding *it) {
-    char words[1800];
-    say_finding(it, words, sizeof words);
-    fprintf(page, "<li class=\"w%u\">", it->weight);
-    put_escaped(page, words);
+    const struct told told = told_of(it);
+    fprintf(page, "<li class=\"w%u\">", told.weight);
+    put_escaped(page, told.words);
     fputc('\n', page);
     put_places(it);
     fputs("</li>\n", page);

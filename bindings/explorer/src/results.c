@@ -1,6 +1,6 @@
 /* What the runs came to: see shell.h. */
 #define _GNU_SOURCE
-#include "shell.h"
+#include "told.h"
 
 #include <stdlib.h>
 #include <string.h>
@@ -9,8 +9,15 @@ struct result *results;
 int result_count;
 
 const char *ending_word(enum ending ending) {
-    static const char *const words[] = {"",          "all ranks ended",  "DEADLOCK", "ended by an error",
-                                        "cut short", "a rank is silent", "cut off",  "open"};
+    static const char *const words[] = {"",
+                                        "all ranks ended",
+                                        "DEADLOCK",
+                                        "ended by an error",
+                                        "cut short",
+                                        "a rank is silent",
+                                        "cut off, since the time was over",
+                                        "open",
+                                        "can't be explored"};
     return words[ending];
 }
 
@@ -44,9 +51,8 @@ static char *words_of_findings(struct steps *s) {
     FILE *into = open_memstream(&all, &room);
     if (into == NULL) fail(STATUS_START, "no memory", "");
     for (int i = 0; i < count; i++) {
-        char line[1800];
-        say_finding(&findings[i], line, sizeof line);
-        fprintf(into, "  %s\n", line);
+        const struct told told = told_of(&findings[i]);
+        fprintf(into, "  %s\n", told.words);
     }
     fclose(into);
     return all;
@@ -89,7 +95,9 @@ static void keep_findings(struct result *it, struct steps *s) {
     it->findings = malloc(((size_t)it->finding_count + 1) * sizeof *findings);
     if (it->findings == NULL) fail(STATUS_START, "no memory", "");
     if (it->finding_count > 0) memcpy(it->findings, findings, (size_t)it->finding_count * sizeof *findings);
-    it->item_count = steps_picture(s, &it->items);
+    /* Only a page shows it; of a run that didn't end it would take longer than the run. */
+    it->items = NULL;
+    it->item_count = set.html != NULL && it->ending != LATE ? steps_picture(s, &it->items) : 0;
     it->cycle_length = steps_cycle(s, it->cycle);
 }
 
@@ -111,7 +119,7 @@ static void add_result(struct run *run, long number, uint64_t key) {
     it.output = output_of_ranks();
     it.is_early = run->early > 0;
     it.is_odd = !steps_has_one_order(run->steps);
-    it.has_places = set.places;
+    it.has_places = set.places || run->ending == LATE; /* its ranks were asked for them */
     it.has_mismatch = steps_has_mismatch(run->steps);
     it.moves = run->moves;
     it.move_count = run->move_count;
@@ -172,6 +180,21 @@ static void take_over(struct result *it, const struct run *again, char *output) 
     it->choices = again->choices;
     it->output = output;
     keep_findings(it, again->steps);
+}
+
+/* The choices of a run that was cut off, in words: it is made once more, up to the last of them. */
+static void find_choices_of_cut(struct result *it, bool synchronous) {
+    struct run again;
+    const bool told_places = set.places;
+    set.places = true;
+    force_moves(it->moves, it->move_count);
+    run_once(&again, synchronous, BY_PREFIX);
+    set.places = told_places;
+    free(it->choices);
+    it->choices = again.choices;
+    close_outputs();
+    steps_free(again.steps);
+    free(again.moves);
 }
 
 bool find_places(struct result *it, bool synchronous) {
@@ -238,14 +261,19 @@ static int reads_as(const struct result *it, int among) {
     return -1;
 }
 
-static void tell_parting(int own) {
-    struct parting parting;
-    char mine[1800], theirs[1800];
-    if (!find_parting(own, &parting)) return;
-    say_choice(parting.mine, mine, sizeof mine);
-    say_choice(parting.theirs, theirs, sizeof theirs);
-    printf("  it parts from result %d at choice %d: %s\n    and there: %s\n", parting.other + 1, parting.choice, mine,
-           theirs);
+/* The first call that can't be explored, or NULL: there is none. */
+static const char *said_of_unexplored(void) {
+    static char said[LONGEST_HEAD];
+    for (int i = 0; i < result_count; i++)
+        for (int k = 0; k < results[i].finding_count; k++) {
+            const struct finding *it = &results[i].findings[k];
+            char place[400];
+            if (it->kind != CANT_EXPLORE) continue;
+            say_place(it->places[0].frames, it->places[0].count, place, sizeof place);
+            snprintf(said, sizeof said, "can't be explored: %s at %s", it->places[0].name, place);
+            return said;
+        }
+    return NULL;
 }
 
 void say_sends(bool synchronous, char *into, size_t room) {
@@ -262,7 +290,7 @@ static size_t untried(const char *words[]) {
              set.mix);
     if (counts.has_apart) words[count++] = apart;
     if (counts.has_kept) words[count++] = "ranks that leave MPI_Comm_dup or MPI_Comm_split before all are there";
-    if (counts.has_ready) words[count++] = "ready sends that come before their receives";
+    if (counts.has_ready) words[count++] = "ready sends";
     if (counts.has_parts) words[count++] = "what MPI_Waitsome or MPI_Testsome ends of more than six, but one and all";
     if (counts.has_cancelled) words[count++] = "whether a message or the cancel of its receive comes first";
     return count;
@@ -293,6 +321,9 @@ const char *said_of(const struct pass *pass) {
     if (pass->astray != NULL) return pass->astray;
     if (pass->stopped != 0) return "stopped by a signal, before every choice was tried";
     if (set.replay != NULL || set.followed != NULL) return "by the choices of the file";
+    const char *unexplored = said_of_unexplored();
+    if (unexplored != NULL) return unexplored;
+    if (pass->runs == 0) return "not every choice was tried, and no run came to its end";
     if (!pass->is_all) return "not every choice was tried";
     for (int i = 0; i < result_count; i++)
         if (results[i].is_elsewhere)
@@ -301,12 +332,10 @@ const char *said_of(const struct pass *pass) {
     return said_of_all();
 }
 
-static void tell_head(const struct pass *pass) {
-    char sends[80];
-    say_sends(pass->synchronous, sends, sizeof sends);
-    printf("with %s: %d rank%s, %ld run%s: %s (%.2f s, %ld cut short, %lu calls, %lu choices)\n", sends, set.size,
-           set.size == 1 ? "" : "s", pass->runs, pass->runs == 1 ? "" : "s", said_of(pass), pass->took, pass->cut,
-           (unsigned long)counts.asks, (unsigned long)counts.moves);
+static void tell_head(void) {
+    const struct told_pass *it = &told_passes[told_pass_count - 1];
+    printf("%s (%.2f s, %ld cut short, %lu calls, %lu choices)\n", it->line, it->seconds, it->cut,
+           (unsigned long)it->calls, (unsigned long)it->choices);
 }
 
 /* Whether a rank's process ended by itself in a way that is told: what it printed may say why. */
@@ -318,16 +347,18 @@ static bool has_own_end(const struct result *it) {
     return false;
 }
 
-static void tell_result(int i) {
-    struct result *it = &results[i];
-    printf("result %d of %d, in %ld run%s: %s%s%s%s\n", i + 1, result_count, it->runs, it->runs == 1 ? "" : "s",
-           ending_word(it->ending), it->weight == 0 ? ", nothing to tell" : "",
-           it->is_early && it->weight > 0
-               ? " (perhaps: only where a look says no that could say yes, or tells of fewer than are there)"
-               : "",
-           it->is_odd ? " (perhaps: no one order of arrival gives this, but MPI allows it)" : "");
-    fputs(it->words, stdout);
-    if (result_count > 1 && (i > 0 || it->weight > 0)) tell_parting(i);
+static void tell_result(int i, const struct told_result *told) {
+    const struct result *it = &results[i];
+    printf("result %d of %d, in %ld run%s: %s%s%s%s\n", told->number, told->of, told->runs, told->runs == 1 ? "" : "s",
+           ending_word(told->ending), told->weight == 0 ? ", nothing to tell" : "",
+           told->is_early ? " (perhaps: only where a look says no that could say yes, or tells of fewer than are there)"
+                          : "",
+           told->is_odd ? " (perhaps: no one order of arrival gives this, but MPI allows it)" : "");
+    for (int k = 0; k < told_row_count; k++)
+        if (told_rows[k].result == told_result_count - 1) printf("  %s\n", told_rows[k].it.words);
+    if (told->choice > 0)
+        printf("  it parts from result %d at choice %d: %s\n    and there: %s\n", told->other, told->choice, told->here,
+               told->there);
     const bool is_worth_it = result_count > 1 || has_own_end(it);
     if (set.shows_output || (is_worth_it && !set.quiet)) fputs(it->output, stdout);
 }
@@ -353,6 +384,8 @@ static void merge_results(bool synchronous) {
     for (int i = 0; i < result_count; i++) {
         struct result *it = &results[i];
         if ((kept < set.results || set.counts_only) && needs_places(it)) (void)find_places(it, synchronous);
+        if (it->ending == LATE && it->choices == NULL && (result_count > 1 || set.out != NULL))
+            find_choices_of_cut(it, synchronous);
         const int same = reads_as(it, kept);
         if (same < 0) {
             results[kept++] = *it;
@@ -369,15 +402,20 @@ static void merge_results(bool synchronous) {
 }
 
 uint32_t tell_results(const struct pass *pass) {
+    const bool is_text = set.format == FORMAT_TEXT;
     if (result_count > 1) qsort(results, (size_t)result_count, sizeof *results, by_weight);
     merge_results(pass->synchronous);
-    tell_head(pass);
-    if (set.counts_only) printf("%d result%s\n", result_count, result_count == 1 ? "" : "s");
+    told_begin(pass);
+    if (is_text) tell_head();
+    if (set.counts_only && is_text) printf("%d result%s\n", result_count, result_count == 1 ? "" : "s");
     for (int i = 0; i < result_count && !set.counts_only && i < set.results; i++) {
-        struct result *it = &results[i];
-        if (it->is_elsewhere) printf("  (the same choices led elsewhere: it depends on something else, too)\n");
+        const struct result *it = &results[i];
+        const struct told_result *told = told_add(i);
+        if (it->is_elsewhere && is_text)
+            printf("  (the same choices led elsewhere: it depends on something else, too)\n");
         if (set.out != NULL) write_choices(it, i + 1, pass->synchronous);
-        tell_result(i);
+        if (is_text) tell_result(i, told);
     }
+    put_form();
     return weight_of_pass(pass);
 }

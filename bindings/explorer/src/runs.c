@@ -118,9 +118,50 @@ void end_runs_at(double time) { latest = time; }
 
 static bool is_over(void) { return now() > latest || asked_to_stop != 0; }
 
+/* So many milliseconds no rank may make a call; without an end where one is debugged. */
+static int longest_wait(void) {
+    const double left = latest - now();
+    if (set.debugged >= 0) return -1;
+    return left < set.patience ? (left < 0 ? 0 : (int)(left * 1000) + 1) : (int)(set.patience * 1000);
+}
+
+/* ---- where ranks stand when the time is over ---- */
+
+/* For a moment: ranks that run may come to a call. */
+static void hear_running(struct steps *s) {
+    static const double moment = 0.2;
+    const double end = now() + moment;
+    while (now() < end) {
+        struct pollfd sockets[MOST_RANKS];
+        int who[MOST_RANKS], count = running(s, sockets, who), left = 0;
+        for (int i = 0; i < count; i++)
+            if (!steps_awaits(s, who[i])) sockets[left] = sockets[i], who[left++] = who[i];
+        if (left == 0) return;
+        (void)poll(sockets, (nfds_t)left, 20);
+        for (int i = 0; i < left; i++)
+            if (sockets[i].revents != 0) hear_all(s, who[i]);
+    }
+}
+
+/* Asks a rank that waits for an answer where it stands. */
+static void ask_place(struct steps *s, int rank) {
+    const struct explorer_answer question = {.wants_place = 1};
+    struct explorer_ask ask;
+    const bool is_told = put_out(rank, &question, sizeof question) && take_in(rank, &ask, sizeof ask) &&
+                         ask.kind == ASK_PLACE && ask.frame_count <= EXPLORER_FRAMES &&
+                         take_in(rank, behind.frames, ask.frame_count * sizeof *behind.frames);
+    if (is_told) steps_stands(s, rank, &ask, behind.frames);
+}
+
+static void tell_stands(struct steps *s) {
+    hear_running(s);
+    for (int rank = 0; rank < set.size; rank++)
+        if (steps_awaits(s, rank) && socket_of_rank(rank) >= 0) ask_place(s, rank);
+    steps_tell_stands(s);
+}
+
 /* Lets ranks run until each is blocked or has ended: false, one stayed silent for too long, or it is too late. */
 static bool run_ranks(struct steps *s) {
-    const int patience = set.debugged >= 0 ? -1 : (int)(set.patience * 1000);
     for (;;) {
         struct pollfd sockets[MOST_RANKS];
         int who[MOST_RANKS];
@@ -132,8 +173,8 @@ static bool run_ranks(struct steps *s) {
             if (running(s, sockets, who) == 0) return true;
             continue;
         }
-        const int found = poll(sockets, (nfds_t)count, patience);
-        if (found < 0) continue;
+        const int found = poll(sockets, (nfds_t)count, longest_wait());
+        if (found < 0 || (found == 0 && is_over())) continue;
         if (found == 0) {
             tell_silent(s, who, count);
             return false;
@@ -212,7 +253,8 @@ static const struct move *searched_move(struct run *run, int at, const struct mo
 
 /* Makes the move that is due at this place: false where there is none. */
 static bool make_move(struct run *run, int at, const struct move *moves, int count, enum choosing choosing) {
-    const struct move *found = choosing == BY_FILE     ? forced_move(at, moves, count, &run->is_astray)
+    const struct move *found = choosing == BY_FILE || choosing == BY_PREFIX
+                                   ? forced_move(at, moves, count, &run->is_astray)
                                : choosing == BY_CHANCE ? &moves[random() % count]
                                : choosing == BY_RECORD ? recorded_move(moves, count)
                                                        : searched_move(run, at, moves, count);
@@ -232,6 +274,7 @@ static enum ending play(struct run *run, enum choosing choosing) {
     static struct move moves[MOST_MOVES];
     struct steps *s = run->steps;
     for (int at = 0;;) {
+        if (choosing == BY_PREFIX && at == forced_count) return CUT;
         if (!run_ranks(s)) return is_over() ? LATE : SILENT;
         const enum ending ending = steps_ending(s);
         if (ending != GOES_ON) return ending;
@@ -315,12 +358,15 @@ void run_once(struct run *run, bool synchronous, enum choosing choosing) {
                                           .goes_on = set.goes_on,
                                           .choices = &choices};
     search_start_run();
+    const uint64_t asks = counts.asks;
     *run = (struct run){.steps = steps_new(&options)};
     for (int rank = 0; rank < set.size; rank++) start_rank(rank, !synchronous);
     run->ending = play(run, choosing);
+    run->asks = counts.asks - asks;
+    if (run->ending == LATE && asked_to_stop == 0) tell_stands(run->steps);
     bool is_through = run->ending != CUT && run->ending != LATE;
     if (choosing == BY_SEARCH && is_through && !search_end_run()) run->is_astray = true;
-    answer_all(run->steps);
+    if (run->ending != LATE) answer_all(run->steps);
     for (int rank = 0; rank < set.size; rank++) end_process(run, rank);
     /* A signal of the terminal's went to the ranks, too: what it did to them is no end of a run. */
     if (asked_to_stop != 0) run->ending = LATE, run->is_astray = false;
@@ -329,11 +375,13 @@ void run_once(struct run *run, bool synchronous, enum choosing choosing) {
     steps_tell_collectives(run->steps);
     if (kombazily_is_rest_told(run->ending)) steps_tell_rest(run->steps);
     if (run->ending == DEADLOCK) steps_tell_others(run->steps);
+    steps_tell_ready(run->steps, run->ending == ENDED);
     counts.calls += steps_calls(run->steps);
     if (steps_withheld(run->steps)) counts.has_withheld = true;
     if (steps_cancelled(run->steps)) counts.has_cancelled = true;
+    if (steps_is_ready_unsure(run->steps)) counts.has_ready = true;
+    if (run->ending == UNEXPLORED) counts.is_unexplored = true;
     if (steps_kept(run->steps)) counts.has_kept = true;
-    if (steps_sent_ready(run->steps)) counts.has_ready = true;
     if (steps_left_parts(run->steps)) counts.has_parts = true;
     if (steps_sent_long(run->steps)) counts.has_long = true;
 }

@@ -22,7 +22,9 @@ struct settings {
     long mix; /* within so many places a run may make other choices than the first ones; -1: at all of them */
     double seconds, patience;
     int noes;
-    const char *replay, *out, *html, *input;
+    const char *replay, *out, *html, *input, *sarif, *junit;
+    const char *form; /* the word behind --format, and what it names */
+    enum { FORMAT_TEXT, FORMAT_JSON, FORMAT_GCC } format;
     const char *played;   /* the program whose record is played, or NULL */
     const char *followed; /* what was matched in its run, which one run follows */
     int debugged;         /* the rank under gdb, or -1 */
@@ -77,8 +79,8 @@ bool search_tried_all(void);
 
 /* ---- runs.c ---- */
 
-/* How the moves of a run are chosen. */
-enum choosing { BY_SEARCH, BY_CHANCE, BY_FILE, BY_RECORD };
+/* How the moves of a run are chosen; by a prefix: as by a file, and the run is cut behind its end. */
+enum choosing { BY_SEARCH, BY_CHANCE, BY_FILE, BY_PREFIX, BY_RECORD };
 
 struct run {
     enum ending ending;
@@ -92,16 +94,18 @@ struct run {
     bool differs; /* a choice wasn't the first one of its place, and the first such place */
     int differs_at;
     bool has_open_end; /* what was recorded of a rank was over before its program was */
+    uint64_t asks;     /* so many calls that the explorer heard of */
 };
 struct counts {
     uint64_t asks, moves, calls;
     bool has_withheld;  /* a look of some run wasn't let say no (--noes) */
-    bool has_cancelled; /* some run left to chance whether a message or the cancel of its receive came first */
     bool has_apart;     /* some run was kept from other choices than the first ones (--mix) */
     bool has_kept;      /* a rank had to stay in a call that makes a communicator, since others weren't there */
-    bool has_ready;     /* a ready send, whose receive may not be there yet */
     bool has_parts;     /* not each part of those that some of a list might end was tried */
     bool has_long;      /* a standard send of some run was longer than is buffered */
+    bool has_cancelled; /* some run left it open whether a message or the cancel of its receive comes first */
+    bool has_ready;     /* of a ready send of some run it isn't known whether it may come before its receive */
+    bool is_unexplored; /* some run came to a call that can't be explored */
 };
 extern struct counts counts;
 
@@ -123,6 +127,8 @@ struct source_line {
 /* The calls of a place that stand in the program's own source, innermost first: how many. */
 int source_lines(const uint64_t *frames, uint32_t count, struct source_line *lines, int room);
 void say_place(const uint64_t *frames, uint32_t count, char *into, size_t room);
+/* Where the choice of a line stands: how many frames. */
+uint32_t frames_of_choice(const char *at, uint64_t frames[EXPLORER_FRAMES]);
 void say_finding(const struct finding *finding, char *into, size_t room);
 /* A line of choices in words, or its rest behind them. */
 size_t say_choice(const char *at, char *into, size_t room);
@@ -154,10 +160,13 @@ void free_results(void);
 /* Writes what the runs came to, and says how much the pass weighs. */
 struct pass {
     bool synchronous, is_all;
-    bool is_late; /* the time was over, or a signal came, while a run lasted */
-    int stopped;  /* the signal that ended the search, or 0 */
+    bool is_late;       /* the time was over, or a signal came, while a run lasted */
+    uint64_t most_asks; /* of the runs that came to their ends */
+    int stopped;        /* the signal that ended the search, or 0 */
     const char *astray;
-    long runs, cut;
+    long tries; /* runs that were begun: */
+    long runs;  /* those that came to their ends, */
+    long cut;   /* and those that were cut short, since others stand for them */
     double took;
 };
 uint32_t tell_results(const struct pass *pass);

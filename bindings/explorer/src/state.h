@@ -18,6 +18,12 @@ enum operation_state {
     OP_COPIED
 };
 
+/* What a rank has made, by its number among those of its kind: where. */
+struct made_row {
+    struct place *of;
+    size_t count, room;
+};
+
 /* A send or a receive that a rank began and didn't end yet. */
 struct operation {
     enum operation_state state;
@@ -42,7 +48,8 @@ struct members {
     int size, rank;
     uint16_t *of;
     uint32_t entered; /* so many collectives */
-    struct place made_at;
+    bool is_freed;
+    struct place made_at, freed_at;
 };
 
 /* A receive that was posted, or a probe that saw something: whose message it named. */
@@ -90,8 +97,9 @@ enum rank_state { RANK_RUNS, RANK_BLOCKED, RANK_ENDED };
 struct rank {
     enum rank_state state;
     bool is_answered;
-    bool is_in_engine; /* in a call that the engine answers by FINISH */
-    bool is_held;      /* a collective that isn't entered yet */
+    bool is_in_engine;  /* in a call that the engine answers by FINISH */
+    bool is_held;       /* a collective that isn't entered yet */
+    bool is_cancelling; /* in MPI_Cancel, which is answered where nobody else goes on */
     bool is_finalized, has_failed, has_cancelled;
     /* The ask, and what stands behind it. */
     struct explorer_ask ask;
@@ -113,6 +121,8 @@ struct rank {
     int taking_count, taking_room;
     struct plan *plans; /* by their numbers, less one */
     int plan_count;
+    struct made_row made[MADE_KINDS];
+    uint32_t calls; /* so many calls of MPI it has made */
     struct series *series;
     int series_count;
     struct rest *rests; /* what the engines have of sends that were buffered and ended */
@@ -148,6 +158,7 @@ struct sent {
     uint64_t name;
     int source, target;
     int32_t tag;
+    bool is_ready; /* by a ready send */
     struct place place;
 };
 
@@ -185,13 +196,13 @@ struct steps {
     struct finding *findings;
     int finding_count;
     int cycle[MOST_RANKS], cycle_length; /* each waits for the next one, and the last one for the first */
-    bool is_aborted, has_mismatch, is_unsafe_told;
-    bool has_withheld; /* a look wasn't let say no, since others in front of it had */
-    bool has_copies;   /* some rank has asked for a copy that doesn't wait */
-    bool has_long;     /* a standard send was longer than is buffered */
-    bool has_kept;     /* a rank stayed in a call that makes a communicator, since others weren't there */
-    bool has_ready;    /* a ready send was made */
-    bool has_parts;    /* not each part was a move of the requests that some of a list might end */
+    bool is_aborted, is_unexplored, has_mismatch, is_unsafe_told;
+    bool has_ready, has_unsure_ready; /* some send was a ready one; of one it isn't known whether it may come early */
+    bool has_withheld;                /* a look wasn't let say no, since others in front of it had */
+    bool has_copies;                  /* some rank has asked for a copy that doesn't wait */
+    bool has_long;                    /* a standard send was longer than is buffered */
+    bool has_kept;  /* a rank stayed in a call that makes a communicator, since others weren't there */
+    bool has_parts; /* not each part was a move of the requests that some of a list might end */
     uint64_t calls;
     int rounds_of_no;
     struct sent *sent;
@@ -257,7 +268,9 @@ uint64_t mixed(uint64_t a, uint64_t b);
 
 struct operation *operation_of(struct steps *s, int rank, uint64_t key);
 void begin_operation(struct steps *s, int rank, const struct explorer_ask *ask, const uint8_t *bytes);
-void cancel_operation(struct steps *s, int rank, uint64_t key);
+void begin_cancel(struct steps *s, int rank);
+/* Cancels where no rank runs: whether some rank asked for it. */
+bool cancel_all(struct steps *s);
 void end_operation(struct steps *s, int rank, struct operation *it, struct engine_answer *answer);
 bool is_done(struct steps *s, int rank, uint64_t key);
 bool is_entry_done(struct steps *s, int rank, const struct explorer_entry *entry);
@@ -319,6 +332,28 @@ bool has_copies(const struct rank *own, uint32_t communicator, bool any);
 /* ---- buffers.c ---- */
 
 void answer_kept(struct steps *s, int rank);
+/* Finds which message each receive of a rank took, in the order in which they were begun. */
+void find_messages(struct steps *s, int rank);
+/* Whether what happened at this place among all events was known to a rank before another place. */
+bool is_known_before(const struct steps *s, size_t from, size_t before, int rank);
+
+/* ---- made.c ---- */
+
+void note_made(struct steps *s, int rank);
+void note_freed(struct steps *s, int rank);
+void free_made(struct rank *own);
+/* Counts those of these numbers by where they were made, behind so many rows that are known: how many rows there are.
+ */
+struct made_left {
+    enum made_kind kind;
+    uint32_t count;
+    const struct place *place;
+};
+uint32_t count_made(const struct rank *own, enum made_kind kind, const uint32_t *numbers, uint32_t count,
+                    struct made_left *left, uint32_t known);
+bool is_same_place(const struct place *a, const struct place *b);
+/* Tells of communicators that some member freed and another one left. */
+void tell_unfreed_members(struct steps *s);
 
 /* ---- misuses.c ---- */
 
@@ -356,9 +391,10 @@ bool is_log_full(const struct steps *s);
 struct finding *note(struct steps *s, int rank, enum finding_kind kind, const char *text, ...)
     __attribute__((format(printf, 4, 5)));
 void at_place(struct finding *it, const struct place *place);
-struct place nowhere(void);
 const char *peer_word(int32_t peer);
 const char *tag_word(int32_t tag);
+/* `rank 1`, or `ranks 1, 2 and 3`: how many. */
+int say_ranks(const struct steps *s, uint64_t ranks, char *into, size_t room);
 void tell_left(struct steps *s, int rank, const uint8_t *bytes);
 void tell_unsafe(struct steps *s, const struct move *moves, int count);
 struct operation *send_of(struct steps *s, const struct move *move);

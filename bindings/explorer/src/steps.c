@@ -29,6 +29,7 @@ static void free_rank(struct rank *own) {
     free(own->pins);
     free(own->takings);
     free(own->plans);
+    free_made(own);
     free(own->series);
     free(own->rests);
 }
@@ -60,6 +61,7 @@ static bool is_turn(const struct explorer_ask *ask) {
 static void keep_ask(struct rank *own, const struct explorer_ask *ask, const uint64_t *frames,
                      const struct explorer_entry *entries, const uint8_t *bytes) {
     own->ask = *ask;
+    own->calls = ask->calls;
     if (!is_turn(ask)) own->asks++;
     own->place = (struct place){.count = ask->frame_count, .number = own->asks};
     memcpy(own->place.name, ask->name, sizeof own->place.name);
@@ -104,7 +106,7 @@ static void ask_call(struct steps *s, int rank) {
     }
     switch (call->kind) {
     case ENGINE_CANCEL:
-        cancel_operation(s, rank, call->request.key);
+        begin_cancel(s, rank);
         return;
     case ENGINE_LOOK:
         answer_look(s, rank, call->request.key);
@@ -139,6 +141,15 @@ static void ask_error(struct steps *s, int rank) {
     heed(s, rank, kind);
 }
 
+static void ask_unsupported(struct steps *s, int rank) {
+    struct rank *own = &s->ranks[rank];
+    at_place(note(s, rank, CANT_EXPLORE, "rank %d: can't be explored: %s at %%0: %.*s", rank, own->ask.name,
+                  (int)own->ask.length, (const char *)own->bytes),
+             &own->place);
+    s->is_unexplored = true;
+    heed(s, rank, CANT_EXPLORE);
+}
+
 static void ask_abort(struct steps *s, int rank) {
     struct rank *own = &s->ranks[rank];
     at_place(note(s, rank, ABORTED, "rank %d called MPI_Abort with code %d at %%0", rank, own->ask.call.order),
@@ -146,14 +157,33 @@ static void ask_abort(struct steps *s, int rank) {
     heed(s, rank, ABORTED);
 }
 
+/* Takes what is answered by nothing: whether it is that. */
+static bool take_note(struct steps *s, int rank, const uint8_t *bytes) {
+    const struct explorer_ask *ask = &s->ranks[rank].ask;
+    switch (ask->kind) {
+    case ASK_POST:
+        begin_operation(s, rank, ask, bytes);
+        return true;
+    case ASK_MADE:
+        note_made(s, rank);
+        return true;
+    case ASK_FREED:
+        note_freed(s, rank);
+        return true;
+    case ASK_ENTER:
+        begin_plan(s, rank);
+        return true;
+    default:
+        return false;
+    }
+}
+
 void steps_ask(struct steps *s, int rank, const struct explorer_ask *ask, const uint64_t *frames,
                const struct explorer_entry *entries, const uint8_t *bytes) {
     struct rank *own = &s->ranks[rank];
     keep_ask(own, ask, frames, entries, bytes);
+    if (take_note(s, rank, bytes)) return;
     switch (ask->kind) {
-    case ASK_POST:
-        begin_operation(s, rank, ask, bytes);
-        return;
     case ASK_CALL:
         ask_call(s, rank);
         return;
@@ -161,11 +191,11 @@ void steps_ask(struct steps *s, int rank, const struct explorer_ask *ask, const 
     case ASK_RETURNED:
         ask_error(s, rank);
         return;
+    case ASK_UNSUPPORTED:
+        ask_unsupported(s, rank);
+        return;
     case ASK_ABORT:
         ask_abort(s, rank);
-        return;
-    case ASK_ENTER:
-        begin_plan(s, rank);
         return;
     case ASK_KEPT:
         answer_kept(s, rank);
@@ -280,7 +310,6 @@ uint64_t steps_calls(const struct steps *s) { return s->calls; }
 bool steps_withheld(const struct steps *s) { return s->has_withheld; }
 
 bool steps_kept(const struct steps *s) { return s->has_kept; }
-bool steps_sent_ready(const struct steps *s) { return s->has_ready; }
 bool steps_left_parts(const struct steps *s) { return s->has_parts; }
 
 bool steps_sent_long(const struct steps *s) { return s->has_long; }
@@ -294,5 +323,5 @@ bool steps_cancelled(const struct steps *s) {
 enum ending steps_ending(const struct steps *s) {
     bool has_ended[MOST_RANKS] = {false};
     for (int rank = 0; rank < s->options.size; rank++) has_ended[rank] = s->ranks[rank].state == RANK_ENDED;
-    return kombazily_ending_of_ranks(s->is_aborted, has_ended, (size_t)s->options.size);
+    return kombazily_ending_of_ranks(s->is_unexplored, s->is_aborted, has_ended, (size_t)s->options.size);
 }

@@ -97,10 +97,11 @@ uint64_t steps_calls(const struct steps *s);
 bool steps_withheld(const struct steps *s);
 /* Whether a receive was cancelled to which a message might have come first. */
 bool steps_cancelled(const struct steps *s);
-/* Whether a rank stayed in a call that makes a communicator, since others weren't there; and whether a ready send was
- * made, which MPI allows only once its receive is there (3.4). */
+/* Whether a rank waits for an answer, so that it can be asked for its place; and what it told of that. */
+bool steps_awaits(const struct steps *s, int rank);
+void steps_stands(struct steps *s, int rank, const struct explorer_ask *ask, const uint64_t *frames);
+/* Whether a rank stayed in a call that makes a communicator, since others weren't there. */
 bool steps_kept(const struct steps *s);
-bool steps_sent_ready(const struct steps *s);
 /* Whether more requests were at their ends for MPI_Waitsome or MPI_Testsome than each part was a move of. */
 bool steps_left_parts(const struct steps *s);
 /* Whether a standard send was longer than is buffered. */
@@ -124,6 +125,12 @@ void steps_say_move(struct steps *s, struct move move, char *text, size_t room, 
 void steps_tell_collectives(struct steps *s);
 void steps_tell_deadlock(struct steps *s);
 void steps_tell_rest(struct steps *s);
+/* Of a run that was cut off when the time was over: where each rank stood. */
+void steps_tell_stands(struct steps *s);
+/* Ready sends that may come before their receives; where all ranks ended, those that have none, too. */
+void steps_tell_ready(struct steps *s, bool is_at_end);
+/* Whether there were some of which that isn't known. */
+bool steps_is_ready_unsure(const struct steps *s);
 /* Of a deadlock: what is there of those from whom a rank waits for a message, with another tag. */
 void steps_tell_others(struct steps *s);
 /* Told of a rank's process, with the rank's last call that came here, but for a record that is over. */

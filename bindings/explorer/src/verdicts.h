@@ -10,7 +10,7 @@
 /* A finding of a run, by its number; 0 is none. */
 enum finding_kind {
     REQUEST_LEFT = 1,  /* a request that no call ended */
-    COMMUNICATOR_LEFT, /* a communicator, and types or persistent requests, that weren't freed */
+    COMMUNICATOR_LEFT, /* a communicator, and a type or a persistent request, that wasn't freed */
     TYPES_LEFT,
     MESSAGES_TAKEN, /* messages that were taken out and not received */
     NEVER_RECEIVED, /* a message */
@@ -28,24 +28,28 @@ enum finding_kind {
     KILLED,   /* a rank's process was killed, ended without MPI_Finalize, or with another status than 0 */
     NO_FINALIZE,
     OTHER_STATUS,
-    RECORD_ENDS,   /* what was recorded of a rank is over */
-    CANCEL_RACES,  /* whether a message or the cancel of its receive comes first is left to chance */
-    BUFFER_MISUSED /* a buffer is used that an operation has */
+    RECORD_ENDS,    /* what was recorded of a rank is over */
+    CANCEL_RACES,   /* whether a message or the cancel of its receive comes first isn't tried both ways */
+    BUFFER_MISUSED, /* a buffer is used that an operation has */
+    STOOD_THERE,    /* a rank, when the time was over */
+    CANT_EXPLORE,   /* a rank made a call that can't be explored */
+    READY_EARLY     /* a ready send may come before its receive */
 };
 
 /* How a run ends, by its number. */
-enum ending { GOES_ON, ENDED, DEADLOCK, ERROR, CUT, SILENT, LATE, OPEN_END };
+enum ending { GOES_ON, ENDED, DEADLOCK, ERROR, CUT, SILENT, LATE, OPEN_END, UNEXPLORED };
 
 /* 3: the program is wrong; 2: something is left over; 1: it is worth knowing; 0: no such finding. */
 uint32_t kombazily_finding_weight(uint32_t finding);
-/* Whether its rank is known to have failed by it; whether it ends the job, where errors are to be returned or not. */
+/* Whether its rank is known to have come no further by it; whether it ends the job, where errors are to be returned or
+ * not. */
 bool kombazily_finding_fails(uint32_t finding);
 bool kombazily_finding_ends_job(uint32_t finding, bool goes_on);
 /* Whether one finding is told before another, each by its rank and the how-many-th it is. */
 bool kombazily_finding_is_before(uint32_t finding, uint32_t rank, uint32_t number, uint32_t other_finding,
                                  uint32_t other_rank, uint32_t other_number);
 
-/* What is told at this place of what a rank left behind, or 0: each request, each communicator, types, messages. */
+/* What is told at this place of what a rank left behind, or 0: each request, communicator and type, and messages. */
 uint32_t kombazily_leak_at(uint32_t requests, uint32_t communicators, uint32_t types, uint32_t messages,
                            uint64_t place);
 /* What is told of a rank where nobody can go on, or 0; `ask` is an explorer_ask_kind. */
@@ -56,7 +60,7 @@ uint32_t kombazily_sends_told(uint32_t waiting, bool only_buffers, bool was_told
 bool kombazily_is_absence_told(const bool *has_failed, size_t ranks, bool is_absent, bool was_told);
 
 /* How a run has ended whose ranks have ended or not; GOES_ON, it hasn't. */
-uint32_t kombazily_ending_of_ranks(bool is_aborted, const bool *has_ended, size_t ranks);
+uint32_t kombazily_ending_of_ranks(bool is_unexplored, bool is_aborted, const bool *has_ended, size_t ranks);
 /* Whether it is a deadlock where no rank can go on and there is no move; else those that only ask are told no, which
  * they were in so many rounds. */
 bool kombazily_is_stuck(const bool *asks, size_t ranks, uint32_t rounds);
@@ -77,8 +81,12 @@ uint32_t kombazily_weight_of_run(uint32_t ending, const uint32_t *findings, size
 uint32_t kombazily_weight_of_pass(const uint32_t *runs, size_t count, bool is_astray);
 /* Whether a result is told before another, by their weights and first runs. */
 bool kombazily_result_is_before(uint32_t weight, uint64_t run, uint32_t other_weight, uint64_t other_run);
-/* The explorer's status, by what its passes weigh; whether it is told that there is another pass. */
-uint32_t kombazily_status_of_check(const uint32_t *passes, size_t count);
-bool kombazily_is_hint_told(const uint32_t *passes, size_t count, bool was_asked);
+/* The explorer's status, by what its passes weigh and whether a call couldn't be explored; whether it is told that
+ * there is another pass. */
+uint32_t kombazily_status_of_check(const uint32_t *passes, size_t count, bool is_unexplored);
+bool kombazily_is_hint_told(const uint32_t *passes, size_t count, bool is_unexplored, bool was_asked);
+/* Whether a run is told of that was cut off when the time was over, where so many came to their ends, by the calls that
+ * it made and the most that one of those made. */
+bool kombazily_is_cut_told(uint64_t ended, uint64_t calls, uint64_t most_calls);
 
 #endif

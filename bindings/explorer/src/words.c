@@ -17,9 +17,11 @@ struct settings set = {.size = 2,
 
 static const char usage[] =
     "usage: kombazily check -n RANKS [WORD ..] PROGRAM [ARGUMENT ..]\n"
+    "       kombazily check -n RANKS [WORD ..] FILE.c .. [ARGUMENT ..]\n"
     "\n"
     "Runs a C program of MPI again and again, and makes the choices that MPI leaves open each time otherwise,\n"
-    "until all were made or a bound is met. PROGRAM is linked with this library, best with -g.\n"
+    "until all were made or a bound is met. PROGRAM is linked with this library, best with -g; FILE.c ..,\n"
+    "which may be Fortran (FILE.f90), is compiled so first.\n"
     "\n"
     "  -n RANKS         how many ranks, 1 to 64 (2)\n"
     "  --both           two passes, as without these words: in the first one sends are buffered; in the second one\n"
@@ -38,6 +40,9 @@ static const char usage[] =
     "  --replay FILE    one run, by the choices of such a file\n"
     "  --debug RANK     this rank under gdb\n"
     "  --html FILE      a page of all that was found\n"
+    "  --format FORM    text; json: an object a line, of each pass and of each finding; gcc: lines as a compiler's\n"
+    "  --sarif FILE     what was found, as SARIF 2.1.0\n"
+    "  --junit FILE     the same as JUnit's XML: a suite a pass, a test a result\n"
     "  --go-on          an error that would end the program is told, and returned\n"
     "  --results K      so many results are told (10)\n"
     "  --output         what the program printed is shown, also of one result in which no rank crashed or failed\n"
@@ -58,9 +63,10 @@ static const char usage[] =
     "-n, --both, --only-buffered, --synchronous, --each, --buffered (65536), --most, --seconds, --results, --output,\n"
     "--quiet, --stdin and --html are as above; that each order was tried is not claimed of it.\n"
     "\n"
-    "The status is 0: nothing; 1: something is wrong or left over; 2: these words are wrong; 6: the program\n"
-    "can't be run, or is none of MPI, or memory is wanting. What it finds, misses and says falsely:\n"
-    "docs/CHECKING.md. That no choice that matters is left out is argued and tested, and not proved.\n";
+    "The status is 0: nothing; 1: something is wrong or left over, or no run came to its end; 2: these words are\n"
+    "wrong; 6: the program can't be run, or is none of MPI, or memory is wanting; 7: it can't be explored. What it\n"
+    "finds, misses and says falsely: docs/CHECKING.md. That no choice that matters is left out is argued and\n"
+    "tested, and not proved.\n";
 
 /* A word, and where its number or its text goes. */
 struct word {
@@ -85,6 +91,9 @@ static const struct word known[] = {
     {"--replay", TAKES_TEXT, &set.replay},
     {"--debug", TAKES_WHOLE, &set.debugged},
     {"--html", TAKES_TEXT, &set.html},
+    {"--format", TAKES_TEXT, &set.form},
+    {"--sarif", TAKES_TEXT, &set.sarif},
+    {"--junit", TAKES_TEXT, &set.junit},
     {"--go-on", TAKES_NOTHING, &set.goes_on},
     {"--results", TAKES_LONG, &set.results},
     {"--output", TAKES_NOTHING, &set.shows_output},
@@ -147,6 +156,17 @@ static void find_program(void) {
     *set.program = name;
 }
 
+static void read_form(void) {
+    static const char *const forms[] = {[FORMAT_TEXT] = "text", [FORMAT_JSON] = "json", [FORMAT_GCC] = "gcc"};
+    if (set.form == NULL) return;
+    for (size_t i = 0; i < sizeof forms / sizeof *forms; i++)
+        if (strcmp(set.form, forms[i]) == 0) {
+            set.format = i;
+            return;
+        }
+    fail(STATUS_WORDS, "--format is text, json or gcc, and not ", set.form);
+}
+
 /* Which passes are made: both, unless one is asked for. */
 static void read_passes(void) {
     if (set.synchronous && set.each)
@@ -177,6 +197,7 @@ void read_words(int count, char **words) {
     if (set.input != NULL && access(set.input, R_OK) != 0) fail(STATUS_WORDS, "it can't be read: ", set.input);
     read_passes();
     if (set.mix == 0) fail(STATUS_WORDS, "--mix 1 at least: the choices of one place alone differ then", "");
+    read_form();
     if (set.size < 1 || set.size > MOST_RANKS) fail(STATUS_WORDS, "1 to 64 ranks", "");
     if (set.debugged >= set.size) fail(STATUS_WORDS, "there is no such rank to debug", "");
     if (set.debugged >= 0) set.forks = false;

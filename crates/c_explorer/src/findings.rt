@@ -5,7 +5,7 @@ ghost use Rattle.rank_findings.specs.Endings.{ending_at, ending_of_ranks, is_pro
 ghost use Rattle.rank_findings.specs.Findings.{finding_at, weight_at};
 ghost use Rattle.rank_findings.specs.Orders.{is_result_before};
 ghost use Rattle.rank_findings.specs.Told.{call_at, finding_of_wait, is_absence_told, leaks, sends_told};
-ghost use Rattle.rank_findings.specs.Verdicts.{is_hint_told, status_of, weight_of_pass};
+ghost use Rattle.rank_findings.specs.Verdicts.{is_cut_told, is_hint_told, status_of, weight_of_pass};
 ghost use Rattle.c_explorer.specs.FindingNumbers.{behind_at, exit_at, fails_at, found, is_before_at, job_ends_at};
 ghost use Rattle.c_explorer.specs.FindingNumbers.{is_rest_told_at, of_end_at, open_at, over, told_at};
 ghost use Rattle.c_explorer.specs.FindingNumbers.{weight_of_run_at};
@@ -175,10 +175,14 @@ pub extern "C" fn kombazily_is_absence_told(
 
 /// How a run has ended, or 0: it goes on.
 #[unsafe(no_mangle)]
-pub extern "C" fn kombazily_ending_of_ranks(is_aborted: bool, has_ended: &[bool]) -> u32
-    ensures { result ≡ over (ending_of_ranks is_aborted has_ended.now) }
+pub extern "C" fn kombazily_ending_of_ranks(
+    is_unexplored: bool,
+    is_aborted: bool,
+    has_ended: &[bool],
+) -> u32
+    ensures { result ≡ over (ending_of_ranks is_unexplored is_aborted has_ended.now) }
 {
-    number_of_ending(rank_findings::ending_of_ranks(is_aborted, has_ended))
+    number_of_ending(rank_findings::ending_of_ranks(is_unexplored, is_aborted, has_ended))
 }
 
 /// Whether a run is a deadlock where no rank can go on and there is no move.
@@ -297,18 +301,30 @@ pub extern "C" fn kombazily_result_is_before(
     rank_findings::is_result_before(weight, run, other_weight, other_run)
 }
 
-/// The status of the explorer, whose passes weigh so much.
+/// The status of the explorer, whose passes weigh so much, and which met a call that can't be explored or none.
 #[unsafe(no_mangle)]
-pub extern "C" fn kombazily_status_of_check(passes: &[u32]) -> u32
-    ensures { result ≡ status_of passes.now }
+pub extern "C" fn kombazily_status_of_check(passes: &[u32], is_unexplored: bool) -> u32
+    ensures { result ≡ status_of passes.now is_unexplored }
 {
-    rank_findings::status_of(passes)
+    rank_findings::status_of(passes, is_unexplored)
+}
+
+/// Whether a run is told of that was cut off when the time was over, by how many came to their ends, and by calls.
+#[unsafe(no_mangle)]
+pub extern "C" fn kombazily_is_cut_told(ended: u64, calls: u64, most_calls: u64) -> bool
+    ensures { result ≡ is_cut_told ended calls most_calls }
+{
+    rank_findings::is_cut_told(ended, calls, most_calls)
 }
 
 /// Whether it is told that there is another pass.
 #[unsafe(no_mangle)]
-pub extern "C" fn kombazily_is_hint_told(passes: &[u32], was_asked: bool) -> bool
-    ensures { result ≡ is_hint_told passes.now was_asked }
+pub extern "C" fn kombazily_is_hint_told(
+    passes: &[u32],
+    is_unexplored: bool,
+    was_asked: bool,
+) -> bool
+    ensures { result ≡ is_hint_told passes.now is_unexplored was_asked }
 {
-    rank_findings::is_hint_told(passes, was_asked)
+    rank_findings::is_hint_told(passes, is_unexplored, was_asked)
 }

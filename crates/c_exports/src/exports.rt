@@ -1,17 +1,20 @@
 //! The functions that C calls.
 
-ghost use Rattle.std.specs.Prelude.{◌≡◌, ◌⊎◌, ◌↔◌, All, IsSome, IsTrue, None, Some, true};
+ghost use Rattle.std.specs.Prelude.{◌≡◌, ◌⊎◌, ◌↔◌, All, IsSome, IsTrue, None, Some, true, unwrap_or};
 ghost use Rattle.sessions.specs.Peers.{IsIdlePeer};
 ghost use Rattle.c_rank.specs.Answers.{refusal};
 ghost use Rattle.c_rank.specs.Calls.{Answers};
 ghost use Rattle.c_rank.specs.IncomingDatagrams.{TakesIn};
 ghost use Rattle.c_rank.specs.OutgoingDatagrams.{HandsNext};
-ghost use Rattle.c_rank.specs.State.{IsNoPlace, IsOpening, IsSameTime, RankState, Ticks};
+ghost use Rattle.c_rank.specs.State.{IsNoPlace, IsOpening, IsSameTime, Learns, LearnsAll, RankState, Ticks, learned};
 ghost use Rattle.c_rank.specs.AnswerCopies.{TakesOf};
 ghost use Rattle.c_exports.specs.HandleContents.{OnHeld};
+ghost use Rattle.round_trips.specs.Latenesses.{crowded, lateness_behind};
+ghost use Rattle.round_trips.specs.Turns.{told_at_once};
 
 use crate::handle::Handle;
 use c_rank::{AnswerRecord, CallRecord, OutgoingRecord, PlaceRecord, Rank, refusal};
+use round_trips::{Estimate, Lateness, told_at_once};
 use std::alloc::Global;
 
 /// The number of a call with a handle that holds nothing.
@@ -114,19 +117,106 @@ pub extern "C" fn kombazily_datagram(alloc: Global, rank: &mut Handle, bytes: &[
     }
 }
 
-/// The clock says the time, in nanoseconds: 0, or the number of the refusal.
+/// The clock says the time, in nanoseconds, and frames may go again that aren't acknowledged, or not: 0, or the number
+/// of the refusal.
 #[unsafe(no_mangle)]
-pub extern "C" fn kombazily_tick(alloc: Global, rank: &mut Handle, now: u64) -> u32
-    ensures { OnHeld rank.old.held.value rank.new.held.value (result ≡ 81) (λ r s. Ticks r now result s) }
+pub extern "C" fn kombazily_tick(
+    alloc: Global,
+    rank: &mut Handle,
+    now: u64,
+    may_repeat: bool,
+) -> u32
+    ensures { OnHeld rank.old.held.value rank.new.held.value (result ≡ 81)
+        (λ r s. Ticks r now may_repeat result s) }
 {
     match rank.take(alloc) {
         Some(mut held) => {
-            let number = held.tick(now);
+            let number = held.tick(now, may_repeat);
             rank.put(held);
             u32::from(number)
         }
         None => u32::from(NOTHING_HELD),
     }
+}
+
+/// Frames to a rank take as long as this says, which others learned that do with the same process.
+#[unsafe(no_mangle)]
+pub extern "C" fn kombazily_learn(alloc: Global, rank: &mut Handle, peer: u16, estimate: &Estimate)
+    ensures { OnHeld rank.old.held.value rank.new.held.value (rank.new.held.value ≡ rank.old.held.value)
+        (λ r s. Learns r peer estimate.now s) }
+{
+    match rank.take(alloc) {
+        Some(mut held) => {
+            held.learn(peer, *estimate);
+            rank.put(held);
+        }
+        None => {}
+    }
+}
+
+/// The same of all ranks.
+#[unsafe(no_mangle)]
+pub extern "C" fn kombazily_learn_all(alloc: Global, rank: &mut Handle, estimate: &Estimate)
+    ensures { OnHeld rank.old.held.value rank.new.held.value (rank.new.held.value ≡ rank.old.held.value)
+        (λ r s. LearnsAll r estimate.now s) }
+{
+    match rank.take(alloc) {
+        Some(mut held) => {
+            held.learn_all(*estimate);
+            rank.put(held);
+        }
+        None => {}
+    }
+}
+
+/// Puts what was learned of the round trips to a rank, if there is one and something was.
+#[unsafe(no_mangle)]
+pub extern "C" fn kombazily_learned(
+    alloc: Global,
+    rank: &mut Handle,
+    peer: u16,
+    estimate: &mut Estimate,
+)
+    ensures { OnHeld rank.old.held.value rank.new.held.value (estimate.new ≡ estimate.old)
+        (λ r s. (s ≡ r) × (estimate.new ≡ unwrap_or (learned r peer) estimate.old)) }
+{
+    match rank.take(alloc) {
+        Some(held) => {
+            *estimate = held.learned(peer).unwrap_or(*estimate);
+            rank.put(held);
+        }
+        None => {}
+    }
+}
+
+/// Puts how late ranks on one machine are thought to answer at first, where so many ranks are on so many processors.
+#[unsafe(no_mangle)]
+pub extern "C" fn kombazily_begin_lateness(
+    ranks: u32,
+    processors: u32,
+    now: u64,
+    late: &mut Lateness,
+)
+    ensures { (late.new.estimate ≡ crowded ranks processors) × (late.new.since ≡ now) }
+{
+    *late = Lateness::begun(ranks, processors, now);
+}
+
+/// An engine learned this of ranks on one machine.
+#[unsafe(no_mangle)]
+pub extern "C" fn kombazily_note_lateness(late: &mut Lateness, learned: &Estimate, now: u64)
+    ensures { late.new ≡ lateness_behind late.old learned.now now }
+{
+    late.note(*learned, now);
+}
+
+/// How many of so many engines of a process are told that frames may go again, once so many milliseconds have passed since
+/// some were told last.
+#[unsafe(no_mangle)]
+pub extern "C" fn kombazily_told_at_once(count: u64, passed: u64) -> u64
+    ensures { result ≡ told_at_once count passed }
+{
+    told_at_once(count, passed)
 }
 
 /// Hands out the datagrams that go next, and answers how many bytes they are.

@@ -1,5 +1,5 @@
 -- How long frames wait, told rank by rank; datagrams that go out, one after the other.
-use Rattle.std.proofs.Common.{◌≡◌, ℕ, zero, suc, ◌+◌, ◌<◌, ◌≤◌, List, [], ◌∷◌, ◌++◌, length, take, arith}
+use Rattle.std.proofs.Common.{◌≡◌, ℕ, zero, suc, ◌+◌, ◌<◌, ◌≤◌, Bool, List, [], ◌∷◌, ◌++◌, length, take, arith}
 use Rattle.std.proofs.Common.{refl, sym, ap, ◌∙◌}
 use Rattle.std.specs.Prelude.{slice_get, slice_index_or, Some, None}
 use Rattle.std.proofs.lemmas.List.{length-take, take_all, take_more}
@@ -9,14 +9,14 @@ use Rattle.datagram.specs.ByteMeanings.{datagram_of}
 use Rattle.engine.specs.Ticks.{after_wait}
 use Rattle.engine_calls.specs.EngineState.{EngineState}
 use Rattle.port_transport.specs.Wires.{Parcel}
-use Rattle.round_trips.specs.Trips.{after_sent, wait_now}
+use Rattle.round_trips.specs.Trips.{after_sent}
 use Rattle.round_trips.specs.declared.round_trip.RoundTrip.{RoundTrip}
-use Rattle.c_rank.specs.Clocks.{after_all, waits_in, with_waits}
+use Rattle.c_rank.specs.Clocks.{after_all, wait_told, waits_in, with_waits}
 
 -- what is told of a rank stands in its place
-pub wait_there : (trips : List RoundTrip) (rank : ℕ) → option_map wait_now (slice_get trips rank) ≡
-    slice_get (waits_in trips) rank
-wait_there trips rank = sym (slice_get-map wait_now trips rank)
+pub wait_there : (b : Bool) (trips : List RoundTrip) (rank : ℕ) → option_map (wait_told b) (slice_get trips rank) ≡
+    slice_get (waits_in b trips) rank
+wait_there b trips rank = sym (slice_get-map (wait_told b) trips rank)
 
 with_more : (e : EngineState) (r : ℕ) (ws : List ℕ) (w : ℕ) →
     with_waits e r (ws ++ w ∷ []) ≡ after_wait (with_waits e r ws) (r + length ws) w

@@ -1,5 +1,5 @@
 -- What the engine of a rank is told of the time, and what goes out by the round trips that were measured.
-use Rattle.std.specs.Prelude.{ℕ, suc, List, [], ◌∷◌, filter, map, take, Result, Ok, Err}
+use Rattle.std.specs.Prelude.{ℕ, suc, Bool, true, false, List, [], ◌∷◌, filter, map, take, Result, Ok, Err}
 use Rattle.datagram.specs.ByteMeanings.{datagram_of}
 use Rattle.engine.specs.Ticks.{after_wait}
 use Rattle.engine_calls.specs.EngineState.{EngineState}
@@ -8,9 +8,14 @@ use Rattle.port_transport.specs.Wires.{Parcel}
 use Rattle.round_trips.specs.Trips.{after_came, after_sent, may_go, wait_now}
 use Rattle.round_trips.specs.declared.round_trip.RoundTrip.{RoundTrip}
 
--- how long frames to each rank wait for their acknowledgements, from rank 0 on
-abbrev pub waits_in : List RoundTrip → List ℕ
-waits_in trips = map wait_now trips
+-- how long frames to a rank wait for their acknowledgements: without end where nothing may go again
+abbrev pub wait_told : (may_repeat : Bool) → RoundTrip → ℕ
+wait_told true t = wait_now t
+wait_told false t = 18446744073709551615
+
+-- the same to each rank, from rank 0 on
+abbrev pub waits_in : (may_repeat : Bool) → List RoundTrip → List ℕ
+waits_in may_repeat trips = map (wait_told may_repeat) trips
 
 -- frames to the ranks from this one on wait so long
 abbrev pub with_waits : EngineState → (rank : ℕ) → List ℕ → EngineState

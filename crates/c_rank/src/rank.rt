@@ -1,6 +1,6 @@
 //! One rank: its engine, the data of its last answer, and what it sends.
 
-ghost use Rattle.std.specs.Prelude.{◌≡◌, ◌≤◌, ◌<◌, ◌⊎◌, ◌↔◌, ◌/◌, [], All, IfErr, IfNone, IfOk, IfSome, IsTrue, None, Result, length, true};
+ghost use Rattle.std.specs.Prelude.{◌≡◌, ◌≤◌, ◌<◌, ◌⊎◌, ◌↔◌, ◌/◌, [], All, IfErr, IfNone, IfOk, IfSome, IsTrue, None, Result, length, slice_get, true};
 ghost use Rattle.engine.specs.Looks.{type_probed};
 ghost use Rattle.engine.specs.Datagrams.{DatagramGives};
 ghost use Rattle.engine_calls.specs.declared.call.Call.TheVariants as calls;
@@ -8,13 +8,14 @@ ghost use Rattle.engine_calls.specs.declared.reply.Reply.{Reply};
 ghost use Rattle.point_to_point_calls.specs.declared.refusal.Refusal.{Refusal};
 ghost use Rattle.requests.specs.Table.{finished_at};
 ghost use Rattle.sessions.specs.Peers.{IsIdlePeer};
-ghost use Rattle.c_rank.specs.Clocks.{after_all, going, told_waits, trips_behind, waits_in};
+ghost use Rattle.std.specs.Option.{option_map};
+ghost use Rattle.c_rank.specs.Clocks.{after_all, going, told_waits, trips_behind, wait_told, waits_in};
 ghost use Rattle.c_rank.specs.Calls.{Answers, AnswersMeant, AnswersOrLacks, Tells, TellsReply, look_told, type_out};
 ghost use Rattle.c_rank.specs.Meanings.{receive_meant, send_meant};
 ghost use Rattle.c_rank.specs.OutgoingDatagrams.{AsksEngine, HandsFirst, HandsNext, KeepsBack, KeepsRest, MayAsk, Releases};
 ghost use Rattle.c_rank.specs.OutgoingDatagrams.{StaysSo, after_taking, pending};
 ghost use Rattle.c_rank.specs.State.{AreLimits, HasNoLimits, IsNoLimit, IsNoPlace, IsOpening, IsSameTime, TellsTime, Ticks};
-ghost use Rattle.c_rank.specs.State.{number_of_result, place_said};
+ghost use Rattle.c_rank.specs.State.{Learns, LearnsAll, learned, number_of_result, place_said, trips_of};
 ghost use Rattle.c_rank.specs.Windows.{sifted, windows_behind, windows_sifted};
 ghost use Rattle.c_rank.specs.AnswerCopies.{Takes, TakesOf};
 ghost use Rattle.vocabulary.specs.MessageLimits.{limit_of};
@@ -36,8 +37,8 @@ use datagram::{Bytes, GREATEST_DATAGRAM};
 use datatypes::WholeBuffer;
 use engine::{Call, Engine, Mode, Place, Probe, Refusal, Reply, Request};
 use outgoing_datagrams::{OutgoingRecord, Sending};
-use round_trips::RoundTrips;
-use std::alloc::Global;
+use round_trips::{Estimate, RoundTrips};
+use std::alloc::{AllocError, Global};
 use std::marker::Model;
 use vocabulary::{BasicType, Endpoint, MessageLimit};
 
@@ -149,6 +150,17 @@ fn place_of(told: &PlaceRecord) -> Result<Place, u8>
     })
 }
 
+/// What is known of round trips at the start of the rank at this place.
+fn trips_of(alloc: Global, place: &PlaceRecord) -> Result<RoundTrips, AllocError>
+    ensures { IfOk result (λ trips. trips ≡ trips_of place.now) }
+{
+    if place.is_near {
+        RoundTrips::late(alloc, place.size)
+    } else {
+        RoundTrips::near(alloc, place.size)
+    }
+}
+
 /// The number of how an event went: 0, or that of the refusal.
 fn number_of(gone: Result<(), Refusal>) -> u8
     ensures { result ≡ number_of_result gone }
@@ -159,12 +171,25 @@ fn number_of(gone: Result<(), Refusal>) -> u8
     }
 }
 
+/// How many milliseconds frames to a rank of the job wait for their acknowledgements: without end where nothing may go
+/// again.
+fn wait_told(trips: &RoundTrips, rank: u16, may_repeat: bool) -> Option<u64>
+    ensures { result ≡ option_map (wait_told may_repeat) (slice_get trips.now rank) }
+{
+    let wait = trips.wait_of(rank)?;
+    if may_repeat {
+        Some(wait)
+    } else {
+        Some(u64::MAX)
+    }
+}
+
 /// The engine is told how long frames to the ranks of its job wait for their acknowledgements.
-fn tell_waits(engine: &mut Engine, trips: &RoundTrips)
-    ensures { engine.new ≡ told_waits engine.old (waits_in trips.now) }
+fn tell_waits(engine: &mut Engine, trips: &RoundTrips, may_repeat: bool)
+    ensures { engine.new ≡ told_waits engine.old (waits_in may_repeat trips.now) }
 {
     for rank in 0..engine.place().size {
-        let Some(wait) = trips.wait_of(rank) else {
+        let Some(wait) = wait_told(trips, rank, may_repeat) else {
             return;
         };
         engine.set_wait(rank, wait);
@@ -221,7 +246,7 @@ impl Rank {
             Ok(engine) => engine,
             Err(refused) => return Err(refused.number()),
         };
-        let Ok(trips) = RoundTrips::near(alloc, own.size) else {
+        let Ok(trips) = trips_of(alloc, place) else {
             return Err(Refusal::OutOfMemory.number());
         };
         match windows::opened(alloc, place) {
@@ -435,15 +460,36 @@ impl Rank {
         number_of(gone)
     }
 
+    /// Frames to a rank take as long as others learned that do with the same process.
+    pub fn learn(&mut self, rank: u16, estimate: Estimate)
+        ensures { Learns self.old rank estimate self.new }
+    {
+        self.trips.learn(rank, estimate);
+    }
+
+    /// The same of all ranks.
+    pub fn learn_all(&mut self, estimate: Estimate)
+        ensures { LearnsAll self.old estimate self.new }
+    {
+        self.trips.learn_all(estimate);
+    }
+
+    /// What was learned of the round trips to a rank, if there is one and something was.
+    pub fn learned(&self, rank: u16) -> Option<Estimate>
+        ensures { result ≡ learned self.now rank }
+    {
+        self.trips.estimate_of(rank)
+    }
+
     /// Tells the engine how long frames wait, and the time.
-    fn tell_time(&mut self, millisecond: u64) -> u8
-        ensures tells { TellsTime self.old millisecond result self.new }
+    fn tell_time(&mut self, millisecond: u64, may_repeat: bool) -> u8
+        ensures tells { TellsTime self.old millisecond may_repeat result self.new }
         ensures received { self.new.received ≡ self.old.received }
         ensures sending { self.new.sending ≡ self.old.sending }
         ensures trips { self.new.trips ≡ self.old.trips }
         ensures windows { self.new.windows ≡ self.old.windows }
     {
-        tell_waits(&mut self.engine, &self.trips);
+        tell_waits(&mut self.engine, &self.trips, may_repeat);
         match self.engine.tick(millisecond) {
             Ok(()) => {
                 self.told = millisecond;
@@ -453,17 +499,17 @@ impl Rank {
         }
     }
 
-    /// The clock says `now`, in nanoseconds. The engine is told it in milliseconds, each once: 0, or the number of its
-    /// refusal (41 where the time is below what it was told, 14).
-    pub fn tick(&mut self, now: u64) -> u8
-        ensures { Ticks self.old now result self.new }
+    /// The clock says `now`, in nanoseconds. The engine is told it in milliseconds, each once, unless frames may go again
+    /// by this tick: 0, or the number of its refusal (41 where the time is below what it was told, 14).
+    pub fn tick(&mut self, now: u64, may_repeat: bool) -> u8
+        ensures { Ticks self.old now may_repeat result self.new }
     {
         self.sending.tick(now);
         let millisecond = now / MILLISECOND;
-        if millisecond == self.told {
+        if millisecond == self.told && !may_repeat {
             return 0;
         }
-        self.tell_time(millisecond)
+        self.tell_time(millisecond, may_repeat)
     }
 
     /// What is to go of what the engine emitted waits from now on, in place of what waited. Round trips begin with it.

@@ -29,6 +29,8 @@ pub struct PlaceRecord {
     pub size: u16,
     /// The incarnation at which the rank runs.
     pub incarnation: u16,
+    /// Whether all ranks are on one machine: there what isn't answered is late, and hardly ever lost.
+    pub is_near: bool,
     /// The most bytes of data of a frame.
     pub frame_limit: u32,
     /// How many bytes that came the socket of a rank keeps: what is on its way to each is bounded by that, and has a

@@ -1,5 +1,5 @@
 -- Connections to hosts.
-use Rattle.std.specs.Prelude.{ℕ, Bool, List, nat_lt}
+use Rattle.std.specs.Prelude.{ℕ, Bool, nat_lt}
 use Rattle.std.specs.Str.{bytes_eq}
 use Rattle.launch_keeper.specs.Words.{Word}
 

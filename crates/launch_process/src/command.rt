@@ -102,7 +102,13 @@ fn run_launch<
 
 /// Plans the launch anew, and keeps the rank.
 fn run_keeper<
-    R: Print + Eprint + AllocGlobal + Clock + Processes<Started: OpenProcess<Stdout: AsRawFd>>,
+    R: Env
+        + Files
+        + Print
+        + Eprint
+        + AllocGlobal
+        + Clock
+        + Processes<Started: OpenProcess<Stdout: AsRawFd>>,
 >(rt: &R, rank: u16, words: &[Word]) -> LaunchOutcome {
     let Ok(plan) = plan(rt.alloc(), words, None) else {
         return LaunchOutcome::Failed;

@@ -8,11 +8,24 @@ use crate::child::Watch;
 use launch_decisions::{Next, Start, ending_of, start_command};
 use launch_keeper::{EndingLine, ProgramEnding, Report, Words};
 use launch_plan::Plan;
+use start_marks::MarkFile;
+use std::alloc::Global;
 use std::io;
 use std::io::{ErrorKind, Write};
 use std::os::fd::AsRawFd;
-use std::process::{Child, OpenProcess, Processes, Stdio};
+use std::process::{Child, Command, OpenProcess, Processes, Stdio};
+use std::rt::{Env, Files};
 use std::time::Clock;
+
+/// The variable that tells a program which process keeps it, so that it needn't outlive that.
+const KEEPER: &str = "KOMBAZILY_KEEPER";
+
+/// Lets a program know that this process keeps it.
+fn tell_keeper(alloc: Global, command: &mut Command) -> io::Result<()> {
+    let own = libc::getpid();
+    let _set = command.env(KEEPER, format!(in alloc; "{own}")?.as_str())?;
+    Ok(())
+}
 
 /// Adds what the program writes to the output, and waits for its end.
 fn follow<R: AllocGlobal + Processes + Clock, P: OpenProcess<Stdout: AsRawFd>>(
@@ -38,6 +51,7 @@ fn run_once<R: AllocGlobal + Clock + Processes<Started: OpenProcess<Stdout: AsRa
     output: &mut Vec<u8>,
 ) -> io::Result<ProgramEnding> {
     let mut command = start_command(rt.alloc(), start, words)?;
+    tell_keeper(rt.alloc(), &mut command)?;
     command.stdin(Stdio::null());
     command.stdout(Stdio::piped());
     let Ok(mut child) = command.spawn(rt) else {
@@ -98,8 +112,17 @@ fn run_rank<R: Eprint + AllocGlobal + Clock + Processes<Started: OpenProcess<Std
 
 /// Keeps a rank, and writes the report of it.
 pub fn keep<
-    R: Print + Eprint + AllocGlobal + Clock + Processes<Started: OpenProcess<Stdout: AsRawFd>>,
+    R: Env
+        + Files
+        + Print
+        + Eprint
+        + AllocGlobal
+        + Clock
+        + Processes<Started: OpenProcess<Stdout: AsRawFd>>,
 >(rt: &R, plan: &Plan, rank: u16) -> io::Result<()> {
     let report = run_rank(rt, plan, rank)?;
+    if let Some(marks) = MarkFile::told(rt, plan.size()) {
+        marks.end(rank);
+    }
     io::writer(rt).write_all(&report.into_bytes()?)
 }

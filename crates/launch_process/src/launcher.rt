@@ -7,7 +7,8 @@ use launch_keeper::{TakenPortsLine, UnstartedKeeperLine, Word, join_from};
 use launch_plan::{LaunchOutcome, Plan};
 use libc::EMFILE;
 use process_commands::ClosedStreams;
-use std::alloc::AllocError;
+use start_marks::{MarkFile, VARIABLE};
+use std::alloc::{AllocError, Global};
 use std::io::{ErrorKind, Write};
 use std::net::{Ipv4Addr, Net, SocketAddr, TcpListener};
 use std::os::fd::AsRawFd;
@@ -43,6 +44,19 @@ fn tell_unstarted<R: Eprint>(rt: &R, rank: usize, error: &io::Error) {
     }
 }
 
+/// Lets a keeper and its program know where the marks of the ranks are, if they are anywhere.
+fn tell_marks(alloc: Global, command: &mut Command, marks: Option<MarkFile>) -> io::Result<()> {
+    match marks {
+        Some(marks) => {
+            let _set = command.env(VARIABLE, marks.name(alloc)?.as_str())?;
+        }
+        None => {
+            let _removed = command.env_remove(VARIABLE)?;
+        }
+    }
+    Ok(())
+}
+
 /// Starts the keepers of so many ranks, in rank order.
 fn start_all<R: Env + Files + Eprint + AllocGlobal + Processes>(
     rt: &R,
@@ -52,10 +66,12 @@ fn start_all<R: Env + Files + Eprint + AllocGlobal + Processes>(
 ) -> io::Result<Vec<Child<R::Started>>> {
     let alloc = rt.alloc();
     let itself = env::current_exe(rt)?;
+    let marks = MarkFile::new(alloc, size).ok();
     let mut keepers = Vec::new(alloc);
     let mut commands = keeper_commands(alloc, itself.as_str(), size, words)?;
     for (rank, command) in commands.iter_mut().enumerate() {
         closed.stand_in(command);
+        tell_marks(alloc, command, marks)?;
         let keeper = start_or_tell(rt, rank, command)?;
         keepers.push(keeper).map_err(AllocError::from)?;
     }

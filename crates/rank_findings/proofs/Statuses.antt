@@ -37,16 +37,16 @@ passes_tell (p ∷ ps) =
     ap (λ (t : Bool). t || list_any is_told (map weighs ps)) (pass_tells p.runs p.is_astray) ∙
     ap (λ (t : Bool). tells p || t) (passes_tell ps)
 
-one : (t : Bool) → t ≡ true → ◌≡◌ {A = ℕ} (if t then 1 else 0) 1
-one true is = refl
-one false is = absurd cc
+one : (t : Bool) (other : ℕ) → t ≡ true → (if t then 1 else other) ≡ 1
+one true other is = refl
+one false other is = absurd cc
 
-none : (t : Bool) → t ≡ false → ◌≡◌ {A = ℕ} (if t then 1 else 0) 0
-none true is = absurd cc
-none false is = refl
+none : (t : Bool) (other : ℕ) → t ≡ false → (if t then 1 else other) ≡ other
+none true other is = absurd cc
+none false other is = refl
 
 pub runs_give_statuses : RunsGiveStatuses
-runs_give_statuses ps = (
-  λ is. one (list_any is_told (map weighs ps)) (passes_tell ps ∙ is),
-  λ is. none (list_any is_told (map weighs ps)) (passes_tell ps ∙ is),
+runs_give_statuses ps unexplored = (
+  λ is. one (list_any is_told (map weighs ps)) (if unexplored then 7 else 0) (passes_tell ps ∙ is),
+  λ is. none (list_any is_told (map weighs ps)) (if unexplored then 7 else 0) (passes_tell ps ∙ is),
 )

@@ -2,7 +2,7 @@
 use Rattle.std.proofs.Common.{◌≡◌, ℕ, ◌≤◌, Bool, true, false, ◌||◌, List, [], ◌∷◌, map, refl, sym, ap, ◌∙◌, subst, arith}
 use Rattle.std.specs.Prelude.{if◌then◌else◌, max}
 use Rattle.std.specs.List.{list_any}
-use Rattle.rank_findings.specs.Endings.{is_all_ended}
+use Rattle.rank_findings.specs.Endings.{is_all_ended, is_unexplored}
 use Rattle.rank_findings.specs.Findings.{finding_number, is_fault, is_left, weight, weight_at}
 use Rattle.rank_findings.specs.Laws.{FaultsAreWrong}
 use Rattle.rank_findings.specs.Verdicts.{heaviest}
@@ -12,7 +12,8 @@ use Rattle.rank_findings.specs.declared.finding.Finding.TheVariants.{MessagesTak
 use Rattle.rank_findings.specs.declared.finding.Finding.TheVariants.{AsksForEver, InFinalize, Cycle, Differs}
 use Rattle.rank_findings.specs.declared.finding.Finding.TheVariants.{NeverEntered, CallFailed, ErrorReturned, Aborted}
 use Rattle.rank_findings.specs.declared.finding.Finding.TheVariants.{Silent, Killed, NoFinalize, OtherStatus}
-use Rattle.rank_findings.specs.declared.finding.Finding.TheVariants.{RecordEnds, CancelRaces, BufferMisused}
+use Rattle.rank_findings.specs.declared.finding.Finding.TheVariants.{RecordEnds, CancelRaces, BufferMisused, StoodThere}
+use Rattle.rank_findings.specs.declared.finding.Finding.TheVariants.{CantExplore, ReadyEarly}
 
 -- one more number is looked at
 pub largest_next : (most w h all : ℕ) → max most (max w h) ≡ all → max (max w most) h ≡ all
@@ -41,6 +42,9 @@ weight_is OtherStatus = refl
 weight_is RecordEnds = refl
 weight_is CancelRaces = refl
 weight_is BufferMisused = refl
+weight_is StoodThere = refl
+weight_is CantExplore = refl
+weight_is ReadyEarly = refl
 
 at_most_three : (a b : Bool) → (if a then 3 else (if b then 2 else 1)) ≤ 3
 at_most_three true b = omega arith
@@ -84,4 +88,4 @@ either true x is = is
 either false x is = refl
 
 pub faults_are_wrong : FaultsAreWrong
-faults_are_wrong ending fs is = either (is_all_ended ending) _ (fault_is_heaviest fs is)
+faults_are_wrong ending fs is = either (is_all_ended ending || is_unexplored ending) _ (fault_is_heaviest fs is)

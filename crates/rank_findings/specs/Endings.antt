@@ -5,7 +5,7 @@ use Rattle.std.specs.List.{list_all, list_any}
 use Rattle.rank_findings.specs.Findings.{is_fault}
 use Rattle.rank_findings.specs.declared.ending.Ending.{Ending}
 use Rattle.rank_findings.specs.declared.ending.Ending.TheVariants.{AllEnded, Deadlock, ByError, CutShort, RankSilent}
-use Rattle.rank_findings.specs.declared.ending.Ending.TheVariants.{CutOff, IsOpen}
+use Rattle.rank_findings.specs.declared.ending.Ending.TheVariants.{CutOff, IsOpen, Unexplored}
 use Rattle.rank_findings.specs.declared.ending.Exit.{Exit}
 use Rattle.rank_findings.specs.declared.ending.Exit.TheVariants.{Status, Signal}
 use Rattle.rank_findings.specs.declared.ending.ProcessEnd.{ProcessEnd}
@@ -20,26 +20,32 @@ ending_number CutShort = 4
 ending_number RankSilent = 5
 ending_number CutOff = 6
 ending_number IsOpen = 7
+ending_number Unexplored = 8
 
 -- the ending that a number names
 abbrev pub ending_at : ℕ → Option Ending
 ending_at n =
     if n == 1 then Some AllEnded else (if n == 2 then Some Deadlock else (if n == 3 then Some ByError else
     (if n == 4 then Some CutShort else (if n == 5 then Some RankSilent else (if n == 6 then Some CutOff else
-    (if n == 7 then Some IsOpen else None))))))
+    (if n == 7 then Some IsOpen else (if n == 8 then Some Unexplored else None)))))))
 
 abbrev pub is_all_ended : Ending → Bool
 is_all_ended AllEnded = true
 is_all_ended e = false
 
+abbrev pub is_unexplored : Ending → Bool
+is_unexplored Unexplored = true
+is_unexplored e = false
+
 abbrev pub is_deadlock : Ending → Bool
 is_deadlock Deadlock = true
 is_deadlock e = false
 
--- A run is over once a rank has ended the job, which is an error, or all ranks have ended
-abbrev pub ending_of_ranks : (is_aborted : Bool) → (has_ended : List Bool) → Option Ending
-ending_of_ranks is_aborted has_ended =
-    if is_aborted then Some ByError else (if list_all (λ e. e) has_ended then Some AllEnded else None)
+-- A run is over once a rank has made a call that can't be explored, or ended the job, which is an error, or all ranks have
+-- ended
+abbrev pub ending_of_ranks : (is_unexplored is_aborted : Bool) → (has_ended : List Bool) → Option Ending
+ending_of_ranks is_unexplored is_aborted has_ended =
+    if is_unexplored then Some Unexplored else if is_aborted then Some ByError else (if list_all (λ e. e) has_ended then Some AllEnded else None)
 
 -- Where no rank can go on and there is no move, those that only ask are told no; it is a deadlock where nobody asks, or
 -- those that do were told no 1,000 times in a row

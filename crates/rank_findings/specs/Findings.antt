@@ -6,7 +6,8 @@ use Rattle.rank_findings.specs.declared.finding.Finding.TheVariants.{MessagesTak
 use Rattle.rank_findings.specs.declared.finding.Finding.TheVariants.{AsksForEver, InFinalize, Cycle, Differs}
 use Rattle.rank_findings.specs.declared.finding.Finding.TheVariants.{NeverEntered, CallFailed, ErrorReturned, Aborted}
 use Rattle.rank_findings.specs.declared.finding.Finding.TheVariants.{Silent, Killed, NoFinalize, OtherStatus}
-use Rattle.rank_findings.specs.declared.finding.Finding.TheVariants.{RecordEnds, CancelRaces, BufferMisused}
+use Rattle.rank_findings.specs.declared.finding.Finding.TheVariants.{RecordEnds, CancelRaces, BufferMisused, StoodThere}
+use Rattle.rank_findings.specs.declared.finding.Finding.TheVariants.{CantExplore, ReadyEarly}
 
 abbrev pub finding_number : Finding → ℕ
 finding_number RequestLeft = 1
@@ -31,6 +32,9 @@ finding_number OtherStatus = 19
 finding_number RecordEnds = 20
 finding_number CancelRaces = 21
 finding_number BufferMisused = 22
+finding_number StoodThere = 23
+finding_number CantExplore = 24
+finding_number ReadyEarly = 25
 
 -- the finding that a number names
 abbrev pub finding_at : ℕ → Option Finding
@@ -43,10 +47,12 @@ finding_at n =
     (if n == 14 then Some ErrorReturned else (if n == 15 then Some Aborted else (if n == 16 then Some Silent else
     (if n == 17 then Some Killed else (if n == 18 then Some NoFinalize else (if n == 19 then Some OtherStatus else
     (if n == 20 then Some RecordEnds else (if n == 21 then Some CancelRaces else
-    (if n == 22 then Some BufferMisused else None)))))))))))))))))))))
+    (if n == 22 then Some BufferMisused else (if n == 23 then Some StoodThere else (if n == 24 then Some CantExplore else
+    (if n == 25 then Some ReadyEarly else None))))))))))))))))))))))))
 
 -- the program is wrong: somebody waits and nobody can go on, a call fails, a process dies or makes no call, members enter
--- a collective differently or not at all, a buffer is used that an operation has
+-- a collective differently or not at all, a buffer is used that an operation has, the time is over, a ready send may come
+-- before its receive
 abbrev pub is_fault : Finding → Bool
 is_fault Waits = true
 is_fault AsksForEver = true
@@ -60,6 +66,8 @@ is_fault Silent = true
 is_fault Killed = true
 is_fault NoFinalize = true
 is_fault BufferMisused = true
+is_fault StoodThere = true
+is_fault ReadyEarly = true
 is_fault f = false
 
 -- something is left over: a request, a message, a status, a send that a buffer is to take
@@ -83,14 +91,16 @@ weight_of None = 0
 abbrev pub weight_at : ℕ → ℕ
 weight_at n = weight_of (finding_at n)
 
--- a rank is known to have failed by an error that ends the program, and by MPI_Abort
+-- a rank is known to have come no further by an error that ends the program, by MPI_Abort, and by what can't be explored
 abbrev pub does_fail : Finding → Bool
 does_fail CallFailed = true
 does_fail Aborted = true
+does_fail CantExplore = true
 does_fail f = false
 
--- such an error ends the job unless it is to be returned; MPI_Abort always does
+-- such an error ends the job unless it is to be returned; MPI_Abort always does, and what can't be explored
 abbrev pub ends_job : Finding → (goes_on : Bool) → Bool
 ends_job CallFailed goes_on = not goes_on
 ends_job Aborted goes_on = true
+ends_job CantExplore goes_on = true
 ends_job f goes_on = false

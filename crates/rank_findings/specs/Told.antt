@@ -36,11 +36,11 @@ finding_of_wait w =
 abbrev pub once : Finding → (count : ℕ) → List Finding
 once f count = if count == 0 then [] else f ∷ []
 
--- What is told of what a rank left behind: each request and each communicator, types and messages once
+-- What is told of what a rank left behind: each request, each communicator and each type, and messages once
 abbrev pub leaks : Leaks → List Finding
 leaks l =
     replicate l.requests RequestLeft ++
-    (replicate l.communicators CommunicatorLeft ++ (once TypesLeft l.types ++ once MessagesTaken l.messages))
+    (replicate l.communicators CommunicatorLeft ++ (replicate l.types TypesLeft ++ once MessagesTaken l.messages))
 
 -- How many sends are told, where nobody goes on unless one is buffered: eight at most, and once in a run
 abbrev pub sends_told : (waiting : ℕ) → (only_buffers was_told : Bool) → ℕ

@@ -4,7 +4,7 @@ ghost use Rattle.std.specs.Prelude.{◌≡◌, Some};
 ghost use Rattle.std.specs.List.{list_all, list_any};
 ghost use Rattle.rank_findings.specs.Endings.{ending_at, ending_behind, ending_number, ending_of_ranks};
 ghost use Rattle.rank_findings.specs.Endings.{finding_of_end, finding_of_status, is_all_ended, is_deadlock, is_kill, is_program};
-ghost use Rattle.rank_findings.specs.Endings.{is_stuck, with_open_end};
+ghost use Rattle.rank_findings.specs.Endings.{is_stuck, is_unexplored, with_open_end};
 
 use crate::finding::Finding;
 
@@ -34,6 +34,8 @@ pub enum Ending {
     CutOff,
     /// What was recorded of a rank is over, so that it isn't known how the others go on.
     IsOpen,
+    /// A call that can't be explored ended it.
+    Unexplored,
 }
 
 /// How a process ended.
@@ -73,6 +75,7 @@ impl Ending {
             5 => Some(Ending::RankSilent),
             6 => Some(Ending::CutOff),
             7 => Some(Ending::IsOpen),
+            8 => Some(Ending::Unexplored),
             _ => None,
         }
     }
@@ -90,6 +93,7 @@ impl Ending {
             Ending::RankSilent => 5,
             Ending::CutOff => 6,
             Ending::IsOpen => 7,
+            Ending::Unexplored => 8,
         }
     }
 
@@ -99,6 +103,16 @@ impl Ending {
     {
         match self {
             Ending::AllEnded => true,
+            _ => false,
+        }
+    }
+
+    /// Whether a call that can't be explored ended it.
+    pub(crate) fn is_unexplored(self) -> bool
+        ensures { result ≡ is_unexplored self }
+    {
+        match self {
+            Ending::Unexplored => true,
             _ => false,
         }
     }
@@ -132,11 +146,14 @@ fn is_any_killed(signals: &[u32]) -> bool
     signals.iter().any(|signal| *signal != 0 && *signal != KILL)
 }
 
-/// How a run has ended whose ranks have ended or not, if it has: by an error where one ended the job; else once all have.
-pub fn ending_of_ranks(is_aborted: bool, has_ended: &[bool]) -> Option<Ending>
-    ensures { result ≡ ending_of_ranks is_aborted has_ended.now }
+/// How a run has ended whose ranks have ended or not, if it has: by what can't be explored; by an error where one ended
+/// the job; else once all have.
+pub fn ending_of_ranks(is_unexplored: bool, is_aborted: bool, has_ended: &[bool]) -> Option<Ending>
+    ensures { result ≡ ending_of_ranks is_unexplored is_aborted has_ended.now }
 {
-    if is_aborted {
+    if is_unexplored {
+        Some(Ending::Unexplored)
+    } else if is_aborted {
         Some(Ending::ByError)
     } else if are_all(has_ended) {
         Some(Ending::AllEnded)

@@ -47,10 +47,16 @@ pub enum Finding {
     OtherStatus,
     /// What was recorded of a rank is over.
     RecordEnds,
-    /// Chance decides whether a message or the cancel of its receive comes first.
+    /// Whether a message or the cancel of its receive comes first isn't tried both ways.
     CancelRaces,
     /// The program uses a buffer that an operation has.
     BufferMisused,
+    /// A rank stood in a call, or between two, when the time was over.
+    StoodThere,
+    /// A rank made a call that can't be explored.
+    CantExplore,
+    /// A ready send may come before its receive.
+    ReadyEarly,
 }
 
 impl Finding {
@@ -81,6 +87,9 @@ impl Finding {
             20 => Some(Finding::RecordEnds),
             21 => Some(Finding::CancelRaces),
             22 => Some(Finding::BufferMisused),
+            23 => Some(Finding::StoodThere),
+            24 => Some(Finding::CantExplore),
+            25 => Some(Finding::ReadyEarly),
             _ => None,
         }
     }
@@ -113,11 +122,15 @@ impl Finding {
             Finding::RecordEnds => 20,
             Finding::CancelRaces => 21,
             Finding::BufferMisused => 22,
+            Finding::StoodThere => 23,
+            Finding::CantExplore => 24,
+            Finding::ReadyEarly => 25,
         }
     }
 
     /// Whether the program is wrong: somebody waits and nobody can go on, a call fails, a process dies or makes no call,
-    /// members enter a collective differently or not at all, or a buffer is used that an operation has.
+    /// members enter a collective differently or not at all, a buffer is used that an operation has, the time is over,
+    /// or a ready send may come too early.
     pub fn is_fault(self) -> bool
         ensures { result ≡ is_fault self }
     {
@@ -126,6 +139,7 @@ impl Finding {
             Finding::Differs | Finding::NeverEntered | Finding::Aborted => true,
             Finding::BufferMisused => true,
             Finding::CallFailed | Finding::Silent | Finding::Killed | Finding::NoFinalize => true,
+            Finding::StoodThere | Finding::ReadyEarly => true,
             _ => false,
         }
     }
@@ -154,23 +168,24 @@ impl Finding {
         }
     }
 
-    /// Whether its rank is known to have failed by it.
+    /// Whether its rank is known to have come no further by it.
     pub fn does_fail(self) -> bool
         ensures { result ≡ does_fail self }
     {
         match self {
-            Finding::CallFailed | Finding::Aborted => true,
+            Finding::CallFailed | Finding::Aborted | Finding::CantExplore => true,
             _ => false,
         }
     }
 
-    /// Whether it ends the job: an error does unless it is to be returned, and `MPI_Abort` always does.
+    /// Whether it ends the job: an error does unless it is to be returned; `MPI_Abort` always does, and what can't be
+    /// explored.
     pub fn ends_job(self, goes_on: bool) -> bool
         ensures { result ≡ ends_job self goes_on }
     {
         match self {
             Finding::CallFailed => !goes_on,
-            Finding::Aborted => true,
+            Finding::CantExplore | Finding::Aborted => true,
             _ => false,
         }
     }

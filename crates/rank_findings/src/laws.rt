@@ -11,9 +11,9 @@ pub fn findings_have_one_order()
     ensures along { GoesAlong }
 {}
 
-/// States that a run is wrong where one of its findings is a fault, and where not all ranks ended (`faults`, `errors`);
-/// that a process which dies of its own ends its run by an error (`deaths`); and that what ends the job ends the run by
-/// an error (`aborts`). It does nothing when it is called.
+/// States that a run is wrong where one of its findings is a fault, and where not all ranks ended, unless what can't be
+/// explored ended it (`faults`, `errors`); that a process which dies of its own ends its run by an error (`deaths`); and
+/// that what ends the job ends the run (`aborts`). It does nothing when it is called.
 pub fn faults_count()
     ensures faults { FaultsAreWrong }
     ensures errors { ErrorsAreWrong }
@@ -21,8 +21,8 @@ pub fn faults_count()
     ensures aborts { AbortsEndRuns }
 {}
 
-/// States that the status is 1 exactly where a run of some pass weighs 2 and more, or a pass went astray. It does nothing
-/// when it is called.
+/// States that the status is 1 exactly where a run of some pass weighs 2 and more, or a pass went astray, and else 7
+/// exactly where a call can't be explored. It does nothing when it is called.
 pub fn statuses_tell_of_runs()
     ensures { RunsGiveStatuses }
 {}

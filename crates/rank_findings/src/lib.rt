@@ -22,4 +22,4 @@ pub use order::{Told, is_result_before, is_told_before};
 pub use told::{
     Call, Leaks, Wait, finding_of_wait, is_absence_told, is_rest_told, leak_at, sends_told,
 };
-pub use verdict::{is_hint_told, status_of, weight_of_pass, weight_of_run};
+pub use verdict::{is_cut_told, is_hint_told, status_of, weight_of_pass, weight_of_run};

@@ -41,7 +41,7 @@ pub struct Leaks {
     pub requests: u32,
     /// So many communicators.
     pub communicators: u32,
-    /// So many types.
+    /// So many types and persistent requests, those of one place counted once.
     pub types: u32,
     /// So many messages that were taken out and not received.
     pub messages: u32,
@@ -88,7 +88,8 @@ pub fn finding_of_wait(wait: &Wait) -> Option<Finding>
     }
 }
 
-/// What is told at this place of what a rank left behind: each request and each communicator, types and messages once.
+/// What is told at this place of what a rank left behind: each request, each communicator and each type, and messages
+/// once.
 pub fn leak_at(left: &Leaks, place: u64) -> Option<Finding>
     ensures { result ≡ slice_get (leaks left.now) place }
 {
@@ -100,10 +101,13 @@ pub fn leak_at(left: &Leaks, place: u64) -> Option<Finding>
         return Some(Finding::CommunicatorLeft);
     }
     let rest = behind - left.communicators as u64;
-    match (rest, left.types > 0, left.messages > 0) {
-        (0, true, _) => Some(Finding::TypesLeft),
-        (0, false, true) | (1, true, true) => Some(Finding::MessagesTaken),
-        _ => None,
+    if rest < left.types as u64 {
+        return Some(Finding::TypesLeft);
+    }
+    if rest - left.types as u64 == 0 && left.messages > 0 {
+        Some(Finding::MessagesTaken)
+    } else {
+        None
     }
 }
 

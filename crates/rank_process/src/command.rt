@@ -2,6 +2,7 @@
 
 ghost use Rattle.std.specs.Prelude.{◌≡◌};
 
+use crate::beginning::Beginning;
 use crate::clock::HostClock;
 use crate::environment::FoundTexts;
 use crate::exit_status::ExitStatus;
@@ -10,6 +11,7 @@ use crate::farewell::take_leave;
 use crate::judging::{forewarn, judged};
 use crate::places::{addresses_of, first_port, new_engine, trips_of};
 use crate::rank_transport::RankTransport;
+use crate::stop::StopInput;
 use crate::telling::{
     ErrorReport, print_help, print_version, tell, tell_of, tell_port, tell_unread, tell_usage,
     tell_words,
@@ -20,6 +22,7 @@ use event_loop::{Ended, Rank, TransportFault, drive};
 use rank_settings::{Settings, SettingsRefusal, settings_in};
 use script_files::{ParseError, Script, parse};
 use script_runner::ScriptRunner;
+use start_marks::MarkFile;
 use std::io::ErrorKind;
 use std::net::Net;
 use std::rt::{Env, Files};
@@ -111,16 +114,32 @@ fn end<R: Print + Eprint + AllocGlobal + Clock>(
     ExitStatus::of_ending(ended, last, udp.wire().is_stopped())
 }
 
+/// Says that the rank of these settings has its port, and waits for the others, where a launcher told it by which marks
+/// that is known.
+fn begin<'a, R: Env + Files + Print + AllocGlobal + Clock>(
+    rt: &'a R,
+    settings: &Settings,
+    wire: &mut UdpWire<'a, R>,
+) -> Option<Beginning<'a, R>> {
+    let marks = MarkFile::told(rt, settings.size)?;
+    marks.begin(settings.rank);
+    wire.heed(marks);
+    let mut beginning = Beginning::new(rt, marks, settings.size)?;
+    beginning.wait(StopInput::new(rt));
+    Some(beginning)
+}
+
 /// Drives the rank over its socket until it ends, and answers its status.
 fn meet<R: Wait + Print + Eprint + AllocGlobal + Clock>(
     rt: &R,
     told: &ErrorReport,
     rank: &mut Rank<ToldRunner<'_, R>>,
     udp: &mut RankTransport<UdpWire<'_, R>>,
+    beginning: Option<Beginning<'_, R>>,
 ) -> ExitStatus
     requires { udp.old.failures ≡ 0 }
 {
-    let mut clock = match HostClock::new(rt) {
+    let mut clock = match HostClock::new(rt, beginning) {
         Ok(clock) => clock,
         Err(error) => return status_of(&error),
     };
@@ -141,23 +160,25 @@ fn wire_of<'a, R: Net + Env + Print + AllocGlobal + Clock>(
 }
 
 /// Opens the rank's socket, and meets the others over it.
-fn open<R: Net + Env + Wait + Print + Eprint + AllocGlobal + Clock>(
+fn open<R: Net + Env + Wait + Files + Print + Eprint + AllocGlobal + Clock>(
     rt: &R,
     told: &ErrorReport,
     rank: &mut Rank<ToldRunner<'_, R>>,
 ) -> ExitStatus {
     match wire_of(rt, told.settings) {
-        Ok(wire) => {
+        Ok(mut wire) => {
+            let beginning = begin(rt, told.settings, &mut wire);
             let first = first_port(told.settings);
             match trips_of(rt.alloc(), told.settings) {
                 Ok(trips) => {
                     let near = told.settings.hosts.is_none();
                     let mut udp = RankTransport::new(rt.alloc(), wire, first, trips, near);
-                    let status = meet(rt, told, rank, &mut udp);
+                    let status = meet(rt, told, rank, &mut udp, beginning);
                     drop(udp);
                     status
                 }
                 Err(_) => {
+                    drop(beginning);
                     drop(wire);
                     ExitStatus::OutOfMemory
                 }
@@ -175,7 +196,7 @@ fn open<R: Net + Env + Wait + Print + Eprint + AllocGlobal + Clock>(
 }
 
 /// Makes the rank's engine, and opens its socket.
-fn start<R: Net + Env + Wait + Print + Eprint + AllocGlobal + Clock>(
+fn start<R: Net + Env + Wait + Files + Print + Eprint + AllocGlobal + Clock>(
     rt: &R,
     told: &ErrorReport,
     runner: ToldRunner<'_, R>,

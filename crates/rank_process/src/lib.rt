@@ -2,6 +2,7 @@
 //! does, apart from its `main`, so that a program of worked rows can run it too.
 #![tactic(auto)]
 
+mod beginning;
 mod clock;
 mod command;
 mod environment;

@@ -12,6 +12,7 @@ use mio::unix::SourceFd;
 use mio::{Events, Interest, Poll, Token};
 use port_transport::{Wire, WireFault};
 use rank_addresses::RankAddresses;
+use start_marks::{MOST_MARKS, MarkFile, are_there, is_there};
 use std::alloc::Global;
 use std::io;
 use std::io::{ErrorKind, Write};
@@ -38,6 +39,8 @@ pub struct UdpWire<'a, R: Print + Clock> {
     /// What tells the rank to stop.
     stop: StopInput,
     is_stopped: bool,
+    /// The marks of the ranks, where some of them haven't begun.
+    marks: Option<MarkFile>,
 }
 
 /// A datagram that stands in a buffer, and comes from the rank that it names.
@@ -94,7 +97,29 @@ impl<'a, R: Print + Clock> UdpWire<'a, R> {
             events,
             stop,
             is_stopped: false,
+            marks: None,
         })
+    }
+
+    /// From now on nothing goes to a rank that hasn't begun by these marks: another program may have its port until then,
+    /// and so would learn the job's number.
+    pub fn heed(&mut self, marks: MarkFile) {
+        self.marks = Some(marks);
+    }
+
+    /// Whether the rank of this port has it, as far as is known.
+    fn may_reach(&mut self, port: u16) -> bool {
+        let Some(marks) = self.marks else {
+            return true;
+        };
+        let all = marks.all();
+        if are_there(&all[..self.addresses.hosts.len().min(MOST_MARKS)]) {
+            self.marks = None;
+            return true;
+        }
+        let rank = port.wrapping_sub(self.addresses.first_port);
+        all.get(usize::from(rank))
+            .is_some_and(|mark| is_there(*mark))
     }
 
     /// Whether it was told to stop.
@@ -164,6 +189,9 @@ impl<'a, R: Print + Clock> Wire for UdpWire<'a, R> {
         let Some(place) = self.addresses.of_port(port) else {
             return Ok(());
         };
+        if !self.may_reach(port) {
+            return Ok(());
+        }
         match self.socket.send_to(bytes, SocketAddr::V4(place)) {
             Ok(_) => Ok(()),
             Err(error) if is_loss(error.kind()) => Ok(()),

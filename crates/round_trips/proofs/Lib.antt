@@ -1,2 +1,4 @@
 pub mod KindLaws
+pub mod Learning
+pub mod TurnBounds
 pub mod WaitBounds

@@ -1,2 +1,4 @@
 pub mod Estimates
+pub mod Latenesses
 pub mod Trips
+pub mod Turns

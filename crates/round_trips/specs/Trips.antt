@@ -29,11 +29,14 @@ begun incarnation estimate repeats = record {
   doubtful = 0;
   allowance = 1;
   seen = 0;
+  counts_repeats = false;
 }
 
 -- what is known where a frame goes to this incarnation: a session with another one has ended
 abbrev pub with_incarnation : RoundTrip → ℕ → RoundTrip
-with_incarnation t incarnation = if t.incarnation == incarnation then t else begun incarnation t.estimate t.repeats
+with_incarnation t incarnation =
+    if t.incarnation == incarnation then t else
+    record (begun incarnation t.estimate t.repeats) { counts_repeats = t.counts_repeats }
 
 -- ---- frames that go out
 
@@ -44,13 +47,22 @@ is_repeat (Some newest) number = nat_le number newest
 
 -- a frame goes out the first time: its round trip is measured, unless another one's is
 abbrev pub timed_from : Option TimedFrame → (number now : ℕ) → Option TimedFrame
-timed_from None number now = Some (record { number = number; since = now })
+timed_from None number now = Some (record { number = number; since = now; again = now })
 timed_from (Some f) number now = Some f
 
 -- the round trip of a frame that goes out again isn't measured (Karn's rule, RFC 6298, 3)
 abbrev pub timed_without : Option TimedFrame → (number : ℕ) → Option TimedFrame
 timed_without None number = None
 timed_without (Some f) number = if f.number == number then None else Some f
+
+-- the same where repeats count, and so the time from when it went out first: then it still is
+abbrev pub timed_again : Option TimedFrame → (number now : ℕ) → Option TimedFrame
+timed_again None number now = None
+timed_again (Some f) number now = if f.number == number then Some (record f { again = now }) else Some f
+
+abbrev pub timed_behind : RoundTrip → (number now : ℕ) → Option TimedFrame
+timed_behind t number now =
+    if t.counts_repeats then timed_again t.timed number now else timed_without t.timed number
 
 -- behind the highest number that went out, as far as 64 bits hold it
 abbrev pub behind : Option ℕ → ℕ
@@ -65,10 +77,10 @@ repeated t Unseen = record t { repeats = min (t.repeats + 1) 4294967295; doubtfu
 repeated t Mended = record t { repeats = min (t.repeats + 1) 4294967295; doubtful = behind t.newest }
 
 -- a frame goes again
-abbrev pub after_repeat : RoundTrip → (number : ℕ) → RoundTrip
-after_repeat t number =
+abbrev pub after_repeat : RoundTrip → (number now : ℕ) → RoundTrip
+after_repeat t number now =
     let unmeasured : RoundTrip = record t {
-      timed = timed_without t.timed number;
+      timed = timed_behind t number now;
       resent = max t.resent (min (number + 1) 18446744073709551615);
     } in
     if t.awaited == number then repeated unmeasured t.gap else unmeasured
@@ -78,7 +90,7 @@ abbrev pub after_first : RoundTrip → (number now : ℕ) → RoundTrip
 after_first t number now = record t { timed = timed_from t.timed number now; newest = Some number }
 
 abbrev pub after_number : RoundTrip → (number now : ℕ) → RoundTrip
-after_number t number now = if is_repeat t.newest number then after_repeat t number else after_first t number now
+after_number t number now = if is_repeat t.newest number then after_repeat t number now else after_first t number now
 
 -- a frame of this number goes out to this incarnation
 abbrev pub after_frame : RoundTrip → (incarnation number now : ℕ) → RoundTrip
@@ -100,10 +112,19 @@ measured t round_trip = record t {
   timed = None;
 }
 
+-- its frame went again less than 10 ms before, or less than a quarter of the time since it went first: so the answer may
+-- be that of the repeat
+abbrev pub is_doubtful : TimedFrame → (now : ℕ) → Bool
+is_doubtful f now = nat_lt f.since f.again && nat_lt (now - f.again) (max ((now - f.since) / 4) 10000)
+
+-- the acknowledgement of a frame whose round trip is measured comes: one that is doubtful says nothing
+abbrev pub answered : RoundTrip → TimedFrame → (now : ℕ) → RoundTrip
+answered t f now = if is_doubtful f now then record t { timed = None } else measured t (now - f.since)
+
 -- the round trip of the frame that is measured is over, if an acknowledgement tells of it
 abbrev pub with_sample : RoundTrip → Option TimedFrame → (next held now : ℕ) → RoundTrip
 with_sample t None next held now = t
-with_sample t (Some f) next held now = if tells_of f.number next held then measured t (now - f.since) else t
+with_sample t (Some f) next held now = if tells_of f.number next held then answered t f now else t
 
 -- three frames behind the one that a rank waits for came
 abbrev pub gap_by : (held : ℕ) → Gap
@@ -145,6 +166,12 @@ after_acknowledgement t incarnation next held now =
     if t.incarnation == incarnation
     then with_seen (with_awaited (with_sample t t.timed next held now) next held) next held else t
 
+-- ---- what others learned
+
+-- frames to the rank take as long as this says
+abbrev pub with_estimate : RoundTrip → Estimate → RoundTrip
+with_estimate t e = record t { estimate = Some e }
+
 -- ---- frames that may go
 
 -- a frame may go the first time; again where it is missing below one that came, and so may as many as are allowed from
@@ -184,6 +211,11 @@ changed trips rank f = changed_at trips rank f (slice_get trips rank)
     changed_at : List RoundTrip → ℕ → (RoundTrip → RoundTrip) → Option RoundTrip → List RoundTrip
     changed_at trips rank f None = trips
     changed_at trips rank f (Some t) = slice_set trips rank (f t)
+
+-- what was learned of a rank, if there is one and a round trip to it was measured
+abbrev pub estimate_in : Option RoundTrip → Option Estimate
+estimate_in None = None
+estimate_in (Some t) = t.estimate
 
 -- how long frames to a rank wait, if there is one and a round trip to it was measured
 abbrev pub measured_wait : Option RoundTrip → Option ℕ
@@ -242,3 +274,7 @@ unknown size = replicate size (begun 0 None 0)
 -- of ranks that are near it is thought at first that round trips take no time
 abbrev pub near : (size : ℕ) → List RoundTrip
 near size = replicate size (begun 0 (Some no_time) 0)
+
+-- ranks on one machine: it is thought at first that round trips take no time, and repeats count
+abbrev pub late : (size : ℕ) → List RoundTrip
+late size = replicate size (record (begun 0 (Some no_time) 0) { counts_repeats = true })

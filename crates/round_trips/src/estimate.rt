@@ -29,7 +29,8 @@ const FULL_DOUBLINGS: u32 = 6;
 const MOST_STAY: u64 = 4_000;
 
 /// What was learned of the round trips to a rank, in microseconds.
-#[derive(Clone, Copy, Debug, PartialEq, Eq)]
+#[repr(C)]
+#[derive(Clone, Copy, Debug, Default, PartialEq, Eq)]
 pub struct Estimate {
     /// The smoothed round trip time, SRTT.
     pub smoothed: u64,

@@ -1,13 +1,21 @@
 //! What is known of the round trips to one rank.
 
-ghost use Rattle.std.specs.Prelude.{◌≡◌, ◌≤◌};
+ghost use Rattle.round_trips.specs.Estimates.{no_time};
+ghost use Rattle.std.specs.Prelude.{◌≡◌, ◌≤◌, Some, true};
 ghost use Rattle.round_trips.specs.Trips.{after_acknowledgement, after_first, after_frame, after_number, after_repeat};
 ghost use Rattle.round_trips.specs.Trips.{begun, behind, gap_by, gap_with, hasty, held_end, is_repeat, is_troubled};
 ghost use Rattle.round_trips.specs.Trips.{lets_go, measured};
 ghost use Rattle.round_trips.specs.Trips.{moved_on, repeated, tells_of, timed_from, timed_without, wait_now, with_awaited};
+ghost use Rattle.round_trips.specs.Trips.{answered, is_doubtful, timed_again, timed_behind, with_estimate};
 ghost use Rattle.round_trips.specs.Trips.{with_incarnation, with_sample, with_seen};
 
 use crate::estimate::{Estimate, LEAST_WAIT, backed_off, millis, wait_by};
+
+/// An answer that comes less than so many microseconds behind a repeat may be that of the repeat.
+const SOON: u64 = 10_000;
+
+/// So may one that comes sooner behind it than such a part of the time since the frame went first.
+const PART: u64 = 4;
 
 /// A frame whose round trip is being measured.
 #[derive(Clone, Copy, Debug, PartialEq, Eq)]
@@ -16,6 +24,8 @@ pub struct TimedFrame {
     pub number: u64,
     /// When it went out, in microseconds.
     pub since: u64,
+    /// When it went out last.
+    pub again: u64,
 }
 
 /// Whether a frame is known to be missing.
@@ -32,7 +42,9 @@ pub enum Gap {
 
 /// What is known of the round trips to a rank, and of the frames of the session with it that tell of them.
 ///
-/// One frame at a time is measured. Karn's rule holds: one that goes out again isn't.
+/// One frame at a time is measured. Karn's rule holds: one that goes out again isn't, unless repeats count. Then it is
+/// measured from the time on when it went first, but for an answer that comes so shortly behind a repeat that it may be
+/// that of the repeat.
 #[derive(Clone, Copy, Debug, PartialEq, Eq)]
 pub struct RoundTrip {
     /// The incarnation of the rank with which the session is.
@@ -57,6 +69,8 @@ pub struct RoundTrip {
     pub allowance: u64,
     /// The rank is known to hold the frame below this number: those before it that it doesn't hold are missing.
     pub seen: u64,
+    /// Repeats count: so it is where what isn't answered is late, and hardly ever lost.
+    pub counts_repeats: bool,
 }
 
 /// Whether a frame of this number went out before, where `newest` is the highest number of one that did.
@@ -75,7 +89,11 @@ fn timed_from(timed: Option<TimedFrame>, number: u64, now: u64) -> Option<TimedF
 {
     match timed {
         Some(frame) => Some(frame),
-        None => Some(TimedFrame { number, since: now }),
+        None => Some(TimedFrame {
+            number,
+            since: now,
+            again: now,
+        }),
     }
 }
 
@@ -88,6 +106,28 @@ fn timed_without(timed: Option<TimedFrame>, number: u64) -> Option<TimedFrame>
         return None;
     }
     Some(frame)
+}
+
+/// The same where repeats count, and so the time from when it went out first.
+fn timed_again(timed: Option<TimedFrame>, number: u64, now: u64) -> Option<TimedFrame>
+    ensures { result ≡ timed_again timed number now }
+{
+    let frame = timed?;
+    if frame.number == number {
+        return Some(TimedFrame {
+            again: now,
+            ..frame
+        });
+    }
+    Some(frame)
+}
+
+/// Whether a frame went again so shortly before that an answer may be that of the repeat.
+fn is_doubtful(frame: TimedFrame, now: u64) -> bool
+    ensures { result ≡ is_doubtful frame now }
+{
+    let soon = (now.saturating_sub(frame.since) / PART).max(SOON);
+    frame.since < frame.again && now.saturating_sub(frame.again) < soon
 }
 
 /// Whether an acknowledgement of all frames below `next` says that a frame came, where bit i of `held` tells of the
@@ -168,6 +208,17 @@ impl RoundTrip {
             doubtful: 0,
             allowance: 1,
             seen: 0,
+            counts_repeats: false,
+        }
+    }
+
+    /// The same with a rank on this machine: it is thought at first that round trips take no time, and repeats count.
+    pub fn late() -> RoundTrip
+        ensures { result ≡ record (begun 0 (Some no_time) 0) { counts_repeats = true } }
+    {
+        RoundTrip {
+            counts_repeats: true,
+            ..RoundTrip::begun(0, Some(Estimate::none()), 0)
         }
     }
 
@@ -178,7 +229,10 @@ impl RoundTrip {
         if self.incarnation == incarnation {
             self
         } else {
-            RoundTrip::begun(incarnation, self.estimate, self.repeats)
+            RoundTrip {
+                counts_repeats: self.counts_repeats,
+                ..RoundTrip::begun(incarnation, self.estimate, self.repeats)
+            }
         }
     }
 
@@ -200,11 +254,22 @@ impl RoundTrip {
         }
     }
 
-    fn after_repeat(self, number: u64) -> RoundTrip
-        ensures { result ≡ after_repeat self number }
+    /// The frame that is measured, once the one of this number goes out again.
+    fn timed_behind(self, number: u64, now: u64) -> Option<TimedFrame>
+        ensures { result ≡ timed_behind self number now }
+    {
+        if self.counts_repeats {
+            timed_again(self.timed, number, now)
+        } else {
+            timed_without(self.timed, number)
+        }
+    }
+
+    fn after_repeat(self, number: u64, now: u64) -> RoundTrip
+        ensures { result ≡ after_repeat self number now }
     {
         let unmeasured = RoundTrip {
-            timed: timed_without(self.timed, number),
+            timed: self.timed_behind(number, now),
             resent: self.resent.max(number.saturating_add(1)),
             ..self
         };
@@ -229,7 +294,7 @@ impl RoundTrip {
         ensures { result ≡ after_number self number now }
     {
         if is_repeat(self.newest, number) {
-            self.after_repeat(number)
+            self.after_repeat(number, now)
         } else {
             self.after_first(number, now)
         }
@@ -256,13 +321,25 @@ impl RoundTrip {
         }
     }
 
+    /// The acknowledgement of a frame whose round trip is measured comes: one that is doubtful says nothing.
+    fn answered(self, frame: TimedFrame, now: u64) -> RoundTrip
+        ensures { result ≡ answered self frame now }
+    {
+        if is_doubtful(frame, now) {
+            RoundTrip {
+                timed: None,
+                ..self
+            }
+        } else {
+            self.measured(now.saturating_sub(frame.since))
+        }
+    }
+
     fn with_sample(self, timed: Option<TimedFrame>, next: u64, held: u64, now: u64) -> RoundTrip
         ensures { result ≡ with_sample self timed next held now }
     {
         match timed {
-            Some(frame) if tells_of(frame.number, next, held) => {
-                self.measured(now.saturating_sub(frame.since))
-            }
+            Some(frame) if tells_of(frame.number, next, held) => self.answered(frame, now),
             _ => self,
         }
     }
@@ -339,6 +416,13 @@ impl RoundTrip {
         self.with_sample(self.timed, next, held, now)
             .with_awaited(next, held)
             .with_seen(next, held)
+    }
+
+    /// Frames to the rank take as long as this says, whatever was measured here.
+    pub fn learn(&mut self, estimate: Estimate)
+        ensures { self.new ≡ with_estimate self.old estimate }
+    {
+        self.estimate = Some(estimate);
     }
 
     /// Whether the frame of this number may go to this incarnation now. One that goes the first time may; so may one that

@@ -1,9 +1,10 @@
 //! The round trips to all ranks of a job.
 
-ghost use Rattle.std.specs.Prelude.{◌≡◌, ◌≤◌, slice_get, IfOk, Some};
+ghost use Rattle.std.specs.Prelude.{◌≡◌, ◌≤◌, map, slice_get, IfOk, Some};
 ghost use Rattle.std.specs.Option.{option_map};
 ghost use Rattle.datagram.specs.ByteMeanings.{datagram_of};
 ghost use Rattle.round_trips.specs.Trips.{after_acknowledgement, after_came, after_frame, after_sent, changed, goes_to};
+ghost use Rattle.round_trips.specs.Trips.{estimate_in, late, with_estimate};
 ghost use Rattle.round_trips.specs.Trips.{may_be, may_go, measured_wait, near, troubled_wait, unknown};
 ghost use Rattle.round_trips.specs.Trips.{wait_now};
 
@@ -44,6 +45,22 @@ fn may_be(bytes: &[u8], kind: u8) -> bool
     bytes.len() > KIND && bytes[KIND] == kind
 }
 
+/// Frames to each rank take as long as this says.
+fn learn_in_each(trips: &mut [RoundTrip], estimate: Estimate)
+    ensures { trips.new ≡ map (λ t. with_estimate t estimate) trips.old }
+{
+    for trip in trips.iter_mut() {
+        trip.learn(estimate);
+    }
+}
+
+/// The same of all.
+fn learn_in_all(trips: &mut Vec<RoundTrip>, estimate: Estimate)
+    ensures { trips.new.items ≡ map (λ t. with_estimate t estimate) trips.old.items }
+{
+    learn_in_each(trips, estimate);
+}
+
 impl RoundTrips {
     /// Nothing is known of the ranks of a job of this size. The only error is want of memory.
     pub fn new(alloc: Global, size: u16) -> Result<RoundTrips, AllocError>
@@ -64,6 +81,23 @@ impl RoundTrips {
             RoundTrip::begun(0, Some(Estimate::none()), 0),
         )?;
         Ok(RoundTrips { trips })
+    }
+
+    /// The same of a job whose ranks are on one machine: what isn't answered is late there, and hardly ever lost. So a
+    /// frame that goes again is measured from the time on when it went first, and the ranks' lateness is learned.
+    pub fn late(alloc: Global, size: u16) -> Result<RoundTrips, AllocError>
+        ensures { IfOk result (λ trips. trips ≡ late size) }
+    {
+        let mut trips = Vec::new(alloc);
+        trips.resize(usize::from(size), RoundTrip::late())?;
+        Ok(RoundTrips { trips })
+    }
+
+    /// Frames to all ranks take as long as others learned that they do.
+    pub fn learn_all(&mut self, estimate: Estimate)
+        ensures { self.new ≡ map (λ t. with_estimate t estimate) self.old }
+    {
+        learn_in_all(&mut self.trips, estimate);
     }
 
     /// A frame of this number goes out to this incarnation of a rank.
@@ -130,6 +164,23 @@ impl RoundTrips {
                 now,
             );
         }
+    }
+
+    /// Frames to a rank take as long as others learned that do with the same process.
+    pub fn learn(&mut self, rank: u16, estimate: Estimate)
+        ensures { self.new ≡ changed self.old rank (λ t. with_estimate t estimate) }
+    {
+        if let Some(trip) = self.trips.get_mut(usize::from(rank)) {
+            trip.learn(estimate);
+        }
+    }
+
+    /// What was learned of the round trips to a rank, if there is one and something was.
+    pub fn estimate_of(&self, rank: u16) -> Option<Estimate>
+        ensures { result ≡ estimate_in (slice_get self.now rank) }
+    {
+        let trip = self.trips.get(usize::from(rank))?;
+        trip.estimate
     }
 
     /// Whether the frame of this number may go to this incarnation of a rank now.

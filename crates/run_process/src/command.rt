@@ -1,9 +1,10 @@
 //! What the words of `mpirun` ask for: a job, and as which of its processes.
 
+use crate::allocation::{SRUN, has_srun};
 use crate::claim::{Claim, claim_ports, random_number};
 use crate::front::{LAUNCH, LED, run_front};
 use crate::job::{FAILED, Job};
-use crate::job_hosts::{JobHosts, hosts_by};
+use crate::job_hosts::hosts_by;
 use crate::keeper::{KEEPER, run_keeper};
 use crate::own_words::{MOST_RANKS, REFUSED, own_words_of, tell_fault};
 use crate::setup::{Setup, UNASKED, tell_as_own};
@@ -15,8 +16,9 @@ use launch_plan::{LaunchRefusal, Plan};
 use numerals::number_between;
 use process_commands::{ClosedStreams, open_closed_streams, text_of};
 use rank_environment::frame_in;
-use run_plan::{RunOptions, RunRequest, Wanted, plan_words, request_of};
+use run_plan::{RunOptions, RunRequest, USUAL_LAUNCHER, Wanted, plan_words, request_of};
 use shown_words::Shown;
+use start_marks::MarkFile;
 use std::alloc::AllocError;
 use std::io::ErrorKind;
 use std::net::Net;
@@ -177,20 +179,6 @@ fn with_own_frame<R: Env + Eprint + AllocGlobal>(
     Ok(RunOptions { frame, ..options })
 }
 
-/// The hosts that a request asks for, if it does; tells why there are none.
-fn hosts_for<R: Net + Files + Eprint + AllocGlobal>(
-    rt: &R,
-    words: &[Word],
-    request: &RunRequest,
-    size: u16,
-) -> Result<Option<JobHosts>, u8> {
-    let options = request.options;
-    if options.host_file.is_none() && options.hosts.is_none() {
-        return Ok(None);
-    }
-    Ok(Some(hosts_by(rt, words, options, size)?))
-}
-
 /// Whether the folder that was asked for can be entered, in which ranks of this machine start; tells where it can't.
 fn can_enter<R: Files + Eprint + AllocGlobal>(
     rt: &R,
@@ -219,6 +207,14 @@ fn can_enter<R: Files + Eprint + AllocGlobal>(
     }
 }
 
+/// A file for the marks of the ranks of a plan, where all of them start on this machine; none where there can't be any.
+fn marks_of<R: AllocGlobal>(rt: &R, hosts: Option<&JobHosts>, plan: &Plan) -> Option<MarkFile> {
+    match hosts {
+        Some(hosts) if !hosts.are_here() => None,
+        _ => MarkFile::new(rt.alloc(), plan.size()).ok(),
+    }
+}
+
 /// Starts the ranks of a plan on their hosts, and follows them to their ends. Answers the status.
 fn follow_on_hosts<
     R: Net
@@ -233,7 +229,7 @@ fn follow_on_hosts<
         Ok(options) => options,
         Err(status) => return Ok(status),
     };
-    let hosts = match hosts_for(rt, words, request, plan.size()) {
+    let hosts = match hosts_by(rt, words, request.options, plan.size()) {
         Ok(hosts) => hosts,
         Err(status) => return Ok(status),
     };
@@ -250,16 +246,25 @@ fn follow_on_hosts<
             return Ok(FAILED);
         }
     };
+    let marks = marks_of(rt, hosts.as_ref(), plan);
     let told = env::var(rt, UNASKED).ok();
     let unasked = told.as_ref().map(|text| text.as_str());
+    let is_of_slurm = hosts.as_ref().is_some_and(|hosts| hosts.is_of_slurm);
+    let usual_launcher = if is_of_slurm && has_srun(rt) {
+        SRUN
+    } else {
+        USUAL_LAUNCHER
+    };
     let setup = Setup {
         words,
         options,
         front,
         hosts: hosts.as_ref(),
+        usual_launcher,
         itself: itself.as_str(),
         folder: folder.as_str(),
         unasked,
+        marks,
     };
     follow(rt, &setup, plan)
 }

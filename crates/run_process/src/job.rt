@@ -409,6 +409,9 @@ impl<
         }
         let next = one.start.next(ending);
         let Next::Starts(again) = next else {
+            if let Some(marks) = self.setup.marks {
+                marks.end(u16::try_from(rank).unwrap_or(u16::MAX));
+            }
             self.fail(rank, ending, &next)?;
             return Ok(false);
         };

@@ -1,5 +1,7 @@
 //! The hosts of a job: on which of them each rank is, and at which addresses.
 
+use crate::allocation::{count_of_batch, hosts_of_batch};
+use crate::own_machine::{OwnName, address_towards, is_here};
 use host_files::{
     FileFault, Host, hosts_in_list, hosts_of, hosts_of_more_ranks, hosts_of_ranks, slot_count,
 };
@@ -12,7 +14,7 @@ use shown_words::Shown;
 use std::alloc::{AllocError, Global};
 use std::io::ErrorKind;
 use std::net::{Ipv4Addr, Net, SocketAddr, ToSocketAddrs};
-use std::rt::Files;
+use std::rt::{Env, Files};
 use std::{fs, io};
 
 /// The status of a file that is refused.
@@ -35,6 +37,8 @@ pub struct JobHosts {
     firsts: Vec<usize>,
     /// The text that lists the address of each rank.
     pub list: Word,
+    /// Whether they are nodes of an allocation of SLURM.
+    pub is_of_slurm: bool,
 }
 
 impl JobHosts {
@@ -60,6 +64,11 @@ impl JobHosts {
     pub fn first_rank(&self, place: usize) -> usize {
         self.firsts.get(place).copied().unwrap_or(0)
     }
+
+    /// Whether the programs of all ranks start on this machine without help.
+    pub fn are_here(&self) -> bool {
+        self.names.is_empty()
+    }
 }
 
 /// The first IPv4 address of a name, or the one that is written there.
@@ -75,13 +84,17 @@ fn address_of<R: Net>(rt: &R, name: &str) -> Option<Ipv4Addr> {
 
 /// What tells the hosts of a job.
 #[derive(Drop)]
-struct HostText<'a> {
-    /// What it is called where a fault is told: the file's name, or the option.
-    name: &'a str,
+pub struct HostText<'a> {
+    /// What it is called where a fault is told: the file's name, the option, or the variable of a batch system.
+    pub name: &'a str,
     /// The file's content, or the list.
-    text: Vec<u8>,
+    pub text: Vec<u8>,
     /// Whether it is a list.
-    is_list: bool,
+    pub is_list: bool,
+    /// Whether a batch system tells them, and the user doesn't.
+    pub is_of_batch: bool,
+    /// Whether SLURM tells them.
+    pub starts_by_srun: bool,
 }
 
 /// Tells why hosts are refused.
@@ -160,23 +173,57 @@ fn placed(
         names,
         firsts,
         list,
+        is_of_slurm: false,
     })
 }
 
-/// Tells which of so many hosts the ranks of others can't reach, if there is one: an address of this machine alone
-/// beside others.
-fn tell_unreachable<R: Eprint>(rt: &R, hosts: &[Host<'_>], addresses: &[Ipv4Addr], count: usize) {
-    if addresses.iter().take(count).all(|one| one.is_loopback()) {
-        return;
+/// These hosts, each marked as this machine where it is: by its line, its name or its address.
+fn marked<'a, R: Net + AllocGlobal>(
+    rt: &R,
+    hosts: &[Host<'a>],
+    addresses: &[Ipv4Addr],
+) -> Result<Vec<Host<'a>>, AllocError> {
+    let own = OwnName::now();
+    let mut all = Vec::new(rt.alloc());
+    for (host, address) in hosts.iter().zip(addresses.iter()) {
+        let is_local = host.is_local || is_here(rt, &own, host, *address);
+        all.push(Host { is_local, ..*host })?;
     }
-    for (host, address) in hosts.iter().zip(addresses.iter()).take(count) {
-        if address.is_loopback() {
+    Ok(all)
+}
+
+/// The addresses of hosts as all ranks are told them: where others are beside this machine, it has one that they reach, and
+/// where it is alone, one that it has. Tells which host can't be reached by the others.
+fn told_addresses<R: Net + Eprint + AllocGlobal>(
+    rt: &R,
+    hosts: &[Host<'_>],
+    addresses: &[Ipv4Addr],
+) -> Result<Vec<Ipv4Addr>, u8> {
+    let other = addresses.iter().find(|one| !one.is_loopback());
+    let mut all = Vec::new(rt.alloc());
+    for (host, address) in hosts.iter().zip(addresses.iter()) {
+        let found = match other {
+            Some(other) if address.is_loopback() => {
+                if host.is_local {
+                    address_towards(rt, *other)
+                } else {
+                    None
+                }
+            }
+            _ => Some(*address),
+        };
+        let Some(found) = found else {
             let name = str::from_utf8(host.name).unwrap_or("");
             let _ = eprintln!(rt;
                 "mpirun: other hosts can't reach {name}: its address is this machine's own"
             );
+            return Err(REFUSED);
+        };
+        if all.push(found).is_err() {
+            return Err(FAILED);
         }
     }
+    Ok(all)
 }
 
 /// How many ranks these hosts take.
@@ -239,13 +286,17 @@ fn shared_out<R: Net + Eprint + AllocGlobal>(
     let Some(places) = found else {
         return Err(tell_too_many(rt, name, hosts, options, size));
     };
-    let addresses = addresses_of(rt, hosts)?;
     let count = match places.iter().max() {
         Some(last) => last.saturating_add(1),
         None => 0,
     };
-    tell_unreachable(rt, hosts, &addresses, count);
-    match placed(rt.alloc(), hosts, &addresses, &places) {
+    let (used, _) = hosts.split_at(count.min(hosts.len()));
+    let addresses = addresses_of(rt, used)?;
+    let Ok(used) = marked(rt, used, &addresses) else {
+        return Err(FAILED);
+    };
+    let addresses = told_addresses(rt, &used, &addresses)?;
+    match placed(rt.alloc(), &used, &addresses, &places) {
         Ok(hosts) => Ok(hosts),
         Err(_) => Err(FAILED),
     }
@@ -275,33 +326,37 @@ fn file_text<'a, R: Files + Eprint + AllocGlobal>(
         name: file,
         text,
         is_list: false,
+        is_of_batch: false,
+        starts_by_srun: false,
     })
 }
 
-/// What tells the hosts by these options; tells where that is two things.
-fn host_text<'a, R: Files + Eprint + AllocGlobal>(
+/// What tells the hosts, by these options or else by the allocation of a batch system; tells where that is two things.
+fn host_text<'a, R: Env + Files + Eprint + AllocGlobal>(
     rt: &R,
     words: &'a [Word],
     options: RunOptions,
-) -> Result<HostText<'a>, u8> {
+) -> Result<Option<HostText<'a>>, u8> {
     match (options.host_file, options.hosts) {
         (Some(_), Some(_)) => {
             let _ = eprintln!(rt; "mpirun: -host and -hostfile both say where the ranks are");
             Err(REFUSED)
         }
-        (Some(place), None) => file_text(rt, text_at(words, place)?),
+        (Some(place), None) => Ok(Some(file_text(rt, text_at(words, place)?)?)),
         (None, Some(place)) => {
             let list = text_at(words, place)?;
             match Vec::from_slice(rt.alloc(), list.as_bytes()) {
-                Ok(text) => Ok(HostText {
+                Ok(text) => Ok(Some(HostText {
                     name: "-host",
                     text,
                     is_list: true,
-                }),
+                    is_of_batch: false,
+                    starts_by_srun: false,
+                })),
                 Err(_) => Err(FAILED),
             }
         }
-        (None, None) => Err(FAILED),
+        (None, None) => hosts_of_batch(rt),
     }
 }
 
@@ -321,31 +376,52 @@ fn told_in<'a, R: Eprint + AllocGlobal>(
     }
 }
 
-/// How many ranks the hosts take that these options say, at most 1,024; tells why there are none.
-pub fn slots_by<R: Files + Eprint + AllocGlobal>(
+/// How many ranks the hosts take that these options or a batch system say, at most 1,024, if they say any; tells why they
+/// can't be read.
+pub fn slots_by<R: Env + Files + Eprint + AllocGlobal>(
     rt: &R,
     words: &[Word],
     options: RunOptions,
-) -> Result<u16, u8> {
-    let from = host_text(rt, words, options)?;
+) -> Result<Option<u16>, u8> {
+    let Some(from) = host_text(rt, words, options)? else {
+        return Ok(None);
+    };
+    if from.starts_by_srun && options.per_host.is_none() {
+        if let Some(count) = count_of_batch(rt, MOST_RANKS) {
+            return Ok(Some(count));
+        }
+    }
     let hosts = told_in(rt, &from)?;
     let count = slots_of_all(&hosts, options.per_host);
-    Ok(
-        u16::try_from(count)
-            .unwrap_or(MOST_RANKS)
-            .min(MOST_RANKS)
-            .max(1),
-    )
+    let count = u16::try_from(count).unwrap_or(MOST_RANKS);
+    Ok(Some(count.min(MOST_RANKS).max(1)))
 }
 
-/// The hosts of so many ranks by these options; tells why there are none.
-pub fn hosts_by<R: Net + Files + Eprint + AllocGlobal>(
+/// Whether all these hosts are this machine.
+fn are_here<R: Net + Eprint + AllocGlobal>(rt: &R, hosts: &[Host<'_>]) -> Result<bool, u8> {
+    let addresses = addresses_of(rt, hosts)?;
+    let Ok(hosts) = marked(rt, hosts, &addresses) else {
+        return Err(FAILED);
+    };
+    Ok(hosts.iter().all(|one| one.is_local))
+}
+
+/// The hosts of so many ranks by these options, or else by a batch system that allocated others than this machine; none
+/// where all ranks are here. Tells why there are none that take them.
+pub fn hosts_by<R: Net + Env + Files + Eprint + AllocGlobal>(
     rt: &R,
     words: &[Word],
     options: RunOptions,
     size: u16,
-) -> Result<JobHosts, u8> {
-    let from = host_text(rt, words, options)?;
+) -> Result<Option<JobHosts>, u8> {
+    let Some(from) = host_text(rt, words, options)? else {
+        return Ok(None);
+    };
     let hosts = told_in(rt, &from)?;
-    shared_out(rt, from.name, &hosts, options, size)
+    if from.is_of_batch && are_here(rt, &hosts)? {
+        return Ok(None);
+    }
+    let mut shared = shared_out(rt, from.name, &hosts, options, size)?;
+    shared.is_of_slurm = from.starts_by_srun;
+    Ok(Some(shared))
 }

@@ -6,6 +6,7 @@
 //! kills them where the launching process goes away.
 #![tactic(auto)]
 
+mod allocation;
 mod claim;
 mod command;
 mod front;
@@ -17,6 +18,7 @@ mod kept;
 mod kept_words;
 mod link;
 mod own_input;
+mod own_machine;
 mod own_words;
 mod printing;
 mod rank;

@@ -200,15 +200,16 @@ fn variables_of<R: Env + Eprint + AllocGlobal>(
     Ok(variables)
 }
 
-/// How many ranks a set has that doesn't say so: as many as the hosts of a request take, else as there are processors.
-fn usual_count<R: Net + Files + Eprint + AllocGlobal + Threads>(
+/// How many ranks a set has that doesn't say so: as many as the hosts of a request or of a batch system's allocation take,
+/// else as there are processors.
+fn usual_count<R: Net + Env + Files + Eprint + AllocGlobal + Threads>(
     rt: &R,
     words: &[Word],
     request: &RunRequest,
 ) -> Result<u16, u8> {
     let options = request.options;
-    if options.host_file.is_some() || options.hosts.is_some() {
-        return slots_by(rt, words, options);
+    if let Some(count) = slots_by(rt, words, options)? {
+        return Ok(count);
     }
     if let Some(count) = options.per_host {
         return Ok(count);

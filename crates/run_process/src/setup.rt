@@ -8,7 +8,8 @@ use host_keepers::message_text;
 use launch_decisions::Start;
 use launch_keeper::Word;
 use process_commands::{command_of, text_of};
-use run_plan::{RunOptions, USUAL_LAUNCHER, launcher_words, rank_command, set_frame, set_hosts};
+use run_plan::{RunOptions, launcher_words, rank_command, set_frame, set_hosts};
+use start_marks::{MarkFile, VARIABLE};
 use std::alloc::Global;
 use std::io;
 use std::io::ErrorKind;
@@ -45,12 +46,16 @@ pub struct Setup<'a> {
     pub front: Front,
     /// The hosts of its ranks, where they aren't all this machine.
     pub hosts: Option<&'a JobHosts>,
+    /// The words that start a keeper on a host, where `-launcher` isn't given.
+    pub usual_launcher: &'a str,
     /// The name of this program's file.
     pub itself: &'a str,
     /// The folder in which this process is.
     pub folder: &'a str,
     /// What its environment says of [`UNASKED`], if it does.
     pub unasked: Option<&'a str>,
+    /// The marks of its ranks, where all are started on this machine without help.
+    pub marks: Option<MarkFile>,
 }
 
 /// What stands in a line behind the name of the other launcher, with which it begins.
@@ -133,11 +138,12 @@ impl<'a> Setup<'a> {
     pub fn keeper_command(&self, alloc: Global, host: &Word) -> io::Result<Command> {
         let text = self
             .text_at(self.options.launcher)
-            .unwrap_or(USUAL_LAUNCHER);
+            .unwrap_or(self.usual_launcher);
         let words = launcher_words(alloc, text.as_bytes(), host.as_bytes())?;
         let mut command = command_of(alloc, words.as_slice())?;
         command.arg(self.itself)?;
         command.arg(KEEPER)?;
+        let _removed = command.env_remove(VARIABLE)?;
         command.stdin(Stdio::piped());
         command.stderr(Stdio::piped());
         Ok(command)
@@ -147,6 +153,14 @@ impl<'a> Setup<'a> {
     pub fn command(&self, alloc: Global, rank: usize, start: &Start) -> io::Result<Command> {
         let mut command = self.own_command(alloc, start)?;
         self.set_folder(&mut command)?;
+        match self.marks {
+            Some(marks) => {
+                let _set = command.env(VARIABLE, marks.name(alloc)?.as_str())?;
+            }
+            None => {
+                let _removed = command.env_remove(VARIABLE)?;
+            }
+        }
         if is_script_program(command.get_program()) {
             let _set = command.env(STOPS_WITH_INPUT, "1")?;
             command.stdin(Stdio::piped());

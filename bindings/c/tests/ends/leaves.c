@@ -26,8 +26,18 @@ static void leave(const char *how) {
     }
 }
 
+/* Rank 1 ends before MPI_Init, or all ranks do. */
+static void leave_early(const char *how) {
+    const char *told = getenv("KOMBAZILY_RANK");
+    if (strcmp(how, "help") == 0) exit(0);
+    if (told == NULL || strcmp(told, "1") != 0) return;
+    if (strcmp(how, "never") == 0) exit(0);
+    if (strcmp(how, "lacks") == 0) exit(3);
+}
+
 int main(int argc, char **argv) {
     int rank = -1, size;
+    leave_early(argc > 1 ? argv[1] : "");
     if (argc > 1 && strcmp(argv[1], "early") == 0) MPI_Comm_rank(MPI_COMM_WORLD, &rank);
     MPI_Init(&argc, &argv);
     MPI_Comm_rank(MPI_COMM_WORLD, &rank);

@@ -59,6 +59,8 @@ static void test_senders(void) {
     const unsigned char datagram[] = {0x4d, 0x50, 0x55, 0x44, 2, 1, 0x01, 0x03, 0, 9};
     CHECK(sender_of(datagram, sizeof datagram) == 259 && sender_of(datagram, 8) == 259);
     CHECK(sender_of(datagram, 7) == -1 && sender_of(datagram, 0) == -1);
+    CHECK(!is_acknowledgement(datagram, sizeof datagram) && is_acknowledgement((unsigned char[6]){[5] = 2}, 6));
+    CHECK(!is_acknowledgement((unsigned char[6]){[5] = 3}, 6) && !is_acknowledgement((unsigned char[6]){[5] = 2}, 5));
     unsigned char whole[24] = {[16] = 0x81, [22] = 1, [23] = 2};
     CHECK(is_of_job(whole, sizeof whole, UINT64_C(0x8100000000000102)));
     CHECK(!is_of_job(whole, sizeof whole, UINT64_C(0x0100000000000102)));

@@ -9,5 +9,5 @@ pub loop-rank-preserved : goal.loop-rank-preserved
 loop-rank-preserved c =
     c.set_wait.ensures
     ∙ ap (λ (e : EngineState). after_wait e c.loop-rank.rank c.in-Some.wait) c.loop-rank.invariant
-    ∙ sym (told_more c.args.engine.now (waits_in c.args.trips.now) c.loop-rank.rank c.in-Some.wait
-    (sym (wait_there c.args.trips.now c.loop-rank.rank) ∙ sym c.wait_of.ensures ∙ c.in-Some.is))
+    ∙ sym (told_more c.args.engine.now (waits_in c.args.may_repeat c.args.trips.now) c.loop-rank.rank c.in-Some.wait
+    (sym (wait_there c.args.may_repeat c.args.trips.now c.loop-rank.rank) ∙ sym c.wait_told.ensures ∙ c.in-Some.is))
