@@ -157,9 +157,9 @@ class Grader:
         results, is_all = results_of(text), "not every choice was tried" not in text
         if status is None:
             return False, "it wasn't through after %d s" % (2 * self.seconds + FURTHER)
-        if not results or status not in (0, 1):
+        if not results:
             return False, "no way came to its end within %d s" % self.seconds if status in (0, 1) else last_line(text)
-        if status == 1:
+        if status != 0:
             return False, next((it.told() for it in results if it.findings or "nothing to tell" not in it.head), last_line(text))
         for result in results:
             if why := difference(self.exercise.expected, by_rank(result.printed)):

@@ -3,6 +3,7 @@
  * While the data of such a message are on their way, the engine answers nothing but FINISH and LOOK. So a receive that
  * began is ended by whatever asks for the end of a request; whatever else asks the engine waits for it first. That
  * can't wait for ever: its sender has announced the message, so it comes without any further call of this program. */
+#include "explored.h"
 #include "internal.h"
 #include "types.h"
 #include "wait_lines.h"
@@ -43,7 +44,8 @@ void begin_matched(struct request *request) {
     if (first == NULL) first = request;
     else last->behind = request;
     last = request;
-    (void)is_engine_free();
+    /* Under an explorer its data come in a later call, so that a program which reads them too early sees none. */
+    if (!is_explored) (void)is_engine_free();
     progress_out();
 }
 
