@@ -1,4 +1,3 @@
-use Rattle.std.proofs.Common.{◌≡◌, length}
 use Rattle.joined_ranks.specs.Kept.{AreNew}
 use Rattle.joined_ranks.proofs.part.add_new.Given as goal
 
