@@ -1,5 +1,5 @@
 -- One datagram more comes behind those that came in turn, or none does.
-use Rattle.std.proofs.Common.{◌≡◌, ℕ, Bool, true, false, List, [], ◌∷◌, ◌++◌, Result, Ok, Err, refl, subst, sym}
+use Rattle.std.proofs.Common.{ℕ, Bool, true, false, List, [], ◌∷◌, ◌++◌, Result, Ok, Err, refl, subst, sym}
 use Rattle.world.specs.declared.answered.Came.{Came}
 use Rattle.joined_ranks.specs.Kept.{ComeInTurn, ComesTo, DeliversNext, JoinedState}
 
