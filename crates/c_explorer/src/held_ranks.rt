@@ -1,7 +1,7 @@
 //! A box of joined ranks, as C holds it.
 
 ghost use Rattle.std.specs.Prelude.{◌≡◌, Option, Some, None, IsSome};
-ghost use Rattle.joined_ranks.specs.declared.ranks.JoinedRanks.{JoinedRanks};
+ghost use Rattle.joined_ranks.specs.Kept.{JoinedState};
 
 use joined_ranks::JoinedRanks;
 use loose_box::LooseBox;
@@ -13,12 +13,12 @@ use std::marker::Model;
 pub struct HeldRanks {
     at: *mut u8,
     /// The ranks.
-    pub ghost value: { Option JoinedRanks },
+    pub ghost value: { Option JoinedState },
 }
 
 impl Model for HeldRanks {
     ghost use Rattle.std.specs.Prelude.{◌≡◌, Option};
-    ghost use Rattle.joined_ranks.specs.declared.ranks.JoinedRanks.{JoinedRanks};
+    ghost use Rattle.joined_ranks.specs.Kept.{JoinedState};
     ghost use Rattle.c_explorer.specs.RanksContents.{holds};
 
     ghost also_owns = { λ h. holds h.at h.value };

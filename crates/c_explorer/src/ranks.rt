@@ -1,9 +1,11 @@
 //! The ranks of a run in one world, as C calls them.
 
 ghost use Rattle.std.specs.Prelude.{◌≡◌, ◌⊎◌, None};
+ghost use Rattle.c_rank.specs.AnswerCopies.{TakesOf};
 ghost use Rattle.c_rank.specs.Answers.{refusal};
 ghost use Rattle.c_rank.specs.Meanings.{meaning};
 ghost use Rattle.joined_ranks.specs.Goings.{IsCallOf, LeavesAs};
+ghost use Rattle.joined_ranks.specs.Kept.{received_in};
 ghost use Rattle.c_explorer.specs.RanksContents.{AreMade, OnHeldRanks, Settles};
 
 use crate::exports::NOTHING_HELD;
@@ -57,7 +59,7 @@ pub extern "C" fn kombazily_ranks_call(
     answer: &mut AnswerRecord,
 )
     ensures { OnHeldRanks ranks.old.held.value ranks.new.held.value (answer.new ≡ refusal 81) (λ r s.
-        IsCallOf rank (meaning call.now bytes.now) r.world answer.new s.world ⊎ LeavesAs r.world answer.new s.world) }
+        IsCallOf rank (meaning call.now bytes.now) r answer.new s ⊎ LeavesAs r answer.new s) }
 {
     match ranks.take(alloc) {
         Some(mut held) => {
@@ -71,7 +73,7 @@ pub extern "C" fn kombazily_ranks_call(
 /// All that was sent comes, and what is sent for it: 0, and all ranks are quiet then; 1, they aren't; or 5, 14 or 81.
 #[unsafe(no_mangle)]
 pub extern "C" fn kombazily_ranks_settle(alloc: Global, ranks: &mut RanksHandle) -> u32
-    ensures { OnHeldRanks ranks.old.held.value ranks.new.held.value (result ≡ 81) (λ r s. Settles r.world result s.world) }
+    ensures { OnHeldRanks ranks.old.held.value ranks.new.held.value (result ≡ 81) (λ r s. Settles r result s) }
 {
     match ranks.take(alloc) {
         Some(mut held) => {
@@ -95,7 +97,8 @@ pub extern "C" fn kombazily_ranks_take(
     rank: u16,
     into: &mut [u8],
 ) -> usize
-    ensures { OnHeldRanks ranks.old.held.value ranks.new.held.value (result ≡ 0) (λ r s. s ≡ r) }
+    ensures { OnHeldRanks ranks.old.held.value ranks.new.held.value ((result ≡ 0) × (into.new ≡ into.old))
+        (λ r s. (s ≡ r) × TakesOf (received_in r.parts rank) 0 into.old into.new result) }
 {
     match ranks.take(alloc) {
         Some(held) => {

@@ -1,1 +1,2 @@
 pub mod Goings
+pub mod Kept

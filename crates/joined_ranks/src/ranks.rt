@@ -1,22 +1,29 @@
 //! The ranks of a job.
 
-ghost use Rattle.std.specs.Prelude.{◌≡◌, ◌⊎◌, [], IfErr, IfOk, IsFalse, IsTrue, OnOk};
+ghost use Rattle.std.specs.Prelude.{◌≡◌, ◌⊎◌, [], IfErr, IfOk, IsFalse, IsTrue, List, OnOk};
+ghost use Rattle.c_rank.specs.AnswerCopies.{TakesOf};
+ghost use Rattle.c_rank.specs.Answers.{answer_of_kind};
+ghost use Rattle.c_rank.specs.Calls.{look_told};
 ghost use Rattle.c_rank.specs.Meanings.{meaning};
 ghost use Rattle.world.specs.RunningSteps.{HasComeBy, opening_running};
+ghost use Rattle.world.specs.declared.answered.Came.{Came};
 ghost use Rattle.link_truth.specs.Quiet.{AreQuiet};
 ghost use Rattle.observation.specs.Sessions.{sessions_in};
 ghost use Rattle.engine_calls.specs.declared.call.Call.TheVariants as calls;
-ghost use Rattle.joined_ranks.specs.Goings.{GoesOnAlone, IsCallMeant, IsCallOf, IsStepOf, IsToldOf, LeavesAs, ended_or};
-ghost use Rattle.joined_ranks.specs.Goings.{number_told};
+ghost use Rattle.joined_ranks.specs.Goings.{GoesOnAlone, IsCallOf, IsStepOf, LeavesAs, ended_or, finished_in, number_told};
+ghost use Rattle.joined_ranks.specs.Goings.{type_out_in, type_probed_in};
+ghost use Rattle.joined_ranks.specs.Kept.{AreNew, ComeInTurn, DeliversNext, Finishes, TellsReply, received_in};
 
-use crate::part::RankPart;
-use c_rank::{AnswerRecord, CallRecord, Meant, Told, meaning_of, refusal, reply_told};
+use crate::part::{RankPart, keep_came, keep_data, new_parts, take_data, take_ended};
+use c_rank::{
+    AnswerRecord, CallRecord, Meant, RequestRecord, Told, meaning_of, refusal, reply_told,
+};
 use engine::{Call, Probe, Reply, Request};
 use replies::reply_of;
 use std::alloc::Global;
-use std::default::Default;
+use std::marker::Model;
 use vocabulary::{BasicType, MessageLimit};
-use world::{Answered, Came, RunningWorld, WorldRefusal};
+use world::{Answered, RunningWorld, WorldRefusal};
 
 /// The kinds of answers that no reply of an engine brings.
 const PENDING: u32 = 3;
@@ -32,13 +39,21 @@ const NO_SUCH_RANK: u8 = 5;
 /// The number of a look at a request that there isn't.
 const NO_SUCH_REQUEST: u8 = 6;
 
-/// All ranks of a job, in one world, of which nothing past is kept.
+/// All ranks of a job, in one world, of which nothing past is kept. Contracts see the world, and what is kept of each
+/// rank beside its engine.
 #[derive(Drop)]
 pub struct JoinedRanks {
     alloc: Global,
-    /// The world.
-    pub world: RunningWorld,
+    world: RunningWorld,
     parts: Vec<RankPart>,
+}
+
+impl Model for JoinedRanks {
+    ghost use Rattle.joined_ranks.specs.Kept.{JoinedState};
+
+    ghost Value = { JoinedState };
+
+    ghost view = { λ r. record { world = r.world; parts = r.parts.items } };
 }
 
 /// The number of a refusal of the world.
@@ -48,19 +63,6 @@ fn number_of(refused: WorldRefusal) -> u8
     match refused {
         WorldRefusal::Engine(refused) => refused.number(),
         _ => NO_SUCH_RANK,
-    }
-}
-
-/// Keeps the answer of a call of a rank that was blocked, if the datagram that came to it made one ready.
-fn keep_ended(parts: &mut Vec<RankPart>, came: Came) {
-    let Came { rank, completion } = came;
-    let Some(completion) = completion else {
-        return;
-    };
-    let reply = reply_of(completion);
-    match parts.get_mut(rank as usize) {
-        Some(part) => drop(part.ended.replace(reply)),
-        None => drop(reply),
     }
 }
 
@@ -79,13 +81,15 @@ fn reply_in(answered: Answered) -> Reply
 /// The oldest datagram that is on its way comes. Answers whether there was one, or why it couldn't come.
 fn deliver_next(world: &mut RunningWorld, parts: &mut Vec<RankPart>) -> Result<bool, u8>
     ensures alone { GoesOnAlone world.old world.new }
+    ensures comes { DeliversNext (record { world = world.old; parts = parts.old.items }) result
+        (record { world = world.new; parts = parts.new.items }) }
     ensures all { IfOk result (λ comes. IsFalse comes → world.new.waiting ≡ []) }
     ensures refused { IfErr result (λ number. (number ≡ 14) ⊎ (number ≡ 5)) }
 {
     match world.deliver_next() {
         Ok(None) => Ok(false),
         Ok(Some(came)) => {
-            keep_ended(parts, came);
+            keep_came(parts, came);
             Ok(true)
         }
         Err(refused) => Err(number_of(refused)),
@@ -96,6 +100,8 @@ fn deliver_next(world: &mut RunningWorld, parts: &mut Vec<RankPart>) -> Result<b
 #[tactic(auto, using(crate::proofs::Alone::stays_alone))]
 fn deliver_all(world: &mut RunningWorld, parts: &mut Vec<RankPart>) -> Result<(), u8>
     ensures alone { GoesOnAlone world.old world.new }
+    ensures comes { (came : List Came) × ComeInTurn came (record { world = world.old; parts = parts.old.items })
+        (record { world = world.new; parts = parts.new.items }) }
     ensures all { OnOk result (world.new.waiting ≡ []) }
     ensures refused { IfErr result (λ number. (number ≡ 14) ⊎ (number ≡ 5)) }
 {
@@ -109,29 +115,57 @@ fn deliver_all(world: &mut RunningWorld, parts: &mut Vec<RankPart>) -> Result<()
 }
 
 /// The basic type of the message that a matching probe took out, if it did.
-fn type_taken_out(world: &RunningWorld, rank: u16, reply: &Reply) -> Option<BasicType> {
+fn type_taken_out(world: &RunningWorld, rank: u16, reply: &Reply) -> Option<BasicType>
+    ensures { result ≡ type_out_in world.now rank reply.now }
+{
+    let engine = world.engine(rank)?;
     match reply {
-        Reply::Matched(Some((Some(message), _))) => world.engine(rank)?.type_of_message(*message),
+        Reply::Matched(Some((Some(message), _))) => engine.type_of_message(*message),
         _ => None,
     }
 }
 
 /// The basic type of the message that such a probe finds, if it finds one.
-fn type_probed(world: &RunningWorld, rank: u16, probe: Probe) -> Option<BasicType> {
+fn type_probed(world: &RunningWorld, rank: u16, probe: Probe) -> Option<BasicType>
+    ensures { result ≡ type_probed_in world.now rank probe }
+{
     world.engine(rank)?.type_of_probed(probe)
 }
 
-/// Whether a request of a rank is finished.
-fn look(world: &RunningWorld, rank: u16, request: Request) -> AnswerRecord {
-    let finished = match world.engine(rank) {
-        Some(engine) => engine.is_finished(request),
-        None => None,
-    };
-    match finished {
+/// Whether a request of a rank is finished, where it is there.
+fn is_finished(world: &RunningWorld, rank: u16, request: Request) -> Option<bool>
+    ensures { result ≡ finished_in world.now rank request }
+{
+    world.engine(rank)?.is_finished(request)
+}
+
+/// An answer of a kind, of which nothing more is told.
+fn answer_of_kind(kind: u32) -> AnswerRecord
+    ensures { result ≡ answer_of_kind kind }
+{
+    AnswerRecord {
+        kind,
+        number: 0,
+        outcome: 0,
+        basic: 0,
+        request: RequestRecord { key: 0, serial: 0 },
+        source: 0,
+        tag: 0,
+        count: 0,
+        bytes: 0,
+        fact: 0,
+        communicator: 0,
+    }
+}
+
+/// Whether a request of a rank is finished (1) or not (0).
+fn look(world: &RunningWorld, rank: u16, request: Request) -> AnswerRecord
+    ensures { result ≡ look_told (finished_in world.now rank request) }
+{
+    match is_finished(world, rank, request) {
         Some(finished) => AnswerRecord {
-            kind: FACT,
             fact: u64::from(finished),
-            ..AnswerRecord::default()
+            ..answer_of_kind(FACT)
         },
         None => refusal(NO_SUCH_REQUEST),
     }
@@ -145,13 +179,13 @@ fn tell(
     reply: Reply,
     basic: Option<BasicType>,
 ) -> AnswerRecord
-    ensures { IsToldOf reply result }
+    ensures { TellsReply rank reply basic parts.old.items result parts.new.items }
 {
     match reply_told(alloc, reply, basic) {
         Ok(told) => {
             let Told { answer, received } = told;
-            if let (Some(received), Some(part)) = (received, parts.get_mut(rank as usize)) {
-                drop(part.received.replace(received));
+            if let Some(received) = received {
+                keep_data(parts, rank, received);
             }
             answer
         }
@@ -165,31 +199,28 @@ impl JoinedRanks {
     pub fn new(alloc: Global, size: u16, limit: MessageLimit) -> Result<JoinedRanks, u8>
         ensures opening { IfOk result (λ ranks. ranks.world ≡ opening_running limit size) }
         ensures run { IfOk result (λ ranks. HasComeBy ranks.world []) }
+        ensures parts { IfOk result (λ ranks. AreNew size ranks.parts) }
         ensures refused { IfErr result (λ number. (number ≡ 13) ⊎ (number ≡ 14)) }
     {
         let world = match RunningWorld::with_limit(alloc, size, limit) {
             Ok(world) => world,
             Err(refused) => return Err(number_of(refused)),
         };
-        let mut parts = Vec::new(alloc);
-        for _ in 0..size {
-            let part = RankPart {
-                ended: None,
-                received: None,
-            };
-            if parts.push(part).is_err() {
-                return Err(OUT_OF_MEMORY);
+        match new_parts(alloc, size) {
+            Some(parts) => Ok(JoinedRanks {
+                alloc,
+                world,
+                parts,
+            }),
+            None => {
+                drop(world);
+                Err(OUT_OF_MEMORY)
             }
         }
-        Ok(JoinedRanks {
-            alloc,
-            world,
-            parts,
-        })
     }
 
     fn answer(&mut self, rank: u16, call: Call) -> AnswerRecord
-        ensures { IsStepOf rank call self.old.world result self.new.world }
+        ensures { IsStepOf rank call (type_out_in self.new.world rank) self.old result self.new }
     {
         match self.world.call(rank, call) {
             Ok(answered) => {
@@ -202,7 +233,8 @@ impl JoinedRanks {
     }
 
     fn answer_probe(&mut self, rank: u16, probe: Probe) -> AnswerRecord
-        ensures { IsStepOf rank (calls.Iprobe probe) self.old.world result self.new.world }
+        ensures { IsStepOf rank (calls.Iprobe probe) (λ reply. type_probed_in self.new.world rank probe) self.old result
+            self.new }
     {
         match self.world.call(rank, Call::Iprobe(probe)) {
             Ok(answered) => {
@@ -215,28 +247,24 @@ impl JoinedRanks {
     }
 
     fn finish(&mut self, rank: u16) -> AnswerRecord
-        ensures { self.new.world ≡ self.old.world }
+        ensures world { self.new.world ≡ self.old.world }
+        ensures told { Finishes rank self.old.parts result self.new.parts }
     {
-        let ended = match self.parts.get_mut(rank as usize) {
-            Some(part) => part.ended.take(),
-            None => None,
-        };
-        match ended {
+        match take_ended(&mut self.parts, rank) {
             Some(reply) => tell(self.alloc, &mut self.parts, rank, reply, None),
-            None => AnswerRecord {
-                kind: PENDING,
-                ..AnswerRecord::default()
-            },
+            None => answer_of_kind(PENDING),
         }
     }
 
     /// Answers the call of a rank that the numbers mean, and the data. What they mean is one step of the world, a call
     /// of this rank's engine, goes on from its run of the machine by one event of this call, and is told as the engine
-    /// answers it. A look and the question for the end of a blocked call leave the world as it is; so do numbers that
-    /// mean nothing, and a call for whose data memory is wanting (14).
+    /// answers it, with the type of what a probe found; the data that it brings are kept of this rank. A look tells
+    /// what the engine's table of requests says, and the question for the end of a blocked call what was kept of that,
+    /// once; both leave the world as it is. So do numbers that mean nothing, and a call for whose data memory is wanting
+    /// (14).
     pub fn call(&mut self, rank: u16, asked: &CallRecord, bytes: &[u8]) -> AnswerRecord
-        ensures { IsCallOf rank (meaning asked.now bytes.now) self.old.world result self.new.world
-            ⊎ LeavesAs self.old.world result self.new.world }
+        ensures { IsCallOf rank (meaning asked.now bytes.now) self.old result self.new
+            ⊎ LeavesAs self.old result self.new }
     {
         match meaning_of(self.alloc, asked, bytes) {
             Ok(Meant::Call(call)) => self.answer(rank, call),
@@ -248,11 +276,13 @@ impl JoinedRanks {
     }
 
     /// All that was sent comes, each datagram once and in the order in which they were sent, until nothing more is sent.
-    /// The ranks go on from their run of the machine by events in which nobody calls. Answers whether they are quiet
-    /// then: no session between ranks that know each other holds a frame. Fails with 14 for want of memory, and with 5
-    /// where a datagram is for a rank that there isn't; what hasn't come is on its way still.
+    /// The ranks go on from their run of the machine by events in which nobody calls; and of each datagram that ended a
+    /// blocked call the answer is kept. Answers whether they are quiet then: no session between ranks that know each
+    /// other holds a frame. Fails with 14 for want of memory, and with 5 where a datagram is for a rank that there isn't;
+    /// what hasn't come is on its way still.
     pub fn settle(&mut self) -> Result<bool, u8>
         ensures world { GoesOnAlone self.old.world self.new.world }
+        ensures comes { (came : List Came) × ComeInTurn came self.old self.new }
         ensures all { OnOk result (self.new.world.waiting ≡ []) }
         ensures quiet { IfOk result (λ is_quiet. IsTrue is_quiet → AreQuiet (sessions_in self.new.world.engines)) }
         ensures refused { IfErr result (λ number. (number ≡ 14) ⊎ (number ≡ 5)) }
@@ -261,14 +291,10 @@ impl JoinedRanks {
         Ok(self.world.is_quiet())
     }
 
-    /// Copies data of the last answer of a rank out that brought any: how many bytes.
-    pub fn take(&self, rank: u16, first: u64, into: &mut [u8]) -> usize {
-        match self.parts.get(rank as usize) {
-            Some(part) => match &part.received {
-                Some(received) => received.take(first, into),
-                None => 0,
-            },
-            None => 0,
-        }
+    /// Copies data of the last answer of a rank out that brought any, from this element on: how many bytes.
+    pub fn take(&self, rank: u16, first: u64, into: &mut [u8]) -> usize
+        ensures { TakesOf (received_in self.now.parts rank) first into.old into.new result }
+    {
+        take_data(self.parts.as_slice(), rank, first, into)
     }
 }

@@ -32,7 +32,7 @@ use Rattle.std_heap.specs.contracts.Global.{the_row as G}
 use Rattle.std_heap.specs.contracts.GlobalAllocator.TheImpl.{ghosts, dict}
 use Rattle.std_heap.proofs.Global.TheLaws.{the_row_laws as G-laws}
 use Rattle.joined_ranks.specs.contracts.ranks.JoinedRanks.{the_row as C}
-use Rattle.joined_ranks.specs.declared.ranks.JoinedRanks.{JoinedRanks}
+use Rattle.joined_ranks.specs.Kept.{JoinedState}
 use Rattle.loose_box.specs.contracts.loose.LooseBox as loose
 use Rattle.loose_box.specs.declared.loose.LooseBox.{LooseBox}
 use Rattle.c_explorer.specs.contracts.held_ranks.HeldRanks.{the_row as R}
@@ -46,7 +46,7 @@ heap = record { row = G; laws = G-laws; g = ghosts; d = dict; drops = dict }
 abbrev stayed : Stays f.ended.signature.params f.ended.kept
 stayed = (stay_dropped (plain (λ _. R)) yes, (stay_dropped (plain (λ _. G)) yes, tt))
 
-found : (o : Option JoinedRanks) → is_some o ≡ true → (x : JoinedRanks) × (o ≡ Some x)
+found : (o : Option JoinedState) → is_some o ≡ true → (x : JoinedState) × (o ≡ Some x)
 found None e = absurd (false≢true e)
 found (Some x) e = (x, refl)
 
@@ -56,10 +56,10 @@ into_loose_spec 𝓤 𝓛 𝓜 𝓡 wired =
     proved_at 𝓛 f.ended stayed c 𝓜 𝓡 (Goes-blank 𝓛 0 (plain (λ _. R)) yes (λ κs x g. tt), (Goes-blank 𝓛 0 (plain (λ _. G)) yes (λ κs x g. tt), tt)) f.Key.name code.function (code.unfolded 𝓤 𝓛.H 𝓜 𝓡 wired) (λ z are.
     let v = z.0.3.0 in let a = z.0.3.1.0 in let Post = W.post z in
     qed 𝓛 ((‵ ftrue ⊛ ‵ (owns (types_at f.ended.signature.params z.0.0) z.0.3 z.0.4)) ∷ raw (fact 𝓤 (is_some v.value ≡ true)) ∷ []) ∵
-    move ! (1 ∷ []) $ heard ! (is_some v.value ≡ true) (λ some. let x : JoinedRanks = (found v.value some).0 in let is : v.value ≡ Some x = (found v.value some).1 in
+    move ! (1 ∷ []) $ heard ! (is_some v.value ≡ true) (λ some. let x : JoinedState = (found v.value some).0 in let is : v.value ≡ Some x = (found v.value some).1 in
     split ! $ move ! (1 ∷ []) $ fsplit ! $ fsplit ! $ fpick ! (λ vss. fsplit ! $ feq_l ! (λ ev. fsplit ! $ feq_l ! (λ ep.
     -- [true; what is held; the handle with true; ..]
-    move ! (1 ∷ []) $ rewrite ! 0 (λ (o : Option JoinedRanks). ‵ (holds v.at o)) is refl $
+    move ! (1 ∷ []) $ rewrite ! 0 (λ (o : Option JoinedState). ‵ (holds v.at o)) is refl $
     use1 𝓛 (‵ (box_owns (ghosts.dealloc_token a) C v.at x)) (id⊢ 𝓤 _) $
     in_a_block ! v.at (λ p. box_owns (ghosts.dealloc_token a) C p x) (fst∗ 𝓤 (never 𝓤) (sem 𝓛 (ghosts.dealloc_token a (bare (lone C.mir)) null_ptr))) (λ b o e.
     move ! (2 ∷ []) $ fsplit ! $ handle_tells heap ! a z.0.4.1.0 (λ hv eh fits.
@@ -73,7 +73,7 @@ into_loose_spec 𝓤 𝓛 𝓜 𝓡 wired =
     sets ! (of_opd ! (get ! refl)) refl (tt, tt) $
     sets ! (agg ! (and_then ! (get ! refl) (and_then ! (get ! refl) (no_more !)))) refl (and_tt _ fits.0, (tt, (fits.1, tt))) $
     returns ! (look_at ! 0 refl) $ free_all ! refl $
-    let made : LooseBox JoinedRanks (G.Denot) = record { ptr = block_ptr b o; alloc = a; value = x } in let out : Val = vstruct (vcons (vptr b o) (vcons hv vnil)) in
+    let made : LooseBox JoinedState (G.Denot) = record { ptr = block_ptr b o; alloc = a; value = x } in let out : Val = vstruct (vcons (vptr b o) (vcons hv vnil)) in
     keep ! (0 ∷ 2 ∷ []) $ nothing ! $ move ! (1 ∷ 0 ∷ []) $ fjoin ! $
     feq_i ! (List Val) (vptr b o ∷ []) (vptr b o ∷ []) refl $ fjoin ! $
     feq_i ! (List Val) (out ∷ []) (out ∷ []) refl $ fjoin ! $
