@@ -1,1 +1,2 @@
 pub mod LoneStates
+pub mod LoneSteps

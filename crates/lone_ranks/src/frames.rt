@@ -1,5 +1,10 @@
 //! Frames that a rank sends, and how they are acknowledged.
 
+ghost use Rattle.std.specs.Prelude.{◌≡◌, IfOk};
+ghost use Rattle.datagram.specs.ByteMeanings.{datagram_of};
+ghost use Rattle.datagram.specs.Spellings.{spelling};
+ghost use Rattle.lone_ranks.specs.LoneSteps.{acknowledgement, header_read};
+
 use datagram::{Bytes, Content, Datagram, Header, read_form, write};
 use std::alloc::{AllocError, Global};
 
@@ -13,7 +18,9 @@ pub struct SentFrame {
 }
 
 /// What a datagram begins with that carries a frame; none where it carries another thing.
-pub(crate) fn header_of_frame(bytes: &[u8]) -> Option<Header> {
+pub(crate) fn header_of_frame(bytes: &[u8]) -> Option<Header>
+    ensures { result ≡ header_read (datagram_of bytes.now) }
+{
     let Ok(datagram) = read_form(bytes) else {
         return None;
     };
@@ -24,7 +31,9 @@ pub(crate) fn header_of_frame(bytes: &[u8]) -> Option<Header> {
 }
 
 /// The datagram by which the frame with this header is acknowledged, and none behind it.
-pub(crate) fn acknowledgement_of(alloc: Global, header: &Header) -> Result<Vec<u8>, AllocError> {
+pub(crate) fn acknowledgement_of(alloc: Global, header: &Header) -> Result<Vec<u8>, AllocError>
+    ensures { IfOk result (λ bytes. bytes.items ≡ spelling (acknowledgement header.now)) }
+{
     let answer = Datagram {
         header: Header {
             source: header.target,

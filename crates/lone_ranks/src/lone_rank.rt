@@ -1,18 +1,21 @@
 //! A rank by itself.
 
-ghost use Rattle.std.specs.Prelude.{◌≡◌, [], IfOk, IsTrue, length};
+ghost use Rattle.std.specs.Prelude.{◌≡◌, [], IfOk, IsTrue, OnOk, length};
 ghost use Rattle.event_loop.specs.Turns.{is_ready};
 ghost use Rattle.lone_ranks.specs.LoneStates.{OpensAs, standing_of};
+ghost use Rattle.lone_ranks.specs.LoneSteps.{Calls, ComesTo, Empties, Follows, Goes, GoesOn, Hears, Sends, SendsAll};
+ghost use Rattle.lone_ranks.specs.LoneSteps.{TakesTold, heard};
 
 use crate::frames::{SentFrame, acknowledgement_of, header_of_frame};
 use alike::{Alike, are_alike};
-use datagram::{Bytes, Header};
+use datagram::Bytes;
 use engine::{Call, Engine, Place, Refusal, Reply};
 use event_loop::{Runner, RunnerState, RunnerStep};
 use replies::reply_of;
 use script_files::parse;
 use script_runner::ScriptRunner;
 use std::alloc::{AllocError, Global};
+use std::collections::VecDeque;
 use std::marker::Model;
 use std::mem;
 use stepped_plays::PlayError;
@@ -80,7 +83,9 @@ fn wait_alike(one: &RunnerState<()>, other: &RunnerState<()>) -> bool
 }
 
 /// Takes what a rank that may go on was told last. None where it may not.
-fn take_told(state: &mut RunnerState<()>) -> Option<Option<Reply>> {
+fn take_told(state: &mut RunnerState<()>) -> Option<Option<Reply>>
+    ensures { TakesTold state.old result state.new }
+{
     match mem::replace(state, RunnerState::Ready(None)) {
         RunnerState::Ready(told) => Some(told),
         other => {
@@ -88,136 +93,6 @@ fn take_told(state: &mut RunnerState<()>) -> Option<Option<Reply>> {
             None
         }
     }
-}
-
-/// The answer of its blocked call, if it is there.
-fn hear(engine: &mut Engine, state: &mut RunnerState<()>) {
-    let Some(completion) = engine.take_completion() else {
-        return;
-    };
-    let told = reply_of(completion);
-    replace(state, RunnerState::Ready(Some(told)));
-}
-
-/// A runner's call, at its rank.
-fn call(
-    engine: &mut Engine,
-    asked: Call,
-    state: &mut RunnerState<()>,
-    refused: &mut Vec<u8>,
-) -> Result<(), AllocError> {
-    match engine.call(asked) {
-        Reply::Blocked => {
-            replace(state, RunnerState::Blocked(()));
-            hear(engine, state);
-            Ok(())
-        }
-        Reply::Refused(why, call) => {
-            refused.push(why.number())?;
-            replace(state, RunnerState::Ready(Some(Reply::Refused(why, call))));
-            Ok(())
-        }
-        reply => {
-            replace(state, RunnerState::Ready(Some(reply)));
-            Ok(())
-        }
-    }
-}
-
-/// What a runner does next. Answers whether it is more than a line.
-fn follow(
-    engine: &mut Engine,
-    step: RunnerStep,
-    state: &mut RunnerState<()>,
-    lines: &mut Vec<Bytes>,
-    refused: &mut Vec<u8>,
-) -> Result<bool, AllocError> {
-    match step {
-        RunnerStep::Print(line) => {
-            lines.push(line)?;
-            Ok(false)
-        }
-        RunnerStep::End(status, line) => {
-            replace(state, RunnerState::Over(status, line));
-            Ok(true)
-        }
-        RunnerStep::Call(asked) => {
-            call(engine, asked, state, refused)?;
-            Ok(true)
-        }
-    }
-}
-
-/// The runner goes on to its next call or its end, where it may.
-fn go_on(
-    engine: &mut Engine,
-    runner: &mut ScriptRunner,
-    state: &mut RunnerState<()>,
-    lines: &mut Vec<Bytes>,
-    refused: &mut Vec<u8>,
-) -> Result<(), AllocError> {
-    for _ in 0..u64::MAX {
-        let Some(told) = take_told(state) else {
-            return Ok(());
-        };
-        let step = runner.next(told);
-        if follow(engine, step, state, lines, refused)? {
-            return Ok(());
-        }
-    }
-    Ok(())
-}
-
-/// A datagram comes to a rank. Answers whether it was taken.
-fn hear_datagram(
-    engine: &mut Engine,
-    bytes: &[u8],
-    state: &mut RunnerState<()>,
-) -> Result<bool, AllocError> {
-    match engine.on_datagram(bytes) {
-        Ok(()) => {
-            hear(engine, state);
-            Ok(true)
-        }
-        Err(Refusal::OutOfMemory) => Err(AllocError),
-        Err(_) => Ok(false),
-    }
-}
-
-/// A datagram that leaves a rank: where it carries a frame this is kept, and acknowledged at once.
-fn take_datagram(
-    alloc: Global,
-    engine: &mut Engine,
-    frame: SentFrame,
-    state: &mut RunnerState<()>,
-    sent: &mut Vec<SentFrame>,
-) -> Result<(), AllocError> {
-    let Some(header) = header_of_frame(frame.bytes.as_slice()) else {
-        drop(frame);
-        return Ok(());
-    };
-    sent.push(frame)?;
-    let answer = acknowledgement_of(alloc, &header)?;
-    let _ = hear_datagram(engine, answer.as_slice(), state)?;
-    Ok(())
-}
-
-/// What the engine sends is taken out, to where it sends no more.
-fn take_sent(
-    alloc: Global,
-    engine: &mut Engine,
-    state: &mut RunnerState<()>,
-    sent: &mut Vec<SentFrame>,
-) -> Result<(), AllocError> {
-    for _ in 0..u64::MAX {
-        if engine.is_through() {
-            return Ok(());
-        }
-        for (target, bytes) in engine.take_out() {
-            take_datagram(alloc, engine, SentFrame { target, bytes }, state, sent)?;
-        }
-    }
-    Ok(())
 }
 
 fn error_of(refused: Refusal) -> PlayError {
@@ -268,34 +143,151 @@ impl LoneRank {
         matches!(self.state, RunnerState::Ready(_))
     }
 
+    /// The answer of its blocked call, if it is there, is what its runner is told next.
+    fn hear(&mut self)
+        ensures { self.new ≡ heard self.old }
+    {
+        if let Some(completion) = self.engine.take_completion() {
+            replace(
+                &mut self.state,
+                RunnerState::Ready(Some(reply_of(completion))),
+            );
+        }
+    }
+
+    /// Its runner's call, at its engine.
+    fn call(&mut self, asked: Call) -> Result<(), AllocError>
+        ensures { OnOk result (Calls self.old asked self.new) }
+    {
+        match self.engine.call(asked) {
+            Reply::Blocked => {
+                replace(&mut self.state, RunnerState::Blocked(()));
+                self.hear();
+            }
+            Reply::Refused(why, call) => {
+                self.refused.push(why.number())?;
+                replace(
+                    &mut self.state,
+                    RunnerState::Ready(Some(Reply::Refused(why, call))),
+                );
+            }
+            reply => replace(&mut self.state, RunnerState::Ready(Some(reply))),
+        }
+        Ok(())
+    }
+
+    /// What its runner does next. Answers whether it is more than a line.
+    fn follow(&mut self, step: RunnerStep) -> Result<bool, AllocError>
+        ensures { IfOk result (λ is_more. Follows self.old step is_more self.new) }
+    {
+        match step {
+            RunnerStep::Print(line) => {
+                self.lines.push(line)?;
+                Ok(false)
+            }
+            RunnerStep::End(status, line) => {
+                replace(&mut self.state, RunnerState::Over(status, line));
+                Ok(true)
+            }
+            RunnerStep::Call(asked) => {
+                self.call(asked)?;
+                Ok(true)
+            }
+        }
+    }
+
+    /// Its runner goes on to its next call or its end, where it may.
+    fn go(&mut self) -> Result<(), AllocError>
+        ensures { OnOk result (Goes self.old self.new) }
+    {
+        for _ in 0..u64::MAX {
+            let Some(told) = take_told(&mut self.state) else {
+                return Ok(());
+            };
+            let step = self.runner.next(told);
+            if self.follow(step)? {
+                return Ok(());
+            }
+        }
+        // There is no memory for so many lines.
+        Err(AllocError)
+    }
+
     /// It goes on, where it may: it makes its next call, with the lines before that which print; or it ends. The only
     /// error is want of memory, and the rank is not to be used then.
-    pub fn go_on(&mut self) -> Result<(), AllocError> {
-        go_on(
-            &mut self.engine,
-            &mut self.runner,
-            &mut self.state,
-            &mut self.lines,
-            &mut self.refused,
-        )?;
+    pub fn go_on(&mut self) -> Result<(), AllocError>
+        ensures { OnOk result (GoesOn self.old self.new) }
+    {
+        self.go()?;
         self.take_sent()
+    }
+
+    /// A datagram comes to it. Answers whether it was taken.
+    fn hear_datagram(&mut self, bytes: &[u8]) -> Result<bool, AllocError>
+        ensures { IfOk result (λ is_taken. Hears self.old bytes.now is_taken self.new) }
+    {
+        match self.engine.on_datagram(bytes) {
+            Ok(()) => {
+                self.hear();
+                Ok(true)
+            }
+            Err(Refusal::OutOfMemory) => Err(AllocError),
+            Err(_) => Ok(false),
+        }
+    }
+
+    /// A datagram leaves it: where it carries a frame this is kept, and acknowledged at once.
+    fn take_datagram(&mut self, frame: SentFrame) -> Result<(), AllocError>
+        ensures { OnOk result (Sends self.old frame self.new) }
+    {
+        let Some(header) = header_of_frame(frame.bytes.as_slice()) else {
+            drop(frame);
+            return Ok(());
+        };
+        self.sent.push(frame)?;
+        let answer = acknowledgement_of(self.alloc, &header)?;
+        let _taken = self.hear_datagram(answer.as_slice())?;
+        Ok(())
+    }
+
+    /// These datagrams leave it, one after the other.
+    fn take_datagrams(&mut self, out: Vec<(u16, Bytes)>) -> Result<(), AllocError>
+        ensures { OnOk result (SendsAll self.old out.items self.new) }
+    {
+        let mut left = VecDeque::from_vec(out);
+        for _ in 0..u64::MAX {
+            let Some((target, bytes)) = left.pop_front() else {
+                return Ok(());
+            };
+            self.take_datagram(SentFrame { target, bytes })?;
+        }
+        // A list isn't so long.
+        Err(AllocError)
+    }
+
+    /// What its engine sends is taken out, to where it sends no more.
+    fn take_sent(&mut self) -> Result<(), AllocError>
+        ensures { OnOk result (Empties self.old self.new) }
+    {
+        for _ in 0..u64::MAX {
+            if self.engine.is_through() {
+                return Ok(());
+            }
+            let out = self.engine.take_out();
+            self.take_datagrams(out)?;
+        }
+        // A machine doesn't stand for so long.
+        Err(AllocError)
     }
 
     /// A frame comes to it, as a datagram. Answers whether it was taken. The only error is want of memory, and the
     /// rank is not to be used then.
-    pub fn come(&mut self, bytes: &[u8]) -> Result<bool, AllocError> {
-        let taken = hear_datagram(&mut self.engine, bytes, &mut self.state)?;
+    pub fn come(&mut self, bytes: &[u8]) -> Result<bool, AllocError>
+        ensures { IfOk result (λ is_taken. ComesTo self.old bytes.now is_taken self.new) }
+    {
+        let taken = self.hear_datagram(bytes)?;
         self.take_sent()?;
         Ok(taken)
-    }
-
-    fn take_sent(&mut self) -> Result<(), AllocError> {
-        take_sent(
-            self.alloc,
-            &mut self.engine,
-            &mut self.state,
-            &mut self.sent,
-        )
     }
 
     /// The frames that it has sent since they were taken out last, in order.
