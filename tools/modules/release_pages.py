@@ -19,6 +19,8 @@ MANUALS = {"mpiexec": "kombazily-mpiexec"}
 LACKING = re.compile(r"^(?:\| `)?(?:tools/(?!mpi[^/]*\s)|\./run build\b|\./run --proved\b).*\n", re.M)
 # The launcher that joins lines, whose name is mpirun's in a release.
 JOINING = re.compile(r"((?:^|\$ |`))mpiexec (?=-)")
+# What a command is called in a clone.
+IN_CLONE = re.compile(r", in a clone `\./run [a-z]+`,")
 LINK = re.compile(r"\[([^][]*)\]\(([^()#: ]+)(#[^()]*)?\)")
 
 # What stands on the first page behind a heading, in place of the paragraph there.
@@ -50,7 +52,7 @@ def commands(text):
 def of_release(text, name, files):
     """A page of this name as a release has it, which has these files; names are those from the top of the repository."""
     if name not in OF_REPOSITORY:
-        text = RELEASE.sub(r"\1", CLONE.sub("", text))
+        text = IN_CLONE.sub("", RELEASE.sub(r"\1", CLONE.sub("", text)))
         for heading, paragraph in FIRST.items() if name == "README.md" else ():
             text = re.sub(r"(?m)(^## %s\n\n)(?:.+\n)+" % heading, lambda it: it[1] + paragraph, text)
         text = re.sub(r"\n{3,}", "\n\n", commands(LACKING.sub("", text)))

@@ -23,6 +23,8 @@ NAMES = {**{it: it for it in programs.NAMES}, "mpiexec": programs.JOINING}
 IN_CXX = ("mpicxx", "mpic++", "mpiCC")
 IN_FORTRAN = ("mpifort", "mpif77", "mpif90")
 COMMANDS = (*NAMES.values(), "mpiexec", "mpicc", *IN_CXX, *IN_FORTRAN, "kombazily", "kombazily-check")
+# Commands whose page is another one's.
+PAGES = {"mpiexec": "mpirun", **{it: "mpicc" for it in (*IN_CXX, *IN_FORTRAN)}}
 OWN, DOCS, MANUALS = "share/kombazily/", "share/doc/kombazily/", "share/man/man1/"
 COMPLETIONS = "share/bash-completion/completions/"
 # What a release in an archive has at its top, too.
@@ -208,8 +210,7 @@ def manual(file):
 def manuals():
     found = {MANUALS + it.name: manual(it) for it in sorted((TOP / "docs" / "man").glob("*.1"))}
     found |= {MANUALS + programs.JOINING + ".1": Text(manual_of_joining())}
-    others = {"mpiexec": "mpirun", **{it: "mpicc" for it in (*IN_CXX, *IN_FORTRAN)}}
-    return found | {MANUALS + one + ".1": Text(".so man1/%s.1\n" % other) for one, other in others.items()}
+    return found | {MANUALS + one + ".1": Text(".so man1/%s.1\n" % other) for one, other in PAGES.items()}
 
 
 def completions():

@@ -13,7 +13,7 @@ TOLD = [
     ("crates/*/src/*.rt", re.compile(r"\(Kombazily\) ([^\"\\]+)[\"\\]")),
     ("bindings/c/src/*.c", re.compile(r"\"Kombazily ([^,\"]+),")),
     ("tools/mpicc", re.compile(r"\(Kombazily\) ([^\"]+)\"")),
-    ("README.md", re.compile(r"Version (\d[\d.]*\d)")),
+    ("README.md", re.compile(r"[Vv]ersion (\d[\d.]*\d)")),
     ("docs/INSTALL.md", re.compile(r"kombazily[-_](\d[\d.]*\d)")),
     ("docs/man/*.1", re.compile(r"^\.TH \S+ 1 \"[^\"]*\" \"Kombazily ([^\"]+)\"", re.M)),
 ]

@@ -61,9 +61,9 @@ static void check_senders(void) {
         return;
     }
     MPI_Request list[LIST];
-    int number = 0, heard = 0, others = test_size - 2, turns = 0, place, more = 1;
+    int numbers[LIST], heard = 0, others = test_size - 2, turns = 0, place, more = 1;
     for (int rank = 1; rank < test_size; rank++)
-        MPI_Irecv(&number, 1, MPI_INT, rank, 0, MPI_COMM_WORLD, &list[rank - 1]);
+        MPI_Irecv(&numbers[rank - 1], 1, MPI_INT, rank, 0, MPI_COMM_WORLD, &list[rank - 1]);
     while (more) {
         MPI_Waitany(test_size - 1, list, &place, MPI_STATUS_IGNORE);
         if (place > 0) {
@@ -71,7 +71,7 @@ static void check_senders(void) {
             continue;
         }
         more = heard < others && ++turns < 1000000;
-        if (more) MPI_Irecv(&number, 1, MPI_INT, 1, 0, MPI_COMM_WORLD, &list[0]);
+        if (more) MPI_Irecv(&numbers[0], 1, MPI_INT, 1, 0, MPI_COMM_WORLD, &list[0]);
         MPI_Send(&more, 1, MPI_INT, 1, 1, MPI_COMM_WORLD);
     }
     CHECK(heard == others);
