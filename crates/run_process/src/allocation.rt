@@ -15,12 +15,16 @@ const FAILED: u8 = 3;
 
 /// The nodes of an allocation of SLURM, the tasks of each, and how many they are together.
 const NODES: &str = "SLURM_JOB_NODELIST";
+
 const TASKS: &str = "SLURM_TASKS_PER_NODE";
+
 const COUNT: &str = "SLURM_NTASKS";
 
 /// The file of the hosts of PBS, one line for each slot; the hosts of LSF, the file of those of Grid Engine.
 const PBS: &str = "PBS_NODEFILE";
+
 const LSF: &str = "LSB_HOSTS";
+
 const GRID: &str = "PE_HOSTFILE";
 
 /// What starts a keeper on a node of SLURM, where its own launcher is there. It hands on the bytes of reports as they come.

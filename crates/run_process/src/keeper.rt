@@ -108,6 +108,16 @@ impl<
         }
     }
 
+    /// Asks all programs to end.
+    fn ask_programs(&self) -> io::Result<()> {
+        let mut running = Vec::new(self.rt.alloc());
+        for one in &self.kept {
+            running.push(one.id()).map_err(AllocError::from)?;
+        }
+        terminate(self.rt, &running);
+        Ok(())
+    }
+
     /// The launcher asks for the end of all programs: their time to end begins with the first time that it does.
     fn ask(&mut self) -> io::Result<()>
         ensures asked { OnOk result (is_some self.new.asked ≡ true) }
@@ -115,11 +125,7 @@ impl<
     {
         if self.asked.is_none() {
             self.asked = Some(Instant::now(self.rt)?);
-            let mut running = Vec::new(self.rt.alloc());
-            for one in &self.kept {
-                running.push(one.id()).map_err(AllocError::from)?;
-            }
-            terminate(self.rt, &running);
+            self.ask_programs()?;
         }
         Ok(())
     }
