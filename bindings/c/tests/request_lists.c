@@ -52,8 +52,9 @@ static void check_all(void) {
     int flag = 1;
     begin(list);
     for (int i = 0; i < MANY; i++) {
+        /* Behind the last order all may be at their ends. */
         MPI_Testall(MANY, list, &flag, statuses);
-        CHECK(flag == 0);
+        CHECK(flag == 0 || i == MANY - 1);
         if (i % 4 == 3) continue;
         CHECK(list[i] != MPI_REQUEST_NULL);
         order(i);
