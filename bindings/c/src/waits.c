@@ -178,10 +178,12 @@ static struct failure tell_ends(int count, const MPI_Request list[]) {
     return first;
 }
 
-/* Ends those of a list that are at their ends. `indices` takes their places, where it is there; statuses go to the
- * places of their requests without it, else one behind the other. Where one failed, each status says what became of it,
- * and the answer is MPI_ERR_IN_STATUS. */
-static int finish_list(const char *call, int count, MPI_Request list[], int indices[], MPI_Status statuses[]) {
+/* Ends those of a list that are at their ends: a look moves requests on, so they may be more than the look before
+ * found. `outcount` and `indices` take how many and their places, where they are there; statuses go to the places of
+ * their requests without them, else one behind the other. Where one failed, each status says what became of it, and the
+ * answer is MPI_ERR_IN_STATUS. */
+static int finish_list(const char *call, int count, MPI_Request list[], int *outcount, int indices[],
+                       MPI_Status statuses[]) {
     const struct failure first = tell_ends(count, list);
     int done = 0;
     for (int i = 0; i < count; i++) {
@@ -196,6 +198,7 @@ static int finish_list(const char *call, int count, MPI_Request list[], int indi
         if (first.place >= 0 && status != MPI_STATUS_IGNORE) status->MPI_ERROR = it == NULL ? MPI_SUCCESS : it->code;
         if (it != NULL) close_request(&list[i]);
     }
+    if (outcount != NULL) *outcount = done;
     if (has_freed()) settle_freed();
     if (first.place < 0) return MPI_SUCCESS;
     int class = raise_in(first.told, call, MPI_ERR_IN_STATUS, "request %d of %d: %s", first.place, count, first.cause);
@@ -223,7 +226,7 @@ int MPI_Waitall(int count, MPI_Request array_of_requests[], MPI_Status array_of_
     int class = check_list(call, count, array_of_requests);
     if (class != 0) return class;
     await_all(count, array_of_requests);
-    return finish_list(call, count, array_of_requests, NULL, array_of_statuses);
+    return finish_list(call, count, array_of_requests, NULL, NULL, array_of_statuses);
 }
 
 int MPI_Testall(int count, MPI_Request array_of_requests[], int *flag, MPI_Status array_of_statuses[]) {
@@ -234,7 +237,7 @@ int MPI_Testall(int count, MPI_Request array_of_requests[], int *flag, MPI_Statu
     if (class != 0) return class;
     progress();
     *flag = are_all_at_end(count, array_of_requests);
-    return *flag ? finish_list(call, count, array_of_requests, NULL, array_of_statuses) : MPI_SUCCESS;
+    return *flag ? finish_list(call, count, array_of_requests, NULL, NULL, array_of_statuses) : MPI_SUCCESS;
 }
 
 int MPI_Waitsome(int incount, MPI_Request array_of_requests[], int *outcount, int array_of_indices[],
@@ -247,9 +250,9 @@ int MPI_Waitsome(int incount, MPI_Request array_of_requests[], int *outcount, in
     if (is_none_active(incount, array_of_requests)) return MPI_SUCCESS;
     begin_wait(&(struct wait){.kind = WAIT_ANY, .list = array_of_requests, .count = incount});
     progress();
-    while ((*outcount = count_at_end(incount, array_of_requests, true)) == 0) progress_wait();
+    while (count_at_end(incount, array_of_requests, true) == 0) progress_wait();
     end_wait();
-    return finish_list(call, incount, array_of_requests, array_of_indices, array_of_statuses);
+    return finish_list(call, incount, array_of_requests, outcount, array_of_indices, array_of_statuses);
 }
 
 int MPI_Testsome(int incount, MPI_Request array_of_requests[], int *outcount, int array_of_indices[],
@@ -261,6 +264,6 @@ int MPI_Testsome(int incount, MPI_Request array_of_requests[], int *outcount, in
     *outcount = MPI_UNDEFINED;
     if (is_none_active(incount, array_of_requests)) return MPI_SUCCESS;
     progress();
-    *outcount = count_at_end(incount, array_of_requests, false);
-    return finish_list(call, incount, array_of_requests, array_of_indices, array_of_statuses);
+    (void)count_at_end(incount, array_of_requests, false);
+    return finish_list(call, incount, array_of_requests, outcount, array_of_indices, array_of_statuses);
 }
