@@ -43,7 +43,7 @@ struct engine_place {
     uint16_t rank;        /* in `world`, below the size */
     uint16_t size;        /* 1 to 1,024 */
     uint16_t incarnation; /* 0 at first, one more with each restart of this rank */
-    bool is_near; /* all ranks are on one machine: what isn't acknowledged there is late, and hardly ever lost */
+    bool is_near;         /* one of many on one machine: what isn't acknowledged there is late, and hardly ever lost */
     uint32_t frame_limit; /* the most bytes of data of a frame: 1,024 to 61,440, a multiple of 8; one for all ranks */
     uint32_t room;        /* how many bytes that came the socket of a rank keeps: what is on its way to each is bounded
                              by that, and has a congestion window; 0: neither */

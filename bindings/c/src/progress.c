@@ -40,7 +40,7 @@ static uint64_t spin_time, longest_spin;
 /* So often all is sent that goes out. */
 static int copies = 1;
 
-/* What is known of round trips, which all engines learn: of ranks on one machine at once, else of each process, once
+/* What is known of round trips, which all engines learn: of many on one machine at once, else of each process, once
  * there are several worlds. */
 static struct engine_lateness machine;
 static struct engine_estimate *processes;
@@ -55,7 +55,7 @@ void progress_open(void) {
 
 /* An engine learns what others did of its ranks. */
 static void learn_of_all(struct carried *own) {
-    if (!process.is_apart) kombazily_learn_all(&own->rank, &machine.estimate);
+    if (share_lateness()) kombazily_learn_all(&own->rank, &machine.estimate);
     for (int rank = 0; processes != NULL && rank < own->world->size; rank++)
         kombazily_learn(&own->rank, (uint16_t)rank, &processes[first_rank(own->world, rank)]);
 }
@@ -182,7 +182,7 @@ static void send_out(bool kept_too) {
 static uint32_t hand_answer(struct carried *own, int from, const unsigned char *bytes, size_t len) {
     struct engine_estimate *known = processes == NULL ? NULL : &processes[first_rank(own->world, from)];
     struct engine_estimate learned = known != NULL ? *known : machine.estimate;
-    if (known == NULL && process.is_apart) return kombazily_datagram(&own->rank, bytes, len);
+    if (known == NULL && !share_lateness()) return kombazily_datagram(&own->rank, bytes, len);
     kombazily_learn(&own->rank, (uint16_t)from, &learned);
     const uint32_t number = kombazily_datagram(&own->rank, bytes, len);
     kombazily_learned(&own->rank, (uint16_t)from, &learned);

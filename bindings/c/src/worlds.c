@@ -105,6 +105,12 @@ int rank_in(const struct world *world, int first) {
 
 /* ---- opening and closing ---- */
 
+/* How many engines there are, and of how many on one machine all share what they learn of how late ranks are. */
+static int engine_count;
+enum { FEW_ENGINES = 64 };
+
+bool share_lateness(void) { return !process.is_apart && engine_count > FEW_ENGINES; }
+
 uint32_t make_engine(struct world *world, int kind) {
     struct carried *own = &world->engines[kind];
     const struct engine_place place = {
@@ -113,17 +119,21 @@ uint32_t make_engine(struct world *world, int kind) {
         .rank = (uint16_t)world->rank,
         .size = (uint16_t)world->size,
         .incarnation = (uint16_t)process.incarnation,
-        .is_near = !process.is_apart,
+        .is_near = share_lateness(),
         .frame_limit = process.frame,
         .room = kombazily_room(process.is_apart, device_heard_room(), process.frame, (uint16_t)process.size)};
-    uint32_t number = own->world != NULL ? 0 : kombazily_new(&own->rank, &place);
-    if (number == 0) own->world = world;
-    return number;
+    if (own->world != NULL) return 0;
+    uint32_t number = kombazily_new(&own->rank, &place);
+    if (number != 0) return number;
+    own->world = world;
+    engine_count++;
+    return 0;
 }
 
 static void free_engines(struct world *world) {
     for (int kind = 0; kind < ENGINES; kind++) {
         drop_carried(&world->engines[kind]);
+        if (world->engines[kind].world != NULL) engine_count--;
         kombazily_free(&world->engines[kind].rank);
         world->engines[kind].world = NULL;
     }

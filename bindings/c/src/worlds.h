@@ -60,6 +60,8 @@ struct world *open_world(uint64_t number, uint16_t *members, int size);
 /* Makes an engine of it, where it isn't there: 0, or the number of a refusal. One of plans is made when it is needed:
  * whether it is there. */
 uint32_t make_engine(struct world *world, int kind);
+/* Whether so many engines are on one machine that all share what they learn of how late ranks are. */
+bool share_lateness(void);
 static inline bool need_engine(struct world *world, int kind) {
     return world->engines[kind].world != NULL || make_engine(world, kind) == 0;
 }
